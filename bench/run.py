@@ -1,0 +1,77 @@
+#!/usr/bin/env python3
+"""Makes inputs for `druid_cluster replay`, runs the built program on them, and prints a table.
+
+It measures three shapes of a snapshot, each followed by 20 lookups, at 5,000, 10,000 and 20,000 segments: one chunk
+with core 0, one chunk with a core partition for each segment, and one-hour chunks. Then a line of 16 MiB and a stream
+of short lines, for the memory that they take. Nothing is checked but that the program ends with status 0.
+"""
+import json, os, subprocess, sys, tempfile, time
+from datetime import datetime, timedelta
+
+TOP = os.path.dirname(os.path.dirname(os.path.abspath(__file__)))
+PROGRAM = os.path.join(TOP, 'druid_cluster')
+
+
+def change(start, end, partition, core):
+    return {"action": "load", "dataSource": "wiki", "interval": f"{start}/{end}",
+            "shardSpec": {"partitionNum": partition, "partitions": core, "type": "numbered"},
+            "size": 0, "version": "v1"}
+
+
+def hour(n):
+    return (datetime(2000, 1, 1) + timedelta(hours=n)).strftime('%Y-%m-%dT%H:%M')
+
+
+def snapshot(shape, count):
+    if shape == 'one chunk, core 0':
+        return [change('2024-01-01', '2024-01-02', n, 0) for n in range(count)]
+    if shape == 'one chunk, all core':
+        return [change('2024-01-01', '2024-01-02', n, count) for n in range(count)]
+    return [change(hour(n), hour(n + 1), 0, 1) for n in range(count)]
+
+
+def lines(shape, count):
+    yield {"count": 1, "do": "brokers", "nodes": ["n0"]}
+    yield {"broker": 0, "do": "reply", "node": 0, "reply": {
+        "counter": {"counter": count, "hash": 1}, "from": None, "requests": snapshot(shape, count),
+        "resetCause": None, "resetCounter": False}}
+    for n in range(20):
+        interval = '2000-01-01/2025-01-01' if n % 2 == 0 else f'200{n % 3}-01-01/200{n % 3}-02-01'
+        yield {"broker": 0, "do": "lookup", "interval": interval, "source": "wiki"}
+
+
+def run(path):
+    start = time.time()
+    with open(path, 'rb') as given:
+        child = subprocess.Popen([PROGRAM, 'replay'], stdin=given, stdout=subprocess.DEVNULL)
+        _, status, used = os.wait4(child.pid, 0)
+    return time.time() - start, used.ru_maxrss / 1024, os.waitstatus_to_exitcode(status)
+
+
+def measure(name, texts):
+    with tempfile.NamedTemporaryFile('w', suffix='.jsonl') as f:
+        for text in texts:
+            f.write(text + '\n')
+        f.flush()
+        seconds, mib, status = run(f.name)
+        size = os.path.getsize(f.name) / 1e6
+    print(f'{name:44} {size:9.2f} MB {seconds:8.2f} s {mib:9.1f} MiB  status {status}', flush=True)
+    return status
+
+
+def main():
+    subprocess.run([PROGRAM, 'replay'], stdin=subprocess.DEVNULL, check=True)
+    bad = 0
+    for shape in ('one chunk, core 0', 'one chunk, all core', 'one-hour chunks'):
+        for count in (5_000, 10_000, 20_000):
+            bad |= measure(f'{shape}, {count} segments', (json.dumps(l) for l in lines(shape, count)))
+    opening = json.dumps({"count": 1, "do": "brokers", "nodes": ["n0"]})
+    lookup = json.dumps({"broker": 0, "do": "lookup", "interval": "2024-01-01/2024-01-02", "source": "wiki"})
+    long_line = lookup[:-1] + ', "pad": "' + 'x' * (16_777_216 - len(lookup) - 11) + '"}'
+    bad |= measure('a line of 16 MiB', [opening, long_line])
+    for count in (1_000, 100_000):
+        bad |= measure(f'{count} short lines', [opening] + [lookup] * count)
+    sys.exit(1 if bad else 0)
+
+
+main()

@@ -1,0 +1,28 @@
+-- No answer has a float.
+use Rattle.std.proofs.Common.{◌≡◌, ℕ, List, [], ◌∷◌, map, false, refl}
+use Rattle.serde_json.specs.Data.{number, unsigned}
+use Rattle.serde_json.specs.View.{items_of}
+use Rattle.serde_json.specs.Written.{has_float, items_have_float}
+use Rattle.druid_timeline.specs.Pieces.{Told}
+use Rattle.druid_cluster.specs.Answers.{mark_data, parts_data, piece_data, pieces_data, answer_data}
+use Rattle.druid_cluster.specs.declared.answer.Answer.{Answer}
+use Rattle.druid_cluster.specs.declared.answer.Answer.TheVariants.{Refused, Taken, Stepped, Found}
+
+numbers_plain : (ps : List ℕ) → items_have_float (items_of (map (λ p. number (unsigned p)) ps)) ≡ false
+numbers_plain [] = refl
+numbers_plain (p ∷ ps) = numbers_plain ps
+
+piece_plain : (p : Told) → has_float (piece_data p) ≡ false
+unfolding piece_data parts_data
+piece_plain p = rw (numbers_plain p.parts) refl
+
+pieces_plain : (ps : List Told) → items_have_float (items_of (map piece_data ps)) ≡ false
+pieces_plain [] = refl
+pieces_plain (p ∷ ps) = rw (piece_plain p) (pieces_plain ps)
+
+pub answer_plain : (a : Answer) → has_float (answer_data a) ≡ false
+unfolding answer_data mark_data pieces_data
+answer_plain (Refused refusal) = refl
+answer_plain Taken = refl
+answer_plain (Stepped mark outcome) = refl
+answer_plain (Found pieces) = rw (pieces_plain pieces) refl

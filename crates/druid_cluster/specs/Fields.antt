@@ -1,0 +1,17 @@
+-- The fields of JSON objects.
+use Rattle.std.specs.Prelude.{◌≡◌, ℕ, List, [], ◌∷◌, Option, Some, None, option_and_then}
+use Rattle.serde_json.specs.Data.{Data, Items, no_items, item}
+
+infixl 10 ◌>>=◌
+-- the next step on the value, where there is one
+abbrev pub ◌>>=◌ : {A B : Type 0} → Option A → (A → Option B) → Option B
+(Some x) >>= f = f x
+None >>= f = None
+
+-- what each item reads as, in order, where each reads
+abbrev pub each_of : {A : Type 0} → (Data → Option A) → Items → Option (List A)
+each_of f no_items = Some []
+each_of f (item d ds) = do
+  x ← f d
+  xs ← each_of f ds
+  Some (x ∷ xs)

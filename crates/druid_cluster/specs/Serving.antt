@@ -1,0 +1,97 @@
+-- What each line is answered, and what stands after it.
+use Rattle.std.specs.Prelude.{◌≡◌, ◌≤◌, ◌<◌, ◌⊎◌, ℕ, List, [], All, length, map, Option, Some, None, Ok, Err, slice_get, slice_set}
+use Rattle.serde_json.specs.Data.{Data}
+use Rattle.druid_time.specs.Extent.{Extent, Has}
+use Rattle.druid_time.specs.Texts.{extent_at}
+use Rattle.druid_time.specs.declared.fault.TimeFault.TheVariants as times
+use Rattle.druid_segid.specs.Names.{IsName}
+use Rattle.druid_shard.specs.declared.reply.Body.{Body}
+use Rattle.druid_timeline.specs.Holding.{Held, members_of}
+use Rattle.druid_timeline.specs.Pieces.{Told, shown_of, ArePiecesIn, ArePartitions}
+use Rattle.druid_inventory.specs.Entry.{Entry, fresh, HaveOwnNames}
+use Rattle.druid_inventory.specs.Step.{Steps, Conflicts}
+use Rattle.druid_inventory.specs.Sources.{HasSource, IsHoldingOf}
+use Rattle.druid_cluster.specs.Reply.{ReadsAs, IsRead}
+use Rattle.druid_cluster.specs.Commands.{Command, reply, lookup, opening_at, command_at}
+use Rattle.druid_cluster.specs.declared.sync_fault.SyncFault.TheVariants as replies
+use Rattle.druid_cluster.specs.declared.answer.Refusal.TheVariants as refusals
+use Rattle.druid_cluster.specs.declared.answer.Answer.{Answer}
+use Rattle.druid_cluster.specs.declared.answer.Answer.TheVariants.{Refused, Taken, Stepped, Found}
+
+-- one broker over nodes of these names: a name that is none is refused before one that stands twice
+abbrev pub TakesBrokers : List (List ℕ) → Answer → Option (List Entry) → Type 0
+TakesBrokers names (Refused refusals.BadName) next = (All IsName names → ⊥) × (next ≡ None)
+TakesBrokers names (Refused refusals.DoubledNode) next =
+    All IsName names × (HaveOwnNames names → ⊥) × (next ≡ None)
+TakesBrokers names Taken next =
+    All IsName names × ((HaveOwnNames names → ⊥) → ⊥) × (next ≡ Some (map fresh names))
+TakesBrokers names answer next = ⊥
+
+-- the broker takes a reply of a node: it is read first, then the node is looked for, and then comes the step
+abbrev pub TakesReply : List Entry → ℕ → Data → Answer → List Entry → Type 0
+TakesReply inventory node d (Refused refusals.Shape) next = IsRead d (Err replies.Shape) × (next ≡ inventory)
+TakesReply inventory node d (Refused refusals.TooMany) next = IsRead d (Err replies.TooMany) × (next ≡ inventory)
+TakesReply inventory node d (Refused refusals.DoubledSegment) next =
+    IsRead d (Err replies.DoubledSegment) × (next ≡ inventory)
+TakesReply inventory node d (Refused refusals.UnknownNode) next =
+    (body : Body) × IsRead d (Ok body) × (slice_get inventory node ≡ None) × (next ≡ inventory)
+TakesReply inventory node d (Refused refusals.Conflict) next =
+    (body : Body) × IsRead d (Ok body) × (e : Entry) × (slice_get inventory node ≡ Some e) × Conflicts e body
+    × (next ≡ inventory)
+TakesReply inventory node d (Stepped mark outcome) next =
+    (body : Body) × IsRead d (Ok body) × (e new : Entry) × (slice_get inventory node ≡ Some e)
+    × Steps e body outcome new × (next ≡ slice_set inventory node new) × (mark ≡ new.mark)
+TakesReply inventory node d answer next = ⊥
+
+-- these are the visible pieces in an interval of what is held, each with all partitions of its chunk
+pub record AreFoundIn (asked : Extent) (held : List Held) (pieces : List Told) : Type 0 where
+  pub shown : ArePiecesIn (Has asked) held (map shown_of pieces)
+  pub parts : All (λ piece. ArePartitions (members_of held piece.group) piece.parts) pieces
+
+-- the same of the holding of a source, and none where no node serves a segment of the source
+abbrev pub IsFound : List Entry → List ℕ → Extent → List Told → Type 0
+IsFound inventory source asked pieces =
+    ((HasSource inventory source → ⊥) × (pieces ≡ []))
+    ⊎ (HasSource inventory source
+    × (held : List Held) × IsHoldingOf inventory source held × AreFoundIn asked held pieces)
+
+-- what is visible of a source in an interval: the interval is judged before the source
+abbrev pub LooksUp : List Entry → List ℕ → List ℕ → Answer → Type 0
+LooksUp inventory interval source (Refused refusals.NotATime) = extent_at interval ≡ Err times.NotATime
+LooksUp inventory interval source (Refused refusals.OutOfRange) = extent_at interval ≡ Err times.OutOfRange
+LooksUp inventory interval source (Refused refusals.Empty) = extent_at interval ≡ Err times.Empty
+LooksUp inventory interval source (Refused refusals.BadName) =
+    (asked : Extent) × (extent_at interval ≡ Ok asked) × (IsName source → ⊥)
+LooksUp inventory interval source (Found pieces) =
+    (asked : Extent) × (extent_at interval ≡ Ok asked) × IsName source × IsFound inventory source asked pieces
+LooksUp inventory interval source answer = ⊥
+
+-- a command is answered so, and leaves this inventory
+abbrev pub Does : List Entry → Command → Answer → List Entry → Type 0
+Does inventory (reply node body) answer next = TakesReply inventory node body answer next
+Does inventory (lookup interval source) answer next = LooksUp inventory interval source answer × (next ≡ inventory)
+
+-- JSON is answered so, and leaves this: before brokers were taken nothing stands
+abbrev pub Answers : Option (List Entry) → Data → Answer → Option (List Entry) → Type 0
+Answers None d answer next = (names : List (List ℕ)) × (opening_at d ≡ Some names) × TakesBrokers names answer next
+Answers (Some inventory) d answer next =
+    (command : Command) × (command_at d ≡ Some command)
+    × (new : List Entry) × (next ≡ Some new) × Does inventory command answer new
+
+-- JSON is no command here
+abbrev pub IsNoCommand : Option (List Entry) → Data → Type 0
+IsNoCommand None d = opening_at d ≡ None
+IsNoCommand (Some inventory) d = command_at d ≡ None
+
+-- the most bytes of a line
+abbrev pub max_line : ℕ
+max_line = 16_777_216
+
+-- a line is answered so
+abbrev pub IsAnswered : Option (List Entry) → List ℕ → Answer → Option (List Entry) → Type 0
+IsAnswered state line answer next =
+    (length line ≤ max_line) × (d : Data) × ReadsAs line d × Answers state d answer next
+
+-- a line ends the run: it is too long, no JSON, or no command
+abbrev pub IsBad : Option (List Entry) → List ℕ → Type 0
+IsBad state line = (max_line < length line) ⊎ ((d : Data) → ReadsAs line d → IsNoCommand state d)

@@ -1,0 +1,195 @@
+//! Answers to commands, and their lines.
+ghost use Rattle.std.specs.Prelude.{◌≡◌, IfOk, string_bytes, false};
+ghost use Rattle.serde_json.specs.View.{view};
+ghost use Rattle.serde_json.specs.Written.{has_float};
+ghost use Rattle.druid_cluster.specs.Answers.{code_of, outcome_text, mark_data, parts_data, piece_data, pieces_data, answer_data, line_text};
+
+use druid_inventory::Outcome;
+use druid_shard::Mark;
+use druid_timeline::Piece;
+use serde_json::{Value, json};
+use std::alloc::{AllocError, Global};
+use std::marker::Model;
+
+/// Why a command changes nothing.
+#[derive(Clone, Copy, Debug, PartialEq, Eq, Drop)]
+pub enum Refusal {
+    /// C1: the interval is in no form of one.
+    NotATime,
+    /// C2: the interval names no such date or time.
+    OutOfRange,
+    /// C3: the interval is empty.
+    Empty,
+    /// I1: no name of a data source or of a node.
+    BadName,
+    /// V1: a name of a node stands twice.
+    DoubledNode,
+    /// Y2: not a reply.
+    Shape,
+    /// Y4: an identifier stands twice in a snapshot.
+    DoubledSegment,
+    /// Y5: a snapshot of more than 20,000 segments.
+    TooMany,
+    /// A1: no such node.
+    UnknownNode,
+    /// A5: the mark is the one held, and the set is another.
+    Conflict,
+}
+
+impl Refusal {
+    /// The code that tells it.
+    pub fn code(&self) -> &'static str
+        ensures { result.now ≡ code_of self.now }
+    {
+        match self {
+            Refusal::NotATime => "C1",
+            Refusal::OutOfRange => "C2",
+            Refusal::Empty => "C3",
+            Refusal::BadName => "I1",
+            Refusal::DoubledNode => "V1",
+            Refusal::Shape => "Y2",
+            Refusal::DoubledSegment => "Y4",
+            Refusal::TooMany => "Y5",
+            Refusal::UnknownNode => "A1",
+            Refusal::Conflict => "A5",
+        }
+    }
+}
+
+/// Visible pieces, in order. A contract sees a list.
+#[derive(Debug, Drop)]
+pub struct Pieces {
+    items: Vec<Piece>,
+}
+
+impl Model for Pieces {
+    ghost use Rattle.std.specs.Prelude.{List};
+    ghost use Rattle.druid_timeline.specs.Pieces.{Told};
+
+    ghost Value = { List Told };
+
+    ghost view = { λ a. a.items.items };
+}
+
+impl Pieces {
+    /// These pieces, in this order.
+    pub fn new(items: Vec<Piece>) -> Pieces
+        ensures { result ≡ items.items }
+    {
+        Pieces { items }
+    }
+
+    /// The pieces, lent.
+    pub fn as_slice(&self) -> &[Piece]
+        ensures { result.now ≡ self.now }
+    {
+        self.items.as_slice()
+    }
+}
+
+/// What a command is answered.
+#[derive(Debug, Drop)]
+pub enum Answer {
+    /// It changes nothing.
+    Refused(Refusal),
+    /// The broker stands.
+    Taken,
+    /// A reply was taken.
+    Stepped {
+        /// The mark of the node after it.
+        mark: Mark,
+        /// What it did.
+        outcome: Outcome,
+    },
+    /// What is visible.
+    Found(Pieces),
+}
+
+fn outcome_text(outcome: Outcome) -> &'static str
+    ensures { result.now ≡ outcome_text outcome }
+{
+    match outcome {
+        Outcome::Moved => "Moved",
+        Outcome::AlreadyHave => "AlreadyHave",
+        Outcome::AskWhole => "AskWhole",
+    }
+}
+
+#[tactic(auto, unfolding(crate::specs::Answers::mark_data))]
+fn mark_value(alloc: Global, mark: Mark) -> Result<Value, AllocError>
+    ensures { IfOk result (λ v. view v ≡ mark_data mark) }
+{
+    json!(in alloc; {
+        "counter": mark.count(),
+        "hash": mark.incarnation(),
+    })
+}
+
+#[tactic(auto, using(crate::proofs::JsonLemmas::json_lists), unfolding(crate::specs::Answers::parts_data))]
+fn parts_value(alloc: Global, parts: &[u16]) -> Result<Value, AllocError>
+    ensures { IfOk result (λ v. view v ≡ parts_data parts.now) }
+{
+    let mut values = Vec::with_capacity(alloc, parts.len())?;
+    for part in parts {
+        values.push(Value::from(*part))?;
+    }
+    Ok(Value::Array(values))
+}
+
+#[tactic(auto, unfolding(crate::specs::Answers::piece_data))]
+fn piece_value(alloc: Global, piece: &Piece) -> Result<Value, AllocError>
+    ensures { IfOk result (λ v. view v ≡ piece_data piece.now) }
+{
+    let chunk = piece.key().interval().text(alloc)?;
+    let interval = piece.interval().text(alloc)?;
+    let parts = parts_value(alloc, piece.parts())?;
+    json!(in alloc; {
+        "chunk": chunk.as_str(),
+        "interval": interval.as_str(),
+        "parts": parts,
+        "version": piece.key().version().as_str(),
+    })
+}
+
+#[tactic(auto, using(crate::proofs::JsonLemmas::json_lists), unfolding(crate::specs::Answers::pieces_data))]
+fn pieces_value(alloc: Global, pieces: &[Piece]) -> Result<Value, AllocError>
+    ensures { IfOk result (λ v. view v ≡ pieces_data pieces.now) }
+{
+    let mut values = Vec::with_capacity(alloc, pieces.len())?;
+    for piece in pieces {
+        values.push(piece_value(alloc, piece)?)?;
+    }
+    Ok(Value::Array(values))
+}
+
+#[tactic(auto, unfolding(crate::specs::Answers::answer_data))]
+fn answer_value(alloc: Global, answer: &Answer) -> Result<Value, AllocError>
+    ensures { IfOk result (λ v. view v ≡ answer_data answer.now) }
+{
+    match answer {
+        Answer::Refused(refusal) => {
+            let code = refusal.code();
+            json!(in alloc; {"refused": code})
+        }
+        Answer::Taken => json!(in alloc; {"brokers": 1u64}),
+        Answer::Stepped { mark, outcome } => {
+            let mark = mark_value(alloc, *mark)?;
+            let outcome = outcome_text(*outcome);
+            json!(in alloc; {"mark": mark, "outcome": outcome})
+        }
+        Answer::Found(pieces) => {
+            let pieces = pieces_value(alloc, pieces.as_slice())?;
+            json!(in alloc; {"pieces": pieces})
+        }
+    }
+}
+
+/// The line of an answer: its JSON, compact, with the keys in order, and a line feed.
+#[tactic(auto, using(crate::proofs::PlainLemmas::answer_plain))]
+pub fn answer_line(alloc: Global, answer: &Answer) -> Result<String, AllocError>
+    ensures { IfOk result (λ text. string_bytes text ≡ line_text answer.now) }
+{
+    let mut text = answer_value(alloc, answer)?.to_string(alloc)?;
+    text.push('\n')?;
+    Ok(text)
+}

@@ -1,0 +1,120 @@
+//! Lines, read one by one.
+ghost use Rattle.std.specs.Prelude.{◌≡◌, ◌≢◌, ◌≤◌, ◌<◌, ◌+◌, ◌++◌, length, take, All, Ok, IfOk, IfSome};
+ghost use Rattle.druid_cluster.specs.Serving.{max_line};
+ghost use Rattle.druid_cluster.specs.Lines.{Finds};
+ghost use Rattle.druid_cluster.specs.Parts.{feed_of, IsPart};
+
+use std::io;
+use std::io::{BufRead, Error, ErrorKind};
+
+/// The most bytes of a line, its line feed left out.
+const MAX_LINE: usize = 16_777_216;
+
+/// What reading on finds.
+#[derive(Clone, Copy, Debug, PartialEq, Eq, Drop)]
+pub enum Next {
+    /// A line.
+    Line,
+    /// A line of more than 16 MiB.
+    TooLong,
+    /// The end of the input.
+    End,
+}
+
+/// What stands behind some bytes of a line.
+#[derive(Clone, Copy, Debug, PartialEq, Eq, Drop)]
+pub enum Part {
+    /// There may be more of it.
+    More,
+    /// Its line feed.
+    Feed,
+    /// The end of the input.
+    Ended,
+}
+
+impl Part {
+    // The length of the line feed, where it is one.
+    fn feed_len(self) -> usize
+        ensures { result ≡ length (feed_of self) }
+    {
+        match self {
+            Part::Feed => 1,
+            Part::More | Part::Ended => 0,
+        }
+    }
+}
+
+// How many bytes there are before the first line feed, but no more than there is room for, and what stands behind them.
+fn scan(bytes: &[u8], room: usize) -> (usize, Part)
+    ensures bound { result.0 + length (feed_of result.1) ≤ length bytes.now }
+    ensures short { result.0 ≤ room }
+    ensures plain { All (λ b. b ≢ 10) (take result.0 bytes.now) }
+    ensures taken { take (result.0 + length (feed_of result.1)) bytes.now
+        ≡ take result.0 bytes.now ++ feed_of result.1 }
+    ensures ended { result.1 ≡ Part.Ended → length bytes.now ≡ 0 }
+{
+    if bytes.is_empty() {
+        return (0, Part::Ended);
+    }
+    for i in 0..bytes.len() {
+        if bytes[i] == b'\n' {
+            return (i, Part::Feed);
+        }
+        if i == room {
+            return (i, Part::More);
+        }
+    }
+    (bytes.len(), Part::More)
+}
+
+fn is_interrupted(error: &Error) -> bool {
+    error.kind() == ErrorKind::Interrupted
+}
+
+// Appends what the reader has at hand of a line, but no more bytes than there is room for, and takes the line feed.
+fn append_part<R: BufRead>(reader: &mut R, line: &mut Vec<u8>, room: usize) -> io::Result<Part>
+    ensures { IfOk result (λ part. IsPart part line.old.items line.new.items room
+        (R.remaining reader.old) (R.remaining reader.new)) }
+{
+    let available = match reader.fill_buf() {
+        Ok(available) => available,
+        Err(error) => {
+            return if is_interrupted(&error) {
+                Ok(Part::More)
+            } else {
+                Err(error)
+            };
+        }
+    };
+    let (end, part) = scan(available, room);
+    line.extend_from_slice(&available[..end])?;
+    reader.consume(end + part.feed_len());
+    Ok(part)
+}
+
+/// Reads the next line, without its line feed, in place of what `line` had. It keeps no more than 16 MiB and a byte.
+#[tactic(auto, using(crate::proofs::LineLemmas::grown_plain, crate::proofs::LineLemmas::grown_taken, crate::proofs::LineLemmas::finds_more, crate::proofs::LineLemmas::finds_long, crate::proofs::LineLemmas::finds_feed, crate::proofs::LineLemmas::finds_last, crate::proofs::LineLemmas::finds_end))]
+pub fn next_line<R: BufRead>(reader: &mut R, line: &mut Vec<u8>) -> io::Result<Next>
+    ensures found { IfOk result (λ next. IfSome (R.remaining reader.old)
+        (λ xs. Finds next xs line.new.items (R.remaining reader.new))) }
+    ensures within { result ≡ Ok Next.Line → length line.new.items ≤ max_line }
+{
+    line.clear();
+    for _ in 0..u64::MAX {
+        let part = append_part(reader, line, MAX_LINE + 1 - line.len())?;
+        if line.len() > MAX_LINE {
+            return Ok(Next::TooLong);
+        }
+        match part {
+            Part::More => {}
+            Part::Feed => return Ok(Next::Line),
+            Part::Ended => {
+                if line.is_empty() {
+                    return Ok(Next::End);
+                }
+                return Ok(Next::Line);
+            }
+        }
+    }
+    Err(ErrorKind::TimedOut.into())
+}

@@ -1,0 +1,29 @@
+-- Entries: equal descriptors, and lists of entries behind pointers.
+use Rattle.std.proofs.Common.{◌≡◌, Bool, ◌<◌, ◌≤◌, ◌++◌, ℕ, zero, suc, List, [], ◌∷◌, map, set, length, get_or, Option, Some, None, IsTrue, bytes_eq, refl, sym, ap, ◌∙◌, arith}
+use Rattle.std.specs.List.{AllZip, slice_get, slice_set}
+use Rattle.std.proofs.lemmas.List.{set-get_or}
+use Rattle.std.proofs.lemmas.Option.{get_or_from_slice_get, same_Some}
+use Rattle.druid_segid.specs.Identifier.{Identifier, IsIdentifier, identifier_text}
+use Rattle.druid_segid.proofs.IdentifierLemmas.{bytes_eq-identifier_text}
+use Rattle.druid_shard.specs.Described.{Described}
+use Rattle.druid_inventory.specs.Entry.{Entry}
+
+described_same : (a b : Described) → a.id ≡ b.id → a.core ≡ b.core → a.size ≡ b.size → a ≡ b
+described_same a b id core size i = record { id = id i; core = core i; size = size i }
+
+-- descriptors whose parts are equal are equal
+pub same_from_parts : (a b : Described) (r : Bool) → IsIdentifier a.id → IsIdentifier b.id → a.core ≡ b.core → a.size ≡ b.size → r ≡ bytes_eq (identifier_text a.id) (identifier_text b.id) → (IsTrue r → a ≡ b) × (a ≡ b → IsTrue r)
+same_from_parts a b r va vb core size e =
+    let ids = bytes_eq-identifier_text a.id b.id va vb in
+    (λ t. described_same a b (ids.0 (sym e ∙ t)) core size, λ same. e ∙ ids.1 (ap (λ (d : Described). d.id) same))
+
+-- pointers copied one by one point to the same
+pub map-copied : {A B : Type 0} (f : A → B) (xs ys : List A) → AllZip (λ x y. f y ≡ f x) xs ys → map f ys ≡ map f xs
+map-copied f [] [] h = refl
+map-copied f [] (y ∷ ys) h = absurd h
+map-copied f (x ∷ xs) [] h = absurd h
+map-copied f (x ∷ xs) (y ∷ ys) h = λ i. h.0 i ∷ map-copied f xs ys h.1 i
+
+-- what is found, put back, changes nothing
+pub set-found : {X : Type 0} (xs : List X) (i : ℕ) (x : X) → slice_get xs i ≡ Some x → set xs i x ≡ xs
+set-found xs i x e = ap (λ (y : _). set xs i y) (sym (get_or_from_slice_get xs i x x e)) ∙ set-get_or xs i x

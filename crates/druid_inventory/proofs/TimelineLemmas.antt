@@ -1,0 +1,289 @@
+-- Timelines over what nodes serve: one segment more, one node more.
+use Rattle.std.proofs.Common.{◌≡◌, ◌+◌, ◌<◌, ◌≤◌, ◌⊎◌, ◌++◌, ℕ, zero, suc, List, [], ◌∷◌, take, length, get_or, Option, Some, None, IfSome, IsSome, option_map, Bor, map, Bool, bytes_eq, true, false, refl, sym, ap, ◌∙◌, subst, inl, inr, arith}
+use Rattle.std.specs.Prelude.{◌↔◌, Contains, ⊤}
+use Rattle.std.specs.Bool.{Decides}
+use Rattle.std.specs.Option.{option_copied}
+use Rattle.std.specs.List.{slice_get}
+use Rattle.std.specs.BTreeMap.{BTreeMap, UpdatesBy, is_at}
+use Rattle.std.specs.Map.{lookup}
+use Rattle.std.specs.Ordering.{nat_cmp, is_eq}
+use Rattle.std.specs.declared.cmp.Ordering.{Ordering}
+use Rattle.std.specs.declared.cmp.Ordering.TheVariants.{Less, Equal, Greater}
+use Rattle.std.specs.Cmp.Lexicographic.{slice_cmp, bytes_decides}
+use Rattle.std.proofs.lemmas.List.{take_more, length-take-le, get_or-take, get_or_default}
+use Rattle.std.proofs.lemmas.List.Elements.{Contains-append_left, Contains-push, Contains-push_cases}
+use Rattle.std.proofs.lemmas.Option.{same_Some, none-some, slice_get-map, slice_get_read, MatchOption-at_some}
+use Rattle.std.proofs.lemmas.Bool.{cases_eq, false≢true}
+use Rattle.druid_segid.specs.Identifier.{Identifier, identifier_text}
+use Rattle.druid_segid.specs.Group.{Group, group_of}
+use Rattle.druid_segid.proofs.OrderLemmas.{slice_cmp-Equal}
+use Rattle.druid_shard.specs.Described.{Described}
+use Rattle.druid_shard.specs.Reply.{AreSorted}
+use Rattle.druid_shard.proofs.SortedLemmas.{AreSorted-own}
+use Rattle.druid_timeline.specs.Holding.{Held, Serving, held_of, IsHeld, AddsHeld}
+use Rattle.druid_inventory.specs.Entry.{Entry}
+use Rattle.druid_inventory.specs.Sources.{Serves, HasSource, IsHoldingOf}
+use Rattle.druid_inventory.specs.Timelines.{kept, IsTimelineOf, IsKept, AreTimelines, AreTimelinesOf, held_in, TakesSegment, AddsSegment, IsInventory}
+
+-- ---- one segment more
+
+-- what is served, and one segment more
+abbrev pub WithSegment : (ℕ → Described → Type 0) → ℕ → Described → ℕ → Described → Type 0
+WithSegment served node d i x = served i x ⊎ ((i ≡ node) × (x ≡ d))
+
+nothing_held : (x : Held) → Contains [] x → ⊥
+nothing_held x h = absurd (omega (arith, h.1))
+
+-- a source's holding, kept or empty
+held_of_kept : (served : ℕ → Described → Type 0) (source : List ℕ) (o : Option Serving) → IsKept served source o → (x : Held)
+    → Contains (held_in o) x ↔ ((i : ℕ) × (y : Described) × served i y × (y.id.source ≡ source) × (x ≡ held_of i y))
+held_of_kept served source None h x = (λ c. absurd (nothing_held x c), λ e. absurd (h e.0 e.1 e.2 e.3))
+held_of_kept served source (Some t) h x = h.held x
+
+-- at the source of the segment
+kept_here : (served : ℕ → Described → Type 0) (o : Option Serving) (t : Serving) (node : ℕ) (d : Described)
+    → IsKept served d.id.source o → t.source ≡ d.id.source → AddsHeld (held_in o) t.held (held_of node d)
+    → IsTimelineOf (WithSegment served node d) d.id.source t
+kept_here served o t node d old source adds = record {
+  of_source = source;
+  some = (node, d, inr (refl, refl), refl);
+  held = λ x. (
+    λ c. elim ((adds x).0 c) [
+      | inl e ↦ (node, d, inr (refl, refl), refl, e)
+      | inr more ↦
+          let was = (held_of_kept served d.id.source o old x).0 more in
+          (was.0, was.1, inl was.2, was.3, was.4)
+    ],
+    λ e. elim e.2 [
+      | inl s ↦ (adds x).1 (inr ((held_of_kept served d.id.source o old x).1 (e.0, e.1, s, e.3, e.4)))
+      | inr new ↦ (adds x).1 (inl (e.4 ∙ (λ k. held_of (new.0 k) (new.1 k))))
+    ]
+  );
+}
+
+-- at another source
+kept_there : (served : ℕ → Described → Type 0) (source : List ℕ) (o : Option Serving) (node : ℕ) (d : Described)
+    → (source ≡ d.id.source → ⊥) → IsKept served source o → IsKept (WithSegment served node d) source o
+kept_there served source None node d apart h =
+    λ i y s e. elim s [
+      | inl was ↦ h i y was e
+      | inr new ↦ absurd (apart (sym e ∙ ap (λ (z : Described). z.id.source) new.1))
+    ]
+kept_there served source (Some t) node d apart h = record {
+  of_source = h.of_source;
+  some = (h.some.0, h.some.1, inl h.some.2, h.some.3);
+  held = λ x. (
+    λ c. let was = (h.held x).0 c in (was.0, was.1, inl was.2, was.3, was.4),
+    λ e. elim e.2 [
+      | inl s ↦ (h.held x).1 (e.0, e.1, s, e.3, e.4)
+      | inr new ↦ absurd (apart (sym e.3 ∙ ap (λ (z : Described). z.id.source) new.1))
+    ]
+  );
+}
+
+decided : (b : Bool) (P : Type 0) → Decides b P → P ⊎ (P → ⊥)
+decided true P d = inl (d.0 refl)
+decided false P d = inr (λ p. false≢true (d.1 p))
+
+-- a text is another, or not
+same_or_not : (s t : List ℕ) → (s ≡ t) ⊎ (s ≡ t → ⊥)
+same_or_not s t = decided (bytes_eq s t) (s ≡ t) (bytes_decides s t)
+
+-- with the segment added, the timelines are those of all and the segment
+pub AreTimelines-more : (served : ℕ → Described → Type 0) (m n : BTreeMap (List ℕ) Serving) (node : ℕ) (d : Described)
+    → AreTimelines served m → AddsSegment m n node d → AreTimelines (WithSegment served node d) n
+AreTimelines-more served m n node d old adds = record {
+  each = λ source. elim (same_or_not source d.id.source) [
+    | inl e ↦
+        let here : IsKept (WithSegment served node d) d.id.source (kept n d.id.source) =
+          rw adds.here.1 (kept_here served (kept m d.id.source) adds.here.0 node d (old.each d.id.source) adds.here.2 adds.here.3) in
+        subst (λ (s : List ℕ). IsKept (WithSegment served node d) s (kept n s)) (sym e) here
+    | inr apart ↦ rw (adds.others source apart) (kept_there served source (kept m source) node d apart (old.each source))
+  ];
+}
+
+kept_alike : (P Q : ℕ → Described → Type 0) (source : List ℕ) (o : Option Serving)
+    → ((i : ℕ) (y : Described) → P i y ↔ Q i y) → IsKept P source o → IsKept Q source o
+kept_alike P Q source None alike h = λ i y s e. h i y ((alike i y).1 s) e
+kept_alike P Q source (Some t) alike h = record {
+  of_source = h.of_source;
+  some = (h.some.0, h.some.1, (alike h.some.0 h.some.1).0 h.some.2, h.some.3);
+  held = λ x. (
+    λ c. let was = (h.held x).0 c in (was.0, was.1, (alike was.0 was.1).0 was.2, was.3, was.4),
+    λ e. (h.held x).1 (e.0, e.1, (alike e.0 e.1).1 e.2, e.3, e.4)
+  );
+}
+
+-- timelines of what is served, said otherwise
+pub AreTimelines-alike : (P Q : ℕ → Described → Type 0) (m : BTreeMap (List ℕ) Serving)
+    → ((i : ℕ) (y : Described) → P i y ↔ Q i y) → AreTimelines P m → AreTimelines Q m
+AreTimelines-alike P Q m alike old = record { each = λ source. kept_alike P Q source (kept m source) alike (old.each source) }
+
+identifier_same : (a b : Identifier) → a.source ≡ b.source → group_of a ≡ group_of b → a.partition ≡ b.partition → a ≡ b
+identifier_same a b source group partition i =
+    record { source = source i; interval = (group i).interval; version = (group i).version; partition = partition i }
+
+takes_kept : (served : ℕ → Described → Type 0) (o : Option Serving) (node : ℕ) (d : Described)
+    → IsKept served d.id.source o → ((y : Described) → served node y → y.id ≡ d.id → ⊥) → IfSome o (TakesSegment d.id.source node d)
+takes_kept served None node d h fresh = tt
+takes_kept served (Some t) node d h fresh = record {
+  of_source = h.of_source;
+  new = λ there.
+      let was = (h.held there.0).0 there.1 in
+      let here : was.0 ≡ node = ap (λ (x : Held). x.member.node) (sym was.4) ∙ there.4 in
+      let group : group_of was.1.id ≡ group_of d.id = ap (λ (x : Held). x.group) (sym was.4) ∙ there.2 in
+      let partition : was.1.id.partition ≡ d.id.partition = ap (λ (x : Held). x.member.partition) (sym was.4) ∙ there.3 in
+      fresh was.1 (subst (λ (i : ℕ). served i was.1) here was.2) (identifier_same was.1.id d.id was.3 group partition);
+}
+
+-- where the node serves no segment of that identifier, the timeline of its source takes it
+pub takes_segment : (served : ℕ → Described → Type 0) (m : BTreeMap (List ℕ) Serving) (node : ℕ) (d : Described)
+    → AreTimelines served m → ((y : Described) → served node y → y.id ≡ d.id → ⊥)
+    → IfSome (kept m d.id.source) (TakesSegment d.id.source node d)
+takes_segment served m node d h fresh = takes_kept served (kept m d.id.source) node d (h.each d.id.source) fresh
+
+not_tied : (o : Ordering) → (o ≡ Equal → ⊥) → is_eq o ≡ false
+not_tied Less h = refl
+not_tied Equal h = absurd (h refl)
+not_tied Greater h = refl
+
+written : (m n : BTreeMap (List ℕ) Serving) (source : List ℕ) (t : Serving) (node : ℕ) (d : Described)
+    → source ≡ d.id.source → UpdatesBy (slice_cmp nat_cmp) (slice_cmp nat_cmp source) m n (Some t)
+    → t.source ≡ d.id.source → AddsHeld (held_in (kept m d.id.source)) t.held (held_of node d) → AddsSegment m n node d
+written m n source t node d same writes of_source adds = record {
+  here = (t, subst (λ (s : List ℕ). kept n s ≡ Some t) same writes.1, of_source, adds);
+  others = λ s apart. writes.2 s (not_tied (slice_cmp nat_cmp source s) (λ e. apart (sym (slice_cmp-Equal source s e) ∙ same)));
+}
+
+-- a timeline that was there grows
+pub AddsSegment-grown : (m n : BTreeMap (List ℕ) Serving) (source : List ℕ) (before t : Serving) (node : ℕ) (d : Described)
+    → source ≡ d.id.source → Some before ≡ kept m source → IfSome (kept m d.id.source) (TakesSegment d.id.source node d)
+    → UpdatesBy (slice_cmp nat_cmp) (slice_cmp nat_cmp source) m n (Some t)
+    → t.source ≡ before.source → AddsHeld before.held t.held (held_of node d) → AddsSegment m n node d
+AddsSegment-grown m n source before t node d same found takes writes stays adds =
+    let e : kept m d.id.source ≡ Some before = subst (λ (s : List ℕ). kept m s ≡ Some before) same (sym found) in
+    let took = MatchOption-at_some ⊤ (TakesSegment d.id.source node d) before e takes in
+    written m n source t node d same writes (stays ∙ took.of_source)
+    (subst (λ (o : Option Serving). AddsHeld (held_in o) t.held (held_of node d)) (sym e) adds)
+
+-- the first segment of a source begins its timeline
+pub AddsSegment-begun : (m n : BTreeMap (List ℕ) Serving) (source key name : List ℕ) (begun t : Serving) (node : ℕ) (d : Described)
+    → source ≡ d.id.source → None ≡ kept m source → key ≡ source → name ≡ source → begun ≡ record { source = name; held = [] }
+    → UpdatesBy (slice_cmp nat_cmp) (slice_cmp nat_cmp key) m n (Some t)
+    → t.source ≡ begun.source → AddsHeld begun.held t.held (held_of node d) → AddsSegment m n node d
+AddsSegment-begun m n source key name begun t node d same absent at called new writes stays adds =
+    let e : kept m d.id.source ≡ None = subst (λ (s : List ℕ). kept m s ≡ None) same (sym absent) in
+    let none : begun.held ≡ [] = ap (λ (b : Serving). b.held) new in
+    let of_source : t.source ≡ d.id.source = stays ∙ ap (λ (b : Serving). b.source) new ∙ called ∙ same in
+    written m n key t node d (at ∙ same) writes of_source
+    (subst (λ (o : Option Serving). AddsHeld (held_in o) t.held (held_of node d)) (sym e)
+    (subst (λ (xs : List Held). AddsHeld xs t.held (held_of node d)) none adds))
+
+-- ---- one node more
+
+-- what some nodes serve, and some segments of one more
+abbrev pub WithSome : List Entry → ℕ → List Described → ℕ → Described → Type 0
+WithSome entries node some i y = Serves entries i y ⊎ ((i ≡ node) × Contains some y)
+
+slice_get-take : {X : Type 0} (xs : List X) (n i : ℕ) → i < n → slice_get (take n xs) i ≡ slice_get xs i
+slice_get-take xs zero i h = absurd (omega arith)
+slice_get-take [] (suc n) i h = refl
+slice_get-take (x ∷ xs) (suc n) zero h = refl
+slice_get-take (x ∷ xs) (suc n) (suc i) h = slice_get-take xs n i (omega arith)
+
+slice_get-short : {X : Type 0} (xs : List X) (n i : ℕ) (x : X) → slice_get (take n xs) i ≡ Some x → i < n
+slice_get-short xs zero i x e = absurd (none-some x e)
+slice_get-short [] (suc n) i x e = absurd (none-some x e)
+slice_get-short (y ∷ xs) (suc n) zero x e = omega arith
+slice_get-short (y ∷ xs) (suc n) (suc i) x e = let below = slice_get-short xs n i x e in omega arith
+
+-- the segment at a place is none that the node serves before it
+pub not_before : (entries : List Entry) (node : ℕ) (some : List Described) (k : ℕ) (d : Described) → AreSorted some → k < length some
+    → (y : Described) → WithSome (take node entries) node (take k some) node y → y.id ≡ (get_or some k d).id → ⊥
+not_before entries node some k d sorted l y (inl s) e =
+    let below = slice_get-short entries node node s.0 s.1 in
+    absurd (omega arith)
+not_before entries node some k d sorted l y (inr new) e =
+    let at = new.1 in
+    let long = length-take-le k some (omega arith) in
+    let below : at.0 < k = omega arith in
+    let same : get_or some at.0 y ≡ y = sym (get_or-take k some at.0 y below) ∙ at.2 in
+    let texts : identifier_text (get_or some at.0 d).id ≡ identifier_text (get_or some k d).id =
+      ap (λ (z : Described). identifier_text z.id) (get_or_default some at.0 d y (omega arith) ∙ same) ∙ ap identifier_text e in
+    let level : at.0 ≡ k = AreSorted-own some sorted at.0 k d (omega arith) l texts in
+    absurd (omega arith)
+
+-- a set grows by its next segment
+pub WithSome-more : (entries : List Entry) (node : ℕ) (some : List Described) (k : ℕ) (d : Described) → k < length some
+    → (i : ℕ) (y : Described) → WithSegment (WithSome entries node (take k some)) node (get_or some k d) i y ↔ WithSome entries node (take (k + 1) some) i y
+WithSome-more entries node some k d l i y = rw (take_more some k d l) (
+    λ h. elim h [
+      | inl (inl s) ↦ inl s
+      | inl (inr new) ↦ inr (new.0, Contains-append_left (take k some) (get_or some k d ∷ []) y new.1)
+      | inr new ↦ inr (new.0, subst (λ (z : Described). Contains (take k some ++ get_or some k d ∷ []) z) (sym new.1) (Contains-push (take k some) (get_or some k d)))
+    ],
+    λ h. elim h [
+      | inl s ↦ inl (inl s)
+      | inr new ↦ elim (Contains-push_cases (take k some) (get_or some k d) y new.1) [
+        | inl c ↦ inl (inr (new.0, c))
+        | inr e ↦ inr (new.0, sym e)
+      ]
+    ])
+
+-- before its first segment
+pub WithSome-none : (entries : List Entry) (node : ℕ) (i : ℕ) (y : Described) → Serves entries i y ↔ WithSome entries node [] i y
+WithSome-none entries node i y = (λ s. inl s, λ h. elim h [ inl s ↦ s | inr new ↦ absurd (omega (arith, new.1.1)) ])
+
+-- with its whole set, the node is served
+pub WithSome-all : (entries : List Entry) (node : ℕ) (e : Entry) → slice_get entries node ≡ Some e
+    → (i : ℕ) (y : Described) → WithSome (take node entries) node e.set i y ↔ Serves (take (node + 1) entries) i y
+WithSome-all entries node e found i y = (
+    λ h. elim h [
+      | inl s ↦
+          let below = slice_get-short entries node i s.0 s.1 in
+          (s.0, slice_get-take entries (node + 1) i (omega arith) ∙ sym (slice_get-take entries node i below) ∙ s.1, s.2)
+      | inr new ↦ (e, slice_get-take entries (node + 1) i (omega arith) ∙ ap (slice_get entries) new.0 ∙ found, new.1)
+    ],
+    λ s. from_more s) where
+  from_more : Serves (take (node + 1) entries) i y → WithSome (take node entries) node e.set i y
+  from_more s =
+      let below = slice_get-short entries (node + 1) i s.0 s.1 in
+      let there : slice_get entries i ≡ Some s.0 = sym (slice_get-take entries (node + 1) i below) ∙ s.1 in
+      elim (cases_eq i node) [
+        | inl at ↦
+            let same : s.0 ≡ e = same_Some s.0 e (sym there ∙ ap (slice_get entries) at ∙ found) in
+            inr (at, subst (λ (x : Entry). Contains x.set y) same s.2)
+        | inr apart ↦ inl (s.0, slice_get-take entries node i (omega arith) ∙ there, s.2)
+      ]
+
+-- what a pointer of the list points to
+pub found_behind : {A B : Type 0} (f : A → B) (xs : List A) (i : ℕ) (x : A) → i < length xs → x ≡ get_or xs i x → slice_get (map f xs) i ≡ Some (f x)
+found_behind f xs i x l e = slice_get-map f xs i ∙ ap (option_map f) (slice_get_read xs (length xs) i x refl l e)
+
+-- no node, no timeline
+pub AreTimelinesOf-none : (m : BTreeMap (List ℕ) Serving) → m.entries ≡ [] → AreTimelinesOf [] m
+AreTimelinesOf-none m e = record { each = λ source. let none : kept m source ≡ None = ap (lookup (is_at (slice_cmp nat_cmp source))) e in rw none (λ i y s f. none-some s.0 s.1) }
+
+-- ---- what an inventory answers
+
+-- the same entries and the same timelines
+pub IsInventory-same : (entries others : List Entry) (m n : BTreeMap (List ℕ) Serving) → others ≡ entries → n ≡ m → IsInventory entries m → IsInventory others n
+IsInventory-same entries others m n e f h = subst (λ (es : List Entry). IsInventory es n) (sym e) (subst (IsInventory entries) (sym f) h)
+
+kept_some : (entries : List Entry) (source : List ℕ) (o : Option Serving) → IsKept (Serves entries) source o → IsSome o ↔ HasSource entries source
+kept_some entries source None h = (λ e. absurd (false≢true e), λ has. absurd (h has.0 has.1 has.2 has.3))
+kept_some entries source (Some t) h = (λ _. h.some, λ _. refl)
+
+-- a timeline is found exactly where a node serves a segment of the source
+pub found_some : (entries : List Entry) (source : List ℕ) (m : BTreeMap (List ℕ) Serving) (r : Option (Bor Serving))
+    → option_copied r ≡ kept m source → AreTimelinesOf entries m → IsSome r ↔ HasSource entries source
+found_some entries source m None e h = kept_some entries source None (subst (IsKept (Serves entries) source) (sym e) (h.each source))
+found_some entries source m (Some x) e h = kept_some entries source (Some x.now) (subst (IsKept (Serves entries) source) (sym e) (h.each source))
+
+-- what is found has the holding of the source
+pub found_held : (entries : List Entry) (source : List ℕ) (m : BTreeMap (List ℕ) Serving) (r : Option (Bor Serving))
+    → option_copied r ≡ kept m source → AreTimelinesOf entries m → IfSome r (λ timeline. IsHoldingOf entries source timeline.now.held)
+found_held entries source m None e h = tt
+found_held entries source m (Some x) e h =
+    let is : IsTimelineOf (Serves entries) source x.now = subst (IsKept (Serves entries) source) (sym e) (h.each source) in
+    is.held

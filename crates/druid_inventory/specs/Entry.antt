@@ -1,0 +1,24 @@
+-- What a broker knows of the data nodes.
+use Rattle.std.specs.Prelude.{◌≡◌, ℕ, List, [], map, length, slice_index_or, ◌<◌}
+use Rattle.druid_shard.specs.Described.{Described}
+use Rattle.druid_shard.specs.Mark.{Point, never}
+
+-- the most nodes of a list
+abbrev pub max_nodes : ℕ
+max_nodes = 64
+
+-- of one node: its name, how far its history has been followed, and what it serves at that mark
+pub record Entry : Type 0 where
+  pub name : List ℕ
+  pub mark : Point
+  pub set : List Described
+
+-- a node that was never synced
+abbrev pub fresh : List ℕ → Entry
+fresh name = record { name = name; mark = never; set = [] }
+
+-- no name stands at two places
+abbrev pub HaveOwnNames : List (List ℕ) → Type 0
+HaveOwnNames names =
+    (i j : ℕ) (d : List ℕ) → i < length names → j < length names
+    → slice_index_or names i d ≡ slice_index_or names j d → i ≡ j

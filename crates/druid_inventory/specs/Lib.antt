@@ -1,0 +1,4 @@
+pub mod Entry
+pub mod Step
+pub mod Sources
+pub mod Timelines

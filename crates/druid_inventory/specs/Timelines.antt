@@ -1,0 +1,54 @@
+-- The timelines over what nodes serve.
+use Rattle.std.specs.Prelude.{◌≡◌, ℕ, ◌≤◌, List, [], length, ◌⊎◌, ◌↔◌, Option, None, Some, Contains}
+use Rattle.std.specs.BTreeMap.{BTreeMap, get}
+use Rattle.std.specs.Ordering.{nat_cmp}
+use Rattle.std.specs.Cmp.Lexicographic.{slice_cmp}
+use Rattle.druid_shard.specs.Described.{Described}
+use Rattle.druid_timeline.specs.Holding.{Held, Serving, held_of, IsHeld, AddsHeld}
+use Rattle.druid_inventory.specs.Entry.{Entry, max_nodes}
+use Rattle.druid_inventory.specs.Sources.{Serves}
+
+-- the timeline that is kept of a source
+abbrev pub kept : BTreeMap (List ℕ) Serving → List ℕ → Option Serving
+kept timelines source = get (slice_cmp nat_cmp) timelines source
+
+-- of all that is served, this is the timeline of the source, of which some is served
+pub record IsTimelineOf (served : ℕ → Described → Type 0) (source : List ℕ) (t : Serving) : Type 0 where
+  pub of_source : t.source ≡ source
+  pub some : (node : ℕ) × (d : Described) × served node d × (d.id.source ≡ source)
+  pub held : (x : Held) → Contains t.held x
+    ↔ ((node : ℕ) × (d : Described) × served node d × (d.id.source ≡ source) × (x ≡ held_of node d))
+
+-- the timeline of the source, or nothing where nothing of it is served
+abbrev pub IsKept : (ℕ → Described → Type 0) → List ℕ → Option Serving → Type 0
+IsKept served source None = (node : ℕ) (d : Described) → served node d → d.id.source ≡ source → ⊥
+IsKept served source (Some t) = IsTimelineOf served source t
+
+-- of each source, the timeline of all that is served
+pub record AreTimelines (served : ℕ → Described → Type 0) (timelines : BTreeMap (List ℕ) Serving) : Type 0 where
+  pub each : (source : List ℕ) → IsKept served source (kept timelines source)
+
+-- the timelines over these entries
+abbrev pub AreTimelinesOf : List Entry → BTreeMap (List ℕ) Serving → Type 0
+AreTimelinesOf entries timelines = AreTimelines (Serves entries) timelines
+
+-- what an inventory keeps: not too many entries, and the timelines over them
+pub record IsInventory (entries : List Entry) (timelines : BTreeMap (List ℕ) Serving) : Type 0 where
+  pub few : length entries ≤ max_nodes
+  pub over : AreTimelinesOf entries timelines
+
+-- what is held of a source
+abbrev pub held_in : Option Serving → List Held
+held_in None = []
+held_in (Some t) = t.held
+
+-- the timeline is of the source, and has no such segment of the node
+pub record TakesSegment (source : List ℕ) (node : ℕ) (d : Described) (t : Serving) : Type 0 where
+  pub of_source : t.source ≡ source
+  pub new : IsHeld t.held node d.id → ⊥
+
+-- the timeline of its source has the segment more, and the others stay
+pub record AddsSegment (old new : BTreeMap (List ℕ) Serving) (node : ℕ) (d : Described) : Type 0 where
+  pub here : (t : Serving) × (kept new d.id.source ≡ Some t) × (t.source ≡ d.id.source)
+    × AddsHeld (held_in (kept old d.id.source)) t.held (held_of node d)
+  pub others : (source : List ℕ) → (source ≡ d.id.source → ⊥) → kept new source ≡ kept old source

@@ -1,0 +1,58 @@
+ghost use Rattle.std.specs.Prelude.{◌≡◌};
+ghost use Rattle.druid_inventory.specs.declared.fault.InventoryFault.TheVariants as new_fault;
+ghost use Rattle.druid_inventory.specs.declared.fault.ApplyFault.TheVariants as apply_fault;
+
+use std::alloc::AllocError;
+use thiserror::Error;
+
+/// Why there is no inventory of a list of nodes.
+#[derive(Clone, Copy, Debug, PartialEq, Eq, Drop, Error)]
+pub enum InventoryFault {
+    /// V1: a name stands twice in the list.
+    #[error("V1: a doubled node")]
+    DoubledNode,
+    /// V9: memory was refused.
+    #[error("V9: out of memory")]
+    Memory,
+}
+
+impl From<AllocError> for InventoryFault {
+    ghost from_gives = { λ _ fault. fault ≡ new_fault.Memory };
+
+    fn from(_error: AllocError) -> InventoryFault {
+        InventoryFault::Memory
+    }
+}
+
+/// Why a reply is not applied. The inventory stays as it was.
+#[derive(Clone, Copy, Debug, PartialEq, Eq, Drop, Error)]
+pub enum ApplyFault {
+    /// A1: the list has no such node.
+    #[error("A1: an unknown node")]
+    UnknownNode,
+    /// A5: the mark is the one held, and the set is another.
+    #[error("A5: a conflict")]
+    Conflict,
+    /// A9: memory was refused.
+    #[error("A9: out of memory")]
+    Memory,
+}
+
+impl From<AllocError> for ApplyFault {
+    ghost from_gives = { λ _ fault. fault ≡ apply_fault.Memory };
+
+    fn from(_error: AllocError) -> ApplyFault {
+        ApplyFault::Memory
+    }
+}
+
+/// What a reply did to the entry of its node.
+#[derive(Clone, Copy, Debug, PartialEq, Eq, Hash)]
+pub enum Outcome {
+    /// The entry moved to a later mark.
+    Moved,
+    /// The entry had it already.
+    AlreadyHave,
+    /// The node has to be asked for all that it serves.
+    AskWhole,
+}

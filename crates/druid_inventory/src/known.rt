@@ -1,0 +1,112 @@
+//! What is known of one node.
+ghost use Rattle.std.specs.Prelude.{◌≡◌, ◌↔◌, IsTrue, IfOk};
+ghost use Rattle.druid_shard.specs.Reply.{AreSorted};
+ghost use Rattle.druid_inventory.specs.Entry.{fresh};
+ghost use Rattle.druid_inventory.specs.Step.{moved_to};
+
+use druid_segid::Name;
+use druid_shard::{Descriptor, Mark};
+use std::alloc::{AllocError, Global};
+use std::marker::Model;
+
+/// A node's name, how far its history has been followed, and what it serves at that mark, by identifier.
+#[derive(Debug, Drop)]
+pub(crate) struct Known {
+    name: Name,
+    mark: Mark,
+    set: Vec<Descriptor>,
+}
+
+impl Model for Known {
+    ghost use Rattle.druid_inventory.specs.Entry.{Entry};
+    ghost use Rattle.druid_shard.specs.Reply.{AreSorted};
+
+    ghost Value = { Entry };
+
+    ghost view = { λ a. record { name = a.name; mark = a.mark; set = a.set.items } };
+
+    ghost invariant = { λ a. AreSorted a.set.items };
+}
+
+impl Known {
+    /// A node that was never synced.
+    pub(crate) fn fresh(alloc: Global, name: Name) -> Known
+        ensures { result ≡ fresh name }
+    {
+        Known {
+            name,
+            mark: Mark::never(),
+            set: Vec::new(alloc),
+        }
+    }
+
+    /// The node at another mark, with a copy of another set.
+    pub(crate) fn moved_to(
+        &self,
+        alloc: Global,
+        at: Mark,
+        set: &[Descriptor],
+    ) -> Result<Known, AllocError>
+        requires { AreSorted set.now }
+        ensures { IfOk result (λ known. known ≡ moved_to self.now at set.now) }
+    {
+        Ok(Known {
+            name: self.name.clone()?,
+            mark: at,
+            set: copy_of(alloc, set)?,
+        })
+    }
+
+    /// How far the node's history has been followed.
+    pub(crate) fn mark(&self) -> Mark
+        ensures { result ≡ self.now.mark }
+    {
+        self.mark
+    }
+
+    /// What the node serves at its mark.
+    pub(crate) fn set(&self) -> &[Descriptor]
+        ensures value { result.now ≡ self.now.set }
+        ensures sorted { AreSorted self.now.set }
+    {
+        self.set.as_slice()
+    }
+}
+
+fn copy_of(alloc: Global, set: &[Descriptor]) -> Result<Vec<Descriptor>, AllocError>
+    ensures { IfOk result (λ copy. copy.items ≡ set.now) }
+{
+    let mut copy = Vec::with_capacity(alloc, set.len())?;
+    for descriptor in set {
+        copy.push(descriptor.clone()?)?;
+    }
+    Ok(copy)
+}
+
+#[tactic(auto, using(crate::proofs::EntryLemmas::same_from_parts))]
+fn is_same(a: &Descriptor, b: &Descriptor) -> bool
+    ensures { IsTrue result ↔ (a.now ≡ b.now) }
+{
+    if a.core() != b.core() {
+        return false;
+    }
+    if a.size() != b.size() {
+        return false;
+    }
+    a.id() == b.id()
+}
+
+/// Whether the sets are equal.
+pub(crate) fn are_same(a: &[Descriptor], b: &[Descriptor]) -> bool
+    ensures { IsTrue result ↔ (a.now ≡ b.now) }
+{
+    if a.len() != b.len() {
+        return false;
+    }
+    for i in 0..a.len() {
+        if !is_same(&a[i], &b[i]) {
+            return false;
+        }
+    }
+    true
+}

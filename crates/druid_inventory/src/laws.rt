@@ -1,0 +1,24 @@
+//! Facts that hold of all entries and all replies.
+ghost use Rattle.std.specs.Prelude.{◌≡◌, ◌≢◌};
+ghost use Rattle.std.specs.declared.cmp.Ordering.TheVariants.{Less, Greater};
+ghost use Rattle.druid_shard.specs.Mark.{mark_cmp};
+ghost use Rattle.druid_shard.specs.declared.reply.Body.{Body};
+ghost use Rattle.druid_inventory.specs.Entry.{Entry};
+ghost use Rattle.druid_inventory.specs.Step.{Steps, Conflicts};
+ghost use Rattle.druid_inventory.specs.declared.fault.Outcome.{Outcome};
+ghost use Rattle.druid_inventory.specs.declared.fault.Outcome.TheVariants.{Moved};
+
+/// From an entry, a reply has at most one outcome and leaves one entry, and a reply that conflicts with it has none.
+pub fn one_step()
+    ensures same { (e : Entry) (b : Body) (o p : Outcome) (new other : Entry)
+        → Steps e b o new → Steps e b p other → (o ≡ p) × (new ≡ other) }
+    ensures apart { (e : Entry) (b : Body) (o : Outcome) (new : Entry) → Steps e b o new → Conflicts e b → ⊥ }
+{}
+
+/// No reply takes an entry to an earlier mark, and one that moves it takes it to a later one.
+pub fn marks_never_fall()
+    ensures never { (e : Entry) (b : Body) (o : Outcome) (new : Entry)
+        → Steps e b o new → mark_cmp e.mark new.mark ≢ Greater }
+    ensures moved { (e : Entry) (b : Body) (new : Entry)
+        → Steps e b Moved new → mark_cmp e.mark new.mark ≡ Less }
+{}

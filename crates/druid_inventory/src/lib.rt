@@ -1,0 +1,13 @@
+//! What a broker knows of the data nodes: a mark and a set of segments for each, and the timelines over them.
+#![tactic(auto)]
+
+mod fault;
+mod inventory;
+mod known;
+pub mod laws;
+#[cfg(test)]
+mod tests;
+mod timelines;
+
+pub use fault::{ApplyFault, InventoryFault, Outcome};
+pub use inventory::Inventory;

@@ -1,0 +1,4 @@
+pub mod OrderLemmas
+pub mod GroupLemmas
+pub mod IdentifierLemmas
+pub mod NameLemmas

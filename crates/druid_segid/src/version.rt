@@ -1,0 +1,135 @@
+ghost use Rattle.std.specs.Prelude.{◌≡◌, ◌↔◌, ◌⊎◌, IsTrue, IsOkUnless, IsErrOf, IfOk, IfErr, OnOk, bytes_eq, string_bytes, All};
+ghost use Rattle.std.specs.List.{list_all};
+ghost use Rattle.std.proofs.Common.{rules};
+ghost use Rattle.std.specs.Hash as fed;
+ghost use Rattle.std.specs.Cmp.{partial_equiv_from_equiv};
+ghost use Rattle.std.specs.Cmp.Lexicographic.{nat_list_eq_equiv};
+ghost use Rattle.std.specs.Cmp.Rules.{hashing};
+ghost use Rattle.druid_segid.specs.Names.{is_version_byte, is_version, IsVersion};
+
+use crate::IdFault;
+use std::alloc::{AllocError, Global};
+use std::hash::{Hash, Hasher};
+use std::marker::Model;
+
+/// A version: 1 to 64 bytes of printable ASCII without `_`, `/`, `"` and `\`.
+/// Versions are ordered only within the rank of a group.
+///
+/// A contract sees its bytes.
+#[derive(Debug, Drop)]
+pub struct Version {
+    text: String,
+}
+
+impl Model for Version {
+    ghost use Rattle.std.specs.Prelude.{ℕ, List, string_bytes};
+    ghost use Rattle.druid_segid.specs.Names.{IsVersion};
+
+    ghost Value = { List ℕ };
+
+    ghost view = { λ a. string_bytes a.text };
+
+    ghost invariant = { λ a. IsVersion (string_bytes a.text) };
+}
+
+fn is_version_byte(byte: u8) -> bool
+    ensures { result ≡ is_version_byte byte }
+{
+    byte.is_ascii_graphic() && !(byte == b'_' || byte == b'/' || byte == b'"' || byte == b'\\')
+}
+
+fn are_version_bytes(bytes: &[u8]) -> bool
+    ensures test { result ≡ list_all is_version_byte bytes.now }
+    ensures all { IsTrue result ↔ All (λ b. IsTrue (is_version_byte b)) bytes.now }
+{
+    bytes.iter().all(|byte| is_version_byte(*byte))
+}
+
+impl Version {
+    /// Whether the text is a version. It takes no memory.
+    pub fn accepts(text: &str) -> bool
+        ensures test { result ≡ is_version text.now }
+        ensures versions { IsTrue result ↔ IsVersion text.now }
+    {
+        let bytes = text.as_bytes();
+        1 <= bytes.len() && bytes.len() <= 64 && are_version_bytes(bytes)
+    }
+
+    /// The version of that text. I2 where the text is no version, I9 where memory ran out.
+    pub fn new(alloc: Global, text: &str) -> Result<Version, IdFault>
+        ensures value { IfOk result (λ version. version ≡ text.now) }
+        ensures versions { OnOk result (IsVersion text.now) }
+        ensures accepts { IsVersion text.now → IsOkUnless result IdFault.Memory }
+        ensures bad_version { IsErrOf result IdFault.BadVersion ↔ (¬ IsVersion text.now) }
+        ensures fault { IfErr result
+            (λ fault. (fault ≡ IdFault.BadVersion) ⊎ (fault ≡ IdFault.Memory)) }
+    {
+        if !Version::accepts(text) {
+            return Err(IdFault::BadVersion);
+        }
+        Ok(Version {
+            text: String::from_str(alloc, text)?,
+        })
+    }
+
+    /// A copy of the text.
+    pub fn text(&self, alloc: Global) -> Result<String, AllocError>
+        ensures { IfOk result (λ text. string_bytes text ≡ self.now) }
+    {
+        String::from_str(alloc, self.as_str())
+    }
+
+    /// A copy of the version.
+    pub(crate) fn copy(&self, alloc: Global) -> Result<Version, AllocError>
+        ensures { IfOk result (λ copy. copy ≡ self.now) }
+    {
+        Ok(Version {
+            text: String::from_str(alloc, self.as_str())?,
+        })
+    }
+
+    /// The text.
+    pub fn as_str(&self) -> &str
+        ensures value { result.now ≡ self.now }
+        ensures version { IsVersion self.now }
+    {
+        self.text.as_str()
+    }
+}
+
+impl Clone for Version {
+    ghost is_clone = { λ version copy. copy ≡ version };
+
+    fn clone(&self) -> Result<Version, AllocError> {
+        Ok(Version {
+            text: self.text.clone()?,
+        })
+    }
+}
+
+impl PartialEq for Version {
+    ghost eq = { bytes_eq };
+
+    ghost laws = { partial_equiv_from_equiv nat_list_eq_equiv };
+
+    fn eq(&self, other: &Version) -> bool
+        ensures value { result ≡ bytes_eq self.now other.now }
+        ensures same { IsTrue result ↔ (self.now ≡ other.now) }
+    {
+        self.text == other.text
+    }
+}
+
+impl Eq for Version {
+    ghost laws = { nat_list_eq_equiv };
+}
+
+impl Hash for Version {
+    ghost hash_input = { fed.str };
+
+    ghost respects_eq = { Prim.search (hashing, rules) };
+
+    fn hash<H: Hasher>(&self, state: &mut H) {
+        self.text.hash(state);
+    }
+}

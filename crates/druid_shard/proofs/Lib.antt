@@ -1,0 +1,4 @@
+pub mod SortedLemmas
+pub mod JsonLemmas
+pub mod MemberLemmas
+pub mod SlotLemmas

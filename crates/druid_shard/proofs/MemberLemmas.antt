@@ -1,0 +1,138 @@
+-- Lists of numbers in order, pairs of lists, and what joined lists contain.
+use Rattle.std.proofs.Common.{◌≡◌, ◌+◌, ◌-◌, ◌<◌, ◌≤◌, ◌⊎◌, ◌↔◌, ℕ, zero, suc, List, [], ◌∷◌, ◌++◌, length, get_or, take, drop, map, refl, sym, ap, ◌∙◌, subst, inl, inr, arith}
+use Rattle.std.specs.List.{insert, remove, zip, flat_map, Contains}
+use Rattle.std.specs.List.Sorted.{IsStrictlyIncreasing}
+use Rattle.std.proofs.lemmas.Bool.{cases_order}
+use Rattle.std.proofs.lemmas.List.{get_or_default}
+use Rattle.std.proofs.lemmas.List.Edits.{length-insert, get_or-insert_below, get_or-insert_at, get_or-insert_above}
+use Rattle.std.proofs.lemmas.List.Elements.{Contains-append_cases, Contains-append_left, Contains-append_right, Contains-get_or}
+use Rattle.std.proofs.lemmas.List.Kept.{AllPairs-from_increasing}
+use Rattle.std.proofs.lemmas.List.Sorted.{IsPermutation-insert, IsPermutation-sym, Contains-permutation}
+
+-- ---- a number at its place
+
+abbrev pub AllBelow : List ℕ → ℕ → ℕ → Type 0
+AllBelow xs i n = (k : ℕ) → k < i → get_or xs k 0 < n
+
+at_insert : (xs : List ℕ) (i n k : ℕ) → i ≤ length xs → ((k < i) × (get_or (insert xs i n) k 0 ≡ get_or xs k 0)) ⊎ ((k ≡ i) × (get_or (insert xs i n) k 0 ≡ n)) ⊎ ((i < k) × (get_or (insert xs i n) k 0 ≡ get_or xs (k - 1) 0))
+at_insert xs i n k li =
+    elim (cases_order k i) [
+      | inl level ↦ inr (inl (level, ap (λ (m : ℕ). get_or (insert xs i n) m 0) level ∙ get_or-insert_at xs i n 0 li))
+      | inr (inl below) ↦ inl (below, get_or-insert_below xs i n 0 k below li)
+      | inr (inr above) ↦
+          let e : k ≡ k - 1 + 1 = omega arith in
+          inr (inr (above, ap (λ (m : ℕ). get_or (insert xs i n) m 0) e ∙ get_or-insert_above xs i n 0 (k - 1) (omega arith) li))
+    ]
+
+pub rising-insert : (xs : List ℕ) (i n : ℕ) → IsStrictlyIncreasing xs → i ≤ length xs → AllBelow xs i n → (i < length xs → n < get_or xs i 0) → IsStrictlyIncreasing (insert xs i n)
+rising-insert xs i n up li below above k lk =
+    let len = length-insert xs i n li in
+    by_place (at_insert xs i n k li) (at_insert xs i n (k + 1) li) where
+      by_place : ((k < i) × (get_or (insert xs i n) k 0 ≡ get_or xs k 0)) ⊎ ((k ≡ i) × (get_or (insert xs i n) k 0 ≡ n)) ⊎ ((i < k) × (get_or (insert xs i n) k 0 ≡ get_or xs (k - 1) 0))
+          → ((k + 1 < i) × (get_or (insert xs i n) (k + 1) 0 ≡ get_or xs (k + 1) 0)) ⊎ ((k + 1 ≡ i) × (get_or (insert xs i n) (k + 1) 0 ≡ n)) ⊎ ((i < k + 1) × (get_or (insert xs i n) (k + 1) 0 ≡ get_or xs (k + 1 - 1) 0))
+          → get_or (insert xs i n) k 0 < get_or (insert xs i n) (k + 1) 0
+      by_place (inl a) (inl b) = let u = up k (omega arith) in omega arith
+      by_place (inl a) (inr (inl b)) = let u = below k a.0 in omega arith
+      by_place (inl a) (inr (inr b)) = absurd (omega arith)
+      by_place (inr (inl a)) (inl b) = absurd (omega arith)
+      by_place (inr (inl a)) (inr (inl b)) = absurd (omega arith)
+      by_place (inr (inl a)) (inr (inr b)) =
+          let len = length-insert xs i n li in
+          let e : get_or xs (k + 1 - 1) 0 ≡ get_or xs i 0 = let same : k + 1 - 1 ≡ i = omega arith in ap (λ (m : ℕ). get_or xs m 0) same in
+          let u = above (omega arith) in omega arith
+      by_place (inr (inr a)) (inl b) = absurd (omega arith)
+      by_place (inr (inr a)) (inr (inl b)) = absurd (omega arith)
+      by_place (inr (inr a)) (inr (inr b)) =
+          let len = length-insert xs i n li in
+          let e : get_or xs (k + 1 - 1) 0 ≡ get_or xs (k - 1 + 1) 0 = let same : k + 1 - 1 ≡ k - 1 + 1 = omega arith in ap (λ (m : ℕ). get_or xs m 0) same in
+          let u = up (k - 1) (omega arith) in omega arith
+
+-- a number between two neighbours is not there
+pub absent_between : (xs : List ℕ) (i n : ℕ) → IsStrictlyIncreasing xs → AllBelow xs i n → (i < length xs → n < get_or xs i 0) → Contains xs n → ⊥
+absent_between xs i n up below above there =
+    let e : get_or xs there.0 0 ≡ n = sym (get_or_default xs there.0 n 0 there.1) ∙ there.2 in
+    elim (cases_order there.0 i) [
+      | inl level ↦
+          let u = above (omega arith) in
+          let same : get_or xs there.0 0 ≡ get_or xs i 0 = ap (λ (m : ℕ). get_or xs m 0) level in omega arith
+      | inr (inl before) ↦ let u = below there.0 before in omega arith
+      | inr (inr behind) ↦
+          let u = above (omega arith) in
+          let v = AllPairs-from_increasing xs up i there.0 0 behind there.1 in omega arith
+    ]
+
+-- ---- pairs of lists
+
+pub zip-insert : {A B : Type 0} (xs : List A) (ys : List B) (i : ℕ) (a : A) (b : B) → length xs ≡ length ys → i ≤ length xs → zip (insert xs i a) (insert ys i b) ≡ insert (zip xs ys) i (a, b)
+zip-insert xs ys zero a b e l = refl
+zip-insert [] ys (suc i) a b e l = absurd (omega arith)
+zip-insert (x ∷ xs) [] (suc i) a b e l = absurd (omega arith)
+zip-insert (x ∷ xs) (y ∷ ys) (suc i) a b e l =
+    ap (λ ps. (x, y) ∷ ps) (zip-insert xs ys i a b (omega arith) (omega arith))
+
+pub map-zip : {A B : Type 0} (xs : List A) (ys : List B) → length xs ≡ length ys → map (λ (p : A × B). p.0) (zip xs ys) ≡ xs
+map-zip [] ys e = refl
+map-zip (x ∷ xs) [] e = absurd (omega arith)
+map-zip (x ∷ xs) (y ∷ ys) e = ap (λ zs. x ∷ zs) (map-zip xs ys (omega arith))
+
+pub Contains-insert : {X : Type 0} (xs : List X) (i : ℕ) (y x : X) → Contains (insert xs i y) x ↔ ((x ≡ y) ⊎ Contains xs x)
+Contains-insert xs i y x = (
+  λ there. cases (Contains-permutation (insert xs i y) (y ∷ xs) x (IsPermutation-sym _ _ (IsPermutation-insert xs i y)) there),
+  λ either. Contains-permutation (y ∷ xs) (insert xs i y) x (IsPermutation-insert xs i y) (back either),
+) where
+  cases : Contains (y ∷ xs) x → (x ≡ y) ⊎ Contains xs x
+  cases (zero, l, e) = inl (sym e)
+  cases (suc k, l, e) = inr (k, omega arith, e)
+
+  back : (x ≡ y) ⊎ Contains xs x → Contains (y ∷ xs) x
+  back (inl same) = (0, omega arith, sym same)
+  back (inr there) = (suc there.0, omega arith, there.2)
+
+pub remove-insert : {X : Type 0} (xs : List X) (i : ℕ) (y : X) → i ≤ length xs → remove (insert xs i y) i ≡ xs
+remove-insert xs zero y l = refl
+remove-insert [] (suc i) y l = absurd (omega arith)
+remove-insert (x ∷ xs) (suc i) y l = ap (λ zs. x ∷ zs) (remove-insert xs i y (omega arith))
+
+-- ---- what joined lists contain
+
+pub Contains-cons : {X : Type 0} (y : X) (xs : List X) (x : X) → Contains (y ∷ xs) x → (y ≡ x) ⊎ Contains xs x
+Contains-cons y xs x (zero, l, e) = inl e
+Contains-cons y xs x (suc k, l, e) = inr (k, omega arith, e)
+
+pub Contains-later : {X : Type 0} (y : X) (xs : List X) (x : X) → Contains xs x → Contains (y ∷ xs) x
+Contains-later y xs x there = (suc there.0, omega arith, there.2)
+
+pub Contains-nil : {X : Type 0} (x : X) → Contains {X = X} [] x → ⊥
+Contains-nil x there = let below : there.0 < 0 = there.1 in omega arith
+
+pub Contains-map : {A B : Type 0} (f : A → B) (xs : List A) (y : B) → Contains (map f xs) y → (x : A) × Contains xs x × (f x ≡ y)
+Contains-map f [] y there = absurd (Contains-nil y there)
+Contains-map f (x ∷ xs) y there =
+    elim (Contains-cons (f x) (map f xs) y there) [
+      | inl here ↦ (x, (0, omega arith, refl), here)
+      | inr later ↦ let found = Contains-map f xs y later in (found.0, Contains-later x xs found.0 found.1, found.2)
+    ]
+
+pub Contains-map_back : {A B : Type 0} (f : A → B) (xs : List A) (x : A) → Contains xs x → Contains (map f xs) (f x)
+Contains-map_back f [] x there = absurd (Contains-nil x there)
+Contains-map_back f (z ∷ xs) x there =
+    elim (Contains-cons z xs x there) [
+      | inl here ↦ (0, omega arith, ap f here)
+      | inr later ↦ Contains-later (f z) (map f xs) (f x) (Contains-map_back f xs x later)
+    ]
+
+pub Contains-flat_map : {A B : Type 0} (f : A → List B) (xs : List A) (y : B) → Contains (flat_map f xs) y → (x : A) × Contains xs x × Contains (f x) y
+Contains-flat_map f [] y there = absurd (Contains-nil y there)
+Contains-flat_map f (x ∷ xs) y there =
+    elim (Contains-append_cases (f x) (flat_map f xs) y there) [
+      | inl here ↦ (x, (0, omega arith, refl), here)
+      | inr later ↦ let found = Contains-flat_map f xs y later in (found.0, Contains-later x xs found.0 found.1, found.2)
+    ]
+
+pub Contains-flat_map_back : {A B : Type 0} (f : A → List B) (xs : List A) (x : A) (y : B) → Contains xs x → Contains (f x) y → Contains (flat_map f xs) y
+Contains-flat_map_back f [] x y there inside = absurd (Contains-nil x there)
+Contains-flat_map_back {A} {B} f (z ∷ xs) x y there inside =
+    elim (Contains-cons z xs x there) [
+      | inl here ↦ Contains-append_left (f z) (flat_map f xs) y (subst (λ (a : A). Contains (f a) y) (sym here) inside)
+      | inr later ↦ Contains-append_right (f z) (flat_map f xs) y (Contains-flat_map_back f xs x y later inside)
+    ]

@@ -1,0 +1,116 @@
+-- Segments in the order of their identifiers' texts.
+use Rattle.std.proofs.Common.{◌≡◌, ◌+◌, ◌-◌, ◌⊎◌, ◌<◌, ◌≤◌, ◌≢◌, ℕ, zero, suc, List, length, get_or, true, false, cond, eqb, refl, sym, ap, ◌∙◌, subst, inl, inr, arith}
+use Rattle.std.specs.Ordering.{nat_cmp, is_lt, ordering_reverse, ordering_then}
+use Rattle.std.specs.declared.cmp.Ordering.{Ordering}
+use Rattle.std.specs.declared.cmp.Ordering.TheVariants.{Less, Equal, Greater}
+use Rattle.std.specs.Cmp.Lexicographic.{slice_cmp}
+use Rattle.std.specs.List.{AllAdjacentBelow, swap}
+use Rattle.std.specs.List.Sorted.{IsPermutation, IsSorted}
+use Rattle.std.proofs.lemmas.Bool.{cases_order, cases_eq, false≢true}
+use Rattle.std.proofs.lemmas.Cmp.{nat_list_cmp_total, tied_itself}
+use Rattle.std.proofs.lemmas.List.Edits.{length-swap, swapped_from_swap}
+use Rattle.std.proofs.lemmas.List.Sorted.{IsPermutation-keeps}
+use Rattle.druid_segid.specs.Identifier.{identifier_text}
+use Rattle.druid_segid.proofs.OrderLemmas.{slice_cmp-Equal}
+use Rattle.druid_shard.specs.Described.{Described}
+use Rattle.druid_shard.specs.Reply.{IsBefore, AreSorted, HaveOwnIdentifiers}
+
+-- no identifier comes before itself
+not_before_itself : (a b : Described) → IsBefore a b → identifier_text a.id ≡ identifier_text b.id → ⊥
+not_before_itself a b before same =
+    let tied = tied_itself nat_list_cmp_total (identifier_text a.id) in
+    let e : slice_cmp nat_cmp (identifier_text a.id) (identifier_text a.id) ≡ Less = rw (← same) at before in
+    absurd (cc)
+
+-- each comes before each later one
+pub AreSorted-later : (ds : List Described) → AreSorted ds → (i n : ℕ) (d : Described) → i + suc n < length ds → IsBefore (get_or ds i d) (get_or ds (i + suc n) d)
+AreSorted-later ds h i zero d l = h i d l
+AreSorted-later ds h i (suc n) d l =
+    let before = AreSorted-later ds h i n d (omega arith) in
+    let next : IsBefore (get_or ds (i + suc n) d) (get_or ds (i + suc n + 1) d) = h (i + suc n) d (omega arith) in
+    let e : i + suc n + 1 ≡ i + suc (suc n) = omega arith in
+    let next' : IsBefore (get_or ds (i + suc n) d) (get_or ds (i + suc (suc n)) d) = rw e at next in
+    nat_list_cmp_total.trans _ (identifier_text (get_or ds (i + suc n) d).id) _ before next'
+
+later_differs : (ds : List Described) → AreSorted ds → (i j : ℕ) (d : Described) → i < j → j < length ds → identifier_text (get_or ds i d).id ≡ identifier_text (get_or ds j d).id → ⊥
+later_differs ds h i j d below l same =
+    let e : i + suc (j - suc i) ≡ j = omega arith in
+    let before = AreSorted-later ds h i (j - suc i) d (omega arith) in
+    let before' : IsBefore (get_or ds i d) (get_or ds j d) = rw e at before in
+    not_before_itself (get_or ds i d) (get_or ds j d) before' same
+
+-- in order, no identifier stands twice
+pub AreSorted-own : (ds : List Described) → AreSorted ds → HaveOwnIdentifiers ds
+AreSorted-own ds h i j d li lj same =
+    elim (cases_order i j) [
+      | inl level ↦ level
+      | inr (inl below) ↦ absurd (later_differs ds h i j d below lj same)
+      | inr (inr above) ↦ absurd (later_differs ds h j i d above li (sym same))
+    ]
+
+-- by identifier, then by core count, then by size
+abbrev pub described_cmp : Described → Described → Ordering
+described_cmp a b =
+    ordering_then (slice_cmp nat_cmp (identifier_text a.id) (identifier_text b.id)) (ordering_then (nat_cmp a.core b.core) (nat_cmp a.size b.size))
+
+less_first : (a b : Described) → IsBefore a b → described_cmp a b ≡ Less
+less_first a b before = ap (λ o. ordering_then o (ordering_then (nat_cmp a.core b.core) (nat_cmp a.size b.size))) before
+
+-- sorted by an order that looks at the texts first, and with no identifier twice, they are in order
+pub own-AreSorted : (ds : List Described) → IsSorted described_cmp ds → HaveOwnIdentifiers ds → AreSorted ds
+own-AreSorted ds sorted own k d l =
+    by_order (slice_cmp nat_cmp (identifier_text (get_or ds k d).id) (identifier_text (get_or ds (k + 1) d).id)) refl where
+      by_order : (o : Ordering) → o ≡ slice_cmp nat_cmp (identifier_text (get_or ds k d).id) (identifier_text (get_or ds (k + 1) d).id) → IsBefore (get_or ds k d) (get_or ds (k + 1) d)
+      by_order Less e = sym e
+      by_order Equal e =
+          let same = slice_cmp-Equal (identifier_text (get_or ds k d).id) (identifier_text (get_or ds (k + 1) d).id) (sym e) in
+          let level : k ≡ k + 1 = own k (k + 1) d (omega arith) l same in
+          absurd (omega arith)
+      by_order Greater e =
+          let back : slice_cmp nat_cmp (identifier_text (get_or ds (k + 1) d).id) (identifier_text (get_or ds k d).id) ≡ Less =
+          nat_list_cmp_total.antisymm (identifier_text (get_or ds (k + 1) d).id) (identifier_text (get_or ds k d).id) ∙ ap ordering_reverse (sym e) in
+          let less = less_first (get_or ds (k + 1) d) (get_or ds k d) back in
+          let not_less = sorted k d (omega arith) l in
+          let e' : is_lt (described_cmp (get_or ds (k + 1) d) (get_or ds k d)) ≡ true = ap is_lt less in
+          absurd (false≢true (sym not_less ∙ e'))
+
+-- the element at i stood at p before the places a and b were exchanged
+abbrev Came : ℕ → ℕ → ℕ → ℕ → Type 0
+Came a b i p =
+    ((i ≡ a) × (p ≡ b)) ⊎ ((i ≡ b) × (p ≡ a)) ⊎ ((i ≡ a → ⊥) × (i ≡ b → ⊥) × (p ≡ i))
+
+came_from : (ds : List Described) (a b i : ℕ) (d : Described) → a < length ds → b < length ds → i < length ds → (p : ℕ) × (p < length ds) × Came a b i p × (get_or (swap ds a b) i d ≡ get_or ds p d)
+came_from ds a b i d la lb li =
+    let moved = swapped_from_swap ds (swap ds a b) a b d la lb refl in
+    elim (cases_eq i a) [
+      | inl at_a ↦ (b, lb, inl (at_a, refl), ap (λ (n : ℕ). get_or (swap ds a b) n d) at_a ∙ moved.0)
+      | inr not_a ↦ elim (cases_eq i b) [
+        | inl at_b ↦ (a, la, inr (inl (at_b, refl)), ap (λ (n : ℕ). get_or (swap ds a b) n d) at_b ∙ moved.1)
+        | inr not_b ↦ (i, li, inr (inr (not_a, not_b, refl)), moved.2 i not_a not_b)
+      ]
+    ]
+
+came_alone : (a b i j p q : ℕ) → Came a b i p → Came a b j q → p ≡ q → i ≡ j
+came_alone a b i j p q (inl x) (inl y) e = omega arith
+came_alone a b i j p q (inl x) (inr (inl y)) e = omega arith
+came_alone a b i j p q (inl x) (inr (inr y)) e = absurd (y.1 (sym y.2 ∙ sym e ∙ x.1))
+came_alone a b i j p q (inr (inl x)) (inl y) e = omega arith
+came_alone a b i j p q (inr (inl x)) (inr (inl y)) e = omega arith
+came_alone a b i j p q (inr (inl x)) (inr (inr y)) e = absurd (y.0 (sym y.2 ∙ sym e ∙ x.1))
+came_alone a b i j p q (inr (inr x)) (inl y) e = absurd (x.1 (sym x.2 ∙ e ∙ y.1))
+came_alone a b i j p q (inr (inr x)) (inr (inl y)) e = absurd (x.0 (sym x.2 ∙ e ∙ y.1))
+came_alone a b i j p q (inr (inr x)) (inr (inr y)) e = omega arith
+
+own-swap : (ds : List Described) (a b : ℕ) → a < length ds → b < length ds → HaveOwnIdentifiers ds → HaveOwnIdentifiers (swap ds a b)
+own-swap ds a b la lb own i j d li lj same =
+    let len = length-swap ds a b in
+    let from_i = came_from ds a b i d la lb (omega arith) in
+    let from_j = came_from ds a b j d la lb (omega arith) in
+    let text : Described → List ℕ = λ x. identifier_text x.id in
+    let one = own from_i.0 from_j.0 d from_i.1 from_j.1 (sym (ap text from_i.3) ∙ same ∙ ap text from_j.3) in
+    came_alone a b i j from_i.0 from_j.0 from_i.2 from_j.2 one
+
+-- in whatever order they stand
+pub own-permutation : (xs ys : List Described) → IsPermutation xs ys → HaveOwnIdentifiers xs → HaveOwnIdentifiers ys
+own-permutation xs ys moved own =
+    IsPermutation-keeps xs HaveOwnIdentifiers own (λ ds a b la lb. own-swap ds a b la lb) ys moved

@@ -1,0 +1,106 @@
+-- The JSON of a descriptor.
+use Rattle.std.specs.Prelude.{◌≡◌, ℕ, ◌<◌, ◌≤◌, Bool, ◌&&◌, List, codes, Option, Some, None, Result, Ok, Err, IsOk, option_and_then, nat_le, nat_lt, if◌then◌else◌}
+use Rattle.std.specs.Str.{bytes_eq}
+use Rattle.serde_json.specs.Data.{Data, object, Members, member, no_members, number, unsigned, string}
+use Rattle.serde_json.specs.Find.{get, as_str, as_number, as_u64, as_object}
+use Rattle.druid_time.specs.Extent.{Extent}
+use Rattle.druid_time.specs.Texts.{extent_text, extent_at}
+use Rattle.druid_segid.specs.Names.{is_name, is_version}
+use Rattle.druid_shard.specs.Described.{Described, Place, max_core}
+use Rattle.druid_shard.specs.declared.fault.ShardFault.{ShardFault}
+use Rattle.druid_shard.specs.declared.fault.ShardFault.TheVariants as faults
+
+-- ---- written
+
+abbrev pub shard_data : ℕ → ℕ → Data
+shard_data partition core =
+    object (member (codes "partitionNum") (number (unsigned partition))
+    (member (codes "partitions") (number (unsigned core))
+    (member (codes "type") (string (codes "numbered")) no_members)))
+
+unfoldable pub descriptor_data : Described → Data
+descriptor_data d =
+    object (member (codes "dataSource") (string d.id.source)
+    (member (codes "interval") (string (extent_text d.id.interval))
+    (member (codes "shardSpec") (shard_data d.id.partition d.core)
+    (member (codes "size") (number (unsigned d.size))
+    (member (codes "version") (string d.id.version) no_members)))))
+
+-- ---- read
+
+-- why a value is no descriptor; a field goes by its key
+pub data Refusal : Type 0 where
+  other_type : Refusal
+  bad_shard : Refusal
+  bad_field : (key : List ℕ) → Refusal
+
+infixl 10 ◌>>=◌
+abbrev pub ◌>>=◌ : {A B : Type 0} → Result A Refusal → (A → Result B Refusal) → Result B Refusal
+(Ok x) >>= f = f x
+(Err e) >>= f = Err e
+
+-- the value, or else the refusal
+abbrev pub or_refuse : {A : Type 0} → Option A → Refusal → Result A Refusal
+or_refuse None e = Err e
+or_refuse (Some x) e = Ok x
+
+-- the text at a key
+abbrev pub text_at : List ℕ → Data → Option (List ℕ)
+text_at key d = option_and_then as_str (get key d)
+
+-- the whole number at a key
+abbrev pub number_at : List ℕ → Data → Option ℕ
+number_at key d = option_and_then as_u64 (option_and_then as_number (get key d))
+
+abbrev pub source_at : Data → Option (List ℕ)
+source_at d = option_and_then (λ s. if is_name s then Some s else None) (text_at (codes "dataSource") d)
+
+abbrev pub version_at : Data → Option (List ℕ)
+version_at d = option_and_then (λ s. if is_version s then Some s else None) (text_at (codes "version") d)
+
+abbrev pub result_ok : {A E : Type 0} → Result A E → Option A
+result_ok (Ok x) = Some x
+result_ok (Err e) = None
+
+abbrev pub interval_at : Data → Option Extent
+interval_at d = option_and_then (λ s. result_ok (extent_at s)) (text_at (codes "interval") d)
+
+-- the number at a key, where it is at most a limit
+abbrev pub limited_at : ℕ → List ℕ → Data → Option ℕ
+limited_at limit key d = option_and_then (λ n. if nat_le n limit then Some n else None) (number_at key d)
+
+-- a shard spec: an object, then its type, then its two numbers
+unfoldable pub place_at : Data → Result Place Refusal
+place_at d = do
+  spec ← or_refuse (option_and_then (λ s. option_and_then (λ _. Some s) (as_object s)) (get (codes "shardSpec") d)) bad_shard
+  kind ← or_refuse (option_and_then (λ t. if bytes_eq t (codes "numbered") then Some t else None) (text_at (codes "type") spec)) other_type
+  partition ← or_refuse (limited_at 65_535 (codes "partitionNum") spec) bad_shard
+  core ← or_refuse (limited_at max_core (codes "partitions") spec) bad_shard
+  Ok (record { partition = partition; core = core })
+
+-- a descriptor: the source, the interval, the version, the size, and last the shard spec
+unfoldable pub descriptor_at : Data → Result Described Refusal
+descriptor_at d = do
+  source ← or_refuse (source_at d) (bad_field (codes "dataSource"))
+  interval ← or_refuse (interval_at d) (bad_field (codes "interval"))
+  version ← or_refuse (version_at d) (bad_field (codes "version"))
+  size ← or_refuse (number_at (codes "size") d) (bad_field (codes "size"))
+  place ← place_at d
+  Ok (record {
+    id = record { source = source; interval = interval; version = version; partition = place.partition };
+    core = place.core;
+    size = size;
+  })
+
+-- the fault that tells a refusal
+abbrev pub Tells : {A : Type 0} → ShardFault → Result A Refusal → Type 0
+Tells faults.ShardType read = read ≡ Err other_type
+Tells faults.BadShard read = read ≡ Err bad_shard
+Tells (faults.BadField key) read = read ≡ Err (bad_field key.now)
+-- want of memory comes only where nothing is to be refused
+Tells faults.Memory read = IsOk read
+
+-- what a function answered is what reading gives, unless memory was refused
+abbrev pub Gives : {A : Type 0} → Result A ShardFault → Result A Refusal → Type 0
+Gives (Ok x) read = read ≡ Ok x
+Gives (Err e) read = Tells e read

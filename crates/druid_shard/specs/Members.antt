@@ -1,0 +1,42 @@
+-- The members of one chunk, on all nodes.
+use Rattle.std.specs.Prelude.{◌≡◌, ℕ, ◌<◌, max, List, [], ◌∷◌, ◌⊎◌, ◌↔◌, Contains}
+use Rattle.druid_shard.specs.Described.{Described}
+
+-- a partition that a node serves, with the number of core partitions that it names
+pub record Member : Type 0 where
+  pub node : ℕ
+  pub partition : ℕ
+  pub core : ℕ
+
+-- what a node announces with a descriptor
+abbrev pub member_of : ℕ → Described → Member
+member_of node d = record { node = node; partition = d.id.partition; core = d.core }
+
+-- the greatest number of core partitions that a member names, and 0 without members
+abbrev pub core_count : List Member → ℕ
+core_count [] = 0
+core_count (m ∷ ms) = max m.core (core_count ms)
+
+-- a member has this partition
+abbrev pub HasPartition : List Member → ℕ → Type 0
+HasPartition ms p = (m : Member) × Contains ms m × (m.partition ≡ p)
+
+abbrev pub HasMember : List Member → Type 0
+HasMember ms = (m : Member) × Contains ms m
+
+-- there is a member, and each partition below the core count is some member's
+pub record IsComplete (ms : List Member) : Type 0 where
+  pub some : HasMember ms
+  pub cores : (p : ℕ) → p < core_count ms → HasPartition ms p
+
+-- the node serves the partition
+abbrev pub HoldsPlace : List Member → ℕ → ℕ → Type 0
+HoldsPlace ms partition node = (m : Member) × Contains ms m × (m.partition ≡ partition) × (m.node ≡ node)
+
+-- the set new is old with one member more
+abbrev pub Adds : List Member → List Member → Member → Type 0
+Adds old new m = (x : Member) → Contains new x ↔ ((x ≡ m) ⊎ Contains old x)
+
+-- as sets they are one
+abbrev pub SameMembers : List Member → List Member → Type 0
+SameMembers old new = (x : Member) → Contains new x ↔ Contains old x

@@ -1,0 +1,33 @@
+-- What a node answers to a broker that follows it.
+use Rattle.std.specs.Prelude.{◌≡◌, ℕ, ◌<◌, ◌≤◌, List, length, slice_index_or}
+use Rattle.std.specs.List.{AllAdjacentBelow}
+use Rattle.std.specs.declared.cmp.Ordering.TheVariants.{Less}
+use Rattle.std.specs.Ordering.{nat_cmp}
+use Rattle.std.specs.Cmp.Lexicographic.{slice_cmp}
+use Rattle.druid_segid.specs.Identifier.{identifier_text}
+use Rattle.druid_shard.specs.Described.{Described}
+use Rattle.druid_shard.specs.Mark.{Point}
+
+-- the most segments that a node serves
+abbrev pub max_segments : ℕ
+max_segments = 20_000
+
+-- a comes before b by the bytes of their identifiers' texts
+abbrev pub IsBefore : Described → Described → Type 0
+IsBefore a b = slice_cmp nat_cmp (identifier_text a.id) (identifier_text b.id) ≡ Less
+
+-- each comes before the next
+abbrev pub AreSorted : List Described → Type 0
+AreSorted ds = AllAdjacentBelow IsBefore ds (length ds)
+
+-- no identifier stands at two places
+abbrev pub HaveOwnIdentifiers : List Described → Type 0
+HaveOwnIdentifiers ds =
+    (i j : ℕ) (d : Described) → i < length ds → j < length ds
+    → identifier_text (slice_index_or ds i d).id ≡ identifier_text (slice_index_or ds j d).id → i ≡ j
+
+-- what a type of replies keeps of a snapshot
+pub record IsSnapshot (at : Point) (segments : List Described) : Type 0 where
+  pub incarnation : 1 ≤ at.incarnation
+  pub few : length segments ≤ max_segments
+  pub sorted : AreSorted segments

@@ -1,0 +1,16 @@
+-- What each reply keeps.
+use Rattle.std.specs.Prelude.{◌≡◌, List}
+use Rattle.std.specs.List.Sorted.{IsPermutation}
+use Rattle.druid_shard.specs.Described.{Described}
+use Rattle.druid_shard.specs.Mark.{Point}
+use Rattle.druid_shard.specs.Reply.{IsSnapshot}
+use Rattle.druid_shard.specs.declared.reply.Body.{Body}
+use Rattle.druid_shard.specs.declared.reply.Body.TheVariants.{Snapshot}
+
+abbrev pub IsReply : Body → Type 0
+IsReply (Snapshot at segments) = IsSnapshot at segments
+
+-- the snapshot of these segments, whatever their order was
+abbrev pub IsSnapshotOf : Point → List Described → Body → Type 0
+IsSnapshotOf mark given (Snapshot at segments) =
+    (at ≡ mark) × IsPermutation given segments × IsSnapshot at segments

@@ -1,0 +1,146 @@
+ghost use Rattle.std.specs.Prelude.{◌≡◌, ◌≢◌, ◌≤◌, IfOk, option_map, option_and_then, option_copied};
+ghost use Rattle.serde_json.specs.View.{view};
+ghost use Rattle.serde_json.specs.Find.{as_object, as_str, get};
+ghost use Rattle.druid_shard.specs.Json.{descriptor_data, descriptor_at, place_at, text_at, number_at, limited_at, interval_at, source_at, version_at, Gives};
+ghost use Rattle.druid_shard.specs.Described.{max_core};
+
+use crate::descriptor::MAX_CORE;
+use crate::{Descriptor, Shard, ShardFault};
+use druid_segid::{Name, SegmentId, Version};
+use druid_time::Interval;
+use serde_json::{Value, json};
+use std::alloc::{AllocError, Global};
+
+/// The JSON of a descriptor: `dataSource`, `interval`, `shardSpec`, `size` and `version`.
+#[tactic(auto, unfolding(crate::specs::Json::descriptor_data))]
+pub fn descriptor_value(alloc: Global, descriptor: &Descriptor) -> Result<Value, AllocError>
+    ensures { IfOk result (λ v. view v ≡ descriptor_data descriptor.now) }
+{
+    let id = descriptor.id();
+    let interval = id.interval().text(alloc)?;
+    json!(in alloc; {
+        "dataSource": id.source().as_str(),
+        "interval": interval.as_str(),
+        "shardSpec": {
+            "partitionNum": id.partition(),
+            "partitions": descriptor.core(),
+            "type": "numbered",
+        },
+        "size": descriptor.size(),
+        "version": id.version().as_str(),
+    })
+}
+
+// The text at a key.
+fn text_field<'a>(value: &'a Value, key: &str) -> Option<&'a str>
+    ensures { option_map (λ s. s.now) result ≡ text_at key.now (view value.now) }
+{
+    value.get(key).and_then(Value::as_str)
+}
+
+// The whole number at a key.
+fn number_field(value: &Value, key: &str) -> Option<u64>
+    ensures { result ≡ number_at key.now (view value.now) }
+{
+    value.get(key).and_then(Value::as_u64)
+}
+
+// The number at a key, where it is at most a limit.
+fn limited_field(value: &Value, key: &str, limit: u16) -> Option<u16>
+    ensures { result ≡ limited_at limit key.now (view value.now) }
+{
+    let number = number_field(value, key)?;
+    if number <= limit as u64 {
+        Some(number as u16)
+    } else {
+        None
+    }
+}
+
+// The shard spec: an object, then its type, then its two numbers.
+#[tactic(auto, unfolding(crate::specs::Json::place_at))]
+fn shard_field(value: &Value) -> Result<Shard, ShardFault>
+    ensures read { Gives result (place_at (view value.now)) }
+    ensures memory { result ≢ Err ShardFault.Memory }
+{
+    let Some(spec) = value.get("shardSpec") else {
+        return Err(ShardFault::BadShard);
+    };
+    if !spec.is_object() {
+        return Err(ShardFault::BadShard);
+    }
+    if text_field(spec, "type") != Some("numbered") {
+        return Err(ShardFault::ShardType);
+    }
+    let Some(partition) = limited_field(spec, "partitionNum", u16::MAX) else {
+        return Err(ShardFault::BadShard);
+    };
+    let Some(core) = limited_field(spec, "partitions", MAX_CORE) else {
+        return Err(ShardFault::BadShard);
+    };
+    Shard::new(partition, core).ok_or(ShardFault::BadShard)
+}
+
+// The interval, in any form in which one is read.
+fn interval_field(value: &Value) -> Option<Interval>
+    ensures { result ≡ interval_at (view value.now) }
+{
+    Interval::parse(text_field(value, "interval")?).ok()
+}
+
+// The name of the data source.
+fn source_field(value: &Value) -> Option<&str>
+    ensures { option_map (λ s. s.now) result ≡ source_at (view value.now) }
+{
+    let text = text_field(value, "dataSource")?;
+    if Name::accepts(text) {
+        Some(text)
+    } else {
+        None
+    }
+}
+
+// The version.
+fn version_field(value: &Value) -> Option<&str>
+    ensures { option_map (λ s. s.now) result ≡ version_at (view value.now) }
+{
+    let text = text_field(value, "version")?;
+    if Version::accepts(text) {
+        Some(text)
+    } else {
+        None
+    }
+}
+
+/// Reads a descriptor. S3 for `dataSource`, `interval`, `version` and `size`, in this order; then S2 where
+/// `shardSpec` is no object, S1 where its `type` is not `numbered`, and S2 where its numbers are out of range. S9 comes
+/// last. Other keys are passed over.
+#[tactic(auto, unfolding(crate::specs::Json::descriptor_at))]
+pub fn read_descriptor(alloc: Global, value: &Value) -> Result<Descriptor, ShardFault>
+    ensures { Gives result (descriptor_at (view value.now)) }
+{
+    let Some(source) = source_field(value) else {
+        return Err(ShardFault::BadField("dataSource"));
+    };
+    let Some(interval) = interval_field(value) else {
+        return Err(ShardFault::BadField("interval"));
+    };
+    let Some(version) = version_field(value) else {
+        return Err(ShardFault::BadField("version"));
+    };
+    let Some(size) = number_field(value, "size") else {
+        return Err(ShardFault::BadField("size"));
+    };
+    let shard = match shard_field(value) {
+        Ok(shard) => shard,
+        Err(fault) => return Err(fault),
+    };
+    let Ok(source) = Name::new(alloc, source) else {
+        return Err(ShardFault::Memory);
+    };
+    let Ok(version) = Version::new(alloc, version) else {
+        return Err(ShardFault::Memory);
+    };
+    let id = SegmentId::new(source, interval, version, shard.partition());
+    Descriptor::new(id, shard.core(), size).ok_or(ShardFault::BadShard)
+}

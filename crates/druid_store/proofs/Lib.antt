@@ -1,0 +1,9 @@
+mod Answered
+mod Calls
+mod Decimal
+pub mod Files
+pub mod Moments
+mod Names
+pub mod NumberFile
+mod Order
+pub mod ReadPart

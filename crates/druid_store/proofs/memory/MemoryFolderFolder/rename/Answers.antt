@@ -1,0 +1,30 @@
+use Rattle.std.proofs.Common.{inl, ◌∙◌, ap}
+use Rattle.std.specs.String.{string_bytes}
+use Rattle.druid_store.specs.Folder.{nothing, renamed}
+use Rattle.druid_store.specs.Record.{content_after}
+use Rattle.druid_store.specs.declared.memory.Call.TheVariants.{Renamed, Failed}
+use Rattle.druid_store.proofs.Calls.{content_pushed, left_before, left_failed, elapses_pushed, undone_left, renamed_named}
+use Rattle.druid_store.proofs.memory.MemoryFolderFolder.rename.Goals as goal
+
+pub returns-then-is_none-clause-failed : goal.returns-then-is_none-clause-failed
+returns-then-is_none-clause-failed c honest = inl (content_pushed _ _ Failed c.in_ok-note.ensures.ok)
+
+pub returns-then-is_none-clause-stop : goal.returns-then-is_none-clause-stop
+returns-then-is_none-clause-stop c honest =
+    undone_left (renamed c.args.from.now c.args.to.now) c.args.self.now.calls.items c.note.new.calls.items
+    (left_failed _ _ c.in_ok-note.ensures.ok)
+
+pub returns-clause-done : goal.returns-clause-done
+returns-clause-done c honest =
+    let files = content_after nothing c.args.self.now.calls.items in
+    content_pushed _ _ (Renamed c.in_ok-from.from c.in_ok-to.to) c.in_ok-note-2.ensures.ok
+    ∙ ap (λ name. renamed name (string_bytes c.in_ok-to.to.text) files) c.in_ok-from.ensures
+    ∙ ap (λ name. renamed c.args.from.now name files) c.in_ok-to.ensures
+
+pub returns-clause-stop : goal.returns-clause-stop
+returns-clause-stop c honest left is =
+    renamed_named _ _ _ _ _ left c.in_ok-from.ensures c.in_ok-to.ensures
+    (left_before _ _ (Renamed c.in_ok-from.from c.in_ok-to.to) c.in_ok-note-2.ensures.ok left is)
+
+pub returns-clause-time : goal.returns-clause-time
+returns-clause-time c honest = elapses_pushed _ _ (Renamed c.in_ok-from.from c.in_ok-to.to) c.in_ok-note-2.ensures.ok

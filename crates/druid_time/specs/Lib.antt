@@ -1,0 +1,4 @@
+pub mod Instant
+pub mod Extent
+pub mod Civil
+pub mod Texts

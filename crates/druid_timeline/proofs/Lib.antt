@@ -1,0 +1,5 @@
+pub mod RunsLemmas
+pub mod ChunkLemmas
+pub mod SweepLemmas
+pub mod LookupLemmas
+pub mod CutLemmas

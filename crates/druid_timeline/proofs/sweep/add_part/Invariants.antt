@@ -1,0 +1,5 @@
+use Rattle.druid_timeline.proofs.SweepLemmas.{IsSwept}
+use Rattle.druid_timeline.proofs.sweep.add_part.Given as goal
+
+abbrev pub invariant-loop-bound : goal.invariant-loop-bound
+invariant-loop-bound l = IsSwept l.fn.part l.candidates l.bound-items l.fn.runs.items l.runs.items l.bound-index l.from

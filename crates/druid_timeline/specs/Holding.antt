@@ -1,0 +1,44 @@
+-- What nodes serve of one data source.
+use Rattle.std.specs.Prelude.{◌≡◌, ℕ, List, map, filter, ◌⊎◌, ◌↔◌, Contains}
+use Rattle.druid_segid.specs.Identifier.{Identifier}
+use Rattle.druid_segid.specs.Group.{Group, group_of, same_group}
+use Rattle.druid_shard.specs.Described.{Described}
+use Rattle.druid_shard.specs.Members.{Member, IsComplete}
+
+-- a segment that a node serves: its chunk, and its place there. Of a descriptor only the size is left out
+pub record Held : Type 0 where
+  pub group : Group
+  pub member : Member
+
+-- what is held where a node announces a descriptor
+abbrev pub held_of : ℕ → Described → Held
+held_of node d = record {
+  group = group_of d.id;
+  member = record { node = node; partition = d.id.partition; core = d.core };
+}
+
+-- the members of a chunk
+abbrev pub members_of : List Held → Group → List Member
+members_of held g = map (λ h. h.member) (filter (λ h. same_group h.group g) held)
+
+-- the chunk has a member, and each of its core partitions
+abbrev pub IsCompleteIn : List Held → Group → Type 0
+IsCompleteIn held g = IsComplete (members_of held g)
+
+-- what a timeline stands for: a data source, and what is held of it
+pub record Serving : Type 0 where
+  pub source : List ℕ
+  pub held : List Held
+
+-- the node serves the segment of this identifier
+abbrev pub IsHeld : List Held → ℕ → Identifier → Type 0
+IsHeld held node id =
+    (h : Held) × Contains held h × (h.group ≡ group_of id) × (h.member.partition ≡ id.partition) × (h.member.node ≡ node)
+
+-- the set new is old with one more
+abbrev pub AddsHeld : List Held → List Held → Held → Type 0
+AddsHeld old new h = (x : Held) → Contains new x ↔ ((x ≡ h) ⊎ Contains old x)
+
+-- as sets they are one
+abbrev pub SameHeld : List Held → List Held → Type 0
+SameHeld old new = (x : Held) → Contains new x ↔ Contains old x

@@ -1,0 +1,5 @@
+pub mod Holding
+pub mod Visible
+pub mod Pieces
+pub mod Chunks
+pub mod Stretches

@@ -1,0 +1,350 @@
+//! The visible pieces in one part of a set, by a sweep over the instants where a chunk starts or ends.
+ghost use Rattle.std.specs.Prelude.{◌≡◌, ◌<◌, ◌≤◌, ◌↔◌, ◌⊎◌, ℕ, List, [], map, IsTrue, IfOk, OnOk, MatchOption, option_map, Contains};
+ghost use Rattle.std.specs.HashMap as hash;
+ghost use Rattle.std.specs.List.Sorted.{IsNonDecreasing};
+ghost use Rattle.druid_time.specs.Extent.{Has, AreParts};
+ghost use Rattle.druid_segid.specs.Group.{Group, same_group, Outranks};
+ghost use Rattle.druid_shard.specs.Members.{IsComplete};
+ghost use Rattle.druid_timeline.specs.Chunks.{Chunk, IsBest, IsBestOf};
+ghost use Rattle.druid_timeline.specs.Pieces.{AreRuns, Shows, IsStretch, ArePartitions, shown_of, Told};
+ghost use Rattle.druid_timeline.specs.Stretches.{Stretch, shown_by, chunk_by, AreOf, EndBy, AreCandidatesIn, HaveBounds, NoBoundWithin, AreRunsIn};
+
+use crate::chunks::beats;
+use crate::{Partitions, Piece};
+use druid_segid::{GroupKey, Meter};
+use druid_shard::Members;
+use druid_time::{Instant, Interval};
+use std::alloc::{AllocError, Global};
+use std::collections::HashMap;
+use std::marker::Model;
+
+/// A complete chunk, with its interval at hand.
+///
+/// A contract sees the chunk and its members.
+#[derive(Drop)]
+pub(crate) struct Candidate<'a> {
+    interval: Interval,
+    key: &'a GroupKey,
+    members: &'a Members,
+}
+
+impl<'a> Model for Candidate<'a> {
+    ghost use Rattle.std.specs.Prelude.{◌≡◌};
+    ghost use Rattle.druid_shard.specs.Members.{IsComplete};
+    ghost use Rattle.druid_timeline.specs.Chunks.{Chunk};
+
+    ghost Value = { Chunk };
+
+    ghost view = { λ a. (a.key.now, a.members.now) };
+
+    ghost invariant = { λ a. (a.interval ≡ a.key.now.interval) × IsComplete a.members.now };
+}
+
+impl<'a> Candidate<'a> {
+    fn new(key: &'a GroupKey, members: &'a Members) -> Candidate<'a>
+        requires { IsComplete members.now }
+        ensures { result ≡ (key.now, members.now) }
+    {
+        Candidate {
+            interval: key.interval(),
+            key,
+            members,
+        }
+    }
+
+    fn start(&self) -> Instant
+        ensures { result ≡ self.now.0.interval.start }
+    {
+        self.interval.start()
+    }
+
+    fn end(&self) -> Instant
+        ensures { result ≡ self.now.0.interval.end }
+    {
+        self.interval.end()
+    }
+
+    // Whether it outranks the best one so far, if there is one.
+    fn outranks(&self, best: Option<&Candidate>, meter: &mut Meter) -> bool
+        ensures { IsTrue result
+            ↔ MatchOption (option_map (λ c. c.now.0) best.entry) (Unit {0}) (Outranks self.now.0) }
+    {
+        match best {
+            Some(other) => beats(self.key, Some(other.key), meter),
+            None => true,
+        }
+    }
+
+    // Whether it has the instant and outranks the best one so far.
+    fn is_better(&self, instant: Instant, best: Option<&Candidate>, meter: &mut Meter) -> bool
+        ensures { IsTrue result
+            ↔ (Has self.now.0.interval instant × IsComplete self.now.1
+            × MatchOption (option_map (λ c. c.now.0) best.entry) (Unit {0}) (Outranks self.now.0)) }
+    {
+        self.interval.contains(instant) && self.outranks(best, meter)
+    }
+
+    // The stretch of it between two instants.
+    fn run(&self, start: Instant, end: Instant) -> Run<'a>
+        ensures { result ≡ record {
+          shown = record { interval = record { start = start; end = end }; group = self.now.0 };
+          members = self.now.1;
+        } }
+    {
+        Run {
+            start,
+            end,
+            key: self.key,
+            members: self.members,
+        }
+    }
+}
+
+/// A stretch of time in which one chunk is visible.
+///
+/// A contract sees the stretch, the chunk and its members.
+#[derive(Drop)]
+pub(crate) struct Run<'a> {
+    start: Instant,
+    end: Instant,
+    key: &'a GroupKey,
+    members: &'a Members,
+}
+
+impl<'a> Model for Run<'a> {
+    ghost use Rattle.druid_timeline.specs.Stretches.{Stretch};
+
+    ghost Value = { Stretch };
+
+    ghost view = { λ a. record {
+      shown = record { interval = record { start = a.start; end = a.end }; group = a.key.now };
+      members = a.members.now;
+    } };
+}
+
+impl<'a> Run<'a> {
+    // Whether the other goes on where this one ends, with the same chunk.
+    fn goes_on_as(&self, other: &Run) -> bool
+        ensures { IsTrue result
+            ↔ ((self.now.shown.interval.end ≡ other.now.shown.interval.start)
+            × (self.now.shown.group ≡ other.now.shown.group)) }
+    {
+        self.end == other.start && self.key == other.key
+    }
+
+    // The same with the end of another.
+    fn extended_by(self, other: &Run) -> Run<'a>
+        ensures { result ≡ record {
+          shown = record {
+            interval = record { start = self.entry.shown.interval.start; end = other.now.shown.interval.end };
+            group = self.entry.shown.group;
+          };
+          members = self.entry.members;
+        } }
+    {
+        Run {
+            start: self.start,
+            end: other.end,
+            key: self.key,
+            members: self.members,
+        }
+    }
+
+    // The piece of the chunk, with its partitions.
+    fn piece(&self, alloc: Global) -> Result<Piece, AllocError>
+        requires { IsStretch self.now.shown }
+        ensures shown { IfOk result (λ piece. shown_of piece ≡ self.now.shown) }
+        ensures parts { IfOk result (λ piece. ArePartitions self.now.members piece.parts) }
+    {
+        let interval = Interval::new(self.start, self.end).unwrap();
+        let parts = Partitions::new(self.members.partitions(alloc)?);
+        Ok(Piece::new(interval, self.key.clone()?, parts))
+    }
+}
+
+/// The complete chunks that have an instant of the part.
+pub(crate) fn candidates_in<'a>(
+    alloc: Global,
+    chunks: &'a HashMap<GroupKey, Members>,
+    part: Interval,
+) -> Result<Vec<Candidate<'a>>, AllocError>
+    ensures { IfOk result (λ found. AreCandidatesIn part chunks.now.entries found.items) }
+{
+    let mut found = Vec::new(alloc);
+    for (key, members) in chunks.iter() {
+        if part.overlaps(&key.interval()) && members.is_complete() {
+            found.push(Candidate::new(key, members))?;
+        }
+    }
+    Ok(found)
+}
+
+// The best of the candidates that have the instant.
+fn best_at<'b, 'a>(candidates: &'b [Candidate<'a>], instant: Instant) -> Option<&'b Candidate<'a>>
+    ensures best { IsBest candidates.now instant (option_map (λ c. c.now.0) result) }
+    ensures among { MatchOption result (Unit {0}) (λ c. Contains candidates.now c.now) }
+{
+    let mut meter = Meter::new();
+    let mut best: Option<&Candidate> = None;
+    for candidate in candidates {
+        if candidate.is_better(instant, best, &mut meter) {
+            best = Some(candidate);
+        }
+    }
+    best
+}
+
+// Adds an instant that lies strictly inside the part.
+fn push_inside(
+    bounds: &mut Vec<Instant>,
+    part: Interval,
+    instant: Instant,
+) -> Result<(), AllocError>
+    ensures inside { OnOk result (part.start < instant → instant < part.end → Contains bounds.new.items instant) }
+    ensures kept { OnOk result ((b : ℕ) → Contains bounds.old.items b → Contains bounds.new.items b) }
+    ensures within { OnOk result ((b : ℕ) → Contains bounds.new.items b → Contains bounds.old.items b ⊎ (b ≤ part.end)) }
+{
+    if part.start() < instant && instant < part.end() {
+        bounds.push(instant)?;
+    }
+    Ok(())
+}
+
+// The end of the part, and each instant strictly inside it where a candidate starts or ends, not in order.
+fn unsorted_bounds(
+    alloc: Global,
+    part: Interval,
+    candidates: &[Candidate],
+) -> Result<Vec<Instant>, AllocError>
+    ensures { IfOk result (λ v. HaveBounds part candidates.now v.items) }
+{
+    let mut bounds = Vec::new(alloc);
+    bounds.push(part.end())?;
+    for candidate in candidates {
+        let first = candidate.start();
+        push_inside(&mut bounds, part, first)?;
+        let behind = candidate.end();
+        push_inside(&mut bounds, part, behind)?;
+    }
+    Ok(bounds)
+}
+
+// The same in order.
+fn bounds_in(
+    alloc: Global,
+    part: Interval,
+    candidates: &[Candidate],
+) -> Result<Vec<Instant>, AllocError>
+    ensures bounds { IfOk result (λ v. HaveBounds part candidates.now v.items) }
+    ensures sorted { IfOk result (λ v. IsNonDecreasing v.items) }
+{
+    let mut bounds = unsorted_bounds(alloc, part, candidates)?;
+    bounds.sort_unstable();
+    Ok(bounds)
+}
+
+// Adds a run behind the others: it is joined to the last one where that goes on.
+fn push_run<'a>(runs: &mut Vec<Run<'a>>, run: Run<'a>) -> Result<(), AllocError>
+    requires runs { AreRuns (map shown_by runs.old.items) }
+    requires stretch { IsStretch run.shown }
+    requires behind { EndBy (map shown_by runs.old.items) run.shown.interval.start }
+    ensures runs { OnOk result (AreRuns (map shown_by runs.new.items)) }
+    ensures shows { OnOk result ((t : ℕ) (g : Group) → Shows (map shown_by runs.new.items) t g
+        ↔ (Shows (map shown_by runs.old.items) t g ⊎ ((run.entry.shown.group ≡ g) × Has run.entry.shown.interval t))) }
+    ensures members { OnOk result ((chunks : List Chunk) → AreOf chunks runs.old.items
+        → Contains chunks (chunk_by run.entry) → AreOf chunks runs.new.items) }
+{
+    let Some(last) = runs.pop() else {
+        runs.push(run)?;
+        return Ok(());
+    };
+    if last.goes_on_as(&run) {
+        runs.push(last.extended_by(&run))?;
+        return Ok(());
+    }
+    runs.push(last)?;
+    runs.push(run)?;
+    Ok(())
+}
+
+// Adds what is visible from one instant to another, between which no candidate starts or ends.
+fn add_stretch<'a>(
+    runs: &mut Vec<Run<'a>>,
+    candidates: &[Candidate<'a>],
+    from: Instant,
+    to: Instant,
+) -> Result<(), AllocError>
+    requires order { from < to }
+    requires level { NoBoundWithin candidates.now from to }
+    requires runs { AreRuns (map shown_by runs.old.items) }
+    requires behind { EndBy (map shown_by runs.old.items) from }
+    ensures runs { OnOk result (AreRuns (map shown_by runs.new.items)) }
+    ensures shows { OnOk result ((t : ℕ) (g : Group) → Shows (map shown_by runs.new.items) t g
+        ↔ (Shows (map shown_by runs.old.items) t g ⊎ (((from ≤ t) × (t < to)) × IsBestOf candidates.now t g))) }
+    ensures members { OnOk result ((chunks : List Chunk) → AreOf chunks runs.old.items
+        → ((e : Chunk) → Contains candidates.now e → Contains chunks e) → AreOf chunks runs.new.items) }
+{
+    match best_at(candidates, from) {
+        Some(best) => push_run(runs, best.run(from, to)),
+        None => Ok(()),
+    }
+}
+
+/// Adds what is visible in a part, which lies behind the runs.
+pub(crate) fn add_part<'a>(
+    alloc: Global,
+    runs: &mut Vec<Run<'a>>,
+    candidates: &[Candidate<'a>],
+    part: Interval,
+) -> Result<(), AllocError>
+    requires runs { AreRuns (map shown_by runs.old.items) }
+    requires behind { EndBy (map shown_by runs.old.items) part.start }
+    ensures runs { OnOk result (AreRuns (map shown_by runs.new.items)) }
+    ensures shows { OnOk result ((t : ℕ) (g : Group) → Shows (map shown_by runs.new.items) t g
+        ↔ (Shows (map shown_by runs.old.items) t g ⊎ (Has part t × IsBestOf candidates.now t g))) }
+    ensures members { OnOk result ((chunks : List Chunk) → AreOf chunks runs.old.items
+        → ((e : Chunk) → Contains candidates.now e → Contains chunks e) → AreOf chunks runs.new.items) }
+{
+    let bounds = bounds_in(alloc, part, candidates)?;
+    let mut from = part.start();
+    for bound in &bounds {
+        if from < *bound {
+            add_stretch(runs, candidates, from, *bound)?;
+            from = *bound;
+        }
+    }
+    Ok(())
+}
+
+/// The runs that show what is visible in the parts of a set.
+pub(crate) fn runs_in<'a>(
+    alloc: Global,
+    chunks: &'a HashMap<GroupKey, Members>,
+    parts: &[Interval],
+) -> Result<Vec<Run<'a>>, AllocError>
+    requires { AreParts parts.now }
+    ensures runs { IfOk result (λ v. AreRunsIn parts.now chunks.now.entries v.items) }
+    ensures unique { hash.IsUnique same_group chunks.now }
+{
+    let _ = chunks.len();
+    let mut runs = Vec::new(alloc);
+    for part in parts {
+        let candidates = candidates_in(alloc, chunks, *part)?;
+        add_part(alloc, &mut runs, &candidates, *part)?;
+    }
+    Ok(runs)
+}
+
+/// The pieces of the runs, each with the partitions of its chunk.
+pub(crate) fn pieces_of(alloc: Global, runs: &[Run]) -> Result<Vec<Piece>, AllocError>
+    requires { AreRuns (map shown_by runs.now) }
+    ensures shown { IfOk result (λ found. map shown_of found.items ≡ map shown_by runs.now) }
+    ensures parts { IfOk result (λ found. (p : Told) → Contains found.items p
+        → (r : Stretch) × Contains runs.now r × (r.shown.group ≡ p.group) × ArePartitions r.members p.parts) }
+{
+    let mut pieces = Vec::new(alloc);
+    for run in runs {
+        pieces.push(run.piece(alloc)?)?;
+    }
+    Ok(pieces)
+}
