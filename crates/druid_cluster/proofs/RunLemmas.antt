@@ -40,10 +40,10 @@ goes_on (Some xs) (Some ys) m b w v state next n line answer way found answered 
       way.0 ++ line_text answer,
       Appends-trans b w v way.0 (line_text answer) way.1 grown,
       λ rest end run.
-        let here : Runs state n (lines_of ys) (line_text answer ++ rest) end =
-        subst (λ (ls : List (List ℕ)). Runs state n ls (line_text answer ++ rest) end) (sym (lines_of-first ys found.0))
-        (inr (answer, next, subst (λ (l : List ℕ). IsAnswered state l answer next) found.1 answered, rest, refl, run)) in
-        subst (λ (out : List ℕ). Runs None 1 (lines_of xs) out end) (sym (append_assoc way.0 (line_text answer) rest)) (way.2 (line_text answer ++ rest) end here),
+          let here : Runs state n (lines_of ys) (line_text answer ++ rest) end =
+          subst (λ (ls : List (List ℕ)). Runs state n ls (line_text answer ++ rest) end) (sym (lines_of-first ys found.0))
+          (inr (answer, next, subst (λ (l : List ℕ). IsAnswered state l answer next) found.1 answered, rest, refl, run)) in
+          subst (λ (out : List ℕ). Runs None 1 (lines_of xs) out end) (sym (append_assoc way.0 (line_text answer) rest)) (way.2 (line_text answer ++ rest) end here),
     )
 
 -- the input is at its end

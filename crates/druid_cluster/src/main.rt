@@ -14,10 +14,9 @@ mod sync_fault;
 mod tests;
 
 use crate::fault::ReplayFault;
-use std::env;
-use std::io;
 use std::io::{BufReader, BufWriter, Write};
 use std::process::ExitCode;
+use std::{env, io};
 
 /// Exit status of arguments that the program has no use for.
 const USAGE: u8 = 2;

@@ -17,10 +17,7 @@ use std::alloc::{AllocError, Global};
 
 // One broker over nodes of these names: what it is answered, and the inventory where it was taken.
 #[tactic(auto, using(crate::proofs::NameLemmas::not_all, crate::proofs::NameLemmas::names_more))]
-fn take_brokers(
-    alloc: Global,
-    names: &[&str],
-) -> Result<(Answer, Option<Inventory>), AllocError>
+fn take_brokers(alloc: Global, names: &[&str]) -> Result<(Answer, Option<Inventory>), AllocError>
     requires some { 1 ≤ length names.now }
     requires few { length names.now ≤ 64 }
     ensures { IfOk result (λ r. TakesBrokers (names_in names.now) r.0 r.1) }

@@ -10,9 +10,11 @@ use std::test::Fail;
 
 const BROKERS: &str = "{\"count\":1,\"do\":\"brokers\",\"nodes\":[\"n0\"]}\n";
 
-const REPLY: &str = "{\"broker\":0,\"do\":\"reply\",\"node\":0,\"reply\":{\"counter\":{\"counter\":1,\"hash\":1},\"from\":null,\"requests\":[{\"action\":\"load\",\"dataSource\":\"wiki\",\"interval\":\"2024-01-01/2024-01-02\",\"shardSpec\":{\"partitionNum\":0,\"partitions\":1,\"type\":\"numbered\"},\"size\":0,\"version\":\"v1\"}],\"resetCause\":null,\"resetCounter\":false}}\n";
+const REPLY: &str =
+    "{\"broker\":0,\"do\":\"reply\",\"node\":0,\"reply\":{\"counter\":{\"counter\":1,\"hash\":1},\"from\":null,\"requests\":[{\"action\":\"load\",\"dataSource\":\"wiki\",\"interval\":\"2024-01-01/2024-01-02\",\"shardSpec\":{\"partitionNum\":0,\"partitions\":1,\"type\":\"numbered\"},\"size\":0,\"version\":\"v1\"}],\"resetCause\":null,\"resetCounter\":false}}\n";
 
-const LOOKUP: &str = "{\"broker\":0,\"do\":\"lookup\",\"interval\":\"2024-01-01/2024-01-03\",\"source\":\"wiki\"}\n";
+const LOOKUP: &str =
+    "{\"broker\":0,\"do\":\"lookup\",\"interval\":\"2024-01-01/2024-01-03\",\"source\":\"wiki\"}\n";
 
 // The end of a run of a script, and what it wrote.
 fn run(alloc: Global, script: &str) -> (Result<(), ReplayFault>, Vec<u8>) {
@@ -36,7 +38,8 @@ fn answers(alloc: Global, lines: &str, wanted: &str) -> Result<bool, Fail> {
 fn first_run(rt: HostRuntime) -> Result<(), Fail> {
     let mut lines = String::from_str(rt.alloc(), REPLY)?;
     lines.push_str(LOOKUP)?;
-    let wanted = "{\"mark\":{\"counter\":1,\"hash\":1},\"outcome\":\"Moved\"}\n{\"pieces\":[{\"chunk\":\"2024-01-01T00:00:00.000Z/2024-01-02T00:00:00.000Z\",\"interval\":\"2024-01-01T00:00:00.000Z/2024-01-02T00:00:00.000Z\",\"parts\":[0],\"version\":\"v1\"}]}\n";
+    let wanted =
+        "{\"mark\":{\"counter\":1,\"hash\":1},\"outcome\":\"Moved\"}\n{\"pieces\":[{\"chunk\":\"2024-01-01T00:00:00.000Z/2024-01-02T00:00:00.000Z\",\"interval\":\"2024-01-01T00:00:00.000Z/2024-01-02T00:00:00.000Z\",\"parts\":[0],\"version\":\"v1\"}]}\n";
     assert!(rt; answers(rt.alloc(), lines.as_str(), wanted)?);
     let (end, written) = run(rt.alloc(), "");
     assert!(rt; end == Ok(()) && written.is_empty());
@@ -89,13 +92,19 @@ fn bad_later_lines(rt: HostRuntime) -> Result<(), Fail> {
 #[test]
 fn refusals(rt: HostRuntime) -> Result<(), Fail> {
     let alloc = rt.alloc();
-    let lookup = "{\"broker\":0,\"do\":\"lookup\",\"interval\":\"x\",\"source\":\"\"}\r\n{\"broker\":0,\"do\":\"lookup\",\"interval\":\"2024-13-01/2024-01-02\",\"source\":\"\"}\n{\"broker\":0,\"do\":\"lookup\",\"interval\":\"2024-01-02/2024-01-02\",\"source\":\"\"}\n{\"broker\":0,\"do\":\"lookup\",\"interval\":\"2024-01-01/2024-01-02\",\"source\":\"\"}\n";
-    let wanted = "{\"refused\":\"C1\"}\n{\"refused\":\"C2\"}\n{\"refused\":\"C3\"}\n{\"refused\":\"I1\"}\n";
+    let lookup =
+        "{\"broker\":0,\"do\":\"lookup\",\"interval\":\"x\",\"source\":\"\"}\r\n{\"broker\":0,\"do\":\"lookup\",\"interval\":\"2024-13-01/2024-01-02\",\"source\":\"\"}\n{\"broker\":0,\"do\":\"lookup\",\"interval\":\"2024-01-02/2024-01-02\",\"source\":\"\"}\n{\"broker\":0,\"do\":\"lookup\",\"interval\":\"2024-01-01/2024-01-02\",\"source\":\"\"}\n";
+    let wanted =
+        "{\"refused\":\"C1\"}\n{\"refused\":\"C2\"}\n{\"refused\":\"C3\"}\n{\"refused\":\"I1\"}\n";
     assert!(rt; answers(alloc, lookup, wanted)?);
-    let reply = "{\"broker\":0,\"do\":\"reply\",\"node\":0,\"reply\":null}\n{\"broker\":0,\"do\":\"reply\",\"node\":1,\"reply\":{\"counter\":{\"counter\":1,\"hash\":1},\"from\":null,\"requests\":[],\"resetCause\":null,\"resetCounter\":false}}\n{\"broker\":0,\"do\":\"lookup\",\"interval\":\"2024-01-01/2024-01-02\",\"source\":\"w\"}";
+    let reply =
+        "{\"broker\":0,\"do\":\"reply\",\"node\":0,\"reply\":null}\n{\"broker\":0,\"do\":\"reply\",\"node\":1,\"reply\":{\"counter\":{\"counter\":1,\"hash\":1},\"from\":null,\"requests\":[],\"resetCause\":null,\"resetCounter\":false}}\n{\"broker\":0,\"do\":\"lookup\",\"interval\":\"2024-01-01/2024-01-02\",\"source\":\"w\"}";
     let wanted = "{\"refused\":\"Y2\"}\n{\"refused\":\"A1\"}\n{\"pieces\":[]}\n";
     assert!(rt; answers(alloc, reply, wanted)?);
-    let (end, written) = run(alloc, "{\"count\":1,\"do\":\"brokers\",\"nodes\":[\"a b\",\"a b\"]}\n{\"count\":1,\"do\":\"brokers\",\"nodes\":[\"a\",\"a\"]}\n");
+    let (end, written) = run(
+        alloc,
+        "{\"count\":1,\"do\":\"brokers\",\"nodes\":[\"a b\",\"a b\"]}\n{\"count\":1,\"do\":\"brokers\",\"nodes\":[\"a\",\"a\"]}\n",
+    );
     assert!(rt; end == Ok(()));
     assert!(rt; written.as_slice() == "{\"refused\":\"I1\"}\n{\"refused\":\"V1\"}\n".as_bytes());
     Ok(())
@@ -105,7 +114,8 @@ fn refusals(rt: HostRuntime) -> Result<(), Fail> {
 fn refused_replies(rt: HostRuntime) -> Result<(), Fail> {
     assert!(rt; read_reply(rt.alloc(), b"x").err() == Some(SyncFault::NotJson));
     assert!(rt; read_reply(rt.alloc(), b"null").err() == Some(SyncFault::Shape));
-    let zero = b"{\"counter\":{\"counter\":0,\"hash\":0},\"from\":null,\"requests\":[],\"resetCause\":null,\"resetCounter\":false}";
+    let zero =
+        b"{\"counter\":{\"counter\":0,\"hash\":0},\"from\":null,\"requests\":[],\"resetCause\":null,\"resetCounter\":false}";
     assert!(rt; read_reply(rt.alloc(), zero).err() == Some(SyncFault::Shape));
     Ok(())
 }
@@ -125,7 +135,8 @@ fn fault_texts(rt: HostRuntime) -> Result<(), Fail> {
 #[test]
 fn ample_memory(rt: HostRuntime) -> Result<(), Fail> {
     let alloc = rt.alloc();
-    let one = b"{\"counter\":{\"counter\":1,\"hash\":1},\"from\":null,\"requests\":[],\"resetCause\":null,\"resetCounter\":false}";
+    let one =
+        b"{\"counter\":{\"counter\":1,\"hash\":1},\"from\":null,\"requests\":[],\"resetCause\":null,\"resetCounter\":false}";
     let reply = read_reply(alloc, one).ok().ok_or("no reply")?;
     let Body::Snapshot { at, segments } = reply.body();
     assert!(rt; at.count() == 1 && segments.as_slice().is_empty());
@@ -133,7 +144,11 @@ fn ample_memory(rt: HostRuntime) -> Result<(), Fail> {
     assert!(rt; text.as_str() == "{\"refused\":\"A5\"}\n");
     let found = answer_line(alloc, &Answer::Found(Pieces::new(Vec::new(alloc))))?;
     assert!(rt; found.as_str() == "{\"pieces\":[]}\n");
-    let served = serve_line(alloc, None, b"{\"count\":1,\"do\":\"brokers\",\"nodes\":[\"n\"]}")?;
+    let served = serve_line(
+        alloc,
+        None,
+        b"{\"count\":1,\"do\":\"brokers\",\"nodes\":[\"n\"]}",
+    )?;
     let (answer, inventory) = served.ok_or("no answer")?;
     assert!(rt; matches!(&answer, Answer::Taken) && inventory.is_some());
     Ok(())

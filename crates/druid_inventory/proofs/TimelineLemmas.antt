@@ -57,7 +57,7 @@ kept_here served o t node d old source adds = record {
     λ e. elim e.2 [
       | inl s ↦ (adds x).1 (inr ((held_of_kept served d.id.source o old x).1 (e.0, e.1, s, e.3, e.4)))
       | inr new ↦ (adds x).1 (inl (e.4 ∙ (λ k. held_of (new.0 k) (new.1 k))))
-    ]
+    ],
   );
 }
 
@@ -77,7 +77,7 @@ kept_there served source (Some t) node d apart h = record {
     λ e. elim e.2 [
       | inl s ↦ (h.held x).1 (e.0, e.1, s, e.3, e.4)
       | inr new ↦ absurd (apart (sym e.3 ∙ ap (λ (z : Described). z.id.source) new.1))
-    ]
+    ],
   );
 }
 
@@ -96,7 +96,7 @@ AreTimelines-more served m n node d old adds = record {
   each = λ source. elim (same_or_not source d.id.source) [
     | inl e ↦
         let here : IsKept (WithSegment served node d) d.id.source (kept n d.id.source) =
-          rw adds.here.1 (kept_here served (kept m d.id.source) adds.here.0 node d (old.each d.id.source) adds.here.2 adds.here.3) in
+        rw adds.here.1 (kept_here served (kept m d.id.source) adds.here.0 node d (old.each d.id.source) adds.here.2 adds.here.3) in
         subst (λ (s : List ℕ). IsKept (WithSegment served node d) s (kept n s)) (sym e) here
     | inr apart ↦ rw (adds.others source apart) (kept_there served source (kept m source) node d apart (old.each source))
   ];
@@ -110,7 +110,7 @@ kept_alike P Q source (Some t) alike h = record {
   some = (h.some.0, h.some.1, (alike h.some.0 h.some.1).0 h.some.2, h.some.3);
   held = λ x. (
     λ c. let was = (h.held x).0 c in (was.0, was.1, (alike was.0 was.1).0 was.2, was.3, was.4),
-    λ e. (h.held x).1 (e.0, e.1, (alike e.0 e.1).1 e.2, e.3, e.4)
+    λ e. (h.held x).1 (e.0, e.1, (alike e.0 e.1).1 e.2, e.3, e.4),
   );
 }
 
@@ -209,7 +209,7 @@ not_before entries node some k d sorted l y (inr new) e =
     let below : at.0 < k = omega arith in
     let same : get_or some at.0 y ≡ y = sym (get_or-take k some at.0 y below) ∙ at.2 in
     let texts : identifier_text (get_or some at.0 d).id ≡ identifier_text (get_or some k d).id =
-      ap (λ (z : Described). identifier_text z.id) (get_or_default some at.0 d y (omega arith) ∙ same) ∙ ap identifier_text e in
+    ap (λ (z : Described). identifier_text z.id) (get_or_default some at.0 d y (omega arith) ∙ same) ∙ ap identifier_text e in
     let level : at.0 ≡ k = AreSorted-own some sorted at.0 k d (omega arith) l texts in
     absurd (omega arith)
 
@@ -217,18 +217,19 @@ not_before entries node some k d sorted l y (inr new) e =
 pub WithSome-more : (entries : List Entry) (node : ℕ) (some : List Described) (k : ℕ) (d : Described) → k < length some
     → (i : ℕ) (y : Described) → WithSegment (WithSome entries node (take k some)) node (get_or some k d) i y ↔ WithSome entries node (take (k + 1) some) i y
 WithSome-more entries node some k d l i y = rw (take_more some k d l) (
-    λ h. elim h [
-      | inl (inl s) ↦ inl s
-      | inl (inr new) ↦ inr (new.0, Contains-append_left (take k some) (get_or some k d ∷ []) y new.1)
-      | inr new ↦ inr (new.0, subst (λ (z : Described). Contains (take k some ++ get_or some k d ∷ []) z) (sym new.1) (Contains-push (take k some) (get_or some k d)))
-    ],
-    λ h. elim h [
-      | inl s ↦ inl (inl s)
-      | inr new ↦ elim (Contains-push_cases (take k some) (get_or some k d) y new.1) [
-        | inl c ↦ inl (inr (new.0, c))
-        | inr e ↦ inr (new.0, sym e)
-      ]
-    ])
+  λ h. elim h [
+    | inl (inl s) ↦ inl s
+    | inl (inr new) ↦ inr (new.0, Contains-append_left (take k some) (get_or some k d ∷ []) y new.1)
+    | inr new ↦ inr (new.0, subst (λ (z : Described). Contains (take k some ++ get_or some k d ∷ []) z) (sym new.1) (Contains-push (take k some) (get_or some k d)))
+  ],
+  λ h. elim h [
+    | inl s ↦ inl (inl s)
+    | inr new ↦ elim (Contains-push_cases (take k some) (get_or some k d) y new.1) [
+      | inl c ↦ inl (inr (new.0, c))
+      | inr e ↦ inr (new.0, sym e)
+    ]
+  ],
+)
 
 -- before its first segment
 pub WithSome-none : (entries : List Entry) (node : ℕ) (i : ℕ) (y : Described) → Serves entries i y ↔ WithSome entries node [] i y
@@ -238,13 +239,14 @@ WithSome-none entries node i y = (λ s. inl s, λ h. elim h [ inl s ↦ s | inr 
 pub WithSome-all : (entries : List Entry) (node : ℕ) (e : Entry) → slice_get entries node ≡ Some e
     → (i : ℕ) (y : Described) → WithSome (take node entries) node e.set i y ↔ Serves (take (node + 1) entries) i y
 WithSome-all entries node e found i y = (
-    λ h. elim h [
-      | inl s ↦
-          let below = slice_get-short entries node i s.0 s.1 in
-          (s.0, slice_get-take entries (node + 1) i (omega arith) ∙ sym (slice_get-take entries node i below) ∙ s.1, s.2)
-      | inr new ↦ (e, slice_get-take entries (node + 1) i (omega arith) ∙ ap (slice_get entries) new.0 ∙ found, new.1)
-    ],
-    λ s. from_more s) where
+  λ h. elim h [
+    | inl s ↦
+        let below = slice_get-short entries node i s.0 s.1 in
+        (s.0, slice_get-take entries (node + 1) i (omega arith) ∙ sym (slice_get-take entries node i below) ∙ s.1, s.2)
+    | inr new ↦ (e, slice_get-take entries (node + 1) i (omega arith) ∙ ap (slice_get entries) new.0 ∙ found, new.1)
+  ],
+  λ s. from_more s,
+) where
   from_more : Serves (take (node + 1) entries) i y → WithSome (take node entries) node e.set i y
   from_more s =
       let below = slice_get-short entries (node + 1) i s.0 s.1 in

@@ -17,7 +17,7 @@ pub record IsTimelineOf (served : ℕ → Described → Type 0) (source : List �
   pub of_source : t.source ≡ source
   pub some : (node : ℕ) × (d : Described) × served node d × (d.id.source ≡ source)
   pub held : (x : Held) → Contains t.held x
-    ↔ ((node : ℕ) × (d : Described) × served node d × (d.id.source ≡ source) × (x ≡ held_of node d))
+      ↔ ((node : ℕ) × (d : Described) × served node d × (d.id.source ≡ source) × (x ≡ held_of node d))
 
 -- the timeline of the source, or nothing where nothing of it is served
 abbrev pub IsKept : (ℕ → Described → Type 0) → List ℕ → Option Serving → Type 0
@@ -50,5 +50,5 @@ pub record TakesSegment (source : List ℕ) (node : ℕ) (d : Described) (t : Se
 -- the timeline of its source has the segment more, and the others stay
 pub record AddsSegment (old new : BTreeMap (List ℕ) Serving) (node : ℕ) (d : Described) : Type 0 where
   pub here : (t : Serving) × (kept new d.id.source ≡ Some t) × (t.source ≡ d.id.source)
-    × AddsHeld (held_in (kept old d.id.source)) t.held (held_of node d)
+      × AddsHeld (held_in (kept old d.id.source)) t.held (held_of node d)
   pub others : (source : List ℕ) → (source ≡ d.id.source → ⊥) → kept new source ≡ kept old source

@@ -54,10 +54,7 @@ fn have_own_names(names: &[Name]) -> bool
     true
 }
 
-fn fresh_entries(
-    alloc: Global,
-    names: Vec<Name>,
-) -> Result<Vec<Arc<Known, Global>>, AllocError>
+fn fresh_entries(alloc: Global, names: Vec<Name>) -> Result<Vec<Arc<Known, Global>>, AllocError>
     ensures { IfOk result (λ entries. map arc_value entries.items ≡ map fresh names.items) }
 {
     let mut entries = Vec::with_capacity(alloc, names.len())?;
@@ -144,11 +141,7 @@ impl Inventory {
 
     /// What a reply of a node makes of the inventory, and its outcome. A1 where the list has no such node, A5 where a
     /// snapshot is of the held mark and has another set, and A9 last. The inventory itself stays.
-    pub fn apply(
-        &self,
-        node: NodeNo,
-        reply: &Reply,
-    ) -> Result<(Inventory, Outcome), ApplyFault>
+    pub fn apply(&self, node: NodeNo, reply: &Reply) -> Result<(Inventory, Outcome), ApplyFault>
         ensures unknown { IsErrOf result ApplyFault.UnknownNode ↔ (slice_get self.now node ≡ None) }
         ensures conflict { IsErrOf result ApplyFault.Conflict
             ↔ ((e : Entry) × (slice_get self.now node ≡ Some e) × Conflicts e reply.now) }

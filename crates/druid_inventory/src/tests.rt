@@ -14,12 +14,7 @@ const DAY_START: i64 = 1_704_067_200_000;
 const DAY_END: i64 = 1_704_153_600_000;
 
 /// A segment of 2024-01-01/2024-01-02, whose chunk has one core partition.
-fn segment(
-    alloc: Global,
-    source: &str,
-    version: &str,
-    partition: u16,
-) -> Result<Descriptor, Fail> {
+fn segment(alloc: Global, source: &str, version: &str, partition: u16) -> Result<Descriptor, Fail> {
     let start = Instant::new(DAY_START).ok_or("no start")?;
     let end = Instant::new(DAY_END).ok_or("no end")?;
     let day = Interval::new(start, end).ok_or("an empty day")?;
@@ -32,10 +27,7 @@ fn segment(
 fn empty(alloc: Global, incarnation: u64, count: u64) -> Result<Reply, Fail>
     requires { 1 ≤ incarnation }
 {
-    Ok(Reply::snapshot(
-        Mark::new(incarnation, count),
-        Vec::new(alloc),
-    )?)
+    Ok(Reply::snapshot(Mark::new(incarnation, count), Vec::new(alloc))?)
 }
 
 /// A snapshot with one segment of `wiki`.
@@ -69,7 +61,10 @@ fn segment_count(inventory: &Inventory, node: u16) -> Option<usize> {
 
 #[test]
 fn no_node_stands_twice(rt: HostRuntime) -> Result<(), Fail> {
-    assert_eq!(rt; new_fault(rt.alloc(), "n0")?, Some(InventoryFault::DoubledNode));
+    assert_eq!(rt;
+        new_fault(rt.alloc(), "n0")?,
+        Some(InventoryFault::DoubledNode)
+    );
     assert_eq!(rt; new_fault(rt.alloc(), "n1")?, None);
     Ok(())
 }
@@ -114,8 +109,14 @@ fn other_snapshots_leave_it(rt: HostRuntime) -> Result<(), Fail> {
     let same = empty(rt.alloc(), 2, 0)?;
     assert_eq!(rt; outcome_of(&inventory, 0, &same)?, Outcome::AlreadyHave);
     let other = with_wiki(rt.alloc(), 2, 0)?;
-    assert_eq!(rt; outcome_of(&inventory, 0, &other).err(), Some(ApplyFault::Conflict));
-    assert_eq!(rt; outcome_of(&inventory, 2, &same).err(), Some(ApplyFault::UnknownNode));
+    assert_eq!(rt;
+        outcome_of(&inventory, 0, &other).err(),
+        Some(ApplyFault::Conflict)
+    );
+    assert_eq!(rt;
+        outcome_of(&inventory, 2, &same).err(),
+        Some(ApplyFault::UnknownNode)
+    );
     Ok(())
 }
 

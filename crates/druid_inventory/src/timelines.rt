@@ -16,11 +16,7 @@ use std::sync::Arc;
 pub(crate) type Timelines = BTreeMap<Name, Timeline>;
 
 /// Adds a segment, which the node does not serve yet, to the timeline of its source.
-fn add_to(
-    timeline: &mut Timeline,
-    node: NodeNo,
-    descriptor: &Descriptor,
-) -> Result<(), AllocError>
+fn add_to(timeline: &mut Timeline, node: NodeNo, descriptor: &Descriptor) -> Result<(), AllocError>
     requires source { descriptor.now.id.source ≡ timeline.old.source }
     requires new { IsHeld timeline.old.held node descriptor.now.id → ⊥ }
     ensures added { OnOk result

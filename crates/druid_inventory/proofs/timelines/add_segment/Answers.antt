@@ -25,7 +25,7 @@ pub returns-in_ok-insert-in-None : goal.returns-in_ok-insert-in-None
 returns-in_ok-insert-in-None c =
     let same = c.source-source.ensures.value ∙ ap (λ (id : Identifier). id.source) c.id.ensures.value in
     let writes = subst (λ (m : BTreeMap (List ℕ) Serving). UpdatesBy (slice_cmp nat_cmp) (slice_cmp nat_cmp c.in_ok-clone-in-None-2.field-0) m c.insert.new.self (Some c.add_to-in-None.new.timeline))
-      c.get_mut.follows.holds-at-none c.in_ok-insert-in-None.ensures.updates in
+    c.get_mut.follows.holds-at-none c.in_ok-insert-in-None.ensures.updates in
     AddsSegment-begun c.args.timelines.now c.insert.new.self c.source-source.result.now
     c.in_ok-clone-in-None-2.field-0 c.in_ok-clone-in-None.field-0 c.new-timeline.result c.add_to-in-None.new.timeline
     c.args.node c.args.descriptor.now

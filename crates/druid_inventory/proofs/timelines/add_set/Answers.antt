@@ -50,7 +50,7 @@ returns c =
     let set = c.set-set.result.now in
     let k = c.loop-descriptor.descriptor-index in
     let found : slice_get entries c.args.node ≡ Some c.deref.result.now =
-      found_behind arc_value c.args.entries.now c.args.node c.index-entries-node.result c.requires.node c.index-entries-node.is ∙ ap (λ (e : Entry). Some e) (sym c.deref.ensures) in
+    found_behind arc_value c.args.entries.now c.args.node c.index-entries-node.result c.requires.node c.index-entries-node.is ∙ ap (λ (e : Entry). Some e) (sym c.deref.ensures) in
     let whole : take k set ≡ c.deref.result.now.set = take_all k set (omega arith) ∙ c.set-set.ensures.value in
     AreTimelines-alike (WithSome before c.args.node c.deref.result.now.set) (Serves (take (c.args.node + 1) entries)) c.loop-descriptor.timelines
     (WithSome-all entries c.args.node c.deref.result.now found)

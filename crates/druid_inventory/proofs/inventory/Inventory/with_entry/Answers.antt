@@ -11,5 +11,5 @@ returns c =
     let entries = map-copied arc_value c.self.inside.entries.items c.in_ok-entries.entries.items c.in_ok-entries.ensures.cases.0 in
     let whole = entries ∙ c.self.view_is in
     let moved = map-set arc_value c.in_ok-entries.entries.items c.args.node c.in_ok-entries-2.field-0
-      ∙ (λ i. set (whole i) c.args.node (c.in_ok-entries-2.ensures.ok i)) in
+    ∙ (λ i. set (whole i) c.args.node (c.in_ok-entries-2.ensures.ok i)) in
     IfOk-weaker c.over.result _ _ (λ inventory e. e ∙ moved) c.over.ensures
