@@ -1,5 +1,5 @@
 -- Pieces in a set of instants, and in the interval that the set is of.
-use Rattle.std.proofs.Common.{◌≡◌, ℕ, List, [], ◌∷◌, map, All, ◌↔◌, ◌⊎◌, inl, inr}
+use Rattle.std.proofs.Common.{List, [], ◌∷◌, map, All, ◌⊎◌, inl, inr}
 use Rattle.druid_time.specs.Extent.{Extent, Has, AnyHas, SameInstants}
 use Rattle.druid_timeline.specs.Holding.{Held, members_of}
 use Rattle.druid_timeline.specs.Pieces.{Told, Shown, shown_of, ArePiecesIn, ArePartitions}

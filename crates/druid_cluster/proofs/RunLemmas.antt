@@ -1,5 +1,6 @@
 -- A run under way: what is written so far, and what a run of the rest writes, is what the whole run writes.
-use Rattle.std.proofs.Common.{◌≡◌, ℕ, ◌+◌, ◌<◌, List, [], ◌∷◌, ◌++◌, length, append_assoc, append-nil, Option, None, Some, IfSome, refl, sym, ap, subst, ◌∙◌, inl, inr}
+use Rattle.std.proofs.Common.{◌≡◌, ℕ, ◌+◌, ◌<◌, List, [], ◌∷◌, ◌++◌, length, take, drop, append_assoc, append-nil, Option, None, Some, IfSome, ◌^◌, arith, refl, sym, ap, subst, ◌∙◌, inl, inr}
+use Rattle.std.proofs.lemmas.List.{take-append-drop}
 use Rattle.std.proofs.KnownBytes.{Appends-nil, Appends-trans, Appends-kept}
 use Rattle.std.specs.Io.KnownBytes.{Appends, Keeps}
 use Rattle.std.specs.Io.BufRead.{drop_through}
@@ -9,7 +10,7 @@ use Rattle.druid_cluster.specs.Serving.{IsAnswered, IsBad, max_line}
 use Rattle.druid_cluster.specs.Lines.{lines_of, line_at, Finds}
 use Rattle.druid_cluster.specs.declared.lines.Next.{Next}
 use Rattle.druid_cluster.specs.declared.lines.Next.TheVariants.{Line, TooLong, End as AtEnd}
-use Rattle.druid_cluster.specs.Runs.{End, done, bad_at, Runs, Writes, Told, TellsLine}
+use Rattle.druid_cluster.specs.Runs.{End, done, bad_at, broken_at, IsFront, Runs, Writes, Told, TellsLine, AppendsFront}
 use Rattle.druid_cluster.specs.declared.answer.Answer.{Answer}
 use Rattle.druid_cluster.specs.declared.fault.ReplayFault.{ReplayFault}
 use Rattle.druid_cluster.specs.declared.fault.ReplayFault.TheVariants.{BadCommand, Device}
@@ -42,7 +43,7 @@ goes_on (Some xs) (Some ys) m b w v state next n line answer way found answered 
       λ rest end run.
           let here : Runs state n (lines_of ys) (line_text answer ++ rest) end =
           subst (λ (ls : List (List ℕ)). Runs state n ls (line_text answer ++ rest) end) (sym (lines_of-first ys found.0))
-          (inr (answer, next, subst (λ (l : List ℕ). IsAnswered state l answer next) found.1 answered, rest, refl, run)) in
+          (inr (inr (answer, next, subst (λ (l : List ℕ). IsAnswered state l answer next) found.1 answered, rest, refl, run))) in
           subst (λ (out : List ℕ). Runs None 1 (lines_of xs) out end) (sym (append_assoc way.0 (line_text answer) rest)) (way.2 (line_text answer ++ rest) end here),
     )
 
@@ -51,7 +52,30 @@ pub ends : (a l b w : Option (List ℕ)) (state : Option (List Entry)) (n : ℕ)
 ends None l b w state n way none = tt
 ends (Some xs) None b w state n way none = absurd way
 ends (Some xs) (Some ys) b w state n way none =
-    (way.0 ++ [], way.2 [] done (subst (λ (zs : List ℕ). Runs state n (lines_of zs) [] done) (sym none) (refl, refl)), subst (Appends b w) (sym (append-nil way.0)) way.1)
+    (way.0 ++ [], way.2 [] done (subst (λ (zs : List ℕ). Runs state n (lines_of zs) [] done) (sym none) (refl, inl refl)), subst (Appends b w) (sym (append-nil way.0)) way.1)
+
+-- a device may fail at any line, and behind the last
+can_break : (state : Option (List Entry)) (n : ℕ) (lines : List (List ℕ)) → Runs state n lines [] (broken_at n)
+can_break state n [] = (refl, inr refl)
+can_break state n (line ∷ more) = inr (inl (inl refl, refl))
+
+pub stops : (a l b w : Option (List ℕ)) (state : Option (List Entry)) (n : ℕ) → UnderWay a l b w state n → Writes a b w (broken_at n)
+stops None l b w state n way = tt
+stops (Some xs) None b w state n way = absurd way
+stops (Some xs) (Some ys) b w state n way =
+    (way.0 ++ [], way.2 [] (broken_at n) (can_break state n (lines_of ys)), subst (Appends b w) (sym (append-nil way.0)) way.1)
+
+-- a front of the answer to a line is written
+stops_inside : (a l m b w v : Option (List ℕ)) (state : Option (List Entry)) (n : ℕ) (line out : List ℕ)
+    → UnderWay a l b w state n → IfSome l (λ ys. (0 < length ys) × (line ≡ line_at ys) × (m ≡ Some (drop_through 10 ys)))
+    → IsFront state line out → Appends w v out → Writes a b v (broken_at n)
+stops_inside None l m b w v state n line out way found front grown = tt
+stops_inside (Some xs) None m b w v state n line out way found front grown = absurd way
+stops_inside (Some xs) (Some ys) m b w v state n line out way found front grown =
+    let here : Runs state n (lines_of ys) out (broken_at n) =
+    subst (λ (ls : List (List ℕ)). Runs state n ls out (broken_at n)) (sym (lines_of-first ys found.0))
+    (inr (inl (subst (λ (l : List ℕ). IsFront state l out) found.1 front, refl))) in
+    (way.0 ++ out, way.2 out (broken_at n) here, Appends-trans b w v way.0 out way.1 grown)
 
 -- the line is bad
 pub breaks : (a l b w v : Option (List ℕ)) (state : Option (List Entry)) (n : ℕ) → UnderWay a l b w state n → IfSome l (λ ys. (0 < length ys) × IsBad state (line_at ys)) → Keeps w v → Writes a b v (bad_at n)
@@ -75,10 +99,11 @@ found_is_bad (Some ys) m state line found bad = (found.0, subst (IsBad state) fo
 -- the fault of a line that was found
 pub told_of : (fault : ReplayFault) (a l m b w v : Option (List ℕ)) (state : Option (List Entry)) (n : ℕ) (line : List ℕ)
     → UnderWay a l b w state n → IfSome l (λ ys. (0 < length ys) × (line ≡ line_at ys) × (m ≡ Some (drop_through 10 ys)))
-    → TellsLine state line n w v fault → Told a b v fault
-told_of (BadCommand k) a l m b w v state n line way found tells =
+    → n < 2 ^ 64 → TellsLine state line n w v fault → Told a b v fault
+told_of (BadCommand k) a l m b w v state n line way found small tells =
     subst (λ (i : ℕ). Writes a b v (bad_at i)) (sym tells.0) (breaks a l b w v state n way (found_is_bad l m state line found tells.1) tells.2)
-told_of (Device k) a l m b w v state n line way found tells = tt
+told_of (Device k) a l m b w v state n line way found small tells =
+    (n, tells.0 ∙ omega (arith, small), stops_inside a l m b w v state n line tells.1 way found tells.2 tells.3)
 
 -- a flush keeps what was written
 pub flushed : (a b w v : Option (List ℕ)) (end : End) → Writes a b w end → Keeps w v → Writes a b v end
@@ -91,3 +116,34 @@ pub found_line : (next : Next) (l m : Option (List ℕ)) (line : List ℕ) → n
 found_line Line l m line e found = found
 found_line TooLong l m line e found = absurd cc
 found_line AtEnd l m line e found = absurd cc
+
+-- what a writer that failed has got of an answer
+pub told_front : (state next : Option (List Entry)) (line : List ℕ) (answer : Answer) (number : ℕ) (w v : Option (List ℕ))
+    → IsAnswered state line answer next → AppendsFront w v (line_text answer) → TellsLine state line number w v (Device number)
+told_front state next line answer number w v answered grown =
+    (refl, grown.0, inr (answer, next, answered, grown.1, grown.2), grown.3)
+
+-- before anything is written
+pub told_nothing : (state : Option (List Entry)) (line : List ℕ) (number : ℕ) (w : Option (List ℕ)) → TellsLine state line number w w (Device number)
+told_nothing state line number w = (refl, [], inl refl, Appends-nil w)
+
+-- more of a text is written
+pub writes_on : (b w v : Option (List ℕ)) (text rest next : List ℕ) (n : ℕ)
+    → ((front : List ℕ) × (text ≡ front ++ rest) × Appends b w front) → Appends w v (take n rest) → next ≡ drop n rest
+    → (front : List ℕ) × (text ≡ front ++ next) × Appends b v front
+writes_on b w v text rest next n way grown left = (
+  way.0 ++ take n rest,
+  way.1 ∙ ap (λ (r : List ℕ). way.0 ++ r) (sym (take-append-drop n rest)) ∙ sym (append_assoc way.0 (take n rest) (drop n rest)) ∙ ap (λ (r : List ℕ). (way.0 ++ take n rest) ++ r) (sym left),
+  Appends-trans b w v way.0 (take n rest) way.2 grown,
+)
+
+-- a writer that kept its bytes has got nothing of a text
+pub none_more : (w v : Option (List ℕ)) (text : List ℕ) → Keeps w v → Appends w v (take 0 text)
+none_more None v text kept = tt
+none_more (Some xs) None text kept = absurd kept
+none_more (Some xs) (Some ys) text kept = kept ∙ sym (append-nil xs)
+
+pub none_of : (w v : Option (List ℕ)) (text : List ℕ) → Appends w v (take 0 text) → Keeps w v
+none_of None v text grown = tt
+none_of (Some xs) None text grown = absurd grown
+none_of (Some xs) (Some ys) text grown = grown ∙ append-nil xs

@@ -1,6 +1,6 @@
 -- The JSON that answers a command.
 use Rattle.std.specs.Prelude.{ℕ, List, [], ◌∷◌, ◌++◌, map, codes}
-use Rattle.serde_json.specs.Data.{Data, object, Members, member, no_members, array, number, unsigned, string}
+use Rattle.serde_json.specs.Data.{Data, object, member, no_members, array, number, unsigned, string}
 use Rattle.serde_json.specs.View.{items_of}
 use Rattle.serde_json.specs.Written.{compact_text}
 use Rattle.druid_time.specs.Texts.{extent_text}

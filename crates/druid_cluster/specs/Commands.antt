@@ -1,9 +1,8 @@
 -- The commands of a script, each the JSON object of a line.
-use Rattle.std.specs.Prelude.{◌≡◌, ℕ, ◌==◌, ◌&&◌, Bool, true, false, List, codes, length, nat_le, map, Option, Some, None, option_and_then, if◌then◌else◌}
+use Rattle.std.specs.Prelude.{ℕ, ◌==◌, ◌&&◌, List, codes, length, nat_le, Option, Some, None, option_and_then, if◌then◌else◌}
 use Rattle.std.specs.Str.{bytes_eq}
 use Rattle.serde_json.specs.Data.{Data}
 use Rattle.serde_json.specs.Find.{get, as_array, as_str}
-use Rattle.serde_json.specs.View.{view}
 use Rattle.druid_shard.specs.Json.{text_at, number_at, limited_at}
 use Rattle.druid_cluster.specs.Fields.{◌>>=◌, each_of}
 

@@ -1,5 +1,5 @@
 -- The fields of JSON objects.
-use Rattle.std.specs.Prelude.{◌≡◌, ℕ, List, [], ◌∷◌, Option, Some, None, option_and_then}
+use Rattle.std.specs.Prelude.{List, [], ◌∷◌, Option, Some, None}
 use Rattle.serde_json.specs.Data.{Data, Items, no_items, item}
 
 infixl 10 ◌>>=◌

@@ -1,5 +1,5 @@
 -- The lines of an input.
-use Rattle.std.specs.Prelude.{◌≡◌, ◌≤◌, ◌<◌, ◌==◌, ℕ, List, [], ◌∷◌, length, Option, Some, if◌then◌else◌}
+use Rattle.std.specs.Prelude.{◌≡◌, ◌<◌, ◌==◌, ℕ, List, [], ◌∷◌, length, Option, Some, if◌then◌else◌}
 use Rattle.std.specs.Io.BufRead.{drop_through}
 use Rattle.druid_cluster.specs.Serving.{max_line}
 use Rattle.druid_cluster.specs.declared.lines.Next.{Next}

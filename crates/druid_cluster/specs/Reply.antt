@@ -1,5 +1,5 @@
 -- The JSON of a snapshot: what a node serves at a mark.
-use Rattle.std.specs.Prelude.{◌≡◌, ◌≢◌, ℕ, ◌<◌, ◌≤◌, List, codes, length, nat_le, ⊤, IsUtf8, Option, Some, None, Result, Ok, Err, option_and_then, false, if◌then◌else◌}
+use Rattle.std.specs.Prelude.{◌≡◌, ℕ, ◌<◌, ◌≤◌, List, codes, length, nat_le, ⊤, IsUtf8, Option, Some, None, Result, Ok, Err, option_and_then, if◌then◌else◌}
 use Rattle.std.specs.Str.{bytes_eq}
 use Rattle.serde_json.specs.Data.{Data}
 use Rattle.serde_json.specs.Read.{read}

@@ -1,5 +1,5 @@
 -- What a whole run writes.
-use Rattle.std.specs.Prelude.{◌≡◌, ◌⊎◌, ℕ, ◌+◌, List, [], ◌∷◌, ◌++◌, Option, None, IfSome}
+use Rattle.std.specs.Prelude.{◌≡◌, ◌⊎◌, ℕ, ◌+◌, ◌-◌, ◌^◌, min, List, [], ◌∷◌, ◌++◌, Option, None, IfSome}
 use Rattle.std.specs.Io.KnownBytes.{Appends, Keeps}
 use Rattle.druid_inventory.specs.Entry.{Entry}
 use Rattle.druid_cluster.specs.Answers.{line_text}
@@ -9,16 +9,26 @@ use Rattle.druid_cluster.specs.declared.answer.Answer.{Answer}
 use Rattle.druid_cluster.specs.declared.fault.ReplayFault.{ReplayFault}
 use Rattle.druid_cluster.specs.declared.fault.ReplayFault.TheVariants.{BadCommand, Device}
 
--- how a run ends: all lines are answered, or the line of this number is bad
+-- how a run ends: all lines are answered, the line of this number is bad, or a device failed there
 pub data End : Type 0 where
   done : End
   bad_at : (number : ℕ) → End
+  broken_at : (number : ℕ) → End
 
--- from what stands, the lines from this number on are answered so, one after another, and the run ends so
+-- nothing, or a front of what the line is answered
+abbrev pub IsFront : Option (List Entry) → List ℕ → List ℕ → Type 0
+IsFront state line out =
+    (out ≡ [])
+    ⊎ ((answer : Answer) × (next : Option (List Entry)) × IsAnswered state line answer next
+    × (back : List ℕ) × (line_text answer ≡ out ++ back))
+
+-- from what stands, the lines from this number on are answered so, one after another, and the run ends so; a device
+-- may fail at any line, and behind the last
 abbrev pub Runs : Option (List Entry) → ℕ → List (List ℕ) → List ℕ → End → Type 0
-Runs state number [] out end = (out ≡ []) × (end ≡ done)
+Runs state number [] out end = (out ≡ []) × ((end ≡ done) ⊎ (end ≡ broken_at number))
 Runs state number (line ∷ more) out end =
     (IsBad state line × (out ≡ []) × (end ≡ bad_at number))
+    ⊎ (IsFront state line out × (end ≡ broken_at number))
     ⊎ ((answer : Answer) × (next : Option (List Entry)) × IsAnswered state line answer next
     × (rest : List ℕ) × (out ≡ line_text answer ++ rest) × Runs next (number + 1) more rest end)
 
@@ -27,12 +37,18 @@ abbrev pub Writes : Option (List ℕ) → Option (List ℕ) → Option (List ℕ
 Writes input old new end =
     IfSome input (λ xs. (out : List ℕ) × Runs None 1 (lines_of xs) out end × Appends old new out)
 
--- what a fault of a run tells: of a device that failed nothing
+-- what a fault of a run tells; a number that does not fit its type is told as the greatest that does
 abbrev pub Told : Option (List ℕ) → Option (List ℕ) → Option (List ℕ) → ReplayFault → Type 0
 Told input old new (BadCommand number) = Writes input old new (bad_at number)
-Told input old new (Device number) = Unit {0}
+Told input old new (Device number) =
+    (line : ℕ) × (number ≡ min line (2 ^ 64 - 1)) × Writes input old new (broken_at line)
+
+-- known bytes grow by some front of the text
+abbrev pub AppendsFront : Option (List ℕ) → Option (List ℕ) → List ℕ → Type 0
+AppendsFront old new text = (front back : List ℕ) × (text ≡ front ++ back) × Appends old new front
 
 -- the same of one line
 abbrev pub TellsLine : Option (List Entry) → List ℕ → ℕ → Option (List ℕ) → Option (List ℕ) → ReplayFault → Type 0
 TellsLine state line number old new (BadCommand told) = (told ≡ number) × IsBad state line × Keeps old new
-TellsLine state line number old new (Device told) = told ≡ number
+TellsLine state line number old new (Device told) =
+    (told ≡ number) × (out : List ℕ) × IsFront state line out × Appends old new out

@@ -24,7 +24,7 @@ TakesBrokers names (Refused refusals.BadName) next = (All IsName names → ⊥) 
 TakesBrokers names (Refused refusals.DoubledNode) next =
     All IsName names × (HaveOwnNames names → ⊥) × (next ≡ None)
 TakesBrokers names Taken next =
-    All IsName names × ((HaveOwnNames names → ⊥) → ⊥) × (next ≡ Some (map fresh names))
+    All IsName names × HaveOwnNames names × (next ≡ Some (map fresh names))
 TakesBrokers names answer next = ⊥
 
 -- the broker takes a reply of a node: it is read first, then the node is looked for, and then comes the step

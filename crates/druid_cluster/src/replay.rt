@@ -1,9 +1,9 @@
 //! Whole runs.
-ghost use Rattle.std.specs.Prelude.{◌≡◌, ◌≤◌, length, IfOk, IfErr, OnOk};
-ghost use Rattle.std.specs.Io.KnownBytes.{Appends};
+ghost use Rattle.std.specs.Prelude.{◌≡◌, ◌≤◌, length, take, ◌+◌, IfOk, IfErr, OnOk, OnErr};
+ghost use Rattle.std.specs.Io.KnownBytes.{Appends, Keeps};
 ghost use Rattle.druid_cluster.specs.Answers.{line_text};
 ghost use Rattle.druid_cluster.specs.Serving.{IsAnswered, max_line};
-ghost use Rattle.druid_cluster.specs.Runs.{done, Writes, Told, TellsLine};
+ghost use Rattle.druid_cluster.specs.Runs.{done, broken_at, Writes, Told, TellsLine, AppendsFront};
 ghost use Rattle.druid_cluster.specs.declared.answer.Answer.{Answer};
 
 use crate::answer::answer_line;
@@ -12,9 +12,49 @@ use crate::lines::{Next, next_line};
 use crate::serving::serve_line;
 use druid_inventory::Inventory;
 use std::alloc::Global;
-use std::io::{BufRead, Write};
+use std::io;
+use std::io::{BufRead, ErrorKind, Write};
+
+// Writes a front of a text, and gives its length, which is 0 where the writer was interrupted.
+#[tactic(auto, using(crate::proofs::RunLemmas::none_of, crate::proofs::RunLemmas::none_more))]
+fn write_part<W: Write>(writer: &mut W, text: &[u8]) -> io::Result<usize>
+    ensures bound { IfOk result (λ n. n ≤ length text.now) }
+    ensures ok { IfOk result
+        (λ n. Appends (W.contents writer.old) (W.contents writer.new) (take n text.now)) }
+    ensures err { OnErr result (Keeps (W.contents writer.old) (W.contents writer.new)) }
+{
+    match writer.write(text) {
+        Ok(0) => Err(ErrorKind::WriteZero.into()),
+        Ok(written) => Ok(written),
+        Err(error) => {
+            if error.kind() == ErrorKind::Interrupted {
+                return Ok(0);
+            }
+            Err(error)
+        }
+    }
+}
+
+// Writes a text. Where the writer fails, it has got some front of the text.
+fn write_text<W: Write>(writer: &mut W, text: &[u8]) -> io::Result<()>
+    ensures ok { OnOk result (Appends (W.contents writer.old) (W.contents writer.new) text.now) }
+    ensures err { OnErr result
+        (AppendsFront (W.contents writer.old) (W.contents writer.new) text.now) }
+{
+    let mut rest = text;
+    for _ in 0..u64::MAX {
+        if rest.is_empty() {
+            return Ok(());
+        }
+        let written = write_part(writer, rest)?;
+        let (_, left) = rest.split_at(written);
+        rest = left;
+    }
+    Err(ErrorKind::TimedOut.into())
+}
 
 // Writes the answer to a line, and gives the inventory that stands after it.
+#[tactic(auto, using(crate::proofs::RunLemmas::told_front, crate::proofs::RunLemmas::told_nothing))]
 fn answer_to<W: Write>(
     alloc: Global,
     state: Option<Inventory>,
@@ -38,46 +78,52 @@ fn answer_to<W: Write>(
     let Ok(text) = answer_line(alloc, &answer) else {
         return Err(device);
     };
-    if writer.write_all(text.as_bytes()).is_err() {
-        return Err(device);
+    match write_text(writer, text.as_bytes()) {
+        Ok(()) => Ok(next),
+        Err(_) => Err(device),
     }
-    Ok(next)
 }
 
-// Answers the lines of an input, and gives the number of lines there are and one more.
-#[tactic(auto, using(crate::proofs::RunLemmas::starts, crate::proofs::RunLemmas::ends, crate::proofs::RunLemmas::breaks, crate::proofs::RunLemmas::long_is_bad))]
+// Answers the lines of an input, and gives how many there are.
+#[tactic(auto, using(crate::proofs::RunLemmas::starts, crate::proofs::RunLemmas::ends, crate::proofs::RunLemmas::breaks, crate::proofs::RunLemmas::stops, crate::proofs::RunLemmas::long_is_bad))]
 fn answer_lines<R: BufRead, W: Write>(
     alloc: Global,
     reader: &mut R,
     writer: &mut W,
 ) -> Result<u64, ReplayFault>
-    ensures ok { OnOk result
-        (Writes (R.remaining reader.old) (W.contents writer.old) (W.contents writer.new) done) }
+    ensures ok { IfOk result (λ count.
+        Writes (R.remaining reader.old) (W.contents writer.old) (W.contents writer.new) done
+        × Writes (R.remaining reader.old) (W.contents writer.old) (W.contents writer.new)
+        (broken_at (count + 1))) }
     ensures err { IfErr result
         (Told (R.remaining reader.old) (W.contents writer.old) (W.contents writer.new)) }
 {
     let mut state = None;
     let mut line = Vec::new(alloc);
-    for number in 1..u64::MAX {
+    for count in 0..u64::MAX {
         match next_line(reader, &mut line) {
             Ok(Next::Line) => {}
-            Ok(Next::TooLong) => return Err(ReplayFault::BadCommand(number)),
-            Ok(Next::End) => return Ok(number),
-            Err(_) => return Err(ReplayFault::Device(number)),
+            Ok(Next::TooLong) => return Err(ReplayFault::BadCommand(count + 1)),
+            Ok(Next::End) => return Ok(count),
+            Err(_) => return Err(ReplayFault::Device(count + 1)),
         }
-        match answer_to(alloc, state, &line, number, writer) {
+        match answer_to(alloc, state, &line, count + 1, writer) {
             Ok(next) => state = next,
             Err(fault) => return Err(fault),
         }
     }
-    Err(ReplayFault::Device(u64::MAX))
+    match next_line(reader, &mut line) {
+        Ok(Next::End) => Ok(u64::MAX),
+        _ => Err(ReplayFault::Device(u64::MAX)),
+    }
 }
 
 /// Answers each line of an input by a line, in order, until the input ends or a line is bad, which no answer tells. What
 /// was written is flushed where the input ends. No more than one line of the input is kept.
 ///
-/// `BadCommand` where a line is longer than 16 MiB, no JSON or no command, and `Device` where a read or a write fails
-/// or memory is refused.
+/// `BadCommand` where a line is longer than 16 MiB, no JSON or no command, and `Device` where a read or a write fails,
+/// memory is refused or there are more than 2^64 - 1 lines: then the lines before are answered, and of the answer to that
+/// line some front may be written.
 #[tactic(auto, using(crate::proofs::RunLemmas::flushed))]
 pub fn replay<R: BufRead, W: Write>(
     alloc: Global,
@@ -90,9 +136,9 @@ pub fn replay<R: BufRead, W: Write>(
         (Told (R.remaining reader.old) (W.contents writer.old) (W.contents writer.new)) }
 {
     match answer_lines(alloc, reader, writer) {
-        Ok(number) => {
+        Ok(count) => {
             if writer.flush().is_err() {
-                return Err(ReplayFault::Device(number));
+                return Err(ReplayFault::Device(count.saturating_add(1)));
             }
             Ok(())
         }

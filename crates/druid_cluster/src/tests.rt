@@ -24,6 +24,14 @@ fn run(alloc: Global, script: &str) -> (Result<(), ReplayFault>, Vec<u8>) {
     (end, written)
 }
 
+/// A change that loads a segment.
+const LOAD: &str =
+    "{\"action\":\"load\",\"dataSource\":\"wiki\",\"interval\":\"2024-01-01/2024-01-02\",\"shardSpec\":{\"partitionNum\":0,\"partitions\":1,\"type\":\"numbered\"},\"size\":0,\"version\":\"v1\"}";
+
+/// A snapshot without segments, at mark (1, 1).
+const EMPTY: &str =
+    "{\"broker\":0,\"do\":\"reply\",\"node\":0,\"reply\":{\"counter\":{\"counter\":1,\"hash\":1},\"from\":null,\"requests\":[],\"resetCause\":null,\"resetCounter\":false}}\n";
+
 // Whether brokers over one node, and then these lines, are answered so.
 fn answers(alloc: Global, lines: &str, wanted: &str) -> Result<bool, Fail> {
     let mut script = String::from_str(alloc, BROKERS)?;
@@ -107,6 +115,36 @@ fn refusals(rt: HostRuntime) -> Result<(), Fail> {
     );
     assert!(rt; end == Ok(()));
     assert!(rt; written.as_slice() == "{\"refused\":\"I1\"}\n{\"refused\":\"V1\"}\n".as_bytes());
+    Ok(())
+}
+
+// A reply with that many loads of one segment, at mark (1, 1).
+fn doubled_reply(alloc: Global, count: u32) -> Result<String, Fail> {
+    let mut line = String::from_str(
+        alloc,
+        "{\"broker\":0,\"do\":\"reply\",\"node\":0,\"reply\":{\"counter\":{\"counter\":1,\"hash\":1},\"from\":null,\"requests\":[",
+    )?;
+    line.push_str(LOAD)?;
+    for _ in 1..count {
+        line.push_str(",")?;
+        line.push_str(LOAD)?;
+    }
+    line.push_str("],\"resetCause\":null,\"resetCounter\":false}}\n")?;
+    Ok(line)
+}
+
+#[test]
+fn refused_snapshots(rt: HostRuntime) -> Result<(), Fail> {
+    let alloc = rt.alloc();
+    let twice = doubled_reply(alloc, 2)?;
+    assert!(rt; answers(alloc, twice.as_str(), "{\"refused\":\"Y4\"}\n")?);
+    let many = doubled_reply(alloc, 20_001)?;
+    assert!(rt; answers(alloc, many.as_str(), "{\"refused\":\"Y5\"}\n")?);
+    let mut other = doubled_reply(alloc, 1)?;
+    other.push_str(EMPTY)?;
+    let wanted =
+        "{\"mark\":{\"counter\":1,\"hash\":1},\"outcome\":\"Moved\"}\n{\"refused\":\"A5\"}\n";
+    assert!(rt; answers(alloc, other.as_str(), wanted)?);
     Ok(())
 }
 

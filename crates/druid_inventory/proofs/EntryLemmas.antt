@@ -1,12 +1,11 @@
 -- Entries: equal descriptors, and lists of entries behind pointers.
-use Rattle.std.proofs.Common.{◌≡◌, Bool, ◌<◌, ◌≤◌, ◌++◌, ℕ, zero, suc, List, [], ◌∷◌, map, set, length, get_or, Option, Some, None, IsTrue, bytes_eq, refl, sym, ap, ◌∙◌, arith}
-use Rattle.std.specs.List.{AllZip, slice_get, slice_set}
+use Rattle.std.proofs.Common.{◌≡◌, Bool, ℕ, List, [], ◌∷◌, map, set, Some, IsTrue, bytes_eq, refl, sym, ap, ◌∙◌}
+use Rattle.std.specs.List.{AllZip, slice_get}
 use Rattle.std.proofs.lemmas.List.{set-get_or}
-use Rattle.std.proofs.lemmas.Option.{get_or_from_slice_get, same_Some}
-use Rattle.druid_segid.specs.Identifier.{Identifier, IsIdentifier, identifier_text}
+use Rattle.std.proofs.lemmas.Option.{get_or_from_slice_get}
+use Rattle.druid_segid.specs.Identifier.{IsIdentifier, identifier_text}
 use Rattle.druid_segid.proofs.IdentifierLemmas.{bytes_eq-identifier_text}
 use Rattle.druid_shard.specs.Described.{Described}
-use Rattle.druid_inventory.specs.Entry.{Entry}
 
 described_same : (a b : Described) → a.id ≡ b.id → a.core ≡ b.core → a.size ≡ b.size → a ≡ b
 described_same a b id core size i = record { id = id i; core = core i; size = size i }

@@ -1,5 +1,5 @@
 -- Timelines over what nodes serve: one segment more, one node more.
-use Rattle.std.proofs.Common.{◌≡◌, ◌+◌, ◌<◌, ◌≤◌, ◌⊎◌, ◌++◌, ℕ, zero, suc, List, [], ◌∷◌, take, length, get_or, Option, Some, None, IfSome, IsSome, option_map, Bor, map, Bool, bytes_eq, true, false, refl, sym, ap, ◌∙◌, subst, inl, inr, arith}
+use Rattle.std.proofs.Common.{◌≡◌, ◌+◌, ◌<◌, ◌⊎◌, ◌++◌, ℕ, zero, suc, List, [], ◌∷◌, take, length, get_or, Option, Some, None, IfSome, IsSome, option_map, Bor, map, Bool, bytes_eq, true, false, refl, sym, ap, ◌∙◌, subst, inl, inr, arith}
 use Rattle.std.specs.Prelude.{◌↔◌, Contains, ⊤}
 use Rattle.std.specs.Bool.{Decides}
 use Rattle.std.specs.Option.{option_copied}
@@ -15,12 +15,12 @@ use Rattle.std.proofs.lemmas.List.Elements.{Contains-append_left, Contains-push,
 use Rattle.std.proofs.lemmas.Option.{same_Some, none-some, slice_get-map, slice_get_read, MatchOption-at_some}
 use Rattle.std.proofs.lemmas.Bool.{cases_eq, false≢true}
 use Rattle.druid_segid.specs.Identifier.{Identifier, identifier_text}
-use Rattle.druid_segid.specs.Group.{Group, group_of}
+use Rattle.druid_segid.specs.Group.{group_of}
 use Rattle.druid_segid.proofs.OrderLemmas.{slice_cmp-Equal}
 use Rattle.druid_shard.specs.Described.{Described}
 use Rattle.druid_shard.specs.Reply.{AreSorted}
 use Rattle.druid_shard.proofs.SortedLemmas.{AreSorted-own}
-use Rattle.druid_timeline.specs.Holding.{Held, Serving, held_of, IsHeld, AddsHeld}
+use Rattle.druid_timeline.specs.Holding.{Held, Serving, held_of, AddsHeld}
 use Rattle.druid_inventory.specs.Entry.{Entry}
 use Rattle.druid_inventory.specs.Sources.{Serves, HasSource, IsHoldingOf}
 use Rattle.druid_inventory.specs.Timelines.{kept, IsTimelineOf, IsKept, AreTimelines, AreTimelinesOf, held_in, TakesSegment, AddsSegment, IsInventory}

@@ -1,5 +1,5 @@
 -- What a broker knows of the data nodes.
-use Rattle.std.specs.Prelude.{◌≡◌, ℕ, List, [], map, length, slice_index_or, ◌<◌}
+use Rattle.std.specs.Prelude.{◌≡◌, ℕ, List, [], length, slice_index_or, ◌<◌}
 use Rattle.druid_shard.specs.Described.{Described}
 use Rattle.druid_shard.specs.Mark.{Point, never}
 

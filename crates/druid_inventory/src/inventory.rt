@@ -1,4 +1,4 @@
-ghost use Rattle.std.specs.Prelude.{◌≡◌, ◌≢◌, ◌↔◌, ◌≤◌, ◌<◌, ℕ, IsTrue, IfOk, IfErr, IfSome, IsErrOf, IsSome, Err, None, Some, length, map, option_map, slice_get, slice_index_or, slice_set, vec_len};
+ghost use Rattle.std.specs.Prelude.{◌≡◌, ◌≢◌, ◌↔◌, ◌≤◌, ◌<◌, ℕ, IsTrue, IfOk, IfErr, IfSome, OnOk, IsErrOf, IsSome, Err, None, Some, length, map, option_map, slice_get, slice_index_or, slice_set, vec_len};
 ghost use Rattle.std.specs.Arc.{arc_value};
 ghost use Rattle.druid_shard.specs.Reply.{AreSorted};
 ghost use Rattle.druid_shard.specs.declared.reply.Body.TheVariants.{Snapshot};
@@ -70,6 +70,7 @@ impl Inventory {
         requires some { 1 ≤ vec_len names }
         requires few { vec_len names ≤ 64 }
         ensures ok { IfOk result (λ inventory. inventory ≡ map fresh names.items) }
+        ensures own { OnOk result (HaveOwnNames names.items) }
         ensures doubled { IsErrOf result InventoryFault.DoubledNode ↔ (HaveOwnNames names.items → ⊥) }
     {
         if !have_own_names(&names) {

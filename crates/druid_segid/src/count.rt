@@ -17,12 +17,14 @@ impl Model for Count {
 unsafe impl Send for Count {}
 
 impl Count {
+    /// Nothing counted yet.
     pub fn zero() -> Count
         ensures { result.number ≡ 0 }
     {
         Count {}
     }
 
+    /// The next number.
     pub fn one_more(&self) -> Count
         ensures { result.number ≡ self.now.number + 1 }
     {

@@ -1,10 +1,10 @@
-use Rattle.std.proofs.Common.{◌≡◌, ◌≢◌, ◌≤◌, All, Ok, [], ◌++◌, take, length, refl, sym, ap, subst, ◌∙◌, rules, arith, ◌+◌, append-nil, length-take-le}
+use Rattle.std.proofs.Common.{◌≢◌, [], take, length, sym, subst, arith, ◌+◌, append-nil, length-take-le}
 use Rattle.std.proofs.lemmas.List.Elements.{All-nil}
 use Rattle.std.specs.Io.KnownBytes.{Consumes}
 use Rattle.std.specs.Io.BufRead.{FillKeeps, DropsConsumable}
 use Rattle.std.proofs.KnownBytes.{Consumes-nil, Consumes-kept}
 use Rattle.std.proofs.BufReadLemmas.{Consumes_shown}
-use Rattle.druid_cluster.specs.Parts.{feed_of, IsPart}
+use Rattle.druid_cluster.specs.Parts.{feed_of}
 use Rattle.druid_cluster.proofs.LineLemmas.{shown_end}
 use Rattle.druid_cluster.proofs.lines.append_part.Goals as goal
 

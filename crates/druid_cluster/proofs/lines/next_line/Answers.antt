@@ -1,4 +1,4 @@
-use Rattle.std.proofs.Common.{◌<◌, length, rules, arith}
+use Rattle.std.proofs.Common.{◌<◌, length, arith}
 use Rattle.std.proofs.lemmas.Grind.{common_steps}
 use Rattle.druid_cluster.specs.Parts.{feed_of}
 use Rattle.druid_cluster.proofs.LineLemmas.{grown_plain, grown_taken, finds_long, finds_last_at}

@@ -1,4 +1,3 @@
-use Rattle.std.proofs.Common.{rules}
 use Rattle.druid_cluster.proofs.StepLemmas.{marked}
 use Rattle.druid_cluster.proofs.serving.take_reply.Goals as goal
 

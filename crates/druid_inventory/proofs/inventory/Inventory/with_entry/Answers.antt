@@ -1,4 +1,4 @@
-use Rattle.std.proofs.Common.{map, set, ◌∙◌}
+use Rattle.std.proofs.Common.{set, ◌∙◌}
 use Rattle.std.specs.Arc.{arc_value}
 use Rattle.std.proofs.lemmas.List.{map-set}
 use Rattle.std.proofs.lemmas.Result.{IfOk-weaker}
