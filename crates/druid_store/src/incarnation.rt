@@ -100,8 +100,7 @@ fn stage<F: Folder>(folder: &mut F, text: &str) -> Result<(), StoreFault>
     ensures fault { IfErr result IsOwnFault }
 {
     folder.write(NEXT_FILE, text.as_bytes())?;
-    folder.sync()?;
-    Ok(())
+    folder.sync()
 }
 
 // Gives that file the name of the one that has the number, and makes that stable.
@@ -120,8 +119,7 @@ fn put_in_place<F: Folder>(folder: &mut F) -> Result<(), StoreFault>
     ensures fault { IfErr result IsOwnFault }
 {
     folder.rename(NEXT_FILE, NUMBER_FILE)?;
-    folder.sync()?;
-    Ok(())
+    folder.sync()
 }
 
 // Puts a text into the file that has the number. A stop at any moment leaves that file as it was,
@@ -145,8 +143,7 @@ fn keep<F: Folder>(folder: &mut F, text: &str) -> Result<(), StoreFault>
     ensures fault { IfErr result IsOwnFault }
 {
     stage(folder, text)?;
-    put_in_place(folder)?;
-    Ok(())
+    put_in_place(folder)
 }
 
 // The number that the bytes of a file spell.

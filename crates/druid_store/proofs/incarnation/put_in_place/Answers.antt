@@ -12,17 +12,6 @@ returns-in_err-rename-clause-any_moment g c honest =
     (λ f left. g.met.F.Folder.only_now old f honest left) (c.rename.ensures.time honest)
     (λ f now. (f, now, inl refl)) (λ f now. c.rename.ensures.stop honest f now)
 
-pub returns-in_err-sync-clause-any_moment : goal.returns-in_err-sync-clause-any_moment
-returns-in_err-sync-clause-any_moment g c honest =
-    let old = c.args.folder.now in
-    let mid = c.rename.new.self in
-    let still = c.rename.ensures.honest.1 honest in
-    leaves_synced g.F.Folder.moment g.F.Folder.left_since g.F.Folder.may_leave
-    (λ f. (d : Content) × g.F.Folder.may_leave old d × DoneOrNot (renamed next_file number_file) d f) old mid c.sync.new.self
-    (λ f left. g.met.F.Folder.only_now old f honest left) (λ f left. g.met.F.Folder.only_now mid f still left)
-    (c.rename.ensures.time honest) (c.sync.ensures.time still)
-    (λ f now. (f, now, inl refl)) (λ f now. c.rename.ensures.stop honest f now) (λ f now. c.sync.ensures.stop still f now)
-
 pub returns-clause-any_moment : goal.returns-clause-any_moment
 returns-clause-any_moment g c honest =
     let old = c.args.folder.now in

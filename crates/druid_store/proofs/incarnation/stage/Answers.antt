@@ -13,21 +13,6 @@ returns-in_err-write-clause-any_moment g c honest =
     (λ f left. g.met.F.Folder.only_now old f honest left) (c.write.ensures.time honest)
     (λ f now. (f, now, torn_same f next_file)) (λ f now. c.write.ensures.stop honest f now)
 
-pub returns-in_err-sync-clause-torn : goal.returns-in_err-sync-clause-torn
-returns-in_err-sync-clause-torn g c honest =
-    (Some c.as_bytes.result.now, c.sync.ensures.unchanged (c.write.ensures.honest.1 honest) ∙ c.in_ok-write.ensures.written honest)
-
-pub returns-in_err-sync-clause-any_moment : goal.returns-in_err-sync-clause-any_moment
-returns-in_err-sync-clause-any_moment g c honest =
-    let old = c.args.folder.now in
-    let mid = c.write.new.self in
-    let still = c.write.ensures.honest.1 honest in
-    leaves_synced g.F.Folder.moment g.F.Folder.left_since g.F.Folder.may_leave
-    (λ f. (d : Content) × g.F.Folder.may_leave old d × Torn next_file d f) old mid c.sync.new.self
-    (λ f left. g.met.F.Folder.only_now old f honest left) (λ f left. g.met.F.Folder.only_now mid f still left)
-    (c.write.ensures.time honest) (c.sync.ensures.time still)
-    (λ f now. (f, now, torn_same f next_file)) (λ f now. c.write.ensures.stop honest f now) (λ f now. c.sync.ensures.stop still f now)
-
 pub returns-clause-torn : goal.returns-clause-torn
 returns-clause-torn g c honest =
     (Some c.as_bytes.result.now, c.sync.ensures.unchanged (c.write.ensures.honest.1 honest) ∙ c.in_ok-write.ensures.written honest)
