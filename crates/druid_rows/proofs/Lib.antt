@@ -1,0 +1,6 @@
+pub mod EachLemmas
+pub mod LengthLemmas
+pub mod NameLemmas
+pub mod PageLemmas
+pub mod PagesLemmas
+pub mod TextsLemmas

@@ -1,0 +1,74 @@
+-- The rows of lists of values.
+use Rattle.std.proofs.Common.{◌≡◌, ℕ, ℤ, zero, suc, ◌+◌, ◌*◌, ◌<◌, ◌≤◌, List, [], ◌∷◌, ◌++◌, length, take, drop, get_or, Option, arith, refl, ap, subst, length-append, length-drop}
+use Rattle.std.proofs.lemmas.List.{length-take-le, take-append-le, drop-append-le, take_all, nil_from_length, drop-drop}
+use Rattle.druid_rows.specs.Rows.{Values, no_row}
+use Rattle.druid_rows.specs.Sheet.{Sheet, rows_in, sheet_of}
+use Rattle.std.proofs.Math.Nat.{mul-le-mul_right}
+
+pub length_rows_in : (d m : ℕ) (times : List ℕ) (texts : List (Option (List ℕ))) (numbers : List (Option ℤ)) → length (rows_in d m times texts numbers) ≡ length times
+length_rows_in d m [] texts numbers = refl
+length_rows_in d m (time ∷ times) texts numbers =
+    ap suc (length_rows_in d m times (drop d texts) (drop m numbers))
+
+-- the first of several rows stays as it is where more values follow, and so do the others
+module _ {X : Type 0} where
+  row_first : (n w : ℕ) (xs ys : List X) → length xs ≡ suc n * w → take w (xs ++ ys) ≡ take w xs
+  row_first n w xs ys h = take-append-le w xs ys (omega arith)
+
+  row_rest : (n w : ℕ) (xs ys : List X) → length xs ≡ suc n * w → drop w (xs ++ ys) ≡ drop w xs ++ ys
+  row_rest n w xs ys h = drop-append-le w xs ys (omega arith)
+
+  length_rest : (n w : ℕ) (xs : List X) → length xs ≡ suc n * w → length (drop w xs) ≡ n * w
+  length_rest n w xs h = omega (arith, length-drop w xs)
+
+  row_only : (w : ℕ) (xs ys : List X) → length xs ≡ 0 * w → length ys ≡ w → take w (xs ++ ys) ≡ ys
+  row_only w xs ys h k =
+      let none : length xs ≡ 0 = omega arith in
+      rw (nil_from_length xs none) (take_all w ys (omega arith))
+
+pub rows_in_push : (d m : ℕ) (times : List ℕ) (texts : List (Option (List ℕ))) (numbers : List (Option ℤ)) (row : Values) → length texts ≡ length times * d → length numbers ≡ length times * m → length row.dimensions ≡ d → length row.metrics ≡ m → rows_in d m (times ++ row.time ∷ []) (texts ++ row.dimensions) (numbers ++ row.metrics) ≡ rows_in d m times texts numbers ++ row ∷ []
+rows_in_push d m [] texts numbers row ht hn rt rm =
+    rw (row_only d texts row.dimensions ht rt, row_only m numbers row.metrics hn rm) refl
+rows_in_push d m (time ∷ times) texts numbers row ht hn rt rm =
+    let n = length times in
+    let texts_left = length_rest n d texts ht in
+    let numbers_left = length_rest n m numbers hn in
+    let rest = rows_in_push d m times (drop d texts) (drop m numbers) row texts_left numbers_left rt rm in
+    rw (row_first n d texts row.dimensions ht, row_first n m numbers row.metrics hn, row_rest n d texts row.dimensions ht, row_rest n m numbers row.metrics hn, rest) refl
+
+-- the row at a place
+pub rows_in_at : (d m : ℕ) (times : List ℕ) (texts : List (Option (List ℕ))) (numbers : List (Option ℤ)) (i : ℕ) (e : Values) → i < length times → get_or (rows_in d m times texts numbers) i e ≡ record { time = get_or times i 0; dimensions = take d (drop (i * d) texts); metrics = take m (drop (i * m) numbers) }
+rows_in_at d m [] texts numbers i e h = absurd (omega arith)
+rows_in_at d m (time ∷ times) texts numbers zero e h =
+    let first_d : 0 * d ≡ 0 = omega arith in
+    let first_m : 0 * m ≡ 0 = omega arith in
+    rw (first_d, first_m) refl
+rows_in_at d m (time ∷ times) texts numbers (suc i) e h =
+    let here : i < length times = omega arith in
+    let skip_d : d + i * d ≡ suc i * d = omega arith in
+    let skip_m : m + i * m ≡ suc i * m = omega arith in
+    rw (← skip_d, ← skip_m, ← drop-drop (i * d) d texts, ← drop-drop (i * m) m numbers) (rows_in_at d m times (drop d texts) (drop m numbers) i e here)
+
+-- the row at a place of a table with these parts
+pub row_is : (d m : ℕ) (times : List ℕ) (texts : List (Option (List ℕ))) (numbers : List (Option ℤ)) (sheet : Sheet) (i : ℕ) → sheet_of d m times texts numbers ≡ sheet → i < length sheet.rows → (i < length times) × (get_or sheet.rows i no_row ≡ record { time = get_or times i 0; dimensions = take d (drop (i * d) texts); metrics = take m (drop (i * m) numbers) })
+row_is d m times texts numbers sheet i e h =
+    let at : (s : Sheet) → sheet_of d m times texts numbers ≡ s → (i < length s.rows) → (i < length times) × (get_or s.rows i no_row ≡ record { time = get_or times i 0; dimensions = take d (drop (i * d) texts); metrics = take m (drop (i * m) numbers) }) =
+    λ s f. subst (λ (t : Sheet). (i < length t.rows) → (i < length times) × (get_or t.rows i no_row ≡ record { time = get_or times i 0; dimensions = take d (drop (i * d) texts); metrics = take m (drop (i * m) numbers) })) f (λ k. let within : i < length times = subst (λ (n : ℕ). i < n) (length_rows_in d m times texts numbers) k in (within, rows_in_at d m times texts numbers i no_row within)) in
+    at sheet e h
+
+-- the values of a row end before those of all rows do
+pub row_ends : (i n w : ℕ) → i < n → i * w + w ≤ n * w
+row_ends i n w h =
+    let most : (i + 1) * w ≤ n * w = mul-le-mul_right w (omega arith) in
+    omega (arith, most)
+
+-- a row has as many values as it is wide
+pub row_wide : {X : Type 0} (i n w : ℕ) (xs : List X) → i < n → length xs ≡ n * w → length (take w (drop (i * w) xs)) ≡ w
+row_wide i n w xs h e =
+    let ends = row_ends i n w h in
+    let left : w ≤ length (drop (i * w) xs) = omega (arith, length-drop (i * w) xs, ends) in
+    length-take-le w (drop (i * w) xs) left
+
+-- one more row of values
+pub length_push : {X : Type 0} (n w : ℕ) (xs ys : List X) → length xs ≡ n * w → length ys ≡ w → length (xs ++ ys) ≡ (n + 1) * w
+length_push n w xs ys h k = omega (arith, length-append xs ys, h, k)

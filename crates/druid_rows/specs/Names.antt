@@ -1,0 +1,24 @@
+-- The names of fields. They are ASCII, and a text is its bytes.
+use Rattle.std.specs.Prelude.{◌≡◌, ℕ, ◌<◌, ◌≤◌, Bool, ◌||◌, ◌&&◌, ◌==◌, nat_le, List, length, slice_index_or, IsTrue, All}
+use Rattle.std.specs.List.{list_all}
+use Rattle.std.specs.Char.{is_ascii_alphanumeric}
+
+-- a byte of a field name: `A-Z a-z 0-9 _`
+abbrev pub is_field_byte : ℕ → Bool
+is_field_byte b = is_ascii_alphanumeric b || b == 95
+
+-- the name of a dimension or a metric: 1 to 100 such bytes
+pub record IsFieldName (text : List ℕ) : Type 0 where
+  pub not_empty : 1 ≤ length text
+  pub short : length text ≤ 100
+  pub bytes : All (λ b. IsTrue (is_field_byte b)) text
+
+-- the test of the same
+abbrev pub is_field_name : List ℕ → Bool
+is_field_name text = nat_le 1 (length text) && nat_le (length text) 100 && list_all is_field_byte text
+
+-- no name stands at two places
+abbrev pub AreDistinct : List (List ℕ) → Type 0
+AreDistinct names =
+    (i j : ℕ) (d : List ℕ) → i < length names → j < length names
+    → slice_index_or names i d ≡ slice_index_or names j d → i ≡ j

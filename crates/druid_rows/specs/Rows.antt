@@ -1,0 +1,52 @@
+-- The rows of a segment.
+use Rattle.std.specs.Prelude.{◌≡◌, ℕ, ℤ, ◌≤◌, List, [], ◌++◌, length, map, All, Option, IfSome, string_bytes, String}
+use Rattle.std.specs.Global.{Global}
+use Rattle.std.specs.Option.{option_map}
+use Rattle.druid_time.specs.Extent.{Extent, Has}
+use Rattle.druid_rows.specs.Names.{IsFieldName, AreDistinct}
+
+-- the names of the dimensions and of the metrics that each row has a value for, in order
+pub record Fields : Type 0 where
+  pub dimensions : List (List ℕ)
+  pub metrics : List (List ℕ)
+
+-- a row: its instant, a text or null for each dimension, and a number or null for each metric
+pub record Values : Type 0 where
+  pub time : ℕ
+  pub dimensions : List (Option (List ℕ))
+  pub metrics : List (Option ℤ)
+
+-- each name is a field name, and all are distinct, dimensions and metrics together
+pub record IsSchema (fields : Fields) : Type 0 where
+  pub dimensions : All IsFieldName fields.dimensions
+  pub metrics : All IsFieldName fields.metrics
+  pub distinct : AreDistinct (fields.dimensions ++ fields.metrics)
+
+-- a value for each field
+pub record HasShape (fields : Fields) (row : Values) : Type 0 where
+  pub dimensions : length row.dimensions ≡ length fields.dimensions
+  pub metrics : length row.metrics ≡ length fields.metrics
+
+-- its instant lies in the interval
+abbrev pub IsInside : Extent → Values → Type 0
+IsInside interval row = Has interval row.time
+
+-- the most bytes of the value of a dimension
+abbrev pub max_value : ℕ
+max_value = 1_024
+
+-- no value of a dimension is longer
+abbrev pub HasShortValues : Values → Type 0
+HasShortValues row = All (λ value. IfSome value (λ text. length text ≤ max_value)) row.dimensions
+
+-- a row without any value
+abbrev pub no_row : Values
+no_row = record { time = 0; dimensions = []; metrics = [] }
+
+-- the bytes of texts
+abbrev pub texts_of : List (String Global) → List (List ℕ)
+texts_of texts = map string_bytes texts
+
+-- the bytes of texts that may be null
+abbrev pub nullable_texts_of : List (Option (String Global)) → List (Option (List ℕ))
+nullable_texts_of texts = map (option_map string_bytes) texts

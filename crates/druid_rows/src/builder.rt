@@ -1,0 +1,71 @@
+ghost use Rattle.std.specs.Prelude.{◌≡◌, ◌↔◌, [], IfOk, OnOk, OnErr, IsErrOf, IsOkUnless};
+ghost use Rattle.druid_rows.specs.Rows.{IsSchema, HasShape, IsInside};
+ghost use Rattle.druid_rows.specs.Segment.{Content, IsWithinLimits, IsSegment, segment_of, with_row};
+
+use crate::{Row, RowFault, Schema, Segment};
+use druid_shard::Descriptor;
+use std::alloc::Global;
+use std::marker::Model;
+
+/// Makes a segment row by row, for a caller that does not have them all at once. At each moment it is a segment.
+#[derive(Debug, Drop)]
+pub struct SegmentBuilder {
+    segment: Segment,
+}
+
+impl Model for SegmentBuilder {
+    ghost use Rattle.druid_rows.specs.Segment.{Content};
+
+    ghost Value = { Content };
+
+    ghost view = { λ a. a.segment };
+}
+
+impl SegmentBuilder {
+    /// A segment that has no rows yet. `BadSchema` where a name is no field name or stands twice, then `TooLong` where
+    /// there are more than 64 dimensions or 64 metrics, and then `Memory`.
+    pub fn new(
+        alloc: Global,
+        descriptor: Descriptor,
+        schema: Schema,
+    ) -> Result<SegmentBuilder, RowFault>
+        ensures value { IfOk result (λ builder. builder ≡ segment_of descriptor schema []) }
+        ensures accepts { IsSegment (segment_of descriptor schema [])
+            → IsOkUnless result RowFault.Memory }
+        ensures bad_schema { IsErrOf result RowFault.BadSchema ↔ (¬ IsSchema schema) }
+        ensures too_long { IsErrOf result RowFault.TooLong
+            ↔ (IsSchema schema
+            × (¬ IsWithinLimits (segment_of descriptor schema []))) }
+    {
+        match Segment::new(alloc, descriptor, schema, Vec::new(alloc)) {
+            Ok(segment) => Ok(SegmentBuilder { segment }),
+            Err(fault) => Err(fault),
+        }
+    }
+
+    /// Adds a row behind the others. `TooLong` where a limit would be passed, then `RowShape`, then `RowOutside`, and
+    /// then `Memory`; a refusal leaves the rows as they were.
+    pub fn push(&mut self, row: &Row) -> Result<(), RowFault>
+        ensures ok { OnOk result (self.new ≡ with_row self.old row.now) }
+        ensures err { OnErr result (self.new ≡ self.old) }
+        ensures accepts { IsSegment (with_row self.old row.now) → IsOkUnless result RowFault.Memory }
+        ensures too_long { IsErrOf result RowFault.TooLong ↔ (¬ IsWithinLimits (with_row self.old row.now)) }
+        ensures row_shape { IsErrOf result RowFault.RowShape
+            ↔ (IsWithinLimits (with_row self.old row.now) × (¬ HasShape self.old.fields row.now)) }
+        ensures row_outside { IsErrOf result RowFault.RowOutside
+            ↔ (IsWithinLimits (with_row self.old row.now) × HasShape self.old.fields row.now
+            × (¬ IsInside self.old.descriptor.id.interval row.now)) }
+    {
+        self.segment.push(row)
+    }
+
+    /// The segment of the rows that were added, in their order.
+    pub fn finish(self) -> Segment
+        ensures value { result ≡ self }
+        ensures valid { IsSegment result }
+    {
+        let SegmentBuilder { mut segment } = self;
+        segment.shrink();
+        segment
+    }
+}

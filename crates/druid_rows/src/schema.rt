@@ -1,0 +1,167 @@
+ghost use Rattle.std.specs.Prelude.{◌≡◌, ◌↔◌, ℕ, ◌+◌, ◌-◌, ◌<◌, ◌≤◌, ◌++◌, [], length, slice_index_or, IsTrue, All, SomeIff};
+ghost use Rattle.std.specs.List.{list_all};
+ghost use Rattle.druid_rows.specs.Names.{is_field_byte, is_field_name, IsFieldName, AreDistinct};
+ghost use Rattle.druid_rows.specs.Rows.{texts_of, IsSchema, HasShape};
+ghost use Rattle.druid_rows.specs.Segment.{names_length};
+
+use crate::Row;
+use std::marker::Model;
+
+/// The names of the dimensions and of the metrics of a segment's rows. A schema keeps any names; a segment takes only
+/// a schema whose names are field names and distinct.
+#[derive(Debug, Drop)]
+pub struct Schema {
+    dimensions: Vec<String>,
+    metrics: Vec<String>,
+}
+
+impl Model for Schema {
+    ghost use Rattle.druid_rows.specs.Rows.{Fields, texts_of};
+
+    ghost Value = { Fields };
+
+    ghost view = { λ a. record {
+      dimensions = texts_of a.dimensions.items;
+      metrics = texts_of a.metrics.items;
+    } };
+}
+
+fn is_field_byte(byte: u8) -> bool
+    ensures { result ≡ is_field_byte byte }
+{
+    byte.is_ascii_alphanumeric() || byte == b'_'
+}
+
+fn are_field_bytes(bytes: &[u8]) -> bool
+    ensures test { result ≡ list_all is_field_byte bytes.now }
+    ensures all { IsTrue result ↔ All (λ b. IsTrue (is_field_byte b)) bytes.now }
+{
+    bytes.iter().all(|byte| is_field_byte(*byte))
+}
+
+fn are_field_names(names: &[String]) -> bool
+    ensures { IsTrue result ↔ All IsFieldName (texts_of names.now) }
+{
+    names.iter().all(|name| Schema::accepts(name))
+}
+
+impl Schema {
+    /// Whether the text is a field name: 1 to 100 bytes of `A-Z a-z 0-9 _`. It takes no memory.
+    pub fn accepts(name: &str) -> bool
+        ensures test { result ≡ is_field_name name.now }
+        ensures names { IsTrue result ↔ IsFieldName name.now }
+    {
+        let bytes = name.as_bytes();
+        1 <= bytes.len() && bytes.len() <= 100 && are_field_bytes(bytes)
+    }
+
+    /// These names, in this order.
+    pub fn new(dimensions: Vec<String>, metrics: Vec<String>) -> Schema
+        ensures { result ≡ record {
+          dimensions = texts_of dimensions.items;
+          metrics = texts_of metrics.items;
+        } }
+    {
+        Schema {
+            dimensions,
+            metrics,
+        }
+    }
+
+    /// The names of the dimensions.
+    pub fn dimensions(&self) -> &[String]
+        ensures { texts_of result.now ≡ self.now.dimensions }
+    {
+        &self.dimensions
+    }
+
+    /// The names of the metrics.
+    pub fn metrics(&self) -> &[String]
+        ensures { texts_of result.now ≡ self.now.metrics }
+    {
+        &self.metrics
+    }
+
+    /// Whether its names are field names and distinct. It takes no memory.
+    pub(crate) fn is_valid(&self) -> bool
+        ensures { IsTrue result ↔ IsSchema self.now }
+    {
+        if !are_field_names(&self.dimensions) || !are_field_names(&self.metrics) {
+            return false;
+        }
+        self.has_distinct_names()
+    }
+
+    /// Whether the row has a value for each field.
+    pub(crate) fn fits(&self, row: &Row) -> bool
+        ensures { IsTrue result ↔ HasShape self.now row.now }
+    {
+        row.dimensions().len() == self.dimensions.len() && row.metrics().len() == self.metrics.len()
+    }
+
+    /// The room that its names leave of this room. None where they are longer.
+    pub(crate) fn room_after(&self, room: usize) -> Option<usize>
+        ensures { SomeIff result
+            (names_length self.now.dimensions + names_length self.now.metrics ≤ room)
+            (room - (names_length self.now.dimensions + names_length self.now.metrics)) }
+    {
+        room_after_names(&self.metrics, room_after_names(&self.dimensions, room)?)
+    }
+
+    // The number of its names.
+    fn len(&self) -> usize
+        ensures { result ≡ length (self.now.dimensions ++ self.now.metrics) }
+    {
+        self.dimensions.len() + self.metrics.len()
+    }
+
+    // The name at that place, the dimensions before the metrics.
+    fn name(&self, place: usize) -> &str
+        requires { place < length (self.now.dimensions ++ self.now.metrics) }
+        ensures { result.now ≡ slice_index_or (self.now.dimensions ++ self.now.metrics) place [] }
+    {
+        match self.dimensions.get(place) {
+            Some(name) => name,
+            None => &self.metrics[place - self.dimensions.len()],
+        }
+    }
+
+    // Whether the name at that place stands at an earlier one.
+    fn is_repeated(&self, place: usize) -> bool
+        requires { place < length (self.now.dimensions ++ self.now.metrics) }
+        ensures { IsTrue result ↔ ((k : ℕ) × (k < place)
+            × (slice_index_or (self.now.dimensions ++ self.now.metrics) k []
+            ≡ slice_index_or (self.now.dimensions ++ self.now.metrics) place [])) }
+    {
+        for earlier in 0..place {
+            if self.name(earlier) == self.name(place) {
+                return true;
+            }
+        }
+        false
+    }
+
+    #[tactic(auto, using(crate::proofs::NameLemmas::AreDistinct_from_earlier))]
+    fn has_distinct_names(&self) -> bool
+        ensures { IsTrue result ↔ AreDistinct (self.now.dimensions ++ self.now.metrics) }
+    {
+        for place in 0..self.len() {
+            if self.is_repeated(place) {
+                return false;
+            }
+        }
+        true
+    }
+}
+
+// The room that a count and these names, each with its length, leave of this room. None where they are longer.
+#[tactic(auto, using(crate::proofs::LengthLemmas::sum_names, std::proofs::lemmas::List::Sums::sum_by_more_le, std::proofs::lemmas::Grind::common_steps))]
+fn room_after_names(names: &[String], room: usize) -> Option<usize>
+    ensures { SomeIff result (names_length (texts_of names.now) ≤ room) (room - names_length (texts_of names.now)) }
+{
+    let mut room = room.checked_sub(1)?;
+    for name in names {
+        room = room.checked_sub(1 + name.len())?;
+    }
+    Some(room)
+}

@@ -1,0 +1,295 @@
+ghost use Rattle.std.specs.Prelude.{◌≡◌, ◌↔◌, ◌-◌, ◌<◌, ◌≤◌, ◌==◌, length, map, sum, slice_index_or, None, All, IsTrue, SomeIff, IfOk, OnOk, OnErr, IsOk, IsErrOf, IsOkUnless};
+ghost use Rattle.std.specs.Option.{option_map};
+ghost use Rattle.druid_rows.specs.Rows.{IsSchema, HasShape, IsInside, HasShortValues};
+ghost use Rattle.druid_rows.specs.Segment.{Content, IsWithinLimits, HaveShape, AreInside, IsSegment, row_at, segment_of, with_row, row_length, head_length, text_length, max_text};
+
+use crate::table::Table;
+use crate::{Row, RowFault, Schema};
+use druid_shard::Descriptor;
+use druid_time::{Instant, Interval};
+use std::alloc::{AllocError, Global};
+use std::marker::Model;
+
+/// The most dimensions of a segment, and the most metrics.
+const MAX_FIELDS: usize = 64;
+
+/// The most rows of a segment.
+const MAX_ROWS: usize = 100_000;
+
+/// The most bytes of the text of a segment.
+const MAX_TEXT: usize = 16_777_216;
+
+/// The bytes of a text that stand before the rows, besides the source, the version and the names.
+const FIXED_HEAD: usize = 38;
+
+/// A segment: its descriptor, its schema and its rows, which never change. How the rows are kept is private.
+#[derive(Debug, Drop)]
+pub struct Segment {
+    descriptor: Descriptor,
+    schema: Schema,
+    table: Table,
+    len: usize,
+    room: usize,
+}
+
+impl Model for Segment {
+    ghost use Rattle.std.specs.Prelude.{◌≡◌, ◌-◌, length};
+    ghost use Rattle.druid_rows.specs.Segment.{Content, IsSegment, segment_of, text_length, max_text};
+
+    ghost Value = { Content };
+
+    ghost view = { λ a. segment_of a.descriptor a.schema a.table.rows };
+
+    ghost invariant = { λ a. IsSegment (segment_of a.descriptor a.schema a.table.rows)
+        × (a.room ≡ max_text - text_length (segment_of a.descriptor a.schema a.table.rows))
+        × (a.table.dimensions ≡ length a.schema.dimensions)
+        × (a.table.metrics ≡ length a.schema.metrics)
+        × (a.len ≡ length a.table.rows) };
+}
+
+// The room that the head of a segment leaves in its text. None where it is longer.
+fn room_after_head(descriptor: &Descriptor, schema: &Schema) -> Option<usize>
+    ensures { SomeIff result (head_length descriptor.now schema.now ≤ max_text)
+        (max_text - head_length descriptor.now schema.now) }
+{
+    let id = descriptor.id();
+    let texts = id.source().as_str().len() + id.version().as_str().len();
+    schema.room_after(MAX_TEXT - FIXED_HEAD - texts)
+}
+
+// The room that rows leave of this room. None where they are longer.
+#[tactic(auto, using(crate::proofs::LengthLemmas::sum_rows, std::proofs::lemmas::List::Sums::sum_by_more_le, std::proofs::lemmas::Grind::common_steps))]
+fn room_after_rows(rows: &[Row], mut room: usize) -> Option<usize>
+    ensures { SomeIff result (sum (map row_length rows.now) ≤ room) (room - sum (map row_length rows.now)) }
+{
+    for row in rows {
+        room = row.room_after(room)?;
+    }
+    Some(room)
+}
+
+fn have_short_values(rows: &[Row]) -> bool
+    ensures { IsTrue result ↔ All HasShortValues rows.now }
+{
+    rows.iter().all(|row| row.has_short_values())
+}
+
+// The room that is left in the text of a segment. None where a limit is passed.
+fn room_left(descriptor: &Descriptor, schema: &Schema, rows: &[Row]) -> Option<usize>
+    ensures { SomeIff result (IsWithinLimits (segment_of descriptor.now schema.now rows.now))
+        (max_text - text_length (segment_of descriptor.now schema.now rows.now)) }
+{
+    if schema.dimensions().len() > MAX_FIELDS || schema.metrics().len() > MAX_FIELDS {
+        return None;
+    }
+    if rows.len() > MAX_ROWS || !have_short_values(rows) {
+        return None;
+    }
+    room_after_rows(rows, room_after_head(descriptor, schema)?)
+}
+
+fn have_shape(schema: &Schema, rows: &[Row]) -> bool
+    ensures { IsTrue result ↔ All (HasShape schema.now) rows.now }
+{
+    rows.iter().all(|row| schema.fits(row))
+}
+
+fn are_inside(interval: Interval, rows: &[Row]) -> bool
+    ensures { IsTrue result ↔ All (IsInside interval) rows.now }
+{
+    rows.iter().all(|row| interval.contains(row.time()))
+}
+
+// The room that is left in the text of a segment of these rows, or why they make none. It takes no memory.
+fn judge(descriptor: &Descriptor, schema: &Schema, rows: &[Row]) -> Result<usize, RowFault>
+    ensures valid { OnOk result (IsSegment (segment_of descriptor.now schema.now rows.now)) }
+    ensures room { IfOk result (λ room. room ≡ max_text - text_length (segment_of descriptor.now schema.now rows.now)) }
+    ensures accepts { IsSegment (segment_of descriptor.now schema.now rows.now) → IsOk result }
+    ensures bad_schema { IsErrOf result RowFault.BadSchema ↔ (¬ IsSchema schema.now) }
+    ensures too_long { IsErrOf result RowFault.TooLong
+        ↔ (IsSchema schema.now × (¬ IsWithinLimits (segment_of descriptor.now schema.now rows.now))) }
+    ensures row_shape { IsErrOf result RowFault.RowShape
+        ↔ (IsSchema schema.now
+        × IsWithinLimits (segment_of descriptor.now schema.now rows.now)
+        × (¬ HaveShape (segment_of descriptor.now schema.now rows.now))) }
+    ensures row_outside { IsErrOf result RowFault.RowOutside
+        ↔ (IsSchema schema.now
+        × IsWithinLimits (segment_of descriptor.now schema.now rows.now)
+        × HaveShape (segment_of descriptor.now schema.now rows.now)
+        × (¬ AreInside (segment_of descriptor.now schema.now rows.now))) }
+{
+    if !schema.is_valid() {
+        return Err(RowFault::BadSchema);
+    }
+    let Some(room) = room_left(descriptor, schema, rows) else {
+        return Err(RowFault::TooLong);
+    };
+    if !have_shape(schema, rows) {
+        return Err(RowFault::RowShape);
+    }
+    if !are_inside(descriptor.id().interval(), rows) {
+        return Err(RowFault::RowOutside);
+    }
+    Ok(room)
+}
+
+impl Segment {
+    /// The segment of these rows, in this order.
+    ///
+    /// `BadSchema` where a name of the schema is no field name or stands twice, then `TooLong` where there are more
+    /// than 64 dimensions, 64 metrics or 100,000 rows, a value has more than 1,024 bytes, or the text of the segment
+    /// has more than 16,777,216, then `RowShape` where a row has another number of values than the schema has
+    /// fields, then `RowOutside` where a row lies outside the interval, and then `Memory`.
+    pub fn new(
+        alloc: Global,
+        descriptor: Descriptor,
+        schema: Schema,
+        rows: Vec<Row>,
+    ) -> Result<Segment, RowFault>
+        ensures value { IfOk result (λ segment. segment ≡ segment_of descriptor schema rows.items) }
+        ensures valid { IfOk result IsSegment }
+        ensures accepts { IsSegment (segment_of descriptor schema rows.items)
+            → IsOkUnless result RowFault.Memory }
+        ensures bad_schema { IsErrOf result RowFault.BadSchema ↔ (¬ IsSchema schema) }
+        ensures too_long { IsErrOf result RowFault.TooLong
+            ↔ (IsSchema schema
+            × (¬ IsWithinLimits (segment_of descriptor schema rows.items))) }
+        ensures row_shape { IsErrOf result RowFault.RowShape
+            ↔ (IsSchema schema
+            × IsWithinLimits (segment_of descriptor schema rows.items)
+            × (¬ HaveShape (segment_of descriptor schema rows.items))) }
+        ensures row_outside { IsErrOf result RowFault.RowOutside
+            ↔ (IsSchema schema
+            × IsWithinLimits (segment_of descriptor schema rows.items)
+            × HaveShape (segment_of descriptor schema rows.items)
+            × (¬ AreInside (segment_of descriptor schema rows.items))) }
+    {
+        let room = match judge(&descriptor, &schema, &rows) {
+            Ok(room) => room,
+            Err(fault) => return Err(fault),
+        };
+        let (dimensions, metrics) = (schema.dimensions().len(), schema.metrics().len());
+        let len = rows.len();
+        let table = Table::of_rows(alloc, dimensions, metrics, rows)?;
+        Ok(Segment {
+            descriptor,
+            schema,
+            table,
+            len,
+            room,
+        })
+    }
+
+    // The room that is left behind one more row. None where a limit would be passed.
+    fn room_behind(&self, row: &Row) -> Option<usize>
+        ensures { SomeIff result (IsWithinLimits (with_row self.now row.now))
+            (max_text - text_length (with_row self.now row.now)) }
+    {
+        if self.len == MAX_ROWS || !row.has_short_values() {
+            return None;
+        }
+        row.room_after(self.room)
+    }
+
+    /// Adds a row behind the others. `TooLong` where a limit would be passed, then `RowShape`, then `RowOutside`, and
+    /// then `Memory`; a refusal leaves the rows as they were.
+    pub(crate) fn push(&mut self, row: &Row) -> Result<(), RowFault>
+        ensures ok { OnOk result (self.new ≡ with_row self.old row.now) }
+        ensures err { OnErr result (self.new ≡ self.old) }
+        ensures accepts { IsSegment (with_row self.old row.now) → IsOkUnless result RowFault.Memory }
+        ensures too_long { IsErrOf result RowFault.TooLong ↔ (¬ IsWithinLimits (with_row self.old row.now)) }
+        ensures row_shape { IsErrOf result RowFault.RowShape
+            ↔ (IsWithinLimits (with_row self.old row.now) × (¬ HasShape self.old.fields row.now)) }
+        ensures row_outside { IsErrOf result RowFault.RowOutside
+            ↔ (IsWithinLimits (with_row self.old row.now) × HasShape self.old.fields row.now
+            × (¬ IsInside self.old.descriptor.id.interval row.now)) }
+    {
+        let Some(room) = self.room_behind(row) else {
+            return Err(RowFault::TooLong);
+        };
+        if !self.schema.fits(row) {
+            return Err(RowFault::RowShape);
+        }
+        if !self.descriptor.id().interval().contains(row.time()) {
+            return Err(RowFault::RowOutside);
+        }
+        self.table.push(row)?;
+        self.len += 1;
+        self.room = room;
+        Ok(())
+    }
+
+    /// Gives back the memory that it does not need.
+    pub(crate) fn shrink(&mut self)
+        ensures value { self.new ≡ self.old }
+        ensures valid { IsSegment self.new }
+    {
+        self.table.shrink();
+    }
+
+    /// What is announced of it.
+    pub fn descriptor(&self) -> &Descriptor
+        ensures value { result.now ≡ self.now.descriptor }
+        ensures valid { IsSegment self.now }
+    {
+        &self.descriptor
+    }
+
+    /// The names of the fields of its rows.
+    pub fn schema(&self) -> &Schema
+        ensures value { result.now ≡ self.now.fields }
+        ensures valid { IsSegment self.now }
+    {
+        &self.schema
+    }
+
+    /// The number of its rows.
+    pub fn len(&self) -> usize
+        ensures value { result ≡ length self.now.rows }
+        ensures valid { IsSegment self.now }
+    {
+        self.len
+    }
+
+    /// Whether it has no rows.
+    pub fn is_empty(&self) -> bool
+        ensures { result ≡ (length self.now.rows == 0) }
+    {
+        self.len == 0
+    }
+
+    /// The instant of the row at that place.
+    pub fn time(&self, row: usize) -> Instant
+        requires { row < length self.now.rows }
+        ensures { result ≡ (row_at self.now row).time }
+    {
+        self.table.time(row)
+    }
+
+    /// The value that a row has for the dimension at that place of the schema. None for null.
+    pub fn dimension(&self, row: usize, dimension: usize) -> Option<&str>
+        requires row { row < length self.now.rows }
+        requires dimension { dimension < length self.now.fields.dimensions }
+        ensures { option_map (λ text. text.now) result
+            ≡ slice_index_or (row_at self.now row).dimensions dimension None }
+    {
+        self.table.dimension(row, dimension)
+    }
+
+    /// The value that a row has for the metric at that place of the schema. None for null.
+    pub fn metric(&self, row: usize, metric: usize) -> Option<i64>
+        requires row { row < length self.now.rows }
+        requires metric { metric < length self.now.fields.metrics }
+        ensures { result ≡ slice_index_or (row_at self.now row).metrics metric None }
+    {
+        self.table.metric(row, metric)
+    }
+
+    /// A copy of the row at that place.
+    pub fn row(&self, row: usize) -> Result<Row, AllocError>
+        requires { row < length self.now.rows }
+        ensures { IfOk result (λ copy. copy ≡ row_at self.now row) }
+    {
+        self.table.row(row)
+    }
+}

@@ -1,0 +1,12 @@
+pub mod TextLemmas
+pub mod MomentLemmas
+pub mod PartLemmas
+pub mod HeadLemmas
+pub mod FieldLemmas
+pub mod RowLemmas
+pub mod LengthLemmas
+pub mod SegmentLemmas
+pub mod LoopLemmas
+pub mod BuildLemmas
+pub mod FaultLemmas
+pub mod WriteLemmas

@@ -1,0 +1,24 @@
+use Rattle.std.proofs.Common.{◌≡◌, ◌++◌, ◌∷◌, [], List, ℕ, Option, string_bytes, option_map}
+use Rattle.std.proofs.lemmas.Result.{err_from_is_err_and}
+use Rattle.std.proofs.lemmas.List.{map_push}
+use Rattle.druid_rows.specs.Rows.{nullable_texts_of}
+use Rattle.druid_segfile.specs.Reading.{each_at, text_value_at}
+use Rattle.druid_segfile.proofs.LoopLemmas.{goes_on, ends, is_done}
+use Rattle.druid_segfile.proofs.rows.text_values_at.Goals as goal
+
+abbrev all : List (Option (List ℕ)) → List (Option (List ℕ))
+all values = values
+
+pub returns-in_err-value : goal.returns-in_err-value
+returns-in_err-value c =
+    let p = err_from_is_err_and c.from_residual-in_err-value.result c.from_residual-in_err-value.ensures.1 in
+    rw (p.1, p.2) (ends all (text_value_at c.args.short) c.in_err-value.field-0.0 (nullable_texts_of c.loop.values.items) c.args.count c.loop.counter c.loop.rest.now (each_at (text_value_at c.args.short) c.args.count c.args.bytes.now) c.loop-test.true c.in_err-value.ensures c.loop.invariant)
+
+pub loop-preserved : goal.loop-preserved
+loop-preserved c =
+    let value = c.in_ok-value.value in
+    let e : nullable_texts_of c.push.new.self.items ≡ nullable_texts_of c.loop.values.items ++ option_map string_bytes value ∷ [] = rw c.in_ok-push.ensures.items (map_push (option_map string_bytes) c.loop.values.items value) in
+    rw e (goes_on all (text_value_at c.args.short) (nullable_texts_of c.loop.values.items) c.args.count c.loop.counter c.loop.rest.now (option_map string_bytes value) c.in_ok-value.after.now (each_at (text_value_at c.args.short) c.args.count c.args.bytes.now) c.loop-test.true c.in_ok-value.ensures c.loop.invariant)
+
+pub returns : goal.returns
+returns c = is_done all (text_value_at c.args.short) (nullable_texts_of c.loop.values.items) c.args.count c.loop.counter c.loop.rest.now (each_at (text_value_at c.args.short) c.args.count c.args.bytes.now) c.loop-test.false c.loop.invariant

@@ -1,0 +1,5 @@
+pub mod Spelling
+pub mod Reading
+pub mod Written
+pub mod Building
+pub mod Heading

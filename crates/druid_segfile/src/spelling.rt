@@ -1,0 +1,139 @@
+//! The parts of a spelling, each put behind what was spelled before.
+ghost use Rattle.std.specs.Prelude.{◌≡◌, ◌<◌, ◌≤◌, ◌++◌, length, map, All, IfOk, IfSome, OnOk};
+ghost use Rattle.std.specs.Option.{option_map};
+ghost use Rattle.std.specs.List.{flat_map};
+ghost use Rattle.druid_rows.specs.Rows.{texts_of, max_value};
+ghost use Rattle.druid_rows.specs.Segment.{row_at};
+ghost use Rattle.druid_segfile.specs.Spelling.{instant, interval, short_text, names, descriptor, text_value, number_value, row};
+ghost use Rattle.druid_segfile.specs.Heading.{heading};
+
+use crate::head::MAGIC;
+use druid_rows::Segment;
+use druid_shard::Descriptor;
+use druid_time::{Instant, Interval};
+use std::alloc::{AllocError, Global};
+
+fn append_instant(out: &mut Vec<u8>, time: Instant) -> Result<(), AllocError>
+    ensures { OnOk result (out.new.items ≡ out.old.items ++ instant time) }
+{
+    out.extend_from_slice(&time.ms().to_be_bytes())
+}
+
+fn append_interval(out: &mut Vec<u8>, extent: Interval) -> Result<(), AllocError>
+    ensures { OnOk result (out.new.items ≡ out.old.items ++ interval extent) }
+{
+    append_instant(out, extent.start())?;
+    append_instant(out, extent.end())?;
+    Ok(())
+}
+
+/// A text behind its length, which is one byte.
+fn append_short_text(out: &mut Vec<u8>, text: &str) -> Result<(), AllocError>
+    requires { length text.now < 256 }
+    ensures { OnOk result (out.new.items ≡ out.old.items ++ short_text text.now) }
+{
+    out.push(text.len() as u8)?;
+    out.extend_from_slice(text.as_bytes())
+}
+
+/// Names behind their number, which is one byte.
+fn append_names(out: &mut Vec<u8>, texts: &[String]) -> Result<(), AllocError>
+    requires count { length texts.now < 256 }
+    requires each { All (λ name. length name < 256) (texts_of texts.now) }
+    ensures { OnOk result (out.new.items ≡ out.old.items ++ names (texts_of texts.now)) }
+{
+    out.push(texts.len() as u8)?;
+    for text in texts {
+        append_short_text(out, text.as_str())?;
+    }
+    Ok(())
+}
+
+fn append_descriptor(out: &mut Vec<u8>, announced: &Descriptor) -> Result<(), AllocError>
+    ensures { OnOk result (out.new.items ≡ out.old.items ++ descriptor announced.now) }
+{
+    let id = announced.id();
+    append_short_text(out, id.source().as_str())?;
+    append_interval(out, id.interval())?;
+    append_short_text(out, id.version().as_str())?;
+    out.extend_from_slice(&id.partition().to_be_bytes())?;
+    out.extend_from_slice(&announced.core().to_be_bytes())?;
+    out.extend_from_slice(&announced.size().to_be_bytes())?;
+    Ok(())
+}
+
+/// What stands before the first row.
+pub(crate) fn heading(alloc: Global, segment: &Segment) -> Result<Vec<u8>, AllocError>
+    ensures { IfOk result (λ out. out.items ≡ heading segment.now) }
+{
+    let schema = segment.schema();
+    let mut out = Vec::new(alloc);
+    out.extend_from_slice(&MAGIC)?;
+    append_descriptor(&mut out, segment.descriptor())?;
+    append_names(&mut out, schema.dimensions())?;
+    append_names(&mut out, schema.metrics())?;
+    out.extend_from_slice(&(segment.len() as u32).to_be_bytes())?;
+    Ok(out)
+}
+
+/// A text behind its mark and its length, or the mark of null.
+fn append_text_value(out: &mut Vec<u8>, value: Option<&str>) -> Result<(), AllocError>
+    requires { IfSome (option_map (λ text. text.now) value) (λ text. length text ≤ max_value) }
+    ensures { OnOk result (out.new.items
+        ≡ out.old.items ++ text_value (option_map (λ text. text.now) value.entry)) }
+{
+    let Some(text) = value else {
+        out.push(0)?;
+        return Ok(());
+    };
+    out.push(1)?;
+    out.extend_from_slice(&(text.len() as u16).to_be_bytes())?;
+    out.extend_from_slice(text.as_bytes())
+}
+
+/// A number behind its mark, or the mark of null.
+fn append_number_value(out: &mut Vec<u8>, value: Option<i64>) -> Result<(), AllocError>
+    ensures { OnOk result (out.new.items ≡ out.old.items ++ number_value value) }
+{
+    let Some(number) = value else {
+        out.push(0)?;
+        return Ok(());
+    };
+    out.push(1)?;
+    out.extend_from_slice(&number.to_be_bytes())
+}
+
+fn append_dimensions(out: &mut Vec<u8>, segment: &Segment, place: usize) -> Result<(), AllocError>
+    requires { place < length segment.now.rows }
+    ensures { OnOk result (out.new.items
+        ≡ out.old.items ++ flat_map text_value (row_at segment.now place).dimensions) }
+{
+    for dimension in 0..segment.schema().dimensions().len() {
+        append_text_value(out, segment.dimension(place, dimension))?;
+    }
+    Ok(())
+}
+
+fn append_metrics(out: &mut Vec<u8>, segment: &Segment, place: usize) -> Result<(), AllocError>
+    requires { place < length segment.now.rows }
+    ensures { OnOk result (out.new.items
+        ≡ out.old.items ++ flat_map number_value (row_at segment.now place).metrics) }
+{
+    for metric in 0..segment.schema().metrics().len() {
+        append_number_value(out, segment.metric(place, metric))?;
+    }
+    Ok(())
+}
+
+pub(crate) fn append_row(
+    out: &mut Vec<u8>,
+    segment: &Segment,
+    place: usize,
+) -> Result<(), AllocError>
+    requires { place < length segment.now.rows }
+    ensures { OnOk result (out.new.items ≡ out.old.items ++ row (row_at segment.now place)) }
+{
+    append_instant(out, segment.time(place))?;
+    append_dimensions(out, segment, place)?;
+    append_metrics(out, segment, place)
+}

@@ -1,0 +1,67 @@
+ghost use Rattle.std.specs.Prelude.{◌≡◌, ◌≢◌, ◌⊎◌, Err, OnOk, OnErr, IfErr};
+ghost use Rattle.std.specs.Io.KnownBytes.{Appends};
+ghost use Rattle.druid_segfile.specs.Spelling.{spelling};
+ghost use Rattle.druid_segfile.specs.Written.{AppendsFront, AppendsUpTo};
+
+use crate::FileFault;
+use crate::spelling::{append_row, heading};
+use druid_rows::Segment;
+use std::alloc::Global;
+use std::io::{ErrorKind, Write};
+
+/// So many bytes are gathered before they are written out.
+const GATHERED: usize = 65_536;
+
+/// Writes all of the bytes. A write that was interrupted is tried again.
+fn write_out<W: Write>(writer: &mut W, bytes: &[u8]) -> Result<(), FileFault>
+    ensures ok { OnOk result (Appends (W.contents writer.old) (W.contents writer.new) bytes.now) }
+    ensures err { OnErr result (AppendsFront (W.contents writer.old) (W.contents writer.new) bytes.now) }
+    ensures faults { IfErr result (λ fault. fault ≡ FileFault.Write) }
+{
+    let mut rest = bytes;
+    for _ in 0..u64::MAX {
+        if rest.is_empty() {
+            return Ok(());
+        }
+        match writer.write(rest) {
+            Ok(0) => return Err(FileFault::Write),
+            Ok(count) => rest = &rest[count..],
+            Err(error) if error.kind() == ErrorKind::Interrupted => {}
+            Err(_) => return Err(FileFault::Write),
+        }
+    }
+    Err(FileFault::Write)
+}
+
+/// Writes out what was gathered, once it is enough for a write.
+fn write_gathered<W: Write>(writer: &mut W, gathered: &mut Vec<u8>) -> Result<(), FileFault>
+    ensures ok { OnOk result (AppendsUpTo (W.contents writer.old) (W.contents writer.new) gathered.old.items gathered.new.items) }
+    ensures err { OnErr result (AppendsFront (W.contents writer.old) (W.contents writer.new) gathered.old.items) }
+    ensures faults { IfErr result (λ fault. fault ≡ FileFault.Write) }
+{
+    if gathered.len() < GATHERED {
+        return Ok(());
+    }
+    write_out(writer, gathered)?;
+    gathered.clear();
+    Ok(())
+}
+
+/// Writes the spelling of a segment. `Write` where the writer fails and `Memory` where memory is refused: then it has
+/// got some front of the spelling. Nothing is flushed.
+pub fn write_segment<W: Write>(
+    alloc: Global,
+    segment: &Segment,
+    writer: &mut W,
+) -> Result<(), FileFault>
+    ensures ok { OnOk result (Appends (W.contents writer.old) (W.contents writer.new) (spelling segment.now)) }
+    ensures err { OnErr result (AppendsFront (W.contents writer.old) (W.contents writer.new) (spelling segment.now)) }
+    ensures faults { IfErr result (λ fault. (fault ≡ FileFault.Write) ⊎ (fault ≡ FileFault.Memory)) }
+{
+    let mut gathered = heading(alloc, segment)?;
+    for row in 0..segment.len() {
+        write_gathered(writer, &mut gathered)?;
+        append_row(&mut gathered, segment, row)?;
+    }
+    write_out(writer, &gathered)
+}
