@@ -2,12 +2,12 @@
 """Builds the proved program of `bench/segments`, which writes and reads segment files, and prints its speed and memory.
 
 A segment of 10,000 rows and one of 100,000, with 4 dimensions and 4 metrics, 84 bytes a row. It is built in
-`bench/out`, over copies of the crates; the first time that proves them, which takes some minutes.
+the folder for temporary files, over copies of the crates; the first time that proves them, which takes some minutes.
 """
-import os, shutil, subprocess, sys
+import os, shutil, subprocess, tempfile
 
 TOP = os.path.dirname(os.path.dirname(os.path.abspath(__file__)))
-PLACE = os.path.join(TOP, 'bench', 'out')
+PLACE = os.path.join(tempfile.gettempdir(), 'druid_cluster_bench')
 CRATES = ['druid_time', 'druid_segid', 'druid_shard', 'druid_rows', 'druid_segfile']
 
 
