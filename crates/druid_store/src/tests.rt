@@ -5,47 +5,62 @@ use std::process::Abort;
 use std::test::Fail;
 use std::{env, fs, process};
 
-// What a folder in memory answers where the file of the incarnation has these bytes, and what the
-// file has then.
-fn next_after(
+// Whether a folder has a file of these bytes under that name.
+fn has<F: Folder>(alloc: Global, folder: &mut F, name: &str, bytes: &[u8]) -> Result<bool, Fail> {
+    match folder.read(alloc, name)? {
+        Some(found) => Ok(found.as_slice() == bytes),
+        None => Ok(false),
+    }
+}
+
+// Whether a folder answers that number next, and its file then has these bytes.
+fn answers<F: Folder>(
     alloc: Global,
-    bytes: &[u8],
-) -> Result<(Result<u64, StoreFault>, Option<Vec<u8>>), StoreFault> {
+    folder: &mut F,
+    answer: Result<u64, StoreFault>,
+    after: &[u8],
+) -> Result<bool, Fail> {
+    let given = next_incarnation(alloc, folder);
+    Ok(given == answer && has(alloc, folder, "incarnation", after)?)
+}
+
+// The same of a folder in memory whose file has the first bytes before.
+fn answers_after(
+    alloc: Global,
+    before: &[u8],
+    answer: Result<u64, StoreFault>,
+    after: &[u8],
+) -> Result<bool, Fail> {
     let mut folder = MemoryFolder::new(alloc);
-    folder.write("incarnation", bytes)?;
-    let answer = next_incarnation(alloc, &mut folder);
-    Ok((answer, folder.read(alloc, "incarnation")?))
+    folder.write("incarnation", before)?;
+    answers(alloc, &mut folder, answer, after)
 }
 
 #[test]
 fn incarnation_file(rt: HostRuntime) -> Result<(), Fail> {
     let alloc = rt.alloc();
     let mut folder = MemoryFolder::new(alloc);
-    assert_eq!(rt; next_incarnation(alloc, &mut folder), Ok(1));
-    let kept = folder.read(alloc, "incarnation")?.ok_or("no file")?;
-    assert_eq!(rt; kept.as_slice(), b"1\n".as_slice());
-
-    let (answer, kept) = next_after(alloc, b"7\n")?;
-    assert_eq!(rt; answer, Ok(8));
-    assert_eq!(rt; kept.ok_or("no file")?.as_slice(), b"8\n".as_slice());
-    let (answer, kept) = next_after(alloc, b"18446744073709551614\n")?;
-    assert_eq!(rt; answer, Ok(18_446_744_073_709_551_615));
-    assert_eq!(rt;
-        kept.ok_or("no file")?.as_slice(),
-        b"18446744073709551615\n".as_slice()
-    );
-    let (answer, kept) = next_after(alloc, b"18446744073709551615\n")?;
-    assert_eq!(rt; answer, Err(StoreFault::AtEnd));
-    assert_eq!(rt;
-        kept.ok_or("no file")?.as_slice(),
-        b"18446744073709551615\n".as_slice()
-    );
+    assert!(rt; answers(alloc, &mut folder, Ok(1), b"1\n")?);
+    assert!(rt; answers_after(alloc, b"7\n", Ok(8), b"8\n")?);
     Ok(())
 }
 
 #[test]
-fn files_without_a_number(rt: HostRuntime) -> Result<(), Fail> {
+fn last_incarnations(rt: HostRuntime) -> Result<(), Fail> {
     let alloc = rt.alloc();
+    let (before, last) = (b"18446744073709551614\n", b"18446744073709551615\n");
+    assert!(rt; answers_after(alloc, before, Ok(18_446_744_073_709_551_615), last)?);
+    assert!(rt; answers_after(alloc, last, Err(StoreFault::AtEnd), last)?);
+    Ok(())
+}
+
+// Whether these bytes are no number, and stay.
+fn is_bad(alloc: Global, bytes: &[u8]) -> Result<bool, Fail> {
+    answers_after(alloc, bytes, Err(StoreFault::BadNumber), bytes)
+}
+
+#[test]
+fn files_without_a_number(rt: HostRuntime) -> Result<(), Fail> {
     for text in [
         "",
         "\n",
@@ -65,12 +80,9 @@ fn files_without_a_number(rt: HostRuntime) -> Result<(), Fail> {
         "100000000000000000000\n",
         "\u{667}\n",
     ] {
-        let (answer, kept) = next_after(alloc, text.as_bytes())?;
-        assert_eq!(rt; answer, Err(StoreFault::BadNumber), "at {text:?}");
-        assert_eq!(rt; kept.ok_or("no file")?.as_slice(), text.as_bytes());
+        assert!(rt; is_bad(rt.alloc(), text.as_bytes())?, "at {text:?}");
     }
-    let (answer, _) = next_after(alloc, &[55, 255, 10])?;
-    assert_eq!(rt; answer, Err(StoreFault::BadNumber));
+    assert!(rt; is_bad(rt.alloc(), &[55, 255, 10])?);
     Ok(())
 }
 
@@ -99,51 +111,67 @@ fn names_of_files(rt: HostRuntime) -> Result<(), Fail> {
     Ok(())
 }
 
-// Puts a folder through each of its calls. It is empty before and after it.
-fn try_all<F: Folder>(rt: &impl Abort, alloc: Global, folder: &mut F) -> Result<(), Fail> {
-    assert!(rt; folder.list(alloc)?.is_empty());
-    assert_eq!(rt; folder.read(alloc, "b"), Ok(None));
-    folder.write("b", b"old")?;
-    folder.write("b", b"second")?;
-    folder.write("a.seg", b"")?;
-    folder.write("c", b"third")?;
-    assert_eq!(rt; names(alloc, folder)?.as_str(), "a.seg b c ");
-    assert_eq!(rt; text(alloc, folder, "a.seg")?.as_str(), "");
-    assert_eq!(rt; text(alloc, folder, "b")?.as_str(), "second");
-    folder.sync()?;
-
-    folder.rename("b", "d")?;
-    folder.rename("d", "c")?;
-    assert_eq!(rt; names(alloc, folder)?.as_str(), "a.seg c ");
-    assert_eq!(rt; text(alloc, folder, "c")?.as_str(), "second");
-    assert_eq!(rt; folder.read(alloc, "b"), Ok(None));
-    assert_eq!(rt; folder.faults(), 0);
-    assert_eq!(rt; folder.rename("b", "c"), Err(StoreFault::Device));
-    assert_eq!(rt; folder.faults(), 1);
-    assert_eq!(rt; text(alloc, folder, "c")?.as_str(), "second");
-
-    folder.remove("a.seg")?;
-    folder.remove("a.seg")?;
-    folder.remove("c")?;
-    assert!(rt; folder.list(alloc)?.is_empty());
-    assert_eq!(rt; folder.faults(), 1);
-    Ok(())
-}
-
-// The names of a folder, each with a space behind it.
-fn names<F: Folder>(alloc: Global, folder: &mut F) -> Result<String, Fail> {
+// Whether these are the names of a folder, each with a space behind it.
+fn lists<F: Folder>(alloc: Global, folder: &mut F, names: &str) -> Result<bool, Fail> {
     let mut text = String::new(alloc);
     for name in folder.list(alloc)? {
         text.push_str(name.as_str())?;
         text.push(' ')?;
     }
-    Ok(text)
+    Ok(text.as_str() == names)
 }
 
-// The text of a file.
-fn text<F: Folder>(alloc: Global, folder: &mut F, name: &str) -> Result<String, Fail> {
-    let bytes = folder.read(alloc, name)?.ok_or("no file")?;
-    Ok(String::from_utf8(bytes)?)
+// Whether a folder has no such file.
+fn lacks<F: Folder>(alloc: Global, folder: &mut F, name: &str) -> bool {
+    folder.read(alloc, name) == Ok(None)
+}
+
+// Writes three files, one of them twice.
+fn write_three<F: Folder>(folder: &mut F) -> Result<(), StoreFault> {
+    folder.write("b", b"old")?;
+    folder.write("b", b"second")?;
+    folder.write("a.seg", b"")?;
+    folder.write("c", b"third")
+}
+
+// Renames `b` by way of `d` to `c`, which is there.
+fn move_second<F: Folder>(folder: &mut F) -> Result<(), StoreFault> {
+    folder.sync()?;
+    folder.rename("b", "d")?;
+    folder.rename("d", "c")
+}
+
+// Whether a file that is not there cannot be renamed, which counts as a failure.
+fn refuses_to_move<F: Folder>(folder: &mut F) -> bool {
+    folder.faults() == 0
+        && folder.rename("b", "c") == Err(StoreFault::Device)
+        && folder.faults() == 1
+}
+
+// Removes what is left, one file twice.
+fn remove_rest<F: Folder>(folder: &mut F) -> Result<(), StoreFault> {
+    folder.remove("a.seg")?;
+    folder.remove("a.seg")?;
+    folder.remove("c")
+}
+
+// Puts a folder through each of its calls. It is empty before and after it.
+fn try_all<F: Folder>(rt: &impl Abort, alloc: Global, folder: &mut F) -> Result<(), Fail> {
+    assert!(rt; lists(alloc, folder, "")?);
+    assert!(rt; lacks(alloc, folder, "b"));
+    write_three(folder)?;
+    assert!(rt; lists(alloc, folder, "a.seg b c ")?);
+    assert!(rt; has(alloc, folder, "a.seg", b"")?);
+    assert!(rt; has(alloc, folder, "b", b"second")?);
+    move_second(folder)?;
+    assert!(rt; lists(alloc, folder, "a.seg c ")?);
+    assert!(rt; lacks(alloc, folder, "b"));
+    assert!(rt; refuses_to_move(folder));
+    assert!(rt; has(alloc, folder, "c", b"second")?);
+    remove_rest(folder)?;
+    assert!(rt; lists(alloc, folder, "")?);
+    assert_eq!(rt; folder.faults(), 1);
+    Ok(())
 }
 
 // A new folder of this run, for one test.
@@ -161,36 +189,57 @@ fn ample_memory(rt: HostRuntime) -> Result<(), Fail> {
     let alloc = rt.alloc();
     let mut folder = MemoryFolder::new(alloc);
     try_all(&rt, alloc, &mut folder)?;
-    assert_eq!(rt; next_incarnation(alloc, &mut folder), Ok(1));
-
-    let path = fresh_folder(&rt, "calls")?;
-    let mut folder = DiskFolder::new(rt.clone()?, path.clone()?);
-    try_all(&rt, alloc, &mut folder)?;
-    assert_eq!(rt; next_incarnation(alloc, &mut folder), Ok(1));
-    fs::remove_dir_all(&rt, path.as_str())?;
+    assert!(rt; answers(alloc, &mut folder, Ok(1), b"1\n")?);
     Ok(())
 }
 
 #[test]
-fn disk_folder(rt: HostRuntime) -> Result<(), Fail> {
-    let alloc = rt.alloc();
-    let path = fresh_folder(&rt, "files")?;
-    let inner = format!(in alloc; "{path}/inner")?;
-    fs::create_dir(&rt, inner.as_str())?;
-    fs::write(&rt, format!(in alloc; "{path}/secret")?, "hidden")?;
-    fs::create_dir(&rt, format!(in alloc; "{inner}/below")?)?;
+fn ample_memory_on_disk(rt: HostRuntime) -> Result<(), Fail> {
+    let path = fresh_folder(&rt, "calls")?;
+    let mut folder = DiskFolder::new(rt.clone()?, path.clone()?);
+    try_all(&rt, rt.alloc(), &mut folder)?;
+    assert!(rt; answers(rt.alloc(), &mut folder, Ok(1), b"1\n")?);
+    fs::remove_dir_all(&rt, path.as_str())?;
+    Ok(())
+}
 
-    // What one handle wrote another reads, and a number rises from one to the next.
-    let mut first = DiskFolder::new(rt.clone()?, inner.clone()?);
+// Whether what one handle wrote another reads, and a number rises from one to the next.
+fn share<F: Folder>(alloc: Global, first: &mut F, second: &mut F) -> Result<bool, Fail> {
     first.write("b", b"bytes")?;
-    assert_eq!(rt; next_incarnation(alloc, &mut first), Ok(1));
-    let mut second = DiskFolder::new(rt.clone()?, inner.clone()?);
-    assert_eq!(rt; text(alloc, &mut second, "b")?.as_str(), "bytes");
-    assert_eq!(rt; next_incarnation(alloc, &mut second), Ok(2));
-    assert_eq!(rt; text(alloc, &mut first, "incarnation")?.as_str(), "2\n");
-    assert_eq!(rt; names(alloc, &mut first)?.as_str(), "b incarnation ");
+    Ok(
+        answers(alloc, first, Ok(1), b"1\n")?
+            && has(alloc, second, "b", b"bytes")?
+            && answers(alloc, second, Ok(2), b"2\n")?
+            && lists(alloc, first, "b incarnation ")?,
+    )
+}
 
-    // No name leads out of the folder, and no folder is a file.
+#[test]
+fn handles_of_one_folder(rt: HostRuntime) -> Result<(), Fail> {
+    let path = fresh_folder(&rt, "handles")?;
+    let mut first = DiskFolder::new(rt.clone()?, path.clone()?);
+    let mut second = DiskFolder::new(rt.clone()?, path.clone()?);
+    assert!(rt; share(rt.alloc(), &mut first, &mut second)?);
+    fs::remove_dir_all(&rt, path.as_str())?;
+    Ok(())
+}
+
+fn path_in(alloc: Global, folder: &str, name: &str) -> Result<String, Fail> {
+    Ok(format!(in alloc; "{folder}/{name}")?)
+}
+
+// Makes a file `secret`, and beside it a folder `inner` with a folder `below` and a file `b`; gives the path of `inner`.
+fn nested(rt: &HostRuntime, path: &str) -> Result<String, Fail> {
+    let inner = path_in(rt.alloc(), path, "inner")?;
+    fs::create_dir(rt, inner.as_str())?;
+    fs::create_dir(rt, path_in(rt.alloc(), inner.as_str(), "below")?)?;
+    fs::write(rt, path_in(rt.alloc(), inner.as_str(), "b")?, "bytes")?;
+    fs::write(rt, path_in(rt.alloc(), path, "secret")?, "hidden")?;
+    Ok(inner)
+}
+
+// No name leads out of a folder, and no folder is a file.
+fn has_b_alone<F: Folder>(rt: &impl Abort, alloc: Global, folder: &mut F) -> Result<(), Fail> {
     for name in [
         "../secret",
         "",
@@ -203,26 +252,62 @@ fn disk_folder(rt: HostRuntime) -> Result<(), Fail> {
         "./b",
         "b\0",
     ] {
-        assert_eq!(rt; first.read(alloc, name), Ok(None), "{name:?}");
+        assert!(rt; lacks(alloc, folder, name), "{name:?}");
     }
-    assert_eq!(rt; first.faults(), 0);
+    assert!(rt; lists(alloc, folder, "b ")?);
+    assert_eq!(rt; folder.faults(), 0);
+    Ok(())
+}
 
-    // Of a file that is too long one byte more than 16 MiB is read.
-    first.write("b", vec![in alloc; 7; MAX_FILE + 2]?.as_slice())?;
-    assert_eq!(rt;
-        first.read(alloc, "b")?.ok_or("no file")?.len(),
-        MAX_FILE + 1
-    );
+#[test]
+fn names_stay_in_the_folder(rt: HostRuntime) -> Result<(), Fail> {
+    let path = fresh_folder(&rt, "names")?;
+    let inner = nested(&rt, path.as_str())?;
+    has_b_alone(&rt, rt.alloc(), &mut DiskFolder::new(rt.clone()?, inner))?;
     fs::remove_dir_all(&rt, path.as_str())?;
+    Ok(())
+}
 
-    // Where the folder is gone, each call on it fails and counts.
-    assert_eq!(rt; first.list(alloc), Err(StoreFault::Device));
-    assert_eq!(rt; first.write("b", b"bytes"), Err(StoreFault::Device));
-    assert_eq!(rt; first.sync(), Err(StoreFault::Device));
-    assert_eq!(rt;
-        next_incarnation(alloc, &mut first),
-        Err(StoreFault::Device)
-    );
-    assert_eq!(rt; first.faults(), 4);
+// How much is read of a file that has two bytes more than 16 MiB.
+fn read_of_long<F: Folder>(alloc: Global, folder: &mut F) -> Result<usize, Fail> {
+    folder.write("b", vec![in alloc; 7; MAX_FILE + 2]?.as_slice())?;
+    let found = folder.read(alloc, "b")?.ok_or("no file")?;
+    Ok(found.len())
+}
+
+#[test]
+fn long_file(rt: HostRuntime) -> Result<(), Fail> {
+    let path = fresh_folder(&rt, "long")?;
+    let mut folder = DiskFolder::new(rt.clone()?, path.clone()?);
+    assert_eq!(rt; read_of_long(rt.alloc(), &mut folder)?, MAX_FILE + 1);
+    fs::remove_dir_all(&rt, path.as_str())?;
+    Ok(())
+}
+
+// Whether a folder cannot be listed.
+fn has_no_list<F: Folder>(alloc: Global, folder: &mut F) -> bool {
+    match folder.list(alloc) {
+        Ok(_) => false,
+        Err(fault) => fault == StoreFault::Device,
+    }
+}
+
+// Whether a folder takes nothing.
+fn takes_nothing<F: Folder>(alloc: Global, folder: &mut F) -> bool {
+    let device = Err(StoreFault::Device);
+    folder.write("b", b"bytes") == device
+        && folder.sync() == device
+        && next_incarnation(alloc, folder) == Err(StoreFault::Device)
+}
+
+// Where a folder is not there, each call on it fails and counts.
+#[test]
+fn folder_that_is_gone(rt: HostRuntime) -> Result<(), Fail> {
+    let path = fresh_folder(&rt, "gone")?;
+    fs::remove_dir_all(&rt, path.as_str())?;
+    let mut folder = DiskFolder::new(rt.clone()?, path);
+    assert!(rt; has_no_list(rt.alloc(), &mut folder));
+    assert!(rt; takes_nothing(rt.alloc(), &mut folder));
+    assert_eq!(rt; folder.faults(), 4);
     Ok(())
 }
