@@ -1,20 +1,11 @@
 use crate::{GroupKey, IdFault, Meter, Name, SegmentId, Version};
-use druid_time::{Instant, Interval};
+use druid_time::Interval;
 use std::alloc::Global;
 use std::cmp::Ordering;
 use std::test::Fail;
 
-/// 2024-01-01T00:00:00.000Z, in milliseconds since 1970.
-const DAY_START: i64 = 1_704_067_200_000;
-
-/// 2024-01-02T00:00:00.000Z, in milliseconds since 1970.
-const DAY_END: i64 = 1_704_153_600_000;
-
-/// 2024-01-01/2024-01-02.
 fn day() -> Result<Interval, Fail> {
-    let start = Instant::new(DAY_START).ok_or("no start")?;
-    let end = Instant::new(DAY_END).ok_or("no end")?;
-    Ok(Interval::new(start, end).ok_or("an empty day")?)
+    Ok(Interval::parse("2024-01-01/2024-01-02")?)
 }
 
 /// A segment of that day.
@@ -49,8 +40,17 @@ fn letters(alloc: Global, count: usize) -> Result<String, Fail> {
     Ok(text)
 }
 
-fn order(first: &SegmentId, second: &SegmentId) -> (Ordering, Ordering) {
-    (first.cmp(second), second.cmp(first))
+/// Whether the first of two segments, each of a source, version and partition, comes before the second.
+fn is_before(
+    alloc: Global,
+    first: (&str, &str, u16),
+    second: (&str, &str, u16),
+) -> Result<bool, Fail> {
+    let (source, version, partition) = first;
+    let first = segment(alloc, source, version, partition)?;
+    let (source, version, partition) = second;
+    let second = segment(alloc, source, version, partition)?;
+    Ok(first.cmp(&second) == Ordering::Less && second.cmp(&first) == Ordering::Greater)
 }
 
 #[test]
@@ -107,24 +107,13 @@ fn only_these_texts_are_versions(rt: HostRuntime) -> Result<(), Fail> {
 }
 
 #[test]
-fn versions_and_partitions_are_ordered_as_text(rt: HostRuntime) -> Result<(), Fail> {
-    let first = segment(rt.alloc(), "a", "v1", 0)?;
-    let second = segment(rt.alloc(), "a", "v10", 0)?;
-    assert_eq!(rt; order(&first, &second), (Ordering::Less, Ordering::Greater));
-    let third = segment(rt.alloc(), "a", "v1", 10)?;
-    assert_eq!(rt; order(&second, &third), (Ordering::Less, Ordering::Greater));
-    let fourth = segment(rt.alloc(), "a", "v1", 2)?;
-    assert_eq!(rt; order(&third, &fourth), (Ordering::Less, Ordering::Greater));
-    Ok(())
-}
-
-#[test]
-fn sources_are_ordered_as_text(rt: HostRuntime) -> Result<(), Fail> {
-    let first = segment(rt.alloc(), "a-b", "v1", 0)?;
-    let second = segment(rt.alloc(), "a", "v1", 0)?;
-    assert_eq!(rt; order(&first, &second), (Ordering::Less, Ordering::Greater));
-    let third = segment(rt.alloc(), "a_b", "v1", 0)?;
-    assert_eq!(rt; order(&second, &third), (Ordering::Less, Ordering::Greater));
+fn identifiers_are_ordered_as_text(rt: HostRuntime) -> Result<(), Fail> {
+    let alloc = rt.alloc();
+    assert!(rt; is_before(alloc, ("a", "v1", 0), ("a", "v10", 0))?);
+    assert!(rt; is_before(alloc, ("a", "v10", 0), ("a", "v1", 10))?);
+    assert!(rt; is_before(alloc, ("a", "v1", 10), ("a", "v1", 2))?);
+    assert!(rt; is_before(alloc, ("a-b", "v1", 0), ("a", "v1", 0))?);
+    assert!(rt; is_before(alloc, ("a", "v1", 0), ("a_b", "v1", 0))?);
     Ok(())
 }
 
