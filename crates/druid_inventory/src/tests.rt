@@ -3,21 +3,13 @@ ghost use Rattle.std.specs.Prelude.{◌≤◌};
 use crate::{ApplyFault, Inventory, InventoryFault, Outcome};
 use druid_segid::{Name, SegmentId, Version};
 use druid_shard::{Descriptor, Mark, Reply};
-use druid_time::{Instant, Interval};
+use druid_time::Interval;
 use std::alloc::Global;
 use std::test::Fail;
 
-/// 2024-01-01T00:00:00.000Z, in milliseconds since 1970.
-const DAY_START: i64 = 1_704_067_200_000;
-
-/// 2024-01-02T00:00:00.000Z, in milliseconds since 1970.
-const DAY_END: i64 = 1_704_153_600_000;
-
 /// A segment of 2024-01-01/2024-01-02, whose chunk has one core partition.
 fn segment(alloc: Global, source: &str, version: &str, partition: u16) -> Result<Descriptor, Fail> {
-    let start = Instant::new(DAY_START).ok_or("no start")?;
-    let end = Instant::new(DAY_END).ok_or("no end")?;
-    let day = Interval::new(start, end).ok_or("an empty day")?;
+    let day = Interval::parse("2024-01-01/2024-01-02")?;
     let source = Name::new(alloc, source)?;
     let id = SegmentId::new(source, day, Version::new(alloc, version)?, partition);
     Ok(Descriptor::new(id, 1, 0).ok_or("too many core partitions")?)
