@@ -62,16 +62,19 @@ fn ample_memory(rt: HostRuntime) -> Result<(), Fail> {
     Ok(())
 }
 
+/// Whether a node is added that serves partition 3 of 4.
+fn adds(alloc: Global, members: &mut Members, node: u16) -> Result<bool, Fail> {
+    Ok(members.add(&descriptor(alloc, "v1", 3, 4)?, node)?)
+}
+
 #[test]
 fn ample_memory_of_members(rt: HostRuntime) -> Result<(), Fail> {
-    let alloc = rt.alloc();
-    let d = descriptor(alloc, "v1", 3, 4)?;
-    let mut members = Members::new(alloc);
-    assert!(rt; members.add(&d, 2)?);
-    assert!(rt; !members.add(&d, 2)?);
-    assert!(rt; members.add(&d, 1)?);
+    let mut members = Members::new(rt.alloc());
+    assert!(rt; adds(rt.alloc(), &mut members, 2)?);
+    assert!(rt; !adds(rt.alloc(), &mut members, 2)?);
+    assert!(rt; adds(rt.alloc(), &mut members, 1)?);
     assert_eq!(rt; members.replicas(3), [1, 2].as_slice());
-    let partitions = members.partitions(alloc)?;
+    let partitions = members.partitions(rt.alloc())?;
     assert_eq!(rt; partitions.as_slice(), [3].as_slice());
     Ok(())
 }
