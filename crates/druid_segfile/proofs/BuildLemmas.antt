@@ -1,26 +1,23 @@
 -- A segment that is built from the rows that are read: there is always room for them.
-use Rattle.std.proofs.Common.{◌≡◌, ℕ, ◌+◌, ◌-◌, ◌^◌, ◌<◌, ◌≤◌, List, [], ◌∷◌, ◌++◌, map, length, Result, Ok, Err, String, string_bytes, refl, sym, ap, subst, ◌∙◌, arith}
-use Rattle.std.specs.Prelude.{All, IsOkUnless}
+use Rattle.std.proofs.Common.{◌≡◌, ℕ, ◌+◌, ◌-◌, ◌^◌, ◌<◌, ◌≤◌, List, [], ◌∷◌, ◌++◌, map, length, Result, Ok, String, string_bytes, refl, sym, ap, subst, ◌∙◌, arith}
 use Rattle.std.specs.List.{sum}
 use Rattle.std.specs.Global.{Global}
 use Rattle.std.specs.Int.{w32, to_be_bytes}
 use Rattle.std.proofs.lemmas.List.{length-append, length-map, length_push, map_push}
 use Rattle.std.proofs.lemmas.List.Sums.{sum_by_push}
 use Rattle.std.proofs.lemmas.List.Elements.{All-nil, All-push, All-weaker}
-use Rattle.druid_time.specs.Extent.{Extent}
 use Rattle.druid_shard.specs.Described.{Described}
-use Rattle.druid_rows.specs.Rows.{Fields, Values, texts_of, HasShape, IsInside, HasShortValues, max_value}
+use Rattle.druid_rows.specs.Rows.{Fields, Values, texts_of, HasShape, IsInside, HasShortValues}
 use Rattle.druid_rows.specs.Segment.{Content, IsSegment, segment_of, with_row, text_length, head_length, row_length, max_rows, max_text}
 use Rattle.druid_rows.specs.declared.fault.RowFault.{RowFault}
 use Rattle.druid_rows.specs.declared.fault.RowFault.TheVariants as unmade
 use Rattle.druid_segfile.specs.declared.fault.FileFault.{FileFault}
-use Rattle.druid_segfile.specs.declared.fault.FileFault.TheVariants as file
-use Rattle.druid_segfile.specs.Spelling.{magic, descriptor, row}
-use Rattle.druid_segfile.specs.Reading.{◌>>=◌, Fails, number_at, at_most, each_at, magic_at, descriptor_at, fields_at, Shape, shape_of, values_at, rows_at, content_at}
-use Rattle.druid_segfile.specs.Building.{refusal, HasRoom, with_read}
-use Rattle.druid_segfile.proofs.PartLemmas.{IsBytes, Takes, at_most_ok, wide32, number_read}
+use Rattle.druid_segfile.specs.Spelling.{row}
+use Rattle.druid_segfile.specs.Reading.{Fails, number_at, at_most, magic_at, descriptor_at, fields_at, Shape, shape_of, values_at}
+use Rattle.druid_segfile.specs.Building.{refusal, HasRoom}
+use Rattle.druid_segfile.proofs.PartLemmas.{IsBytes, at_most_ok, wide32, number_read}
 use Rattle.druid_segfile.proofs.HeadLemmas.{magic_takes, descriptor_read}
-use Rattle.druid_segfile.proofs.FieldLemmas.{fields_text, AreFields, fields_read}
+use Rattle.druid_segfile.proofs.FieldLemmas.{AreFields, fields_read}
 use Rattle.druid_segfile.proofs.RowLemmas.{IsTextValue, IsRow, values_read}
 use Rattle.druid_segfile.proofs.LengthLemmas.{length_row, length_head}
 use Rattle.druid_segfile.proofs.SegmentLemmas.{text_is_short}
@@ -94,46 +91,20 @@ pub record IsHead (short : FileFault) (bytes : List ℕ) (d : Described) (fields
   pub limited : at_most max_rows number ≡ Ok count
 
 pub room_behind_head : (short : FileFault) (bytes : List ℕ) (d : Described) (fields : Fields) (count : ℕ) (rest : List ℕ) → IsBytes bytes → length bytes ≤ max_text → IsHead short bytes d fields count rest
-    → HasRoom (segment_of d fields []) (shape_of d fields) count (length rest) × IsBytes rest
+    → HasRoom (segment_of d fields []) (shape_of d fields) count (length rest)
 room_behind_head short bytes d fields count rest fits small h =
     let t1 = magic_takes short bytes h.behind fits h.layout in
     let t2 = (descriptor_read short).takes h.behind (d, h.after_descriptor) t1.rest_fits h.described in
     let t3 = (fields_read short).takes h.after_descriptor (fields, h.after_fields) t2.0.rest_fits h.named in
     let t4 = (number_read short w32 (2 ^ 32) wide32).takes h.after_fields (h.number, rest) t3.0.rest_fits h.counted in
     let limit = at_most_ok max_rows h.number count h.limited in
-    let len = length_head d fields bytes h.behind h.after_descriptor h.after_fields rest (to_be_bytes w32 h.number) refl t1.parts t2.0.parts t3.0.parts t4.0.parts in (
-      record {
-        valid = none_yet d fields t3.1 (omega (arith, len, small));
-        shaped = refl;
-        rows = omega (arith, limit.1);
-        text = omega (arith, len, small);
-      },
-      t4.0.rest_fits,
-    )
-
--- what is read behind the head
-pub content_behind_head : (short : FileFault) (bytes : List ℕ) (d : Described) (fields : Fields) (count : ℕ) (rest : List ℕ) → IsHead short bytes d fields count rest
-    → content_at short bytes ≡ with_read (segment_of d fields []) (each_at (values_at short (shape_of d fields)) count rest)
-unfolding content_at rows_at
-content_behind_head short bytes d fields count rest h = rw (h.layout, h.described, h.named, h.counted, h.limited) refl
-
-shape_same : (extent : Extent) (dimensions metrics : ℕ) (d : Described) (fields : Fields) → extent ≡ d.id.interval → dimensions ≡ length fields.dimensions → metrics ≡ length fields.metrics
-    → record { interval = extent; dimensions = dimensions; metrics = metrics } ≡ shape_of d fields
-shape_same extent dimensions metrics d fields p q r = rw (p, q, r) refl
-
--- the same of a segment without rows and of a shape that are known to be those
-pub room_built : (s : Content) (extent : Extent) (dimensions metrics : ℕ) (d : Described) (fields : Fields) (count len : ℕ) → s ≡ segment_of d fields [] → extent ≡ d.id.interval → dimensions ≡ length fields.dimensions → metrics ≡ length fields.metrics
-    → HasRoom (segment_of d fields []) (shape_of d fields) count len → HasRoom s (record { interval = extent; dimensions = dimensions; metrics = metrics }) count len
-room_built s extent dimensions metrics d fields count len is p q r room =
-    subst (λ (t : Content). HasRoom t (record { interval = extent; dimensions = dimensions; metrics = metrics }) count len) (sym is)
-    (subst (λ (w : Shape). HasRoom (segment_of d fields []) w count len) (sym (shape_same extent dimensions metrics d fields p q r)) room)
-
-pub content_built : (short : FileFault) (bytes : List ℕ) (s : Content) (extent : Extent) (dimensions metrics : ℕ) (d : Described) (fields : Fields) (count : ℕ) (rest : List ℕ) → s ≡ segment_of d fields [] → extent ≡ d.id.interval → dimensions ≡ length fields.dimensions → metrics ≡ length fields.metrics → IsHead short bytes d fields count rest
-    → content_at short bytes ≡ with_read s (each_at (values_at short (record { interval = extent; dimensions = dimensions; metrics = metrics })) count rest)
-content_built short bytes s extent dimensions metrics d fields count rest is p q r h =
-    content_behind_head short bytes d fields count rest h
-    ∙ ap (λ (w : Shape). with_read (segment_of d fields []) (each_at (values_at short w) count rest)) (sym (shape_same extent dimensions metrics d fields p q r))
-    ∙ ap (λ (t : Content). with_read t (each_at (values_at short (record { interval = extent; dimensions = dimensions; metrics = metrics })) count rest)) (sym is)
+    let len = length_head d fields bytes h.behind h.after_descriptor h.after_fields rest (to_be_bytes w32 h.number) refl t1.parts t2.0.parts t3.0.parts t4.0.parts in
+    record {
+      valid = none_yet d fields t3.1 (omega (arith, len, small));
+      shaped = refl;
+      rows = omega (arith, limit.1);
+      text = omega (arith, len, small);
+    }
 
 pub length_texts : (texts : List (String Global)) (names : List (List ℕ)) → texts_of texts ≡ names → length texts ≡ length names
 length_texts texts names e = sym (length-map texts string_bytes) ∙ ap length e

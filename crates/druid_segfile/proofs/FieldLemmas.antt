@@ -1,7 +1,7 @@
 -- The names of fields, read and written: each is new, where all are distinct.
-use Rattle.std.proofs.Common.{◌≡◌, ℕ, zero, suc, ◌+◌, ◌<◌, ◌≤◌, Bool, true, false, not, ◌&&◌, ◌||◌, List, [], ◌∷◌, ◌++◌, length, get_or, Result, Ok, Err, String, string_bytes, refl, sym, ap, subst, ◌∙◌, append_assoc, arith, inl, inr}
+use Rattle.std.proofs.Common.{◌≡◌, ℕ, zero, suc, ◌<◌, ◌≤◌, Bool, true, false, not, ◌||◌, List, [], ◌∷◌, ◌++◌, length, get_or, Ok, String, string_bytes, refl, sym, ap, subst, ◌∙◌, append_assoc, arith, inl, inr}
 use Rattle.std.specs.Prelude.{bytes_eq, All}
-use Rattle.std.specs.List.{flat_map, list_any, Any}
+use Rattle.std.specs.List.{flat_map, list_any}
 use Rattle.std.specs.Str.{IsUtf8}
 use Rattle.std.specs.Global.{Global}
 use Rattle.std.specs.Cmp.Lexicographic.{bytes_decides}
@@ -15,9 +15,9 @@ use Rattle.druid_rows.specs.Rows.{Fields, IsSchema, texts_of}
 use Rattle.druid_rows.specs.Segment.{max_fields}
 use Rattle.druid_segfile.specs.declared.fault.FileFault.{FileFault}
 use Rattle.druid_segfile.specs.Spelling.{short_text, names}
-use Rattle.druid_segfile.specs.Reading.{◌>>=◌, byte_at, at_most, accepted, is_new_name, field_name_at, field_names_at, names_at, fields_at}
+use Rattle.druid_segfile.specs.Reading.{◌>>=◌, at_most, is_new_name, field_name_at, field_names_at, names_at, fields_at}
 use Rattle.druid_segfile.proofs.TextLemmas.{is_field_name-is, is_field_name-true, no_field_name}
-use Rattle.druid_segfile.proofs.PartLemmas.{bind_ok, ok_is, at_most_ok, at_most_within, accepted_ok, accepted_true, IsBytes, Takes, Takes-then, Reads, step_takes, step_again, byte_read, short_text_read}
+use Rattle.druid_segfile.proofs.PartLemmas.{bind_ok, ok_is, at_most_ok, at_most_within, accepted_read, IsBytes, Takes, Takes-then, Reads, step_takes, step_again, byte_read, short_text_read}
 
 -- each is a field name, and none of those before it
 abbrev pub AreNew : List (List ℕ) → List (List ℕ) → Type 0
@@ -91,18 +91,10 @@ none_distinct i j d li lj e = omega arith
 
 pub field_name_read : (short : FileFault) (before : List (List ℕ)) → Reads (List ℕ) (field_name_at short before) short_text (λ name. is_new_name before name ≡ true)
 unfolding field_name_at
-field_name_read short before = record {
-  takes = λ bytes x fits e.
-      let s = step_takes (short_text_read short 100 (omega arith)) _ bytes x fits e in
-      let m = bind_ok (accepted (is_new_name before) s.0.0) (λ name. Ok (name, s.0.1)) x s.3 in
-      let g = accepted_ok (is_new_name before) s.0.0 m.0 m.1 in
-      let took : Takes bytes (short_text m.0) s.0.1 = subst (λ (t : List ℕ). Takes bytes (short_text t) s.0.1) g.0 s.1 in
-      subst (λ (p : List ℕ × List ℕ). Takes bytes (short_text p.0) p.1 × (is_new_name before p.0 ≡ true)) (ok_is (m.0, s.0.1) x m.2) (took, g.1);
-  again = λ name rest h.
-      let parts = and_parts (is_field_name name) (not (list_any (bytes_eq name) before)) h in
-      step_again (short_text_read short 100 (omega arith)) _ name rest (is_field_name-is name parts.0).short
-      ∙ ap (λ r. r >>= λ name. Ok (name, rest)) (accepted_true (is_new_name before) name h);
-}
+field_name_read short before =
+    accepted_read (is_new_name before) (λ name. is_new_name before name ≡ true) (short_text_read short 100 (omega arith)) (λ name is fine. is) (λ name h.
+    let parts = and_parts (is_field_name name) (not (list_any (bytes_eq name) before)) h in
+    ((is_field_name-is name parts.0).short, h))
 
 field_names_take : (short : FileFault) (n : ℕ) (before : List (List ℕ)) (bytes : List ℕ) (x : List (List ℕ) × List ℕ) → IsBytes bytes → field_names_at short n before bytes ≡ Ok x → Takes bytes (flat_map short_text x.0) x.1 × (length x.0 ≡ n) × AreNew before x.0
 unfolding field_names_at

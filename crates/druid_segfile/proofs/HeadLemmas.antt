@@ -1,23 +1,21 @@
 -- What stands before the names of the fields, read and written.
-use Rattle.std.proofs.Common.{◌≡◌, ℕ, ◌^◌, ◌<◌, ◌≤◌, Bool, true, false, cond, ltb, leb, nat_le, List, [], ◌∷◌, ◌++◌, length, Option, Some, None, Result, Ok, Err, refl, sym, ap, subst, ◌∙◌, append_assoc, arith}
-use Rattle.std.specs.Prelude.{ok_or, bytes_eq, IsTrue, All}
-use Rattle.std.specs.List.{list_all}
+use Rattle.std.proofs.Common.{◌≡◌, ℕ, ◌^◌, ◌<◌, ◌≤◌, cond, ltb, nat_le, List, ◌++◌, Option, Some, None, Ok, Err, refl, sym, ap, subst, ◌∙◌, append_assoc, arith}
+use Rattle.std.specs.Prelude.{ok_or, bytes_eq}
 use Rattle.std.specs.Int.{w16, w64, to_be_bytes}
 use Rattle.std.proofs.lemmas.Bool.{ltb-true, lt-ltb, leb-true, le-leb}
 use Rattle.std.specs.Cmp.Lexicographic.{bytes_decides}
 use Rattle.druid_time.specs.Extent.{Extent, IsExtent}
 use Rattle.druid_time.specs.Instant.{unix_ms, IsInstant, instant_count}
-use Rattle.druid_segid.specs.Names.{is_name_byte, is_name, IsName, is_version_byte, is_version, IsVersion}
-use Rattle.druid_segid.specs.Identifier.{Identifier, IsIdentifier}
+use Rattle.druid_segid.specs.Names.{is_name, IsName, is_version, IsVersion}
 use Rattle.druid_segid.proofs.NameLemmas.{is_name-true, is_version-true}
 use Rattle.druid_shard.specs.Described.{Described, IsDescribed, max_core}
 use Rattle.druid_segfile.specs.declared.fault.FileFault.{FileFault}
 use Rattle.druid_segfile.specs.declared.fault.FileFault.TheVariants.{Field, Magic}
 use Rattle.druid_segfile.specs.Spelling.{magic, number, instant, interval, short_text, descriptor}
-use Rattle.druid_segfile.specs.Reading.{◌>>=◌, bytes_at, number_at, signed_at, accepted, short_text_at, instant_of, moment_at, interval_at, name_at, version_at, core_at, descriptor_at, magic_at}
+use Rattle.druid_segfile.specs.Reading.{◌>>=◌, number_at, accepted, instant_of, moment_at, interval_at, name_at, version_at, core_at, descriptor_at, magic_at}
 use Rattle.druid_segfile.proofs.MomentLemmas.{instant_of-unix_ms, of_instant, FitsSigned-unix_ms}
 use Rattle.druid_segfile.proofs.TextLemmas.{is_name-is, is_version-is}
-use Rattle.druid_segfile.proofs.PartLemmas.{bind_ok, passed_ok, ok_is, accepted_ok, accepted_true, IsBytes, Takes, Takes-then, Reads, step_takes, step_again, bytes_read, wide16, wide64, number_read, signed_read, short_text_read}
+use Rattle.druid_segfile.proofs.PartLemmas.{bind_ok, passed_ok, ok_is, accepted_ok, accepted_read, IsBytes, Takes, Takes-then, Reads, step_takes, step_again, bytes_read, wide16, wide64, number_read, signed_read, short_text_read}
 
 pub ok_or_ok : {A : Type 0} (o : Option A) (d : FileFault) (x : A) → ok_or o d ≡ Ok x → o ≡ Some x
 ok_or_ok None d x e = absurd cc
@@ -57,45 +55,16 @@ interval_read short = record {
 
 pub name_read : (short : FileFault) → Reads (List ℕ) (name_at short) short_text IsName
 unfolding name_at
-name_read short = record {
-  takes = λ bytes x fits e.
-      let s = step_takes (short_text_read short 100 (omega arith)) (λ text. accepted is_name text.0 >>= λ name. Ok (name, text.1)) bytes x fits e in
-      let m = bind_ok (accepted is_name s.0.0) (λ name. Ok (name, s.0.1)) x s.3 in
-      let g = accepted_ok is_name s.0.0 m.0 m.1 in
-      let took : Takes bytes (short_text m.0) s.0.1 = subst (λ (t : List ℕ). Takes bytes (short_text t) s.0.1) g.0 s.1 in
-      subst (λ (p : List ℕ × List ℕ). Takes bytes (short_text p.0) p.1 × IsName p.0) (ok_is (m.0, s.0.1) x m.2) (took, is_name-is m.0 g.1);
-  again = λ name rest h.
-      step_again (short_text_read short 100 (omega arith)) (λ text. accepted is_name text.0 >>= λ name. Ok (name, text.1)) name rest h.short
-      ∙ ap (λ r. r >>= λ name. Ok (name, rest)) (accepted_true is_name name (is_name-true name h));
-}
+name_read short = accepted_read is_name IsName (short_text_read short 100 (omega arith)) (λ name is fine. is_name-is name is) (λ name h. (h.short, is_name-true name h))
 
 pub version_read : (short : FileFault) → Reads (List ℕ) (version_at short) short_text IsVersion
 unfolding version_at
-version_read short = record {
-  takes = λ bytes x fits e.
-      let s = step_takes (short_text_read short 64 (omega arith)) (λ text. accepted is_version text.0 >>= λ version. Ok (version, text.1)) bytes x fits e in
-      let m = bind_ok (accepted is_version s.0.0) (λ version. Ok (version, s.0.1)) x s.3 in
-      let g = accepted_ok is_version s.0.0 m.0 m.1 in
-      let took : Takes bytes (short_text m.0) s.0.1 = subst (λ (t : List ℕ). Takes bytes (short_text t) s.0.1) g.0 s.1 in
-      subst (λ (p : List ℕ × List ℕ). Takes bytes (short_text p.0) p.1 × IsVersion p.0) (ok_is (m.0, s.0.1) x m.2) (took, is_version-is m.0 g.1);
-  again = λ version rest h.
-      step_again (short_text_read short 64 (omega arith)) (λ text. accepted is_version text.0 >>= λ version. Ok (version, text.1)) version rest h.short
-      ∙ ap (λ r. r >>= λ version. Ok (version, rest)) (accepted_true is_version version (is_version-true version h));
-}
+version_read short = accepted_read is_version IsVersion (short_text_read short 64 (omega arith)) (λ version is fine. is_version-is version is) (λ version h. (h.short, is_version-true version h))
 
 pub core_read : (short : FileFault) → Reads ℕ (core_at short) (to_be_bytes w16) (λ n. n ≤ max_core)
 unfolding core_at
-core_read short = record {
-  takes = λ bytes x fits e.
-      let s = step_takes (number_read short w16 (2 ^ 16) wide16) (λ part. accepted (λ n. nat_le n max_core) part.0 >>= λ core. Ok (core, part.1)) bytes x fits e in
-      let m = bind_ok (accepted (λ n. nat_le n max_core) s.0.0) (λ core. Ok (core, s.0.1)) x s.3 in
-      let g = accepted_ok (λ n. nat_le n max_core) s.0.0 m.0 m.1 in
-      let took : Takes bytes (to_be_bytes w16 m.0) s.0.1 = subst (λ (n : ℕ). Takes bytes (to_be_bytes w16 n) s.0.1) g.0 s.1 in
-      subst (λ (p : ℕ × List ℕ). Takes bytes (to_be_bytes w16 p.0) p.1 × (p.0 ≤ max_core)) (ok_is (m.0, s.0.1) x m.2) (took, leb-true m.0 max_core g.1);
-  again = λ core rest h.
-      step_again (number_read short w16 (2 ^ 16) wide16) (λ part. accepted (λ n. nat_le n max_core) part.0 >>= λ core. Ok (core, part.1)) core rest (omega arith)
-      ∙ ap (λ r. r >>= λ core. Ok (core, rest)) (accepted_true (λ n. nat_le n max_core) core (le-leb core max_core h));
-}
+core_read short =
+    accepted_read (λ n. nat_le n max_core) (λ n. n ≤ max_core) (number_read short w16 (2 ^ 16) wide16) (λ core is fine. leb-true core max_core is) (λ core h. (omega arith, le-leb core max_core h))
 
 -- the core count that is read is one that a descriptor takes
 pub core_at_limit : (short : FileFault) (bytes : List ℕ) (core : ℕ) (rest : List ℕ) → core_at short bytes ≡ Ok (core, rest) → core ≤ max_core

@@ -1,10 +1,9 @@
 -- How long the spelling of a segment is.
-use Rattle.std.proofs.Common.{◌≡◌, ℕ, ℤ, zero, suc, ◌+◌, List, [], ◌∷◌, ◌++◌, map, length, Option, Some, None, refl, sym, ap, ◌∙◌, arith}
+use Rattle.std.proofs.Common.{◌≡◌, ℕ, ℤ, ◌+◌, List, [], ◌∷◌, ◌++◌, map, length, Option, Some, None, refl, ap, ◌∙◌, arith}
 use Rattle.std.specs.List.{flat_map, sum}
 use Rattle.std.specs.Int.{w16, w32, w64, to_be_bytes}
 use Rattle.std.proofs.lemmas.List.{length-append}
 use Rattle.std.proofs.lemmas.List.Sums.{sum_by-cons}
-use Rattle.druid_time.specs.Extent.{Extent}
 use Rattle.druid_shard.specs.Described.{Described}
 use Rattle.druid_rows.specs.Rows.{Fields, Values}
 use Rattle.druid_rows.specs.Segment.{Content, text_value_length, number_value_length, row_length, names_length, head_length, text_length}

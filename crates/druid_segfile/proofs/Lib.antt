@@ -8,5 +8,5 @@ pub mod LengthLemmas
 pub mod SegmentLemmas
 pub mod LoopLemmas
 pub mod BuildLemmas
-pub mod FaultLemmas
+pub mod FrontLemmas
 pub mod WriteLemmas

@@ -1,5 +1,5 @@
 -- Parts that a loop reads one after the other.
-use Rattle.std.proofs.Common.{◌≡◌, ℕ, suc, ◌-◌, ◌+◌, ◌≤◌, ◌<◌, List, [], ◌∷◌, ◌++◌, length, Result, Ok, Err, refl, sym, ap, ◌∙◌, append_assoc, arith}
+use Rattle.std.proofs.Common.{◌≡◌, ℕ, suc, ◌-◌, ◌+◌, ◌≤◌, ◌<◌, List, [], ◌∷◌, ◌++◌, Result, Ok, Err, refl, sym, ap, ◌∙◌, append_assoc, arith}
 use Rattle.std.proofs.lemmas.List.{append-nil}
 use Rattle.druid_segfile.specs.declared.fault.FileFault.{FileFault}
 use Rattle.druid_segfile.specs.declared.fault.FileFault.TheVariants.{Magic, Cut, Field, RowOutside, TooLong, Trailing, Read, Write, Memory}

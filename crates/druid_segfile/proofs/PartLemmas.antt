@@ -1,5 +1,5 @@
 -- A part that is read is the part that was written, and what was written is read again.
-use Rattle.std.proofs.Common.{◌≡◌, ℕ, ℤ, zero, suc, ◌+◌, ◌^◌, ◌<◌, ◌≤◌, Bool, true, false, cond, ltb, List, [], ◌∷◌, ◌++◌, length, get_or, take, drop, Option, Some, None, Result, Ok, Err, refl, sym, ap, subst, ◌∙◌, append_assoc, arith, rules, inl, inr}
+use Rattle.std.proofs.Common.{◌≡◌, ℕ, ℤ, zero, suc, ◌+◌, ◌^◌, ◌<◌, ◌≤◌, Bool, true, false, cond, ltb, List, [], ◌∷◌, ◌++◌, length, get_or, take, drop, Result, Ok, Err, refl, sym, ap, subst, ◌∙◌, append_assoc, arith, inl, inr}
 use Rattle.std.specs.Prelude.{FitsSigned, All}
 use Rattle.std.specs.List.{flat_map}
 use Rattle.std.specs.Str.{IsUtf8, is_utf8}
@@ -101,6 +101,21 @@ step_takes {A} {B} {read} {spell} {Good} reads f bytes y fits e =
 pub step_again : {A B : Type 0} {read : List ℕ → Result (A × List ℕ) FileFault} {spell : A → List ℕ} {Good : A → Type 0} → Reads A read spell Good → (f : A × List ℕ → Result B FileFault) (value : A) (rest : List ℕ) → Good value
     → (read (spell value ++ rest) >>= f) ≡ f (value, rest)
 step_again {A} {B} {read} {spell} {Good} reads f value rest good = ap (λ r. r >>= f) (reads.again value rest good)
+
+-- a reader whose value has to pass a test
+pub accepted_read : {A : Type 0} {read : List ℕ → Result (A × List ℕ) FileFault} {spell : A → List ℕ} {Fine : A → Type 0} (test : A → Bool) (Good : A → Type 0) → Reads A read spell Fine → ((x : A) → test x ≡ true → Fine x → Good x) → ((x : A) → Good x → Fine x × (test x ≡ true))
+    → Reads A (λ bytes. read bytes >>= λ part. accepted test part.0 >>= λ value. Ok (value, part.1)) spell Good
+accepted_read {A} {read} {spell} {Fine} test Good reads good fine = record {
+  takes = λ bytes x fits e.
+      let s = step_takes reads (λ part. accepted test part.0 >>= λ value. Ok (value, part.1)) bytes x fits e in
+      let m = bind_ok (accepted test s.0.0) (λ value. Ok (value, s.0.1)) x s.3 in
+      let g = accepted_ok test s.0.0 m.0 m.1 in
+      let took : Takes bytes (spell m.0) s.0.1 = subst (λ (v : A). Takes bytes (spell v) s.0.1) g.0 s.1 in
+      subst (λ (p : A × List ℕ). Takes bytes (spell p.0) p.1 × Good p.0) (ok_is (m.0, s.0.1) x m.2) (took, good m.0 g.1 (subst Fine g.0 s.2));
+  again = λ value rest h.
+      step_again reads (λ part. accepted test part.0 >>= λ value. Ok (value, part.1)) value rest (fine value h).0
+      ∙ ap (λ r. r >>= λ value. Ok (value, rest)) (accepted_true test value (fine value h).1);
+}
 
 -- ---- bytes and numbers
 

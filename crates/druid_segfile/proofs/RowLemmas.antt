@@ -1,8 +1,8 @@
 -- Rows, read and written.
-use Rattle.std.proofs.Common.{◌≡◌, ℕ, ℤ, zero, suc, ◌^◌, ◌<◌, ◌≤◌, Bool, true, false, ◌&&◌, cond, ltb, leb, List, [], ◌∷◌, ◌++◌, length, Option, Some, None, Result, Ok, Err, refl, sym, ap, subst, ◌∙◌, append_assoc, arith}
+use Rattle.std.proofs.Common.{◌≡◌, ℕ, ℤ, zero, suc, ◌^◌, ◌≤◌, Bool, true, false, ◌&&◌, cond, ltb, leb, List, [], ◌∷◌, ◌++◌, length, Option, Some, None, Ok, refl, sym, ap, subst, ◌∙◌, append_assoc, arith}
 use Rattle.std.specs.Prelude.{ok_or, IfSome, FitsSigned, All}
 use Rattle.std.specs.List.{flat_map}
-use Rattle.std.specs.Int.{w16, w32, w64, to_be_bytes}
+use Rattle.std.specs.Int.{w32, w64, to_be_bytes}
 use Rattle.std.proofs.lemmas.Bool.{and_parts, ltb-true, lt-ltb, leb-true, le-leb}
 use Rattle.druid_time.specs.Extent.{Extent, Has}
 use Rattle.druid_time.specs.Instant.{unix_ms, IsInstant}
@@ -11,9 +11,9 @@ use Rattle.druid_rows.specs.Segment.{max_rows}
 use Rattle.druid_segfile.specs.declared.fault.FileFault.{FileFault}
 use Rattle.druid_segfile.specs.declared.fault.FileFault.TheVariants.{RowOutside}
 use Rattle.druid_segfile.specs.Spelling.{number, instant, text_value, number_value, row, rows}
-use Rattle.druid_segfile.specs.Reading.{◌>>=◌, number_at, signed_at, at_most, text_at, each_at, instant_of, instant_in, row_time_at, text_value_at, number_value_at, Shape, values_at, rows_at}
+use Rattle.druid_segfile.specs.Reading.{◌>>=◌, at_most, each_at, instant_of, instant_in, row_time_at, text_value_at, number_value_at, Shape, values_at, rows_at}
 use Rattle.druid_segfile.proofs.MomentLemmas.{instant_of-unix_ms, of_instant, FitsSigned-unix_ms}
-use Rattle.druid_segfile.proofs.PartLemmas.{bind_ok, ok_is, at_most_ok, at_most_within, IsBytes, IsBytes-rest, Takes, Takes-then, Reads, step_takes, step_again, wide32, number_read, signed_read, text, IsText, text_read, AreEach, each_read}
+use Rattle.druid_segfile.proofs.PartLemmas.{bind_ok, ok_is, at_most_ok, at_most_within, IsBytes, IsBytes-rest, Takes, Takes-then, Reads, step_takes, step_again, wide32, number_read, signed_read, IsText, text_read, AreEach, each_read}
 use Rattle.druid_segfile.proofs.HeadLemmas.{ok_or_ok}
 
 -- ---- the instant of a row

@@ -1,26 +1,26 @@
 -- A segment, read and written.
-use Rattle.std.proofs.Common.{◌≡◌, ℕ, ℤ, ◌+◌, ◌<◌, ◌≤◌, ◌==◌, Bool, true, false, ◌&&◌, cond, eqb, ltb, leb, List, [], ◌∷◌, ◌++◌, length, take, Option, Some, None, Result, Ok, Err, refl, sym, ap, subst, ◌∙◌, append_assoc, option_map, arith, min, inl, inr}
-use Rattle.std.specs.Prelude.{IfOk, IfSome, FitsSigned, All}
+use Rattle.std.proofs.Common.{◌≡◌, ℕ, ◌+◌, ◌-◌, ◌<◌, ◌≤◌, true, false, ◌&&◌, cond, eqb, ltb, leb, List, [], ◌++◌, length, take, Option, Some, None, Result, Ok, Err, refl, sym, ap, subst, ◌∙◌, append_assoc, option_map, arith, min, inl, inr}
+use Rattle.std.specs.Prelude.{IfOk, IfSome}
 use Rattle.std.specs.Str.{IsUtf8}
-use Rattle.std.specs.Int.{w64}
-use Rattle.std.proofs.lemmas.Bool.{and_parts, and_left, and_right, and_from, cond-true, cond-false, cases_lt, eqb-true, leb-true, le-leb, lt-leb, lt-ltb, le-ltb}
-use Rattle.std.proofs.lemmas.List.{append-nil, length-take, nil_from_length, take_all, take_min, take-take}
+use Rattle.std.proofs.lemmas.Bool.{and_parts, and_left, and_right, and_from, cond-true, cond-false, cases_lt, eqb-true, leb-true, le-leb, lt-leb, lt-ltb, le-ltb, ne_eqb}
+use Rattle.std.proofs.lemmas.List.{append-nil, length-append, length-take, nil_from_length, take_all, take_min, take-take}
 use Rattle.std.proofs.lemmas.List.Elements.{All-weaker}
-use Rattle.druid_time.specs.Extent.{Extent, Has, IsExtent}
-use Rattle.druid_time.specs.Instant.{IsInstant}
+use Rattle.std.proofs.Math.Seq.{take-append-add}
+use Rattle.druid_time.specs.Extent.{Extent, IsExtent}
 use Rattle.druid_shard.specs.Described.{Described, IsDescribed}
-use Rattle.druid_rows.specs.Rows.{Fields, Values, IsSchema, HasShape, IsInside, HasShortValues, max_value}
-use Rattle.druid_rows.specs.Segment.{Content, IsSegment, IsWithinLimits, segment_of, max_text, text_length}
+use Rattle.druid_rows.specs.Rows.{Fields, Values, HasShape, IsInside, HasShortValues, max_value}
+use Rattle.druid_rows.specs.Segment.{Content, IsSegment, segment_of, max_text, text_length}
 use Rattle.druid_segfile.specs.declared.fault.FileFault.{FileFault}
-use Rattle.druid_segfile.specs.declared.fault.FileFault.TheVariants.{Trailing}
+use Rattle.druid_segfile.specs.declared.fault.FileFault.TheVariants.{Cut, Trailing}
 use Rattle.druid_segfile.specs.Spelling.{magic, descriptor, names, rows, spelling, AreValues, Fits}
-use Rattle.druid_segfile.specs.Reading.{◌>>=◌, Fails, Gives, magic_at, descriptor_at, fields_at, rows_at, Shape, shape_of, content_at, short_of, segment_within, segment_at}
-use Rattle.druid_segfile.proofs.PartLemmas.{bind_ok, passed_ok, ok_is, IsBytes, IsBytes-take, Takes, Takes-then, Reads, step_takes, step_again, IsText}
+use Rattle.druid_segfile.specs.Reading.{◌>>=◌, Fails, Gives, magic_at, descriptor_at, fields_at, rows_at, shape_of, content_at, short_of, segment_within, segment_at}
+use Rattle.druid_segfile.proofs.PartLemmas.{bind_ok, passed_ok, ok_is, IsBytes, IsBytes-take, Takes, Takes-then, step_takes, step_again}
 use Rattle.druid_segfile.proofs.HeadLemmas.{descriptor_read, magic_takes, magic_again}
 use Rattle.druid_segfile.proofs.FieldLemmas.{fields_text, AreFields, fields_read}
-use Rattle.druid_segfile.proofs.RowLemmas.{IsTextValue, IsNumberValue, IsRow, AreRows, rows_read}
+use Rattle.druid_segfile.proofs.RowLemmas.{IsTextValue, IsRow, AreRows, rows_read}
 use Rattle.druid_segfile.proofs.LengthLemmas.{length_spelling}
 use Rattle.druid_segfile.proofs.LoopLemmas.{fails_whole}
+use Rattle.druid_segfile.proofs.FrontLemmas.{front_short}
 
 -- what has a spelling, but for its length
 pub record IsContent (content : Content) : Type 0 where
@@ -138,7 +138,7 @@ segment_content s h fits = record {
   rows = (h.within.rows, λ k d lt. is_row s.descriptor.id.interval s.fields _ fits.descriptor.id.interval (h.shape k d lt) (h.inside k d lt) (h.within.values k d lt) (fits.rows k d lt));
 }
 
--- ---- the two laws
+-- ---- laws
 
 pub segment_takes : (bytes : List ℕ) (s : Content) → IsBytes bytes → segment_at bytes ≡ Ok s → (bytes ≡ spelling s) × IsSegment s × Fits s
 segment_takes bytes s fits e =
@@ -233,6 +233,36 @@ passes_limit limit n bytes short x s e is long =
 pub is_all : (limit n : ℕ) (bytes : List ℕ) (short : FileFault) (x : Content × List ℕ) → short ≡ short_of limit bytes → n ≡ min (length bytes) limit → content_at short (take n bytes) ≡ Ok x → eqb (length x.1) 0 ≡ true → length bytes ≤ limit → segment_within limit bytes ≡ Ok x.0
 is_all limit n bytes short x s e is none fits =
     content_judged limit n bytes short x s e is ∙ cond-true _ (Ok x.0) (Err Trailing) (and_from (eqb (length x.1) 0) (leb (length bytes) limit) none (le-leb (length bytes) limit fits))
+
+-- ---- cut files and long ones
+
+within_cut : (limit : ℕ) (s : Content) (k : ℕ) → IsContent s → length (spelling s) ≤ limit → k < length (spelling s) → segment_within limit (take k (spelling s)) ≡ Err Cut
+unfolding segment_within
+within_cut limit s k h fits lt =
+    let front = take k (spelling s) in
+    let len : length front ≤ limit = omega (arith, length-take k (spelling s), fits) in
+    let whole : content_at Cut (spelling s) ≡ Ok (s, []) = ap (content_at Cut) (sym (append-nil (spelling s))) ∙ content_again Cut s [] h in
+    rw (le-ltb limit (length front) len, take_all limit front len, front_short Cut (spelling s) s k whole lt) refl
+
+pub segment_cut : (s : Content) (k : ℕ) → IsSegment s → Fits s → k < length (spelling s) → segment_at (take k (spelling s)) ≡ Err Cut
+segment_cut s k h fits lt = within_cut max_text s k (segment_content s h fits) (omega (arith, length_spelling s, h.within.text)) lt
+
+within_trails : (limit : ℕ) (s : Content) (more : List ℕ) → IsContent s → length (spelling s) ≤ limit → 0 < length more → segment_within limit (spelling s ++ more) ≡ Err Trailing
+within_trails limit s more h fits some =
+    let bytes = spelling s ++ more in
+    let len = length-append (spelling s) more in
+    let window_end = min (length bytes) limit in
+    let room = window_end - length (spelling s) in
+    let all : window_end ≡ length (spelling s) + room = omega (arith, len, fits) in
+    let window : take window_end bytes ≡ spelling s ++ take room more = ap (λ n. take n bytes) all ∙ take-append-add (spelling s) more room in
+    let read : content_at (short_of limit bytes) (take window_end bytes) ≡ Ok (s, take room more) = ap (content_at (short_of limit bytes)) window ∙ content_again (short_of limit bytes) s (take room more) h in
+    elim (cases_lt limit (length bytes)) [
+      | inl lt ↦ passes_limit limit window_end bytes (short_of limit bytes) (s, take room more) refl refl read lt
+      | inr le ↦ trails limit window_end bytes (short_of limit bytes) (s, take room more) refl refl read (ne_eqb (length (take room more)) 0 (λ e. omega (arith, e, length-take room more, len, le, some)))
+    ]
+
+pub segment_trails : (s : Content) (more : List ℕ) → IsSegment s → Fits s → 0 < length more → segment_at (spelling s ++ more) ≡ Err Trailing
+segment_trails s more h fits some = within_trails max_text s more (segment_content s h fits) (omega (arith, length_spelling s, h.within.text)) some
 
 -- what was read to the end of a reader of which so many bytes are taken
 pub front_known : (known : Option (List ℕ)) (limit n : ℕ) (old new : List ℕ) → limit ≡ n → old ≡ [] → IfSome (option_map (take limit) known) (λ bytes. new ≡ old ++ bytes) → IfSome known (λ bytes. new ≡ take n bytes)

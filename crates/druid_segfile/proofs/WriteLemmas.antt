@@ -1,5 +1,5 @@
 -- What a writer got, front by front.
-use Rattle.std.proofs.Common.{◌≡◌, ℕ, ◌+◌, ◌<◌, ◌≤◌, List, [], ◌∷◌, ◌++◌, length, take, drop, get_or, Option, Some, None, Result, Ok, Err, String, string_bytes, refl, sym, ap, subst, ◌∙◌, append_assoc, arith}
+use Rattle.std.proofs.Common.{◌≡◌, ℕ, ◌+◌, ◌<◌, ◌≤◌, List, [], ◌++◌, length, take, drop, get_or, Option, Some, None, Result, Ok, Err, String, string_bytes, refl, sym, ap, subst, ◌∙◌, append_assoc, arith}
 use Rattle.std.specs.Prelude.{OnErr, All}
 use Rattle.std.specs.Global.{Global}
 use Rattle.std.specs.List.{flat_map}
@@ -12,7 +12,7 @@ use Rattle.std.proofs.lemmas.List.{append-nil, take-append-drop, take_all, take_
 use Rattle.std.proofs.lemmas.List.Concat.{flat_map-append}
 use Rattle.druid_rows.specs.Rows.{Values, no_row, texts_of}
 use Rattle.druid_rows.specs.Segment.{Content, row_at}
-use Rattle.druid_segfile.specs.Spelling.{magic, instant, interval, short_text, descriptor, names, row, rows, spelling}
+use Rattle.druid_segfile.specs.Spelling.{magic, instant, interval, short_text, descriptor, names, row, spelling}
 use Rattle.druid_segfile.specs.Heading.{heading}
 use Rattle.druid_segfile.specs.Written.{AppendsFront, AppendsUpTo}
 

@@ -1,12 +1,12 @@
 -- The bytes of a segment in the layout `DSG1`. Numbers are big-endian, signed ones in two's complement.
-use Rattle.std.specs.Prelude.{◌≡◌, ℕ, ℤ, ◌<◌, ◌^◌, List, [], ◌∷◌, ◌++◌, length, All, Option, None, Some, IfSome, codes, FitsSigned}
+use Rattle.std.specs.Prelude.{ℕ, ℤ, List, [], ◌∷◌, ◌++◌, length, All, Option, None, Some, IfSome, codes, FitsSigned}
 use Rattle.std.specs.List.{flat_map}
 use Rattle.std.specs.Int.{w16, w32, w64, to_be_bytes, cast_unsigned}
 use Rattle.std.specs.Str.{IsUtf8}
 use Rattle.druid_time.specs.Extent.{Extent}
 use Rattle.druid_time.specs.Instant.{unix_ms}
 use Rattle.druid_shard.specs.Described.{Described, IsDescribed}
-use Rattle.druid_rows.specs.Rows.{Fields, Values}
+use Rattle.druid_rows.specs.Rows.{Values}
 use Rattle.druid_rows.specs.Segment.{Content}
 
 -- what a file begins with

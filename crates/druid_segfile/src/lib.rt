@@ -14,6 +14,8 @@ mod tests;
 mod writing;
 
 pub use fault::FileFault;
-pub use laws::{lengths_agree, spellings_are_read_back};
+pub use laws::{
+    cut_files_are_cut, lengths_agree, longer_files_have_trailing_bytes, spellings_are_read_back,
+};
 pub use reading::read_segment;
 pub use writing::write_segment;

@@ -1,14 +1,16 @@
-ghost use Rattle.std.specs.Prelude.{◌≡◌, ◌≢◌, ◌⊎◌, ◌+◌, ◌≤◌, length, take, Some, Ok, Err, IfOk, IfErr, IfSome};
-ghost use Rattle.druid_rows.specs.Segment.{Content, IsSegment, max_text};
+ghost use Rattle.std.specs.Prelude.{◌≡◌, ◌≢◌, ◌⊎◌, ◌+◌, ◌≤◌, [], length, take, Some, Ok, Err, IfOk, IfErr, IfSome};
+ghost use Rattle.druid_rows.specs.Segment.{Content, IsSegment, segment_of, max_text};
 ghost use Rattle.druid_segfile.specs.Spelling.{spelling, Fits};
-ghost use Rattle.druid_segfile.specs.Reading.{Gives, GivesAs, content_at, short_of, segment_at};
+ghost use Rattle.druid_segfile.specs.Reading.{Gives, GivesAs, each_at, values_at, shape_of, content_at, short_of, segment_at};
+ghost use Rattle.druid_segfile.specs.Building.{HasRoom, with_read};
 
 use crate::FileFault;
 use crate::fields::fields_at;
 use crate::head::{descriptor_at, magic_at};
 use crate::parts::{at_most, u32_at};
 use crate::rows::{Shape, refusal, with_rows};
-use druid_rows::{Segment, SegmentBuilder};
+use druid_rows::{Schema, Segment, SegmentBuilder};
+use druid_shard::Descriptor;
 use std::alloc::Global;
 use std::io::{ErrorKind, Read};
 
@@ -31,6 +33,39 @@ fn first_bytes<R: Read>(alloc: Global, reader: &mut R) -> Result<Vec<u8>, FileFa
     }
 }
 
+/// How the rows of a segment are read.
+#[tactic(auto, using(crate::proofs::BuildLemmas::length_texts))]
+fn shape_of(descriptor: &Descriptor, schema: &Schema) -> Shape
+    ensures { result ≡ shape_of descriptor.now schema.now }
+{
+    Shape {
+        interval: descriptor.id().interval(),
+        dimensions: schema.dimensions().len(),
+        metrics: schema.metrics().len(),
+    }
+}
+
+/// The segment of that descriptor and that schema, with that many rows out of the bytes, and the bytes after them.
+fn with_head(
+    alloc: Global,
+    descriptor: Descriptor,
+    schema: Schema,
+    count: usize,
+    bytes: &[u8],
+    short: FileFault,
+) -> Result<(SegmentBuilder, &[u8]), FileFault>
+    requires { HasRoom (segment_of descriptor schema []) (shape_of descriptor schema) count (length bytes.now) }
+    ensures { GivesAs (λ x. (x.0, x.1.now)) result
+        (with_read (segment_of descriptor schema [])
+        (each_at (values_at short (shape_of descriptor schema)) count bytes.now)) }
+{
+    let shape = shape_of(&descriptor, &schema);
+    match SegmentBuilder::new(alloc, descriptor, schema) {
+        Ok(builder) => with_rows(alloc, builder, shape, count, bytes, short),
+        Err(fault) => Err(refusal(fault)),
+    }
+}
+
 /// A segment, and the bytes after it.
 #[tactic(auto, unfolding(crate::specs::Reading::content_at, crate::specs::Reading::rows_at))]
 fn content_at(
@@ -49,15 +84,7 @@ fn content_at(
     let (schema, rest) = fields_at(alloc, rest, short)?;
     let (count, rest) = u32_at(rest, short)?;
     let count = at_most(MAX_ROWS, count as usize)?;
-    let shape = Shape {
-        interval: descriptor.id().interval(),
-        dimensions: schema.dimensions().len(),
-        metrics: schema.metrics().len(),
-    };
-    match SegmentBuilder::new(alloc, descriptor, schema) {
-        Ok(builder) => with_rows(alloc, builder, shape, count, rest, short),
-        Err(fault) => Err(refusal(fault)),
-    }
+    with_head(alloc, descriptor, schema, count, rest, short)
 }
 
 /// The fault where a part passes the end of what a file may have, or of the bytes.

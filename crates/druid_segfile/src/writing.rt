@@ -1,7 +1,8 @@
-ghost use Rattle.std.specs.Prelude.{◌≡◌, ◌≢◌, ◌⊎◌, Err, OnOk, OnErr, IfErr};
+ghost use Rattle.std.specs.Prelude.{◌≡◌, ◌≢◌, ◌⊎◌, ◌<◌, length, Err, OnOk, OnErr, IfErr};
 ghost use Rattle.std.specs.Io.KnownBytes.{Appends};
 ghost use Rattle.druid_segfile.specs.Spelling.{spelling};
 ghost use Rattle.druid_segfile.specs.Written.{AppendsFront, AppendsUpTo};
+ghost use Rattle.druid_segfile.specs.declared.writing.TheConstants.{GATHERED};
 
 use crate::FileFault;
 use crate::spelling::{append_row, heading};
@@ -36,6 +37,7 @@ fn write_out<W: Write>(writer: &mut W, bytes: &[u8]) -> Result<(), FileFault>
 /// Writes out what was gathered, once it is enough for a write.
 fn write_gathered<W: Write>(writer: &mut W, gathered: &mut Vec<u8>) -> Result<(), FileFault>
     ensures ok { OnOk result (AppendsUpTo (W.contents writer.old) (W.contents writer.new) gathered.old.items gathered.new.items) }
+    ensures few { OnOk result (length gathered.new.items < GATHERED) }
     ensures err { OnErr result (AppendsFront (W.contents writer.old) (W.contents writer.new) gathered.old.items) }
     ensures faults { IfErr result (λ fault. fault ≡ FileFault.Write) }
 {

@@ -1,5 +1,5 @@
 use Rattle.std.proofs.Common.{List, ℕ, sym, subst}
-use Rattle.druid_segfile.proofs.FaultLemmas.{gives_no_write}
+use Rattle.druid_segfile.proofs.FrontLemmas.{gives_no_write}
 use Rattle.druid_segfile.proofs.SegmentLemmas.{IsFront, known_found, known_only, known_exact}
 use Rattle.druid_segfile.proofs.reading.read_segment.Goals as goal
 

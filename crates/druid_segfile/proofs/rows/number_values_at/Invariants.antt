@@ -1,5 +1,4 @@
 use Rattle.std.proofs.Common.{◌≡◌, ◌-◌}
-use Rattle.druid_rows.specs.Rows.{nullable_texts_of}
 use Rattle.druid_segfile.specs.Reading.{each_at, number_value_at}
 use Rattle.druid_segfile.proofs.LoopLemmas.{with_front}
 use Rattle.druid_segfile.proofs.rows.number_values_at.Given as goal

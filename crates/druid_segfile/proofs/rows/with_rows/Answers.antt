@@ -1,10 +1,9 @@
 use Rattle.std.proofs.Common.{◌≡◌, ◌-◌, ◌+◌, length, subst, sym, ap, arith}
-use Rattle.druid_rows.specs.Segment.{Content, segment_of, with_row}
+use Rattle.druid_rows.specs.Segment.{Content, segment_of}
 use Rattle.druid_segfile.specs.Reading.{each_at, values_at}
 use Rattle.druid_segfile.specs.Building.{HasRoom, with_read}
 use Rattle.druid_segfile.proofs.LoopLemmas.{goes_on, ends, is_done}
 use Rattle.druid_segfile.proofs.BuildLemmas.{refused_memory, room_for_row}
-use Rattle.druid_segfile.proofs.PartLemmas.{IsBytes}
 use Rattle.druid_segfile.proofs.rows.with_rows.Goals as goal
 
 pub loop-init : goal.loop-init
