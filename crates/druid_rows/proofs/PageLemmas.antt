@@ -1,5 +1,7 @@
 -- The rows of lists of values.
-use Rattle.std.proofs.Common.{◌≡◌, ℕ, ℤ, zero, suc, ◌+◌, ◌*◌, ◌<◌, ◌≤◌, List, [], ◌∷◌, ◌++◌, length, take, drop, get_or, Option, arith, refl, ap, subst, length-append, length-drop}
+use Rattle.std.proofs.Common.{◌≡◌, ℕ, ℤ, zero, suc, ◌+◌, ◌*◌, ◌<◌, ◌≤◌, List, [], ◌∷◌, ◌++◌, length, take, drop, get_or, Option, arith, refl, ap, length-append, length-drop}
+use Rattle.std.proofs.lemmas.Grind.{common_steps}
+use Rattle.std.proofs.lemmas.Nat.{rows}
 use Rattle.std.proofs.lemmas.List.{length-take-le, take-append-le, drop-append-le, take_all, nil_from_length, drop-drop}
 use Rattle.druid_rows.specs.Rows.{Values, no_row}
 use Rattle.druid_rows.specs.Sheet.{Sheet, rows_in, sheet_of}
@@ -36,6 +38,9 @@ rows_in_push d m (time ∷ times) texts numbers row ht hn rt rm =
     let rest = rows_in_push d m times (drop d texts) (drop m numbers) row texts_left numbers_left rt rm in
     rw (row_first n d texts row.dimensions ht, row_first n m numbers row.metrics hn, row_rest n d texts row.dimensions ht, row_rest n m numbers row.metrics hn, rest) refl
 
+-- adds a row behind the others
+pub ruleset push_steps = (rows_in_push, common_steps)
+
 -- the row at a place
 pub rows_in_at : (d m : ℕ) (times : List ℕ) (texts : List (Option (List ℕ))) (numbers : List (Option ℤ)) (i : ℕ) (e : Values) → i < length times → get_or (rows_in d m times texts numbers) i e ≡ record { time = get_or times i 0; dimensions = take d (drop (i * d) texts); metrics = take m (drop (i * m) numbers) }
 rows_in_at d m [] texts numbers i e h = absurd (omega arith)
@@ -49,12 +54,8 @@ rows_in_at d m (time ∷ times) texts numbers (suc i) e h =
     let skip_m : m + i * m ≡ suc i * m = omega arith in
     rw (← skip_d, ← skip_m, ← drop-drop (i * d) d texts, ← drop-drop (i * m) m numbers) (rows_in_at d m times (drop d texts) (drop m numbers) i e here)
 
--- the row at a place of a table with these parts
-pub row_is : (d m : ℕ) (times : List ℕ) (texts : List (Option (List ℕ))) (numbers : List (Option ℤ)) (sheet : Sheet) (i : ℕ) → sheet_of d m times texts numbers ≡ sheet → i < length sheet.rows → (i < length times) × (get_or sheet.rows i no_row ≡ record { time = get_or times i 0; dimensions = take d (drop (i * d) texts); metrics = take m (drop (i * m) numbers) })
-row_is d m times texts numbers sheet i e h =
-    let at : (s : Sheet) → sheet_of d m times texts numbers ≡ s → (i < length s.rows) → (i < length times) × (get_or s.rows i no_row ≡ record { time = get_or times i 0; dimensions = take d (drop (i * d) texts); metrics = take m (drop (i * m) numbers) }) =
-    λ s f. subst (λ (t : Sheet). (i < length t.rows) → (i < length times) × (get_or t.rows i no_row ≡ record { time = get_or times i 0; dimensions = take d (drop (i * d) texts); metrics = take m (drop (i * m) numbers) })) f (λ k. let within : i < length times = subst (λ (n : ℕ). i < n) (length_rows_in d m times texts numbers) k in (within, rows_in_at d m times texts numbers i no_row within)) in
-    at sheet e h
+-- finds a row among all, and the place of its values
+pub ruleset row_steps = (length_rows_in, rows_in_at, common_steps, rows)
 
 -- the values of a row end before those of all rows do
 pub row_ends : (i n w : ℕ) → i < n → i * w + w ≤ n * w
@@ -69,6 +70,14 @@ row_wide i n w xs h e =
     let left : w ≤ length (drop (i * w) xs) = omega (arith, length-drop (i * w) xs, ends) in
     length-take-le w (drop (i * w) xs) left
 
+-- the row of a table with these parts has as many texts as it is wide
+pub texts_wide : (d m : ℕ) (times : List ℕ) (texts : List (Option (List ℕ))) (numbers : List (Option ℤ)) (sheet : Sheet) (i : ℕ) → sheet_of d m times texts numbers ≡ sheet → i < length sheet.rows → length texts ≡ length times * d → length (get_or sheet.rows i no_row).dimensions ≡ d
+texts_wide d m times texts numbers sheet i e h long =
+    let rows : rows_in d m times texts numbers ≡ sheet.rows = ap (λ (s : Sheet). s.rows) e in
+    let within : i < length times = omega (arith, length_rows_in d m times texts numbers, ap length rows, h) in
+    rw (← rows, rows_in_at d m times texts numbers i no_row within) (row_wide i (length times) d texts within long)
+
 -- one more row of values
-pub length_push : {X : Type 0} (n w : ℕ) (xs ys : List X) → length xs ≡ n * w → length ys ≡ w → length (xs ++ ys) ≡ (n + 1) * w
-length_push n w xs ys h k = omega (arith, length-append xs ys, h, k)
+pub length_push : {X : Type 0} (w : ℕ) (times : List ℕ) (time : ℕ) (xs ys : List X) → length xs ≡ length times * w → length ys ≡ w → length (xs ++ ys) ≡ length (times ++ time ∷ []) * w
+length_push w times time xs ys h k =
+    omega (arith, ap (λ (n : ℕ). n * w) (length-append times (time ∷ [])), length-append xs ys, h, k)

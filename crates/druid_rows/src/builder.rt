@@ -56,7 +56,19 @@ impl SegmentBuilder {
             ↔ (IsWithinLimits (with_row self.old row.now) × HasShape self.old.fields row.now
             × (¬ IsInside self.old.descriptor.id.interval row.now)) }
     {
-        self.segment.push(row)
+        let Some(room) = self.segment.room_behind(row) else {
+            return Err(RowFault::TooLong);
+        };
+        if !self.segment.schema.fits(row) {
+            return Err(RowFault::RowShape);
+        }
+        if !self.segment.descriptor.id().interval().contains(row.time()) {
+            return Err(RowFault::RowOutside);
+        }
+        self.segment.table.push(row)?;
+        self.segment.len += 1;
+        self.segment.room = room;
+        Ok(())
     }
 
     /// The segment of the rows that were added, in their order.

@@ -73,6 +73,7 @@ impl Page {
     }
 
     /// The instant of the row at that place.
+    #[tactic(auto, using(crate::proofs::PageLemmas::row_steps))]
     pub(crate) fn time(&self, row: usize) -> Instant
         requires { row < length self.now.rows }
         ensures { result ≡ (slice_index_or self.now.rows row no_row).time }
@@ -81,6 +82,7 @@ impl Page {
     }
 
     /// The value of a row for the dimension at that place. None for null.
+    #[tactic(auto, using(crate::proofs::PageLemmas::row_steps))]
     pub(crate) fn dimension(&self, row: usize, dimension: usize) -> Option<&str>
         requires row { row < length self.now.rows }
         requires dimension { dimension < self.now.dimensions }
@@ -122,6 +124,7 @@ impl Page {
         Ok(values)
     }
 
+    #[tactic(auto, using(crate::proofs::PageLemmas::row_steps))]
     fn metrics_of(&self, row: usize) -> &[Option<i64>]
         requires { row < length self.now.rows }
         ensures value { result.now ≡ (slice_index_or self.now.rows row no_row).metrics }
@@ -132,6 +135,7 @@ impl Page {
     }
 
     /// Adds a row behind the others, or nothing.
+    #[tactic(auto, using(crate::proofs::PageLemmas::push_steps))]
     pub(crate) fn push(&mut self, row: &Row) -> Result<(), AllocError>
         requires { HasWidths self.old.dimensions self.old.metrics row.now }
         ensures ok { OnOk result (self.new ≡ with_one_more self.old row.now) }

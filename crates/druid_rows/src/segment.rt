@@ -25,11 +25,11 @@ const FIXED_HEAD: usize = 38;
 /// A segment: its descriptor, its schema and its rows, which never change. How the rows are kept is private.
 #[derive(Debug, Drop)]
 pub struct Segment {
-    descriptor: Descriptor,
-    schema: Schema,
-    table: Table,
-    len: usize,
-    room: usize,
+    pub(crate) descriptor: Descriptor,
+    pub(crate) schema: Schema,
+    pub(crate) table: Table,
+    pub(crate) len: usize,
+    pub(crate) room: usize,
 }
 
 impl Model for Segment {
@@ -180,8 +180,8 @@ impl Segment {
         })
     }
 
-    // The room that is left behind one more row. None where a limit would be passed.
-    fn room_behind(&self, row: &Row) -> Option<usize>
+    /// The room that is left behind one more row. None where a limit would be passed.
+    pub(crate) fn room_behind(&self, row: &Row) -> Option<usize>
         ensures { SomeIff result (IsWithinLimits (with_row self.now row.now))
             (max_text - text_length (with_row self.now row.now)) }
     {
@@ -189,34 +189,6 @@ impl Segment {
             return None;
         }
         row.room_after(self.room)
-    }
-
-    /// Adds a row behind the others. `TooLong` where a limit would be passed, then `RowShape`, then `RowOutside`, and
-    /// then `Memory`; a refusal leaves the rows as they were.
-    pub(crate) fn push(&mut self, row: &Row) -> Result<(), RowFault>
-        ensures ok { OnOk result (self.new ≡ with_row self.old row.now) }
-        ensures err { OnErr result (self.new ≡ self.old) }
-        ensures accepts { IsSegment (with_row self.old row.now) → IsOkUnless result RowFault.Memory }
-        ensures too_long { IsErrOf result RowFault.TooLong ↔ (¬ IsWithinLimits (with_row self.old row.now)) }
-        ensures row_shape { IsErrOf result RowFault.RowShape
-            ↔ (IsWithinLimits (with_row self.old row.now) × (¬ HasShape self.old.fields row.now)) }
-        ensures row_outside { IsErrOf result RowFault.RowOutside
-            ↔ (IsWithinLimits (with_row self.old row.now) × HasShape self.old.fields row.now
-            × (¬ IsInside self.old.descriptor.id.interval row.now)) }
-    {
-        let Some(room) = self.room_behind(row) else {
-            return Err(RowFault::TooLong);
-        };
-        if !self.schema.fits(row) {
-            return Err(RowFault::RowShape);
-        }
-        if !self.descriptor.id().interval().contains(row.time()) {
-            return Err(RowFault::RowOutside);
-        }
-        self.table.push(row)?;
-        self.len += 1;
-        self.room = room;
-        Ok(())
     }
 
     /// Gives back the memory that it does not need.

@@ -12,18 +12,32 @@ fn instant(ms: i64) -> Result<Instant, Fail> {
     Ok(Instant::new(ms).ok_or("no instant")?)
 }
 
-/// The descriptor of a segment of 1970-01-01.
+/// The day 1970-01-01.
+fn day() -> Option<Interval> {
+    Interval::new(Instant::new(0)?, Instant::new(NEXT_DAY)?)
+}
+
+fn identifier(alloc: Global) -> Result<SegmentId, Fail> {
+    let source = Name::new(alloc, "w")?;
+    let version = Version::new(alloc, "v")?;
+    Ok(SegmentId::new(source, day().ok_or("no day")?, version, 0))
+}
+
+/// The descriptor of a segment of that day.
 fn descriptor(alloc: Global) -> Result<Descriptor, Fail> {
-    let day = Interval::new(instant(0)?, instant(NEXT_DAY)?).ok_or("no interval")?;
-    let id = SegmentId::new(Name::new(alloc, "w")?, day, Version::new(alloc, "v")?, 0);
-    Ok(Descriptor::new(id, 1, 0).ok_or("too many core partitions")?)
+    Ok(Descriptor::new(identifier(alloc)?, 1, 0).ok_or("too many core partitions")?)
+}
+
+fn add_name(alloc: Global, names: &mut Vec<String>, name: &str) -> Result<(), Fail> {
+    names.push(String::from_str(alloc, name)?)?;
+    Ok(())
 }
 
 /// The names between the commas.
 fn names(alloc: Global, text: &str) -> Result<Vec<String>, Fail> {
     let mut all = Vec::new(alloc);
     for name in text.split(',') {
-        all.push(String::from_str(alloc, name)?)?;
+        add_name(alloc, &mut all, name)?;
     }
     Ok(all)
 }
@@ -32,26 +46,48 @@ fn schema(alloc: Global, dimensions: &str, metrics: &str) -> Result<Schema, Fail
     Ok(Schema::new(names(alloc, dimensions)?, names(alloc, metrics)?))
 }
 
-fn owned(alloc: Global, text: Option<&str>) -> Result<Option<String>, Fail> {
-    match text {
-        Some(text) => Ok(Some(String::from_str(alloc, text)?)),
-        None => Ok(None),
-    }
+fn text(alloc: Global, text: &str) -> Result<Option<String>, Fail> {
+    Ok(Some(String::from_str(alloc, text)?))
 }
 
-fn row(alloc: Global, ms: i64, text: Option<&str>, number: Option<i64>) -> Result<Row, Fail> {
+fn row(alloc: Global, ms: i64, text: Option<String>, number: Option<i64>) -> Result<Row, Fail> {
     let mut dimensions = Vec::new(alloc);
-    dimensions.push(owned(alloc, text)?)?;
+    dimensions.push(text)?;
     let mut metrics = Vec::new(alloc);
     metrics.push(number)?;
     Ok(Row::new(instant(ms)?, dimensions, metrics))
 }
 
-/// Why a schema and one row make no segment.
-fn refusal(alloc: Global, schema: Schema, row: Row) -> Result<Option<RowFault>, Fail> {
+/// The row at that instant of an `x` and a 5.
+fn small_row(alloc: Global, ms: i64) -> Result<Row, Fail> {
+    row(alloc, ms, text(alloc, "x")?, Some(5))
+}
+
+fn alone(alloc: Global, row: Row) -> Result<Vec<Row>, Fail> {
     let mut rows = Vec::new(alloc);
     rows.push(row)?;
-    Ok(Segment::new(alloc, descriptor(alloc)?, schema, rows).err())
+    Ok(rows)
+}
+
+/// The segment of a schema and one row.
+fn of_one_row(alloc: Global, schema: Schema, row: Row) -> Result<Result<Segment, RowFault>, Fail> {
+    let rows = alone(alloc, row)?;
+    Ok(Segment::new(alloc, descriptor(alloc)?, schema, rows))
+}
+
+/// Why a schema and one row make no segment.
+fn refusal(alloc: Global, schema: Schema, row: Row) -> Result<Option<RowFault>, Fail> {
+    Ok(of_one_row(alloc, schema, row)?.err())
+}
+
+/// The builder of a segment of that schema.
+fn builder_of(alloc: Global, schema: Schema) -> Result<Result<SegmentBuilder, RowFault>, Fail> {
+    Ok(SegmentBuilder::new(alloc, descriptor(alloc)?, schema))
+}
+
+/// Pushes a row. Loops call it, since a call that says nothing of its answer is soon proved.
+fn push(builder: &mut SegmentBuilder, row: &Row) -> Result<(), RowFault> {
+    builder.push(row)
 }
 
 /// Why a schema makes no segment.
@@ -60,34 +96,51 @@ fn refusal_of_names(
     dimensions: &str,
     metrics: &str,
 ) -> Result<Option<RowFault>, Fail> {
-    let schema = schema(alloc, dimensions, metrics)?;
-    Ok(SegmentBuilder::new(alloc, descriptor(alloc)?, schema).err())
+    Ok(builder_of(alloc, schema(alloc, dimensions, metrics)?)?.err())
 }
 
 /// That many bytes.
 fn long(alloc: Global, count: usize) -> Result<String, Fail> {
-    let mut text = String::new(alloc);
-    for _ in 0..count {
-        text.push('a')?;
+    Ok("a".repeat(alloc, count)?)
+}
+
+fn told_time(alloc: Global, segment: &Segment, row: usize) -> Result<String, Fail> {
+    if row >= segment.len() {
+        return Ok(String::new(alloc));
     }
-    Ok(text)
+    let ms = segment.time(row).ms();
+    Ok(format!(in alloc; "{ms}\n")?)
+}
+
+fn told_dimension(
+    alloc: Global,
+    segment: &Segment,
+    row: usize,
+    place: usize,
+) -> Result<String, Fail> {
+    if row >= segment.len() || place >= segment.schema().dimensions().len() {
+        return Ok(String::new(alloc));
+    }
+    let value = segment.dimension(row, place);
+    Ok(format!(in alloc; "{value:?}\n")?)
+}
+
+fn told_metric(alloc: Global, segment: &Segment, row: usize, place: usize) -> Result<String, Fail> {
+    if row >= segment.len() || place >= segment.schema().metrics().len() {
+        return Ok(String::new(alloc));
+    }
+    let value = segment.metric(row, place);
+    Ok(format!(in alloc; "{value:?}\n")?)
 }
 
 /// What the readers tell of a row, a line for each value.
 fn told_of(alloc: Global, segment: &Segment, row: usize) -> Result<String, Fail> {
-    let mut all = String::new(alloc);
-    if row >= segment.len() {
-        return Ok(all);
-    }
-    let ms = segment.time(row).ms();
-    all.push_str(format!(in alloc; "{ms}\n")?.as_str())?;
+    let mut all = told_time(alloc, segment, row)?;
     for place in 0..segment.schema().dimensions().len() {
-        let value = segment.dimension(row, place);
-        all.push_str(format!(in alloc; "{value:?}\n")?.as_str())?;
+        all.push_str(told_dimension(alloc, segment, row, place)?.as_str())?;
     }
     for place in 0..segment.schema().metrics().len() {
-        let value = segment.metric(row, place);
-        all.push_str(format!(in alloc; "{value:?}\n")?.as_str())?;
+        all.push_str(told_metric(alloc, segment, row, place)?.as_str())?;
     }
     Ok(all)
 }
@@ -110,10 +163,8 @@ fn told_by_row(alloc: Global, row: &Row) -> Result<String, Fail> {
 
 /// The segment of one row.
 fn small(alloc: Global) -> Result<Segment, Fail> {
-    let mut rows = Vec::new(alloc);
-    rows.push(row(alloc, 1_000, Some("x"), Some(5))?)?;
-    let schema = schema(alloc, "d", "m")?;
-    Ok(Segment::new(alloc, descriptor(alloc)?, schema, rows)?)
+    let one = small_row(alloc, 1_000)?;
+    Ok(of_one_row(alloc, schema(alloc, "d", "m")?, one)??)
 }
 
 /// What a copy of the last row tells.
@@ -126,9 +177,9 @@ fn told_by_last(alloc: Global, segment: &Segment) -> Result<String, Fail> {
 
 /// A segment that a builder makes of these rows.
 fn built(alloc: Global, schema: Schema, rows: &[Row]) -> Result<Segment, Fail> {
-    let mut builder = SegmentBuilder::new(alloc, descriptor(alloc)?, schema)?;
+    let mut builder = builder_of(alloc, schema)??;
     for row in rows {
-        builder.push(row)?;
+        push(&mut builder, row)?;
     }
     Ok(builder.finish())
 }
@@ -137,13 +188,13 @@ fn built(alloc: Global, schema: Schema, rows: &[Row]) -> Result<Segment, Fail> {
 fn pair(
     alloc: Global,
     ms: i64,
-    first: Option<&str>,
-    second: Option<&str>,
+    first: Option<String>,
+    second: Option<String>,
     number: Option<i64>,
 ) -> Result<Row, Fail> {
     let mut dimensions = Vec::new(alloc);
-    dimensions.push(owned(alloc, first)?)?;
-    dimensions.push(owned(alloc, second)?)?;
+    dimensions.push(first)?;
+    dimensions.push(second)?;
     let mut metrics = Vec::new(alloc);
     metrics.push(number)?;
     Ok(Row::new(instant(ms)?, dimensions, metrics))
@@ -159,28 +210,56 @@ fn ample_memory(rt: HostRuntime) -> Result<(), Fail> {
     Ok(())
 }
 
+/// A segment that a builder makes of a row at that instant.
+fn small_built(alloc: Global, ms: i64) -> Result<Segment, Fail> {
+    let rows = alone(alloc, small_row(alloc, ms)?)?;
+    built(alloc, schema(alloc, "d", "m")?, &rows)
+}
+
 #[test]
 fn ample_memory_of_a_builder(rt: HostRuntime) -> Result<(), Fail> {
-    let alloc = rt.alloc();
-    let one = row(alloc, 1_000, Some("x"), Some(5))?;
-    let segment = built(alloc, schema(alloc, "d", "m")?, &[one])?;
-    let all = told(alloc, &segment)?;
+    let segment = small_built(rt.alloc(), 1_000)?;
+    let all = told(rt.alloc(), &segment)?;
     assert_eq!(rt; all.as_str(), "1000\nSome(\"x\")\nSome(5)\n");
     Ok(())
 }
 
+fn row_with_nulls(alloc: Global) -> Result<Row, Fail> {
+    pair(alloc, 7, text(alloc, "\u{e9}t\u{e9}")?, None, None)
+}
+
+fn row_with_extremes(alloc: Global) -> Result<Row, Fail> {
+    let empty = text(alloc, "")?;
+    pair(alloc, 0, empty, text(alloc, "y")?, Some(i64::MIN))
+}
+
+fn two_rows(alloc: Global) -> Result<Vec<Row>, Fail> {
+    let mut rows = alone(alloc, row_with_nulls(alloc)?)?;
+    rows.push(row_with_extremes(alloc)?)?;
+    Ok(rows)
+}
+
+/// The segment of these, the later one first.
+fn segment_of_two(alloc: Global) -> Result<Segment, Fail> {
+    let rows = two_rows(alloc)?;
+    built(alloc, schema(alloc, "d,e", "m")?, &rows)
+}
+
 #[test]
 fn what_went_in(rt: HostRuntime) -> Result<(), Fail> {
-    let alloc = rt.alloc();
-    let first = pair(alloc, 7, Some("\u{e9}t\u{e9}"), None, None)?;
-    let second = pair(alloc, 0, Some(""), Some("y"), Some(i64::MIN))?;
-    let segment = built(alloc, schema(alloc, "d,e", "m")?, &[first, second])?;
-    let all = told(alloc, &segment)?;
+    let segment = segment_of_two(rt.alloc())?;
+    let all = told(rt.alloc(), &segment)?;
     assert_eq!(rt;
         all.as_str(),
         "7\nSome(\"\u{e9}t\u{e9}\")\nNone\nNone\n0\nSome(\"\")\nSome(\"y\")\nSome(-9223372036854775808)\n"
     );
-    let last = told_by_last(alloc, &segment)?;
+    Ok(())
+}
+
+#[test]
+fn what_went_in_last(rt: HostRuntime) -> Result<(), Fail> {
+    let segment = segment_of_two(rt.alloc())?;
+    let last = told_by_last(rt.alloc(), &segment)?;
     assert_eq!(rt;
         last.as_str(),
         "0 [Some(\"\"), Some(\"y\")] [Some(-9223372036854775808)]"
@@ -190,7 +269,7 @@ fn what_went_in(rt: HostRuntime) -> Result<(), Fail> {
 
 /// Why the row at that instant makes no segment.
 fn refusal_at(alloc: Global, ms: i64) -> Result<Option<RowFault>, Fail> {
-    let one = row(alloc, ms, Some("x"), Some(5))?;
+    let one = small_row(alloc, ms)?;
     refusal(alloc, schema(alloc, "d", "m")?, one)
 }
 
@@ -263,7 +342,7 @@ fn rows_of_another_shape(rt: HostRuntime) -> Result<(), Fail> {
 fn many_names(alloc: Global, count: u8) -> Result<Vec<String>, Fail> {
     let mut all = Vec::new(alloc);
     for number in 0..count {
-        all.push(format!(in alloc; "d{number}")?)?;
+        add_name(alloc, &mut all, format!(in alloc; "d{number}")?.as_str())?;
     }
     Ok(all)
 }
@@ -274,8 +353,7 @@ fn refusal_of_many(
     dimensions: Vec<String>,
     metrics: Vec<String>,
 ) -> Result<Option<RowFault>, Fail> {
-    let schema = Schema::new(dimensions, metrics);
-    Ok(SegmentBuilder::new(alloc, descriptor(alloc)?, schema).err())
+    Ok(builder_of(alloc, Schema::new(dimensions, metrics))?.err())
 }
 
 #[test]
@@ -305,8 +383,7 @@ fn refusal_of_value(
     dimensions: &str,
     count: usize,
 ) -> Result<Option<RowFault>, Fail> {
-    let text = long(alloc, count)?;
-    let one = row(alloc, ms, Some(text.as_str()), None)?;
+    let one = row(alloc, ms, Some(long(alloc, count)?), None)?;
     refusal(alloc, schema(alloc, dimensions, "m")?, one)
 }
 
@@ -335,15 +412,19 @@ fn the_order_of_faults(rt: HostRuntime) -> Result<(), Fail> {
     Ok(())
 }
 
-/// What a builder answers to the last of so many equal rows.
-fn answer_to_last(alloc: Global, count: u32) -> Result<Result<(), RowFault>, Fail> {
-    let mut builder = SegmentBuilder::new(alloc, descriptor(alloc)?, schema(alloc, "d", "m")?)?;
-    let one = row(alloc, 0, Some("x"), Some(5))?;
-    let mut answer = Ok(());
-    for _ in 0..count {
-        answer = builder.push(&one);
+/// What it answers to the last of so many equal rows.
+fn push_often(builder: &mut SegmentBuilder, row: &Row, count: u32) -> Result<(), RowFault> {
+    for _ in 1..count {
+        let _answer = push(builder, row);
     }
-    Ok(answer)
+    push(builder, row)
+}
+
+/// What a new builder answers to the last of so many equal rows.
+fn answer_to_last(alloc: Global, count: u32) -> Result<Result<(), RowFault>, Fail> {
+    let mut builder = builder_of(alloc, schema(alloc, "d", "m")?)??;
+    let one = small_row(alloc, 0)?;
+    Ok(push_often(&mut builder, &one, count))
 }
 
 #[test]
