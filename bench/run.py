@@ -3,7 +3,8 @@
 
 It measures three shapes of a snapshot, each followed by 20 lookups, at 5,000, 10,000 and 20,000 segments: one chunk
 with core 0, one chunk with a core partition for each segment, and one-hour chunks. Then a line of 16 MiB and a stream
-of short lines, for the memory that they take. Nothing is checked but that the program ends with status 0.
+of short lines, for the memory that they take, and one lookup whose answer is long: 2,000 partitions under 2,000
+alternating hours, for which the peak is at most 40 MiB. Nothing else is checked but that the program ends with status 0.
 """
 import json, os, subprocess, sys, tempfile, time
 from datetime import datetime, timedelta
@@ -12,10 +13,14 @@ TOP = os.path.dirname(os.path.dirname(os.path.abspath(__file__)))
 PROGRAM = os.path.join(TOP, 'druid_cluster')
 
 
-def change(start, end, partition, core):
+# The most memory, in MiB, for the lookup with a long answer.
+LONG_ANSWER_PEAK = 40
+
+
+def change(start, end, partition, core, version="v1"):
     return {"action": "load", "dataSource": "wiki", "interval": f"{start}/{end}",
             "shardSpec": {"partitionNum": partition, "partitions": core, "type": "numbered"},
-            "size": 0, "version": "v1"}
+            "size": 0, "version": version}
 
 
 def hour(n):
@@ -30,11 +35,23 @@ def snapshot(shape, count):
     return [change(hour(n), hour(n + 1), 0, 1) for n in range(count)]
 
 
-def lines(shape, count):
+def opening(segments):
     yield {"count": 1, "do": "brokers", "nodes": ["n0"]}
     yield {"broker": 0, "do": "reply", "node": 0, "reply": {
-        "counter": {"counter": count, "hash": 1}, "from": None, "requests": snapshot(shape, count),
+        "counter": {"counter": len(segments), "hash": 1}, "from": None, "requests": segments,
         "resetCause": None, "resetCounter": False}}
+
+
+def long_answer():
+    # Every other hour shows the long chunk, with all of its partitions.
+    yield from opening(
+        [change(hour(0), hour(4_000), n, 0) for n in range(2_000)]
+        + [change(hour(2 * n), hour(2 * n + 1), 0, 1, "v2") for n in range(2_000)])
+    yield {"broker": 0, "do": "lookup", "interval": "2000-01-01/2025-01-01", "source": "wiki"}
+
+
+def lines(shape, count):
+    yield from opening(snapshot(shape, count))
     for n in range(20):
         interval = '2000-01-01/2025-01-01' if n % 2 == 0 else f'200{n % 3}-01-01/200{n % 3}-02-01'
         yield {"broker": 0, "do": "lookup", "interval": interval, "source": "wiki"}
@@ -59,12 +76,15 @@ def run(path):
     return time.time() - start, used.ru_maxrss / 1024, os.waitstatus_to_exitcode(status)
 
 
-def measure(name, texts):
+def measure(name, texts, most=None):
     with tempfile.NamedTemporaryFile('w', suffix='.jsonl') as f:
         write(f.name, texts)
         seconds, mib, status = run(f.name)
         size = os.path.getsize(f.name) / 1e6
     print(f'{name:44} {size:9.2f} MB {seconds:8.2f} s {mib:9.1f} MiB  status {status}', flush=True)
+    if most is not None and mib > most:
+        print(f'  more than {most} MiB', flush=True)
+        return 1
     return status
 
 
@@ -74,12 +94,13 @@ def main():
     for shape in ('one chunk, core 0', 'one chunk, all core', 'one-hour chunks'):
         for count in (5_000, 10_000, 20_000):
             bad |= measure(f'{shape}, {count} segments', lambda: map(json.dumps, lines(shape, count)))
-    opening = json.dumps({"count": 1, "do": "brokers", "nodes": ["n0"]})
+    bad |= measure('2,000 partitions under 2,000 hours', lambda: map(json.dumps, long_answer()), LONG_ANSWER_PEAK)
+    brokers = json.dumps({"count": 1, "do": "brokers", "nodes": ["n0"]})
     lookup = json.dumps({"broker": 0, "do": "lookup", "interval": "2024-01-01/2024-01-02", "source": "wiki"})
     bad |= measure('a line of 16 MiB', lambda: [
-        opening, lookup[:-1] + ', "pad": "' + 'x' * (16_777_216 - len(lookup) - 11) + '"}'])
+        brokers, lookup[:-1] + ', "pad": "' + 'x' * (16_777_216 - len(lookup) - 11) + '"}'])
     for count in (1_000, 100_000):
-        bad |= measure(f'{count} short lines', lambda: [opening] + [lookup] * count)
+        bad |= measure(f'{count} short lines', lambda: [brokers] + [lookup] * count)
     sys.exit(1 if bad else 0)
 
 

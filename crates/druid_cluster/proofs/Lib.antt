@@ -2,7 +2,10 @@ pub mod EachLemmas
 pub mod PlainLemmas
 pub mod JsonLemmas
 pub mod LineLemmas
+pub mod PieceLemmas
+pub mod WriteLemmas
 pub mod RunLemmas
 pub mod LookLemmas
 pub mod NameLemmas
 pub mod StepLemmas
+pub mod ProgramLemmas

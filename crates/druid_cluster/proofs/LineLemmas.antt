@@ -6,8 +6,8 @@ use Rattle.std.proofs.BufReadLemmas.{drop_through-append}
 use Rattle.std.specs.Io.KnownBytes.{Consumes, IsAtEnd}
 use Rattle.std.specs.Io.BufRead.{drop_through}
 use Rattle.druid_cluster.specs.Serving.{max_line}
-use Rattle.druid_cluster.specs.Lines.{line_at, lines_of, onto_first}
-use Rattle.druid_cluster.specs.Parts.{feed_of, IsPart}
+use Rattle.druid_cluster.specs.Lines.{lines_of, onto_first}
+use Rattle.druid_cluster.specs.Parts.{feed_of, IsPart, line_at}
 use Rattle.druid_cluster.specs.declared.lines.Part.{Part}
 use Rattle.druid_cluster.specs.declared.lines.Part.TheVariants.{More, Feed, Ended}
 
@@ -103,3 +103,31 @@ pub finds_last_at : (part : Part) (old new : List ℕ) (room : ℕ) (a b c : Opt
 finds_last_at More old new room a b c e plain taken p some = absurd cc
 finds_last_at Feed old new room a b c e plain taken p some = absurd cc
 finds_last_at Ended old new room a b c e plain taken p some = finds_last old new room a b c plain taken p some
+
+-- no byte was at hand
+pub still : (part : Part) (old new : List ℕ) (room : ℕ) (b c : Option (List ℕ)) → part ≡ More → length new ≡ length old → IsPart part old new room b c → (new ≡ old) × Consumes b c []
+still More old new room b c e same p =
+    let none : p.front ≡ [] = nothing p.front (omega (arith, ap length p.grown, length-append old p.front)) in
+    (p.grown ∙ ap (λ l. old ++ l) none ∙ append-nil old, subst (λ (l : List ℕ). Consumes b c (l ++ [])) none p.taken)
+  where
+    nothing : (l : List ℕ) → length l ≡ 0 → l ≡ []
+    nothing [] h = refl
+    nothing (x ∷ l) h = absurd (omega arith)
+still Feed old new room b c e same p = absurd cc
+still Ended old new room b c e same p = absurd cc
+
+end_before : (a b : Option (List ℕ)) → Consumes a b [] → IsAtEnd b → IsAtEnd a
+end_before None b none end = tt
+end_before (Some xs) None none end = absurd none
+end_before (Some xs) (Some ys) none end = none ∙ end
+
+-- a part behind tries that brought nothing
+pub resumed : (part : Part) (start old new : List ℕ) (room : ℕ) (a b c : Option (List ℕ)) → old ≡ start → Consumes a b [] → IsPart part old new room b c → IsPart part start new room a c
+resumed part start old new room a b c same none p = record {
+  front = p.front;
+  grown = p.grown ∙ ap (λ l. l ++ p.front) same;
+  plain = p.plain;
+  short = p.short;
+  taken = Consumes-trans a b c [] (p.front ++ feed_of part) none p.taken;
+  ended = λ e. end_before a b none (p.ended e);
+}

@@ -12,7 +12,7 @@ numbers_plain : (ps : List ℕ) → items_have_float (items_of (map (λ p. numbe
 numbers_plain [] = refl
 numbers_plain (p ∷ ps) = numbers_plain ps
 
-piece_plain : (p : Told) → has_float (piece_data p) ≡ false
+pub piece_plain : (p : Told) → has_float (piece_data p) ≡ false
 unfolding piece_data parts_data
 piece_plain p = rw (numbers_plain p.parts) refl
 

@@ -1,19 +1,20 @@
 -- A run under way: what is written so far, and what a run of the rest writes, is what the whole run writes.
-use Rattle.std.proofs.Common.{◌≡◌, ℕ, ◌+◌, ◌<◌, List, [], ◌∷◌, ◌++◌, length, take, drop, append_assoc, append-nil, Option, None, Some, IfSome, ◌^◌, arith, refl, sym, ap, subst, ◌∙◌, inl, inr}
-use Rattle.std.proofs.lemmas.List.{take-append-drop}
+use Rattle.std.proofs.Common.{◌≡◌, ℕ, ◌+◌, ◌<◌, List, [], ◌∷◌, ◌++◌, length, append_assoc, append-nil, Option, None, Some, IfSome, ◌^◌, arith, refl, sym, subst, ◌∙◌, inl, inr}
 use Rattle.std.proofs.KnownBytes.{Appends-nil, Appends-trans, Appends-kept}
 use Rattle.std.specs.Io.KnownBytes.{Appends, Keeps}
 use Rattle.std.specs.Io.BufRead.{drop_through}
 use Rattle.druid_inventory.specs.Entry.{Entry}
 use Rattle.druid_cluster.specs.Answers.{line_text}
 use Rattle.druid_cluster.specs.Serving.{IsAnswered, IsBad, max_line}
-use Rattle.druid_cluster.specs.Lines.{lines_of, line_at, Finds}
+use Rattle.druid_cluster.specs.Lines.{lines_of}
+use Rattle.druid_cluster.specs.Parts.{line_at, Finds}
 use Rattle.druid_cluster.specs.declared.lines.Next.{Next}
 use Rattle.druid_cluster.specs.declared.lines.Next.TheVariants.{Line, TooLong, End as AtEnd}
-use Rattle.druid_cluster.specs.Runs.{End, done, bad_at, broken_at, IsFront, Runs, Writes, Told, TellsLine, AppendsFront}
+use Rattle.druid_cluster.specs.Runs.{End, done, bad_at, broken_at, IsFront, Runs, Writes, EndsBy, TellsLine, AppendsFront}
 use Rattle.druid_cluster.specs.declared.answer.Answer.{Answer}
 use Rattle.druid_cluster.specs.declared.fault.ReplayFault.{ReplayFault}
 use Rattle.druid_cluster.specs.declared.fault.ReplayFault.TheVariants.{BadCommand, Device}
+use Rattle.druid_cluster.specs.Status.{line_of}
 use Rattle.druid_cluster.proofs.LineLemmas.{lines_of-first}
 
 -- the run of the whole goes on as the run of what is left
@@ -99,7 +100,7 @@ found_is_bad (Some ys) m state line found bad = (found.0, subst (IsBad state) fo
 -- the fault of a line that was found
 pub told_of : (fault : ReplayFault) (a l m b w v : Option (List ℕ)) (state : Option (List Entry)) (n : ℕ) (line : List ℕ)
     → UnderWay a l b w state n → IfSome l (λ ys. (0 < length ys) × (line ≡ line_at ys) × (m ≡ Some (drop_through 10 ys)))
-    → n < 2 ^ 64 → TellsLine state line n w v fault → Told a b v fault
+    → n < 2 ^ 64 → TellsLine state line n w v fault → EndsBy a b v fault
 told_of (BadCommand k) a l m b w v state n line way found small tells =
     subst (λ (i : ℕ). Writes a b v (bad_at i)) (sym tells.0) (breaks a l b w v state n way (found_is_bad l m state line found tells.1) tells.2)
 told_of (Device k) a l m b w v state n line way found small tells =
@@ -109,6 +110,23 @@ told_of (Device k) a l m b w v state n line way found small tells =
 pub flushed : (a b w v : Option (List ℕ)) (end : End) → Writes a b w end → Keeps w v → Writes a b v end
 flushed None b w v end written kept = tt
 flushed (Some xs) b w v end written kept = (written.0, written.1, Appends-kept b w v written.0 written.2 kept)
+
+-- where a run ends at a bad line, a device may have failed there
+breaks_too : (state : Option (List Entry)) (n m : ℕ) (lines : List (List ℕ)) (out : List ℕ) → Runs state n lines out (bad_at m) → Runs state n lines out (broken_at m)
+breaks_too state n m [] out run = elim run.1 as (λ _. Runs state n [] out (broken_at m)) [ inl e ↦ absurd cc | inr e ↦ absurd cc ]
+breaks_too state n m (line ∷ more) out (inl bad) = inr (inl (inl bad.1, let same : bad_at m ≡ bad_at n = bad.2 in cc))
+breaks_too state n m (line ∷ more) out (inr (inl front)) = absurd (let e = front.1 in cc)
+breaks_too state n m (line ∷ more) out (inr (inr run)) =
+    inr (inr (run.0, run.1, run.2, run.3, run.4, breaks_too run.1 (n + 1) m more run.3 run.5))
+
+-- the last flush fails
+pub not_flushed : (fault : ReplayFault) (a b w v : Option (List ℕ)) (line : ℕ) → line < 2 ^ 64 → EndsBy a b w fault → line ≡ line_of fault → Keeps w v → EndsBy a b v (Device line)
+not_flushed (BadCommand k) a b w v line small ends is kept = (line, omega (arith, small), more a ends)
+  where
+    more : (x : Option (List ℕ)) → Writes x b w (bad_at k) → Writes x b v (broken_at line)
+    more None written = tt
+    more (Some xs) written = (written.0, subst (λ (i : ℕ). Runs None 1 (lines_of xs) written.0 (broken_at i)) (sym is) (breaks_too None 1 k (lines_of xs) written.0 written.1), Appends-kept b w v written.0 written.2 kept)
+not_flushed (Device k) a b w v line small ends is kept = (ends.0, is ∙ ends.1, flushed a b w v (broken_at ends.0) ends.2 kept)
 
 -- what reading on found, where it is a line
 pub found_line : (next : Next) (l m : Option (List ℕ)) (line : List ℕ) → next ≡ Line → IfSome l (λ ys. Finds next ys line m)
@@ -121,29 +139,8 @@ found_line AtEnd l m line e found = absurd cc
 pub told_front : (state next : Option (List Entry)) (line : List ℕ) (answer : Answer) (number : ℕ) (w v : Option (List ℕ))
     → IsAnswered state line answer next → AppendsFront w v (line_text answer) → TellsLine state line number w v (Device number)
 told_front state next line answer number w v answered grown =
-    (refl, grown.0, inr (answer, next, answered, grown.1, grown.2), grown.3)
+    (refl, grown.0, inr (answer, next, answered, grown.1, grown.2, grown.3), grown.4)
 
 -- before anything is written
 pub told_nothing : (state : Option (List Entry)) (line : List ℕ) (number : ℕ) (w : Option (List ℕ)) → TellsLine state line number w w (Device number)
 told_nothing state line number w = (refl, [], inl refl, Appends-nil w)
-
--- more of a text is written
-pub writes_on : (b w v : Option (List ℕ)) (text rest next : List ℕ) (n : ℕ)
-    → ((front : List ℕ) × (text ≡ front ++ rest) × Appends b w front) → Appends w v (take n rest) → next ≡ drop n rest
-    → (front : List ℕ) × (text ≡ front ++ next) × Appends b v front
-writes_on b w v text rest next n way grown left = (
-  way.0 ++ take n rest,
-  way.1 ∙ ap (λ (r : List ℕ). way.0 ++ r) (sym (take-append-drop n rest)) ∙ sym (append_assoc way.0 (take n rest) (drop n rest)) ∙ ap (λ (r : List ℕ). (way.0 ++ take n rest) ++ r) (sym left),
-  Appends-trans b w v way.0 (take n rest) way.2 grown,
-)
-
--- a writer that kept its bytes has got nothing of a text
-pub none_more : (w v : Option (List ℕ)) (text : List ℕ) → Keeps w v → Appends w v (take 0 text)
-none_more None v text kept = tt
-none_more (Some xs) None text kept = absurd kept
-none_more (Some xs) (Some ys) text kept = kept ∙ sym (append-nil xs)
-
-pub none_of : (w v : Option (List ℕ)) (text : List ℕ) → Appends w v (take 0 text) → Keeps w v
-none_of None v text grown = tt
-none_of (Some xs) None text grown = absurd grown
-none_of (Some xs) (Some ys) text grown = grown ∙ append-nil xs

@@ -1,10 +1,11 @@
 pub mod Fields
 pub mod Reply
 pub mod Commands
-pub mod Told
+pub mod Seen
 pub mod Answers
 pub mod Serving
 pub mod Lines
 pub mod Parts
 pub mod Runs
 pub mod Status
+pub mod Program

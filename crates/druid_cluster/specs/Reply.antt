@@ -51,7 +51,8 @@ snapshot_at d = do
   segments ← each_of load_at requests
   Some (at, segments)
 
--- reading a reply out of JSON answers so: the reply, or the first fault; want of memory is told last
+-- reading a reply out of JSON answers so: the reply, or the first fault; memory is wanted for a snapshot that is not too
+-- long, and which identifiers stand twice is seen after
 abbrev pub IsRead : Data → Result Body SyncFault → Type 0
 IsRead d (Ok body) = (s : Point × List Described) × (snapshot_at d ≡ Some s) × IsSnapshotOf s.0 s.1 body
 IsRead d (Err NotJson) = ⊥
@@ -61,9 +62,10 @@ IsRead d (Err TooMany) =
 IsRead d (Err DoubledSegment) =
     (s : Point × List Described) × (snapshot_at d ≡ Some s) × (length s.1 ≤ max_segments)
     × (HaveOwnIdentifiers s.1 → ⊥)
-IsRead d (Err Memory) = ⊤
+IsRead d (Err Memory) =
+    (s : Point × List Described) × (snapshot_at d ≡ Some s) × (length s.1 ≤ max_segments)
 
--- the same out of bytes, which may be no JSON
+-- the same out of bytes, which may be no JSON; reading JSON may want memory at any byte
 abbrev pub IsReadOf : List ℕ → Result Body SyncFault → Type 0
 IsReadOf bytes (Err NotJson) = (d : Data) → ReadsAs bytes d → ⊥
 IsReadOf bytes (Err Memory) = ⊤

@@ -1,5 +1,5 @@
 -- What a whole run writes.
-use Rattle.std.specs.Prelude.{◌≡◌, ◌⊎◌, ℕ, ◌+◌, ◌-◌, ◌^◌, min, List, [], ◌∷◌, ◌++◌, Option, None, IfSome}
+use Rattle.std.specs.Prelude.{◌≡◌, ◌⊎◌, ℕ, ◌+◌, ◌-◌, ◌^◌, min, ◌<◌, List, [], ◌∷◌, ◌++◌, length, Option, None, IfSome}
 use Rattle.std.specs.Io.KnownBytes.{Appends, Keeps}
 use Rattle.druid_inventory.specs.Entry.{Entry}
 use Rattle.druid_cluster.specs.Answers.{line_text}
@@ -15,12 +15,12 @@ pub data End : Type 0 where
   bad_at : (number : ℕ) → End
   broken_at : (number : ℕ) → End
 
--- nothing, or a front of what the line is answered
+-- nothing, or a front of what the line is answered, which is not the whole
 abbrev pub IsFront : Option (List Entry) → List ℕ → List ℕ → Type 0
 IsFront state line out =
     (out ≡ [])
     ⊎ ((answer : Answer) × (next : Option (List Entry)) × IsAnswered state line answer next
-    × (back : List ℕ) × (line_text answer ≡ out ++ back))
+    × (back : List ℕ) × (line_text answer ≡ out ++ back) × (0 < length back))
 
 -- from what stands, the lines from this number on are answered so, one after another, and the run ends so; a device
 -- may fail at any line, and behind the last
@@ -38,14 +38,15 @@ Writes input old new end =
     IfSome input (λ xs. (out : List ℕ) × Runs None 1 (lines_of xs) out end × Appends old new out)
 
 -- what a fault of a run tells; a number that does not fit its type is told as the greatest that does
-abbrev pub Told : Option (List ℕ) → Option (List ℕ) → Option (List ℕ) → ReplayFault → Type 0
-Told input old new (BadCommand number) = Writes input old new (bad_at number)
-Told input old new (Device number) =
+abbrev pub EndsBy : Option (List ℕ) → Option (List ℕ) → Option (List ℕ) → ReplayFault → Type 0
+EndsBy input old new (BadCommand number) = Writes input old new (bad_at number)
+EndsBy input old new (Device number) =
     (line : ℕ) × (number ≡ min line (2 ^ 64 - 1)) × Writes input old new (broken_at line)
 
--- known bytes grow by some front of the text
+-- known bytes grow by some front of the text, which is not the whole
 abbrev pub AppendsFront : Option (List ℕ) → Option (List ℕ) → List ℕ → Type 0
-AppendsFront old new text = (front back : List ℕ) × (text ≡ front ++ back) × Appends old new front
+AppendsFront old new text =
+    (front back : List ℕ) × (text ≡ front ++ back) × (0 < length back) × Appends old new front
 
 -- the same of one line
 abbrev pub TellsLine : Option (List Entry) → List ℕ → ℕ → Option (List ℕ) → Option (List ℕ) → ReplayFault → Type 0

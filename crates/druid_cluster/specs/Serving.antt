@@ -18,13 +18,16 @@ use Rattle.druid_cluster.specs.declared.answer.Refusal.TheVariants as refusals
 use Rattle.druid_cluster.specs.declared.answer.Answer.{Answer}
 use Rattle.druid_cluster.specs.declared.answer.Answer.TheVariants.{Refused, Taken, Stepped, Found}
 
+-- a list of nodes: each name is one, and none stands twice
+abbrev pub AreNodes : List (List ℕ) → Type 0
+AreNodes names = All IsName names × HaveOwnNames names
+
 -- one broker over nodes of these names: a name that is none is refused before one that stands twice
 abbrev pub TakesBrokers : List (List ℕ) → Answer → Option (List Entry) → Type 0
 TakesBrokers names (Refused refusals.BadName) next = (All IsName names → ⊥) × (next ≡ None)
 TakesBrokers names (Refused refusals.DoubledNode) next =
     All IsName names × (HaveOwnNames names → ⊥) × (next ≡ None)
-TakesBrokers names Taken next =
-    All IsName names × HaveOwnNames names × (next ≡ Some (map fresh names))
+TakesBrokers names Taken next = AreNodes names × (next ≡ Some (map fresh names))
 TakesBrokers names answer next = ⊥
 
 -- the broker takes a reply of a node: it is read first, then the node is looked for, and then comes the step
@@ -82,6 +85,29 @@ Answers (Some inventory) d answer next =
 abbrev pub IsNoCommand : Option (List Entry) → Data → Type 0
 IsNoCommand None d = opening_at d ≡ None
 IsNoCommand (Some inventory) d = command_at d ≡ None
+
+-- ---- want of memory: no refusal that is seen without memory holds
+
+-- a reply is a snapshot that is not too long, or is read whole and of a node that there is, and has no conflict
+abbrev pub ReplyWants : List Entry → ℕ → Data → Type 0
+ReplyWants inventory node d =
+    IsRead d (Err replies.Memory)
+    ⊎ ((body : Body) × IsRead d (Ok body)
+    × (e : Entry) × (slice_get inventory node ≡ Some e) × (Conflicts e body → ⊥))
+
+-- a lookup is of an interval and of a name
+abbrev pub LookupWants : List ℕ → List ℕ → Type 0
+LookupWants interval source = (asked : Extent) × (extent_at interval ≡ Ok asked) × IsName source
+
+abbrev pub CommandWants : List Entry → Command → Type 0
+CommandWants inventory (reply node body) = ReplyWants inventory node body
+CommandWants inventory (lookup interval source) = LookupWants interval source
+
+-- carrying a line's JSON out may want memory
+abbrev pub WantsMemory : Option (List Entry) → Data → Type 0
+WantsMemory None d = (names : List (List ℕ)) × (opening_at d ≡ Some names) × AreNodes names
+WantsMemory (Some inventory) d =
+    (command : Command) × (command_at d ≡ Some command) × CommandWants inventory command
 
 -- the most bytes of a line
 abbrev pub max_line : ℕ

@@ -136,18 +136,20 @@ fn parts_value(alloc: Global, parts: &[u16]) -> Result<Value, AllocError>
     Ok(Value::Array(values))
 }
 
+/// The JSON of a piece.
 #[tactic(auto, unfolding(crate::specs::Answers::piece_data))]
-fn piece_value(alloc: Global, piece: &Piece) -> Result<Value, AllocError>
+pub fn piece_value(alloc: Global, piece: &Piece) -> Result<Value, AllocError>
     ensures { IfOk result (λ v. view v ≡ piece_data piece.now) }
 {
     let chunk = piece.key().interval().text(alloc)?;
     let interval = piece.interval().text(alloc)?;
     let parts = parts_value(alloc, piece.parts())?;
+    let version = piece.key().version().text(alloc)?;
     json!(in alloc; {
         "chunk": chunk.as_str(),
         "interval": interval.as_str(),
         "parts": parts,
-        "version": piece.key().version().as_str(),
+        "version": version.as_str(),
     })
 }
 

@@ -1,15 +1,14 @@
 //! Commands, read out of JSON.
-ghost use Rattle.std.specs.Prelude.{◌≡◌, ◌≤◌, map, option_map, IfOk, IfSome, vec_len};
+ghost use Rattle.std.specs.Prelude.{◌≡◌, ◌≤◌, length, option_map, is_some, IfSome};
+ghost use Rattle.std.specs.List.{list_all};
 ghost use Rattle.serde_json.specs.Find.{as_str};
 ghost use Rattle.serde_json.specs.View.{view, items_view};
-ghost use Rattle.druid_shard.specs.Json.{limited_at};
 ghost use Rattle.druid_cluster.specs.Fields.{each_of};
 ghost use Rattle.druid_cluster.specs.Commands.{brokers_at, opening_at, reply_at, lookup_at, command_at};
-ghost use Rattle.druid_cluster.specs.Told.{told, names_in};
+ghost use Rattle.druid_cluster.specs.Seen.{text_in, texts_in, command_seen};
 
-use crate::fields::{number_field, text_field};
+use druid_shard::{limited_field, number_field, text_field};
 use serde_json::Value;
-use std::alloc::{AllocError, Global};
 
 /// The most nodes that a broker follows.
 const MAX_NODES: usize = 64;
@@ -33,28 +32,28 @@ pub enum Command<'a> {
     },
 }
 
-// The texts in a list; None where one is no text.
-fn names_of<'a>(alloc: Global, nodes: &'a [Value]) -> Result<Option<Vec<&'a str>>, AllocError>
-    ensures { IfOk result (λ found.
-        option_map (λ names. names_in names.items) found ≡ each_of as_str (items_view nodes.now)) }
+/// The text of a value; an empty one where it is no text.
+pub fn text_of(value: &Value) -> &str
+    ensures { result.now ≡ text_in value.now }
 {
-    let mut names = Vec::new(alloc);
-    for node in nodes {
-        let Some(name) = node.as_str() else {
-            return Ok(None);
-        };
-        names.push(name)?;
-    }
-    Ok(Some(names))
+    value.as_str().unwrap_or("")
 }
 
-// The number at a key, where it is at most a limit.
-fn limited_field(value: &Value, key: &str, limit: u16) -> Option<u16>
-    ensures { result ≡ limited_at limit key.now (view value.now) }
+// Whether each value is a text.
+fn are_texts(values: &[Value]) -> bool
+    ensures { result ≡ list_all (λ v. is_some (as_str (view v))) values.now }
 {
-    let number = number_field(value, key)?;
-    if number <= limit as u64 {
-        Some(number as u16)
+    values.iter().all(|value| value.is_string())
+}
+
+// The same values, where each is a text.
+#[tactic(auto, using(crate::proofs::EachLemmas::texts_read, crate::proofs::EachLemmas::texts_unread))]
+fn texts_of(values: &[Value]) -> Option<&[Value]>
+    ensures { option_map (λ texts. texts_in texts.now) result
+        ≡ each_of as_str (items_view values.now) }
+{
+    if are_texts(values) {
+        Some(values)
     } else {
         None
     }
@@ -62,46 +61,40 @@ fn limited_field(value: &Value, key: &str, limit: u16) -> Option<u16>
 
 // The names of the nodes of one broker, of which there are 1 to 64.
 #[tactic(auto, unfolding(crate::specs::Commands::brokers_at))]
-fn brokers_of<'a>(alloc: Global, value: &'a Value) -> Result<Option<Vec<&'a str>>, AllocError>
-    ensures value { IfOk result (λ found.
-        option_map (λ names. names_in names.items) found ≡ brokers_at (view value.now)) }
-    ensures some { IfOk result (λ found. IfSome found (λ names. 1 ≤ vec_len names)) }
-    ensures few { IfOk result (λ found. IfSome found (λ names. vec_len names ≤ 64)) }
+fn brokers_of(value: &Value) -> Option<&[Value]>
+    ensures value { option_map (λ names. texts_in names.now) result ≡ brokers_at (view value.now) }
+    ensures some { IfSome result (λ names. 1 ≤ length names.now) }
+    ensures few { IfSome result (λ names. length names.now ≤ 64) }
 {
-    let Some(count) = number_field(value, "count") else {
-        return Ok(None);
-    };
-    let Some(nodes) = value.get("nodes").and_then(Value::as_array) else {
-        return Ok(None);
-    };
-    let Some(names) = names_of(alloc, nodes)? else {
-        return Ok(None);
-    };
+    let count = number_field(value, "count")?;
+    let nodes = value.get("nodes").and_then(Value::as_array)?;
+    let names = texts_of(nodes)?;
     if count == 1 && 1 <= names.len() && names.len() <= MAX_NODES {
-        Ok(Some(names))
+        Some(names)
     } else {
-        Ok(None)
+        None
     }
 }
 
-/// The names of the nodes, where the value asks for brokers: the first command does, and no other.
+/// The names of the nodes, each a text, where the value asks for brokers: the first command does, and no other. It takes
+/// no memory.
 #[tactic(auto, unfolding(crate::specs::Commands::opening_at))]
-pub fn opening_of<'a>(alloc: Global, value: &'a Value) -> Result<Option<Vec<&'a str>>, AllocError>
-    ensures value { IfOk result (λ found.
-        option_map (λ names. names_in names.items) found ≡ opening_at (view value.now)) }
-    ensures some { IfOk result (λ found. IfSome found (λ names. 1 ≤ vec_len names)) }
-    ensures few { IfOk result (λ found. IfSome found (λ names. vec_len names ≤ 64)) }
+pub fn opening_of(value: &Value) -> Option<&[Value]>
+    ensures value { option_map (λ names. texts_in names.now) result ≡ opening_at (view value.now) }
+    ensures some { IfSome result (λ names. 1 ≤ length names.now) }
+    ensures few { IfSome result (λ names. length names.now ≤ 64) }
 {
     if text_field(value, "do") == Some("brokers") {
-        brokers_of(alloc, value)
+        brokers_of(value)
     } else {
-        Ok(None)
+        None
     }
 }
 
+// That a broker takes a reply.
 #[tactic(auto, unfolding(crate::specs::Commands::reply_at))]
-fn reply_of(value: &Value) -> Option<Command<'_>>
-    ensures { option_map told result ≡ reply_at (view value.now) }
+fn reply_asked(value: &Value) -> Option<Command<'_>>
+    ensures { option_map command_seen result ≡ reply_at (view value.now) }
 {
     limited_field(value, "broker", 0)?;
     let node = limited_field(value, "node", u16::MAX)?;
@@ -109,9 +102,10 @@ fn reply_of(value: &Value) -> Option<Command<'_>>
     Some(Command::Reply { node, reply })
 }
 
+// A lookup.
 #[tactic(auto, unfolding(crate::specs::Commands::lookup_at))]
-fn lookup_of(value: &Value) -> Option<Command<'_>>
-    ensures { option_map told result ≡ lookup_at (view value.now) }
+fn lookup_asked(value: &Value) -> Option<Command<'_>>
+    ensures { option_map command_seen result ≡ lookup_at (view value.now) }
 {
     limited_field(value, "broker", 0)?;
     let interval = text_field(value, "interval")?;
@@ -122,11 +116,11 @@ fn lookup_of(value: &Value) -> Option<Command<'_>>
 /// The command that a value asks for once brokers stand; None where it is none.
 #[tactic(auto, unfolding(crate::specs::Commands::command_at))]
 pub fn command_of(value: &Value) -> Option<Command<'_>>
-    ensures { option_map told result ≡ command_at (view value.now) }
+    ensures { option_map command_seen result ≡ command_at (view value.now) }
 {
     match text_field(value, "do") {
-        Some("reply") => reply_of(value),
-        Some("lookup") => lookup_of(value),
+        Some("reply") => reply_asked(value),
+        Some("lookup") => lookup_asked(value),
         _ => None,
     }
 }

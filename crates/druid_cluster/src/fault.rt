@@ -1,16 +1,15 @@
-ghost use Rattle.std.specs.Prelude.{◌≡◌};
-ghost use Rattle.druid_cluster.specs.Status.{line_of, status_of};
+ghost use Rattle.std.specs.Prelude.{◌≡◌, Some};
+ghost use Rattle.druid_cluster.specs.Status.{line_of, status_of, fault_text};
 
-use thiserror::Error;
+use std::error::Error;
+use std::fmt;
 
 /// Why a run ends before the end of its input. Lines count from 1.
-#[derive(Clone, Copy, Debug, PartialEq, Eq, Drop, Error)]
+#[derive(Clone, Copy, Debug, PartialEq, Eq, Drop)]
 pub enum ReplayFault {
     /// The line is no command there.
-    #[error("line {0}: bad command")]
     BadCommand(u64),
     /// A read or a write failed, or memory was refused.
-    #[error("line {0}: device")]
     Device(u64),
 }
 
@@ -34,3 +33,16 @@ impl ReplayFault {
         }
     }
 }
+
+impl fmt::Display for ReplayFault {
+    ghost output = { λ fault. Some (fault_text fault) };
+
+    fn fmt<W: fmt::Write>(&self, f: &mut fmt::Formatter<W>) -> fmt::Result {
+        match *self {
+            ReplayFault::BadCommand(line) => write!(f, "line {line}: bad command"),
+            ReplayFault::Device(line) => write!(f, "line {line}: device"),
+        }
+    }
+}
+
+impl Error for ReplayFault {}

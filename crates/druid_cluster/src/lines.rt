@@ -1,11 +1,11 @@
 //! Lines, read one by one.
 ghost use Rattle.std.specs.Prelude.{◌≡◌, ◌≢◌, ◌≤◌, ◌<◌, ◌+◌, ◌++◌, length, take, All, Ok, IfOk, IfSome};
 ghost use Rattle.druid_cluster.specs.Serving.{max_line};
-ghost use Rattle.druid_cluster.specs.Lines.{Finds};
-ghost use Rattle.druid_cluster.specs.Parts.{feed_of, IsPart};
+ghost use Rattle.druid_cluster.specs.Parts.{feed_of, IsPart, Finds};
 
+use crate::interrupted::{MAX_TRIES, is_interrupted};
 use std::io;
-use std::io::{BufRead, Error, ErrorKind};
+use std::io::{BufRead, ErrorKind};
 
 /// The most bytes of a line, its line feed left out.
 const MAX_LINE: usize = 16_777_216;
@@ -67,10 +67,6 @@ fn scan(bytes: &[u8], room: usize) -> (usize, Part)
     (bytes.len(), Part::More)
 }
 
-fn is_interrupted(error: &Error) -> bool {
-    error.kind() == ErrorKind::Interrupted
-}
-
 // Appends what the reader has at hand of a line, but no more bytes than there is room for, and takes the line feed.
 fn append_part<R: BufRead>(reader: &mut R, line: &mut Vec<u8>, room: usize) -> io::Result<Part>
     ensures { IfOk result (λ part. IsPart part line.old.items line.new.items room
@@ -92,7 +88,27 @@ fn append_part<R: BufRead>(reader: &mut R, line: &mut Vec<u8>, room: usize) -> i
     Ok(part)
 }
 
-/// Reads the next line, without its line feed, in place of what `line` had. It keeps no more than 16 MiB and a byte.
+// The same, with another try where the reader is interrupted and nothing was at hand.
+#[tactic(auto, using(crate::proofs::LineLemmas::resumed, crate::proofs::LineLemmas::still))]
+fn next_part<R: BufRead>(reader: &mut R, line: &mut Vec<u8>, room: usize) -> io::Result<Part>
+    ensures { IfOk result (λ part. IsPart part line.old.items line.new.items room
+        (R.remaining reader.old) (R.remaining reader.new)) }
+{
+    for _ in 0..MAX_TRIES {
+        let before = line.len();
+        let part = append_part(reader, line, room)?;
+        if !matches!(part, Part::More) {
+            return Ok(part);
+        }
+        if line.len() != before {
+            return Ok(part);
+        }
+    }
+    Err(ErrorKind::Interrupted.into())
+}
+
+/// Reads the next line, without its line feed, in place of what `line` had. It keeps no more than 16 MiB and a byte. An
+/// interrupted read is made again, but not for ever.
 #[tactic(auto, using(crate::proofs::LineLemmas::grown_plain, crate::proofs::LineLemmas::grown_taken, crate::proofs::LineLemmas::finds_more, crate::proofs::LineLemmas::finds_long, crate::proofs::LineLemmas::finds_feed, crate::proofs::LineLemmas::finds_last, crate::proofs::LineLemmas::finds_end))]
 pub fn next_line<R: BufRead>(reader: &mut R, line: &mut Vec<u8>) -> io::Result<Next>
     ensures found { IfOk result (λ next. IfSome (R.remaining reader.old)
@@ -101,7 +117,7 @@ pub fn next_line<R: BufRead>(reader: &mut R, line: &mut Vec<u8>) -> io::Result<N
 {
     line.clear();
     for _ in 0..u64::MAX {
-        let part = append_part(reader, line, MAX_LINE + 1 - line.len())?;
+        let part = next_part(reader, line, MAX_LINE + 1 - line.len())?;
         if line.len() > MAX_LINE {
             return Ok(Next::TooLong);
         }

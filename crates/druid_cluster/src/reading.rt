@@ -1,14 +1,21 @@
 //! Replies of data nodes, read out of JSON.
-ghost use Rattle.std.specs.Prelude.{◌≡◌, ◌≤◌, ◌↔◌, ◌⊎◌, Some, None, IsTrue, IsSome, IfOk, IfErr, IsErrOf, IfSome};
+ghost use Rattle.std.specs.Prelude.{◌≡◌, ◌≤◌, ◌↔◌, List, Some, None, IsTrue, IsSome, is_some, IfOk, IfSome, IfNone};
+ghost use Rattle.std.specs.List.{list_all};
 ghost use Rattle.serde_json.specs.View.{view, items_view};
+ghost use Rattle.druid_shard.specs.Described.{Described};
 ghost use Rattle.druid_cluster.specs.Fields.{each_of};
 ghost use Rattle.druid_cluster.specs.Reply.{mark_at, load_at, has_snapshot_fields, snapshot_at, IsRead, IsReadOf};
 
-use crate::fields::{number_field, text_field};
 use crate::sync_fault::SyncFault;
-use druid_shard::{Descriptor, Mark, Reply, ReplyFault, ShardFault, read_descriptor};
+use druid_shard::{
+    Descriptor, Mark, Reply, ReplyFault, check_descriptor, number_field, read_descriptor,
+    text_field,
+};
 use serde_json::Value;
-use std::alloc::Global;
+use std::alloc::{AllocError, Global};
+
+/// The most segments that a node serves.
+const MAX_SEGMENTS: usize = 20_000;
 
 // A mark of an incarnation.
 #[tactic(auto, unfolding(crate::specs::Reply::mark_at))]
@@ -48,77 +55,76 @@ fn has_snapshot_fields(value: &Value) -> bool
     !reset
 }
 
-// A change that loads a segment.
+// Whether a change loads a segment. It takes no memory.
 #[tactic(auto, unfolding(crate::specs::Reply::load_at))]
-fn load_of(alloc: Global, change: &Value) -> Result<Descriptor, SyncFault>
-    ensures ok { IfOk result (λ d. load_at (view change.now) ≡ Some d) }
-    ensures shape { result ≡ Err SyncFault.Shape → load_at (view change.now) ≡ None }
-    ensures fault { IfErr result (λ e. (e ≡ SyncFault.Shape) ⊎ (e ≡ SyncFault.Memory)) }
+fn is_load(change: &Value) -> bool
+    ensures { result ≡ is_some (load_at (view change.now)) }
 {
     if text_field(change, "action") != Some("load") {
-        return Err(SyncFault::Shape);
+        return false;
     }
-    match read_descriptor(alloc, change) {
-        Ok(descriptor) => Ok(descriptor),
-        Err(ShardFault::Memory) => Err(SyncFault::Memory),
-        Err(_) => Err(SyncFault::Shape),
+    check_descriptor(change).is_ok()
+}
+
+// Whether each change loads a segment. It takes no memory.
+fn are_loads(changes: &[Value]) -> bool
+    ensures { result ≡ list_all (λ change. is_some (load_at (view change))) changes.now }
+{
+    changes.iter().all(|change| is_load(change))
+}
+
+// The mark of a snapshot, and its changes, each of which loads a segment. It takes no memory.
+#[tactic(auto, unfolding(crate::specs::Reply::snapshot_at))]
+fn snapshot_of(value: &Value) -> Option<(Mark, &[Value])>
+    ensures some { IfSome result (λ s. (segments : List Described)
+        × (each_of load_at (items_view s.1.now) ≡ Some segments)
+        × (snapshot_at (view value.now) ≡ Some (s.0, segments))) }
+    ensures valid { IfSome result (λ s. 1 ≤ s.0.incarnation) }
+    ensures none { IfNone result (snapshot_at (view value.now) ≡ None) }
+{
+    let at = mark_of(value.get("counter")?)?;
+    if !has_snapshot_fields(value) {
+        return None;
+    }
+    let changes = value.get("requests").and_then(Value::as_array)?.as_slice();
+    if are_loads(changes) {
+        Some((at, changes))
+    } else {
+        None
     }
 }
 
-// The segments that changes load, in order.
-fn loads_of(alloc: Global, changes: &[Value]) -> Result<Vec<Descriptor>, SyncFault>
-    ensures ok { IfOk result (λ v. each_of load_at (items_view changes.now) ≡ Some v.items) }
-    ensures shape { IsErrOf result SyncFault.Shape → each_of load_at (items_view changes.now) ≡ None }
-    ensures fault { IfErr result (λ e. (e ≡ SyncFault.Shape) ⊎ (e ≡ SyncFault.Memory)) }
+// The segments that changes load, in order, where each loads one.
+#[tactic(auto, unfolding(crate::specs::Reply::load_at))]
+fn loads_of(alloc: Global, changes: &[Value]) -> Result<Vec<Descriptor>, AllocError>
+    requires { IsSome (each_of load_at (items_view changes.now)) }
+    ensures { IfOk result (λ loads. each_of load_at (items_view changes.now) ≡ Some loads.items) }
 {
-    let mut loads = Vec::new(alloc);
+    let mut loads = Vec::with_capacity(alloc, changes.len())?;
     for change in changes {
-        match load_of(alloc, change) {
-            Ok(load) => {
-                if loads.push(load).is_err() {
-                    return Err(SyncFault::Memory);
-                }
-            }
-            Err(fault) => return Err(fault),
-        }
+        let Ok(load) = read_descriptor(alloc, change) else {
+            return Err(AllocError);
+        };
+        loads.push(load)?;
     }
     Ok(loads)
 }
 
-// The mark and the segments of a snapshot, as they stand there.
-#[tactic(auto, unfolding(crate::specs::Reply::snapshot_at))]
-fn snapshot_of(alloc: Global, value: &Value) -> Result<(Mark, Vec<Descriptor>), SyncFault>
-    ensures ok { IfOk result (λ s. snapshot_at (view value.now) ≡ Some (s.0, s.1.items)) }
-    ensures valid { IfOk result (λ s. 1 ≤ s.0.incarnation) }
-    ensures shape { IsErrOf result SyncFault.Shape → snapshot_at (view value.now) ≡ None }
-    ensures fault { IfErr result (λ e. (e ≡ SyncFault.Shape) ⊎ (e ≡ SyncFault.Memory)) }
-{
-    let Some(counter) = value.get("counter") else {
-        return Err(SyncFault::Shape);
-    };
-    let Some(at) = mark_of(counter) else {
-        return Err(SyncFault::Shape);
-    };
-    if !has_snapshot_fields(value) {
-        return Err(SyncFault::Shape);
-    }
-    let Some(requests) = value.get("requests").and_then(Value::as_array) else {
-        return Err(SyncFault::Shape);
-    };
-    match loads_of(alloc, requests) {
-        Ok(segments) => Ok((at, segments)),
-        Err(fault) => Err(fault),
-    }
-}
-
-/// Reads a snapshot: Y2 where the value has not the form of one, then Y5 where it has more than 20,000 segments, Y4
-/// where an identifier stands twice, and Y9 last. Its segments may stand in any order, and other keys are passed over.
+/// Reads a snapshot: Y2 where the value has not the form of one, then Y5 where it has more than 20,000 segments, then Y9
+/// where memory is refused, and Y4 where an identifier stands twice. Its segments may stand in any order, and other keys
+/// are passed over.
 pub fn reply_of(alloc: Global, value: &Value) -> Result<Reply, SyncFault>
     ensures { IsRead (view value.now) result }
 {
-    let (at, segments) = match snapshot_of(alloc, value) {
-        Ok(snapshot) => snapshot,
-        Err(fault) => return Err(fault),
+    let Some(snapshot) = snapshot_of(value) else {
+        return Err(SyncFault::Shape);
+    };
+    let (at, changes) = snapshot;
+    if changes.len() > MAX_SEGMENTS {
+        return Err(SyncFault::TooMany);
+    }
+    let Ok(segments) = loads_of(alloc, changes) else {
+        return Err(SyncFault::Memory);
     };
     match Reply::snapshot(at, segments) {
         Ok(reply) => Ok(reply),

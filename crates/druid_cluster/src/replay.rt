@@ -3,55 +3,16 @@ ghost use Rattle.std.specs.Prelude.{◌≡◌, ◌≤◌, length, take, ◌+◌,
 ghost use Rattle.std.specs.Io.KnownBytes.{Appends, Keeps};
 ghost use Rattle.druid_cluster.specs.Answers.{line_text};
 ghost use Rattle.druid_cluster.specs.Serving.{IsAnswered, max_line};
-ghost use Rattle.druid_cluster.specs.Runs.{done, broken_at, Writes, Told, TellsLine, AppendsFront};
+ghost use Rattle.druid_cluster.specs.Runs.{done, broken_at, Writes, EndsBy, TellsLine, AppendsFront};
 ghost use Rattle.druid_cluster.specs.declared.answer.Answer.{Answer};
 
-use crate::answer::answer_line;
 use crate::fault::ReplayFault;
 use crate::lines::{Next, next_line};
 use crate::serving::serve_line;
+use crate::writing::write_answer;
 use druid_inventory::Inventory;
 use std::alloc::Global;
-use std::io;
-use std::io::{BufRead, ErrorKind, Write};
-
-// Writes a front of a text, and gives its length, which is 0 where the writer was interrupted.
-#[tactic(auto, using(crate::proofs::RunLemmas::none_of, crate::proofs::RunLemmas::none_more))]
-fn write_part<W: Write>(writer: &mut W, text: &[u8]) -> io::Result<usize>
-    ensures bound { IfOk result (λ n. n ≤ length text.now) }
-    ensures ok { IfOk result
-        (λ n. Appends (W.contents writer.old) (W.contents writer.new) (take n text.now)) }
-    ensures err { OnErr result (Keeps (W.contents writer.old) (W.contents writer.new)) }
-{
-    match writer.write(text) {
-        Ok(0) => Err(ErrorKind::WriteZero.into()),
-        Ok(written) => Ok(written),
-        Err(error) => {
-            if error.kind() == ErrorKind::Interrupted {
-                return Ok(0);
-            }
-            Err(error)
-        }
-    }
-}
-
-// Writes a text. Where the writer fails, it has got some front of the text.
-fn write_text<W: Write>(writer: &mut W, text: &[u8]) -> io::Result<()>
-    ensures ok { OnOk result (Appends (W.contents writer.old) (W.contents writer.new) text.now) }
-    ensures err { OnErr result
-        (AppendsFront (W.contents writer.old) (W.contents writer.new) text.now) }
-{
-    let mut rest = text;
-    for _ in 0..u64::MAX {
-        if rest.is_empty() {
-            return Ok(());
-        }
-        let written = write_part(writer, rest)?;
-        let (_, left) = rest.split_at(written);
-        rest = left;
-    }
-    Err(ErrorKind::TimedOut.into())
-}
+use std::io::{BufRead, Write};
 
 // Writes the answer to a line, and gives the inventory that stands after it.
 #[tactic(auto, using(crate::proofs::RunLemmas::told_front, crate::proofs::RunLemmas::told_nothing))]
@@ -75,10 +36,7 @@ fn answer_to<W: Write>(
     let Some((answer, next)) = served else {
         return Err(ReplayFault::BadCommand(number));
     };
-    let Ok(text) = answer_line(alloc, &answer) else {
-        return Err(device);
-    };
-    match write_text(writer, text.as_bytes()) {
+    match write_answer(alloc, &answer, writer) {
         Ok(()) => Ok(next),
         Err(_) => Err(device),
     }
@@ -96,7 +54,7 @@ fn answer_lines<R: BufRead, W: Write>(
         × Writes (R.remaining reader.old) (W.contents writer.old) (W.contents writer.new)
         (broken_at (count + 1))) }
     ensures err { IfErr result
-        (Told (R.remaining reader.old) (W.contents writer.old) (W.contents writer.new)) }
+        (EndsBy (R.remaining reader.old) (W.contents writer.old) (W.contents writer.new)) }
 {
     let mut state = None;
     let mut line = Vec::new(alloc);
@@ -119,11 +77,11 @@ fn answer_lines<R: BufRead, W: Write>(
 }
 
 /// Answers each line of an input by a line, in order, until the input ends or a line is bad, which no answer tells. What
-/// was written is flushed where the input ends. No more than one line of the input is kept.
+/// was written is flushed at the end, whatever it is. No more than one line of the input is kept.
 ///
 /// `BadCommand` where a line is longer than 16 MiB, no JSON or no command, and `Device` where a read or a write fails,
 /// memory is refused or there are more than 2^64 - 1 lines: then the lines before are answered, and of the answer to that
-/// line some front may be written.
+/// line a front may be written, which is not the whole. Where the flush fails, `Device` tells the line that ended the run.
 #[tactic(auto, using(crate::proofs::RunLemmas::flushed))]
 pub fn replay<R: BufRead, W: Write>(
     alloc: Global,
@@ -133,15 +91,14 @@ pub fn replay<R: BufRead, W: Write>(
     ensures ok { OnOk result
         (Writes (R.remaining reader.old) (W.contents writer.old) (W.contents writer.new) done) }
     ensures err { IfErr result
-        (Told (R.remaining reader.old) (W.contents writer.old) (W.contents writer.new)) }
+        (EndsBy (R.remaining reader.old) (W.contents writer.old) (W.contents writer.new)) }
 {
-    match answer_lines(alloc, reader, writer) {
-        Ok(count) => {
-            if writer.flush().is_err() {
-                return Err(ReplayFault::Device(count.saturating_add(1)));
-            }
-            Ok(())
-        }
+    let end = answer_lines(alloc, reader, writer);
+    let flushed = writer.flush();
+    match end {
+        Ok(count) if flushed.is_err() => Err(ReplayFault::Device(count.saturating_add(1))),
+        Ok(_) => Ok(()),
+        Err(fault) if flushed.is_err() => Err(ReplayFault::Device(fault.line())),
         Err(fault) => Err(fault),
     }
 }

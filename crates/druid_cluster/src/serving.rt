@@ -1,36 +1,87 @@
 //! Commands, carried out.
-ghost use Rattle.std.specs.Prelude.{◌≤◌, Some, None, length, IfOk, IfSome, IfNone};
+ghost use Rattle.std.specs.Prelude.{◌≡◌, ◌↔◌, ◌≤◌, ◌<◌, ℕ, List, All, Some, None, get_or, length, IsTrue, IfOk, OnErr, IfSome, IfNone};
+ghost use Rattle.druid_segid.specs.Names.{IsName};
+ghost use Rattle.druid_inventory.specs.Entry.{HaveOwnNames};
 ghost use Rattle.serde_json.specs.View.{view};
-ghost use Rattle.druid_cluster.specs.Told.{names_in};
-ghost use Rattle.druid_cluster.specs.Serving.{TakesBrokers, TakesReply, AreFoundIn, LooksUp, Answers, IsNoCommand, IsAnswered, IsBad, max_line};
+ghost use Rattle.druid_cluster.specs.Seen.{texts_in};
+ghost use Rattle.druid_cluster.specs.Serving.{TakesBrokers, TakesReply, AreFoundIn, LooksUp, Answers, IsNoCommand, IsAnswered, IsBad, AreNodes, ReplyWants, LookupWants, WantsMemory, max_line};
 
 use crate::answer::{Answer, Pieces, Refusal};
-use crate::command::{Command, command_of, opening_of};
+use crate::command::{Command, command_of, opening_of, text_of};
 use crate::reading::reply_of;
 use crate::sync_fault::SyncFault;
 use druid_inventory::{ApplyFault, Inventory, InventoryFault};
-use druid_segid::{IdFault, Name};
+use druid_segid::Name;
 use druid_time::{Interval, IntervalSet, TimeFault};
 use druid_timeline::Timeline;
 use serde_json::Value;
 use std::alloc::{AllocError, Global};
 
-// One broker over nodes of these names: what it is answered, and the inventory where it was taken.
+// Whether each text is a name. It takes no memory.
 #[tactic(auto, using(crate::proofs::NameLemmas::not_all, crate::proofs::NameLemmas::names_more))]
-fn take_brokers(alloc: Global, names: &[&str]) -> Result<(Answer, Option<Inventory>), AllocError>
-    requires some { 1 ≤ length names.now }
-    requires few { length names.now ≤ 64 }
-    ensures { IfOk result (λ r. TakesBrokers (names_in names.now) r.0 r.1) }
+fn are_names(nodes: &[Value]) -> bool
+    ensures { IsTrue result ↔ All IsName (texts_in nodes.now) }
 {
-    let mut nodes = Vec::with_capacity(alloc, names.len())?;
-    for name in names {
-        match Name::new(alloc, *name) {
-            Ok(node) => nodes.push(node)?,
-            Err(IdFault::BadName) => return Ok((Answer::Refused(Refusal::BadName), None)),
-            Err(_) => return Err(AllocError),
+    for node in nodes {
+        if !Name::accepts(text_of(node)) {
+            return false;
         }
     }
-    match Inventory::new(alloc, nodes) {
+    true
+}
+
+// The text at a place.
+fn text_at(nodes: &[Value], place: usize) -> &str
+    requires { place < length nodes.now }
+    ensures { (d : List ℕ) → get_or (texts_in nodes.now) place d ≡ result.now }
+{
+    text_of(&nodes[place])
+}
+
+// Whether no text stands twice. It takes no memory.
+fn have_own_texts(nodes: &[Value]) -> bool
+    ensures { IsTrue result ↔ HaveOwnNames (texts_in nodes.now) }
+{
+    for i in 0..nodes.len() {
+        for j in 0..i {
+            if text_at(nodes, i) == text_at(nodes, j) {
+                return false;
+            }
+        }
+    }
+    true
+}
+
+// The names of these texts.
+#[tactic(auto, using(crate::proofs::NameLemmas::names_more))]
+fn names_of(alloc: Global, nodes: &[Value]) -> Result<Vec<Name>, AllocError>
+    requires { All IsName (texts_in nodes.now) }
+    ensures { IfOk result (λ names. names.items ≡ texts_in nodes.now) }
+{
+    let mut names = Vec::with_capacity(alloc, nodes.len())?;
+    for node in nodes {
+        let Ok(name) = Name::new(alloc, text_of(node)) else {
+            return Err(AllocError);
+        };
+        names.push(name)?;
+    }
+    Ok(names)
+}
+
+// One broker over nodes of these names: what it is answered, and the inventory where it was taken.
+fn take_brokers(alloc: Global, nodes: &[Value]) -> Result<(Answer, Option<Inventory>), AllocError>
+    requires some { 1 ≤ length nodes.now }
+    requires few { length nodes.now ≤ 64 }
+    ensures ok { IfOk result (λ r. TakesBrokers (texts_in nodes.now) r.0 r.1) }
+    ensures memory { OnErr result (AreNodes (texts_in nodes.now)) }
+{
+    if !are_names(nodes) {
+        return Ok((Answer::Refused(Refusal::BadName), None));
+    }
+    if !have_own_texts(nodes) {
+        return Ok((Answer::Refused(Refusal::DoubledNode), None));
+    }
+    match Inventory::new(alloc, names_of(alloc, nodes)?) {
         Ok(inventory) => Ok((Answer::Taken, Some(inventory))),
         Err(InventoryFault::DoubledNode) => Ok((Answer::Refused(Refusal::DoubledNode), None)),
         Err(InventoryFault::Memory) => Err(AllocError),
@@ -44,7 +95,8 @@ fn take_reply(
     node: u16,
     value: &Value,
 ) -> Result<(Answer, Inventory), AllocError>
-    ensures { IfOk result (λ r. TakesReply inventory node (view value.now) r.0 r.1) }
+    ensures ok { IfOk result (λ r. TakesReply inventory node (view value.now) r.0 r.1) }
+    ensures memory { OnErr result (ReplyWants inventory node (view value.now)) }
 {
     let reply = match reply_of(alloc, value) {
         Ok(reply) => reply,
@@ -53,7 +105,7 @@ fn take_reply(
         Err(SyncFault::DoubledSegment) => {
             return Ok((Answer::Refused(Refusal::DoubledSegment), inventory));
         }
-        Err(_) => return Err(AllocError),
+        Err(SyncFault::NotJson | SyncFault::Memory) => return Err(AllocError),
     };
     match inventory.apply(node, &reply) {
         Ok((next, outcome)) => {
@@ -82,7 +134,8 @@ fn look_up(
     interval: &str,
     source: &str,
 ) -> Result<Answer, AllocError>
-    ensures { IfOk result (λ answer. LooksUp inventory.now interval.now source.now answer) }
+    ensures ok { IfOk result (λ answer. LooksUp inventory.now interval.now source.now answer) }
+    ensures memory { OnErr result (LookupWants interval.now source.now) }
 {
     let asked = match Interval::parse(interval) {
         Ok(asked) => asked,
@@ -90,10 +143,11 @@ fn look_up(
         Err(TimeFault::OutOfRange) => return Ok(Answer::Refused(Refusal::OutOfRange)),
         Err(TimeFault::Empty) => return Ok(Answer::Refused(Refusal::Empty)),
     };
-    let source = match Name::new(alloc, source) {
-        Ok(source) => source,
-        Err(IdFault::BadName) => return Ok(Answer::Refused(Refusal::BadName)),
-        Err(_) => return Err(AllocError),
+    if !Name::accepts(source) {
+        return Ok(Answer::Refused(Refusal::BadName));
+    }
+    let Ok(source) = Name::new(alloc, source) else {
+        return Err(AllocError);
     };
     let Some(timeline) = inventory.timeline(&source) else {
         return Ok(Answer::Found(Pieces::new(Vec::new(alloc))));
@@ -112,6 +166,7 @@ fn answer_command(
         IfSome found (λ r. Answers (Some inventory) (view value.now) r.0 r.1)) }
     ensures none { IfOk result (λ found.
         IfNone found (IsNoCommand (Some inventory) (view value.now))) }
+    ensures memory { OnErr result (WantsMemory (Some inventory) (view value.now)) }
 {
     match command_of(value) {
         Some(Command::Reply { node, reply }) => {
@@ -134,11 +189,12 @@ fn answer_opening(
     ensures answered { IfOk result (λ found.
         IfSome found (λ r. Answers None (view value.now) r.0 r.1)) }
     ensures none { IfOk result (λ found. IfNone found (IsNoCommand None (view value.now))) }
+    ensures memory { OnErr result (WantsMemory None (view value.now)) }
 {
-    let Some(names) = opening_of(alloc, value)? else {
+    let Some(nodes) = opening_of(value) else {
         return Ok(None);
     };
-    Ok(Some(take_brokers(alloc, &names)?))
+    Ok(Some(take_brokers(alloc, nodes)?))
 }
 
 /// What a line is answered, and the inventory that stands after it; None where the line is no JSON or no command.

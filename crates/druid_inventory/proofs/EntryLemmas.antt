@@ -1,20 +1,8 @@
--- Entries: equal descriptors, and lists of entries behind pointers.
+-- Lists of entries behind pointers.
 use Rattle.std.proofs.Common.{◌≡◌, Bool, ℕ, List, [], ◌∷◌, map, set, Some, IsTrue, bytes_eq, refl, sym, ap, ◌∙◌}
 use Rattle.std.specs.List.{AllZip, slice_get}
 use Rattle.std.proofs.lemmas.List.{set-get_or}
 use Rattle.std.proofs.lemmas.Option.{get_or_from_slice_get}
-use Rattle.druid_segid.specs.Identifier.{IsIdentifier, identifier_text}
-use Rattle.druid_segid.proofs.IdentifierLemmas.{bytes_eq-identifier_text}
-use Rattle.druid_shard.specs.Described.{Described}
-
-described_same : (a b : Described) → a.id ≡ b.id → a.core ≡ b.core → a.size ≡ b.size → a ≡ b
-described_same a b id core size i = record { id = id i; core = core i; size = size i }
-
--- descriptors whose parts are equal are equal
-pub same_from_parts : (a b : Described) (r : Bool) → IsIdentifier a.id → IsIdentifier b.id → a.core ≡ b.core → a.size ≡ b.size → r ≡ bytes_eq (identifier_text a.id) (identifier_text b.id) → (IsTrue r → a ≡ b) × (a ≡ b → IsTrue r)
-same_from_parts a b r va vb core size e =
-    let ids = bytes_eq-identifier_text a.id b.id va vb in
-    (λ t. described_same a b (ids.0 (sym e ∙ t)) core size, λ same. e ∙ ids.1 (ap (λ (d : Described). d.id) same))
 
 -- pointers copied one by one point to the same
 pub map-copied : {A B : Type 0} (f : A → B) (xs ys : List A) → AllZip (λ x y. f y ≡ f x) xs ys → map f ys ≡ map f xs

@@ -23,7 +23,7 @@ use Rattle.druid_shard.proofs.SortedLemmas.{AreSorted-own}
 use Rattle.druid_timeline.specs.Holding.{Held, Serving, held_of, AddsHeld}
 use Rattle.druid_inventory.specs.Entry.{Entry}
 use Rattle.druid_inventory.specs.Sources.{Serves, HasSource, IsHoldingOf}
-use Rattle.druid_inventory.specs.Timelines.{kept, IsTimelineOf, IsKept, AreTimelines, AreTimelinesOf, held_in, TakesSegment, AddsSegment, IsInventory}
+use Rattle.druid_inventory.specs.Timelines.{kept, IsTimelineOf, IsKept, AreTimelines, AreTimelinesOf, held_by, TakesSegment, AddsSegment, IsInventory}
 
 -- ---- one segment more
 
@@ -36,13 +36,13 @@ nothing_held x h = absurd (omega (arith, h.1))
 
 -- a source's holding, kept or empty
 held_of_kept : (served : ℕ → Described → Type 0) (source : List ℕ) (o : Option Serving) → IsKept served source o → (x : Held)
-    → Contains (held_in o) x ↔ ((i : ℕ) × (y : Described) × served i y × (y.id.source ≡ source) × (x ≡ held_of i y))
+    → Contains (held_by o) x ↔ ((i : ℕ) × (y : Described) × served i y × (y.id.source ≡ source) × (x ≡ held_of i y))
 held_of_kept served source None h x = (λ c. absurd (nothing_held x c), λ e. absurd (h e.0 e.1 e.2 e.3))
 held_of_kept served source (Some t) h x = h.held x
 
 -- at the source of the segment
 kept_here : (served : ℕ → Described → Type 0) (o : Option Serving) (t : Serving) (node : ℕ) (d : Described)
-    → IsKept served d.id.source o → t.source ≡ d.id.source → AddsHeld (held_in o) t.held (held_of node d)
+    → IsKept served d.id.source o → t.source ≡ d.id.source → AddsHeld (held_by o) t.held (held_of node d)
     → IsTimelineOf (WithSegment served node d) d.id.source t
 kept_here served o t node d old source adds = record {
   of_source = source;
@@ -149,7 +149,7 @@ not_tied Greater h = refl
 
 written : (m n : BTreeMap (List ℕ) Serving) (source : List ℕ) (t : Serving) (node : ℕ) (d : Described)
     → source ≡ d.id.source → UpdatesBy (slice_cmp nat_cmp) (slice_cmp nat_cmp source) m n (Some t)
-    → t.source ≡ d.id.source → AddsHeld (held_in (kept m d.id.source)) t.held (held_of node d) → AddsSegment m n node d
+    → t.source ≡ d.id.source → AddsHeld (held_by (kept m d.id.source)) t.held (held_of node d) → AddsSegment m n node d
 written m n source t node d same writes of_source adds = record {
   here = (t, subst (λ (s : List ℕ). kept n s ≡ Some t) same writes.1, of_source, adds);
   others = λ s apart. writes.2 s (not_tied (slice_cmp nat_cmp source s) (λ e. apart (sym (slice_cmp-Equal source s e) ∙ same)));
@@ -164,7 +164,7 @@ AddsSegment-grown m n source before t node d same found takes writes stays adds 
     let e : kept m d.id.source ≡ Some before = subst (λ (s : List ℕ). kept m s ≡ Some before) same (sym found) in
     let took = MatchOption-at_some ⊤ (TakesSegment d.id.source node d) before e takes in
     written m n source t node d same writes (stays ∙ took.of_source)
-    (subst (λ (o : Option Serving). AddsHeld (held_in o) t.held (held_of node d)) (sym e) adds)
+    (subst (λ (o : Option Serving). AddsHeld (held_by o) t.held (held_of node d)) (sym e) adds)
 
 -- the first segment of a source begins its timeline
 pub AddsSegment-begun : (m n : BTreeMap (List ℕ) Serving) (source key name : List ℕ) (begun t : Serving) (node : ℕ) (d : Described)
@@ -176,7 +176,7 @@ AddsSegment-begun m n source key name begun t node d same absent at called new w
     let none : begun.held ≡ [] = ap (λ (b : Serving). b.held) new in
     let of_source : t.source ≡ d.id.source = stays ∙ ap (λ (b : Serving). b.source) new ∙ called ∙ same in
     written m n key t node d (at ∙ same) writes of_source
-    (subst (λ (o : Option Serving). AddsHeld (held_in o) t.held (held_of node d)) (sym e)
+    (subst (λ (o : Option Serving). AddsHeld (held_by o) t.held (held_of node d)) (sym e)
     (subst (λ (xs : List Held). AddsHeld xs t.held (held_of node d)) none adds))
 
 -- ---- one node more

@@ -1,4 +1,4 @@
--- The timelines over what nodes serve.
+-- The timelines over what nodes serve, as an inventory keeps them: only proofs use this.
 use Rattle.std.specs.Prelude.{◌≡◌, ℕ, ◌≤◌, List, [], length, ◌↔◌, Option, None, Some, Contains}
 use Rattle.std.specs.BTreeMap.{BTreeMap, get}
 use Rattle.std.specs.Ordering.{nat_cmp}
@@ -38,9 +38,9 @@ pub record IsInventory (entries : List Entry) (timelines : BTreeMap (List ℕ) S
   pub over : AreTimelinesOf entries timelines
 
 -- what is held of a source
-abbrev pub held_in : Option Serving → List Held
-held_in None = []
-held_in (Some t) = t.held
+abbrev pub held_by : Option Serving → List Held
+held_by None = []
+held_by (Some t) = t.held
 
 -- the timeline is of the source, and has no such segment of the node
 pub record TakesSegment (source : List ℕ) (node : ℕ) (d : Described) (t : Serving) : Type 0 where
@@ -50,5 +50,5 @@ pub record TakesSegment (source : List ℕ) (node : ℕ) (d : Described) (t : Se
 -- the timeline of its source has the segment more, and the others stay
 pub record AddsSegment (old new : BTreeMap (List ℕ) Serving) (node : ℕ) (d : Described) : Type 0 where
   pub here : (t : Serving) × (kept new d.id.source ≡ Some t) × (t.source ≡ d.id.source)
-      × AddsHeld (held_in (kept old d.id.source)) t.held (held_of node d)
+      × AddsHeld (held_by (kept old d.id.source)) t.held (held_of node d)
   pub others : (source : List ℕ) → (source ≡ d.id.source → ⊥) → kept new source ≡ kept old source

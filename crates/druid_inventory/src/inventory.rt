@@ -17,6 +17,9 @@ use std::cmp::Ordering;
 use std::marker::Model;
 use std::sync::Arc;
 
+/// The most nodes of a list.
+pub const MAX_NODES: usize = 64;
+
 /// What a broker knows of each data node, in the order of their list, and the timeline of each data source.
 ///
 /// A contract sees the entries of the nodes. An inventory never changes: a reply gives a new one, which shares with it
@@ -41,6 +44,7 @@ impl Model for Inventory {
     ghost invariant = { λ a. IsInventory (map arc_value a.entries.items) (arc_value a.timelines) };
 }
 
+// Whether no name stands at two places.
 fn have_own_names(names: &[Name]) -> bool
     ensures { IsTrue result ↔ HaveOwnNames names.now }
 {
@@ -54,6 +58,7 @@ fn have_own_names(names: &[Name]) -> bool
     true
 }
 
+// The entries of nodes that were never synced.
 fn fresh_entries(alloc: Global, names: Vec<Name>) -> Result<Vec<Arc<Known, Global>>, AllocError>
     ensures { IfOk result (λ entries. map arc_value entries.items ≡ map fresh names.items) }
 {
@@ -68,7 +73,7 @@ impl Inventory {
     /// The inventory of a list of nodes, none of which was synced. V1 where a name stands twice, and V9 last.
     pub fn new(alloc: Global, names: Vec<Name>) -> Result<Inventory, InventoryFault>
         requires some { 1 ≤ vec_len names }
-        requires few { vec_len names ≤ 64 }
+        requires few { vec_len names ≤ max_nodes }
         ensures ok { IfOk result (λ inventory. inventory ≡ map fresh names.items) }
         ensures own { OnOk result (HaveOwnNames names.items) }
         ensures doubled { IsErrOf result InventoryFault.DoubledNode ↔ (HaveOwnNames names.items → ⊥) }
@@ -80,7 +85,7 @@ impl Inventory {
         Ok(Inventory::over(alloc, entries)?)
     }
 
-    /// The inventory of these entries, with timelines built from them.
+    // The inventory of these entries, with timelines built from them.
     fn over(alloc: Global, entries: Vec<Arc<Known, Global>>) -> Result<Inventory, AllocError>
         requires { vec_len entries ≤ max_nodes }
         ensures { IfOk result (λ inventory. inventory ≡ map arc_value entries.items) }
@@ -93,7 +98,7 @@ impl Inventory {
         })
     }
 
-    /// The same inventory, which shares all with this one.
+    // The same inventory, which shares all with this one.
     fn shared(&self) -> Result<Inventory, AllocError>
         ensures { IfOk result (λ inventory. inventory ≡ self.now) }
     {
@@ -104,7 +109,7 @@ impl Inventory {
         })
     }
 
-    /// The inventory with another entry for a node, which shares the other entries with this one.
+    // The inventory with another entry for a node, which shares the other entries with this one.
     fn with_entry(&self, node: NodeNo, entry: Known) -> Result<Inventory, AllocError>
         requires { node < length self.now }
         ensures { IfOk result (λ inventory. inventory ≡ slice_set self.now node entry) }
@@ -159,7 +164,7 @@ impl Inventory {
         }
     }
 
-    /// What a snapshot of a node makes of the inventory, where the node's entry is known.
+    // What a snapshot of a node makes of the inventory, where the node's entry is known.
     fn apply_snapshot(
         &self,
         node: NodeNo,

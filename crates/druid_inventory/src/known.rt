@@ -9,7 +9,7 @@ use druid_shard::{Descriptor, Mark};
 use std::alloc::{AllocError, Global};
 use std::marker::Model;
 
-/// A node's name, how far its history has been followed, and what it serves at that mark, by identifier.
+// A node's name, how far its history has been followed, and what it serves at that mark, by identifier.
 #[derive(Debug, Drop)]
 pub(crate) struct Known {
     name: Name,
@@ -29,7 +29,7 @@ impl Model for Known {
 }
 
 impl Known {
-    /// A node that was never synced.
+    // A node that was never synced.
     pub(crate) fn fresh(alloc: Global, name: Name) -> Known
         ensures { result ≡ fresh name }
     {
@@ -40,7 +40,7 @@ impl Known {
         }
     }
 
-    /// The node at another mark, with a copy of another set.
+    // The node at another mark, with a copy of another set.
     pub(crate) fn moved_to(
         &self,
         alloc: Global,
@@ -57,14 +57,14 @@ impl Known {
         })
     }
 
-    /// How far the node's history has been followed.
+    // How far the node's history has been followed.
     pub(crate) fn mark(&self) -> Mark
         ensures { result ≡ self.now.mark }
     {
         self.mark
     }
 
-    /// What the node serves at its mark.
+    // What the node serves at its mark.
     pub(crate) fn set(&self) -> &[Descriptor]
         ensures value { result.now ≡ self.now.set }
         ensures sorted { AreSorted self.now.set }
@@ -73,6 +73,7 @@ impl Known {
     }
 }
 
+// A copy of a set.
 fn copy_of(alloc: Global, set: &[Descriptor]) -> Result<Vec<Descriptor>, AllocError>
     ensures { IfOk result (λ copy. copy.items ≡ set.now) }
 {
@@ -83,20 +84,7 @@ fn copy_of(alloc: Global, set: &[Descriptor]) -> Result<Vec<Descriptor>, AllocEr
     Ok(copy)
 }
 
-#[tactic(auto, using(crate::proofs::EntryLemmas::same_from_parts))]
-fn is_same(a: &Descriptor, b: &Descriptor) -> bool
-    ensures { IsTrue result ↔ (a.now ≡ b.now) }
-{
-    if a.core() != b.core() {
-        return false;
-    }
-    if a.size() != b.size() {
-        return false;
-    }
-    a.id() == b.id()
-}
-
-/// Whether the sets are equal.
+// Whether the sets are equal.
 pub(crate) fn are_same(a: &[Descriptor], b: &[Descriptor]) -> bool
     ensures { IsTrue result ↔ (a.now ≡ b.now) }
 {
@@ -104,7 +92,7 @@ pub(crate) fn are_same(a: &[Descriptor], b: &[Descriptor]) -> bool
         return false;
     }
     for i in 0..a.len() {
-        if !is_same(&a[i], &b[i]) {
+        if a[i] != b[i] {
             return false;
         }
     }

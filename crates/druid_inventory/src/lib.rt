@@ -4,10 +4,9 @@
 mod fault;
 mod inventory;
 mod known;
-pub mod laws;
-#[cfg(test)]
-mod tests;
+mod laws;
 mod timelines;
 
 pub use fault::{ApplyFault, InventoryFault, Outcome};
-pub use inventory::Inventory;
+pub use inventory::{Inventory, MAX_NODES};
+pub use laws::{marks_never_fall, one_step};

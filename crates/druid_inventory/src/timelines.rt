@@ -12,11 +12,15 @@ use std::alloc::{AllocError, Global};
 use std::collections::BTreeMap;
 use std::sync::Arc;
 
-/// The timeline of each data source of which a node serves a segment.
+// The timeline of each data source of which a node serves a segment.
 pub(crate) type Timelines = BTreeMap<Name, Timeline>;
 
-/// Adds a segment, which the node does not serve yet, to the timeline of its source.
-fn add_to(timeline: &mut Timeline, node: NodeNo, descriptor: &Descriptor) -> Result<(), AllocError>
+// Adds a segment, which the node does not serve yet, to the timeline of its source.
+fn add_to_timeline(
+    timeline: &mut Timeline,
+    node: NodeNo,
+    descriptor: &Descriptor,
+) -> Result<(), AllocError>
     requires source { descriptor.now.id.source ≡ timeline.old.source }
     requires new { IsHeld timeline.old.held node descriptor.now.id → ⊥ }
     ensures added { OnOk result
@@ -32,7 +36,7 @@ fn add_to(timeline: &mut Timeline, node: NodeNo, descriptor: &Descriptor) -> Res
     }
 }
 
-/// Adds a segment, which the node does not serve yet; the first one of a source begins its timeline.
+// Adds a segment, which the node does not serve yet; the first one of a source begins its timeline.
 fn add_segment(
     timelines: &mut Timelines,
     alloc: Global,
@@ -45,17 +49,17 @@ fn add_segment(
 {
     let source = descriptor.id().source();
     match timelines.get_mut(source) {
-        Some(timeline) => add_to(timeline, node, descriptor),
+        Some(timeline) => add_to_timeline(timeline, node, descriptor),
         None => {
             let mut timeline = Timeline::new(alloc, source.clone()?);
-            add_to(&mut timeline, node, descriptor)?;
+            add_to_timeline(&mut timeline, node, descriptor)?;
             timelines.insert(source.clone()?, timeline)?;
             Ok(())
         }
     }
 }
 
-/// Adds the set of a node to the timelines over the nodes before it.
+// Adds the set of a node to the timelines over the nodes before it.
 fn add_set(
     timelines: &mut Timelines,
     alloc: Global,
@@ -73,7 +77,7 @@ fn add_set(
     Ok(())
 }
 
-/// The timelines over the sets of these nodes.
+// The timelines over the sets of these nodes.
 pub(crate) fn timelines_over(
     alloc: Global,
     entries: &[Arc<Known, Global>],

@@ -1,9 +1,14 @@
 -- The rows of lists of values.
-use Rattle.std.proofs.Common.{◌≡◌, ℕ, ℤ, zero, suc, ◌+◌, ◌*◌, ◌<◌, ◌≤◌, List, [], ◌∷◌, ◌++◌, length, take, drop, get_or, Option, arith, refl, ap, length-append, length-drop}
+use Rattle.std.proofs.Common.{◌≡◌, ℕ, ℤ, zero, suc, ◌+◌, ◌*◌, ◌<◌, ◌≤◌, List, [], ◌∷◌, ◌++◌, length, take, drop, get_or, map, Option, Some, None, arith, refl, ap, length-append, length-drop}
 use Rattle.std.proofs.lemmas.Grind.{common_steps}
 use Rattle.std.proofs.lemmas.Nat.{rows}
-use Rattle.std.proofs.lemmas.List.{length-take-le, take-append-le, drop-append-le, take_all, nil_from_length, drop-drop}
+use Rattle.std.specs.List.{sum}
+use Rattle.std.proofs.lemmas.List.Sums.{sum_by-cons}
+use Rattle.std.proofs.lemmas.List.{length-take-le, take-append-le, drop-append-le, take_all, nil_from_length, drop-drop, take-append-drop}
 use Rattle.druid_rows.specs.Rows.{Values, no_row}
+use Rattle.druid_rows.specs.Segment.{text_value_length, row_length, max_text}
+use Rattle.druid_rows.specs.Texts.{value_bytes, bytes_of}
+use Rattle.druid_rows.proofs.TextsLemmas.{bytes_of-append}
 use Rattle.druid_rows.specs.Sheet.{Sheet, rows_in, sheet_of}
 use Rattle.std.proofs.Math.Nat.{mul-le-mul_right}
 
@@ -81,3 +86,33 @@ texts_wide d m times texts numbers sheet i e h long =
 pub length_push : {X : Type 0} (w : ℕ) (times : List ℕ) (time : ℕ) (xs ys : List X) → length xs ≡ length times * w → length ys ≡ w → length (xs ++ ys) ≡ length (times ++ time ∷ []) * w
 length_push w times time xs ys h k =
     omega (arith, ap (λ (n : ℕ). n * w) (length-append times (time ∷ [])), length-append xs ys, h, k)
+
+-- ---- the bytes of the texts, and the lengths of the rows
+
+value_shorter : (v : Option (List ℕ)) → value_bytes v ≤ text_value_length v
+value_shorter None = omega arith
+value_shorter (Some text) = omega arith
+
+values_shorter : (vs : List (Option (List ℕ))) → bytes_of vs ≤ sum (map text_value_length vs)
+values_shorter [] = omega arith
+values_shorter (v ∷ vs) =
+    omega (arith, values_shorter vs, value_shorter v, sum_by-cons (λ (n : ℕ). n) (value_bytes v) (map value_bytes vs), sum_by-cons (λ (n : ℕ). n) (text_value_length v) (map text_value_length vs))
+
+pub row_shorter : (row : Values) → bytes_of row.dimensions ≤ row_length row
+row_shorter row = omega (arith, values_shorter row.dimensions)
+
+pub rows_shorter : (d m : ℕ) (times : List ℕ) (texts : List (Option (List ℕ))) (numbers : List (Option ℤ)) → length texts ≡ length times * d → bytes_of texts ≤ sum (map row_length (rows_in d m times texts numbers))
+rows_shorter d m [] texts numbers h =
+    let none : length texts ≡ 0 = omega (arith, h) in
+    rw (nil_from_length texts none) (omega arith)
+rows_shorter d m (time ∷ times) texts numbers h =
+    let first : Values = record { time = time; dimensions = take d texts; metrics = take m numbers } in
+    let others = rows_in d m times (drop d texts) (drop m numbers) in
+    let rest = rows_shorter d m times (drop d texts) (drop m numbers) (length_rest (length times) d texts h) in
+    let cut = ap bytes_of (take-append-drop d texts) in
+    omega (arith, rest, row_shorter first, bytes_of-append (take d texts) (drop d texts), cut, sum_by-cons (λ (n : ℕ). n) (row_length first) (map row_length others))
+
+-- where a row has room behind the others, so have its texts
+pub room_for_texts : (d m : ℕ) (times : List ℕ) (texts : List (Option (List ℕ))) (numbers : List (Option ℤ)) (sheet : Sheet) (row : Values) → sheet_of d m times texts numbers ≡ sheet → length texts ≡ length times * d → sum (map row_length sheet.rows) + row_length row ≤ max_text → bytes_of texts + bytes_of row.dimensions ≤ max_text
+room_for_texts d m times texts numbers sheet row e long room =
+    omega (arith, rows_shorter d m times texts numbers long, row_shorter row, ap (λ (s : Sheet). sum (map row_length s.rows)) e, room)

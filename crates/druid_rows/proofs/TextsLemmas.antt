@@ -1,12 +1,16 @@
 -- Texts that are appended to texts leave these as they were.
-use Rattle.std.proofs.Common.{◌≡◌, ◌∙◌, ℕ, ◌+◌, ◌-◌, ◌<◌, ◌≤◌, List, [], ◌∷◌, ◌++◌, length, take, drop, Option, Some, None, IfSome, IsUtf8, option_map, arith, sym, refl, ap, subst, ⊎_elim, append_assoc, append-nil, length-append, length-drop, Result, Ok, Err, OnErr}
+use Rattle.std.proofs.Common.{◌≡◌, ◌∙◌, ℕ, suc, ◌+◌, ◌-◌, ◌<◌, ◌≤◌, List, [], ◌∷◌, ◌++◌, length, map, take, drop, get_or, Option, Some, None, IfSome, IsUtf8, option_map, arith, sym, refl, ap, subst, ⊎_elim, append_assoc, append-nil, length-append, length-drop, Result, Ok, Err, OnErr}
 use Rattle.std.specs.Str.{IsCharBoundary}
 use Rattle.std.proofs.lemmas.Str.{IsCharBoundary-at_seam, IsCharBoundary-end, IsUtf8-append, IsUtf8-nil}
 use Rattle.std.proofs.lemmas.Bool.{cases_lt}
-use Rattle.std.proofs.lemmas.List.{map-append, get_or_append_left, take-append-le, drop-append-le, drop_at, take_all}
-use Rattle.std.proofs.lemmas.List.Elements.{All-weaker, All-push, All-head, All-tail}
+use Rattle.std.proofs.lemmas.List.{map-append, map_push, get_or-map, length-map, take_more, get_or_append_left, take-append-le, drop-append-le, drop_at, take_all}
+use Rattle.std.proofs.Math.Seq.{split_at}
+use Rattle.std.proofs.lemmas.List.Sums.{sum_by-cons}
+use Rattle.std.proofs.lemmas.List.Elements.{All-nil, All-weaker, All-push, All-head, All-tail}
 use Rattle.druid_rows.specs.declared.texts.Span.{Span}
-use Rattle.druid_rows.specs.Texts.{text_in, texts_in, IsSpan, AreSpans, Keeps, Grows}
+use Rattle.druid_rows.specs.Rows.{texts_by, max_value, AreShort}
+use Rattle.druid_rows.specs.Segment.{max_text}
+use Rattle.druid_rows.specs.Texts.{text_in, texts_in, value_bytes, bytes_of, IsSpan, AreSpans, Keeps, Grows}
 
 IsCharBoundary-grown : (bs ts : List ℕ) (i : ℕ) → IsUtf8 ts → IsCharBoundary bs i → IsCharBoundary (bs ++ ts) i
 IsCharBoundary-grown bs ts i utf8 h =
@@ -46,6 +50,27 @@ pub on_err : {T E P : Type 0} (r : Result T E) → P → OnErr r P
 on_err (Ok x) p = tt
 on_err (Err e) p = p
 
+pub bytes_of-append : (m n : List (Option (List ℕ))) → bytes_of (m ++ n) ≡ bytes_of m + bytes_of n
+bytes_of-append [] n = omega arith
+bytes_of-append (v ∷ m) n =
+    let more = bytes_of-append m n in
+    omega (arith, more, sum_by-cons (λ (n : ℕ). n) (value_bytes v) (map value_bytes (m ++ n)), sum_by-cons (λ (n : ℕ). n) (value_bytes v) (map value_bytes m))
+
+-- the texts of one more value
+pub texts_more : {T : Type 0} (text : T → List ℕ) (values : List (Option T)) (i : ℕ) (value : Option T) → i < length values → value ≡ get_or values i value → texts_by text (take (i + 1) values) ≡ texts_by text (take i values) ++ option_map text value ∷ []
+texts_more {T} text values i value h e =
+    ap (texts_by text) (take_more values i value h) ∙ map_push (option_map text) (take i values) (get_or values i value) ∙ ap (λ (v : Option T). texts_by text (take i values) ++ option_map text v ∷ []) (sym e)
+
+-- where all values have room, the next one has
+pub room_for_next : {T : Type 0} (text : T → List ℕ) (values : List (Option T)) (i : ℕ) (value : Option T) (before now : ℕ) → i < length values → value ≡ get_or values i value → now ≡ before + bytes_of (texts_by text (take i values)) → before + bytes_of (texts_by text values) ≤ max_text → now + value_bytes (option_map text value) ≤ max_text
+room_for_next {T} text values i value before now lt is so_far room =
+    let front = texts_by text (take i values) in
+    let behind = drop (suc i) values in
+    let back = texts_by text behind in
+    let split : values ≡ take i values ++ value ∷ behind = split_at values i value lt ∙ ap (λ (v : Option T). take i values ++ v ∷ behind) (sym is) in
+    let parts : texts_by text values ≡ front ++ option_map text value ∷ back = ap (texts_by text) split ∙ map-append (option_map text) (take i values) (value ∷ behind) in
+    omega (arith, ap bytes_of parts, bytes_of-append front (option_map text value ∷ back), sum_by-cons (λ (n : ℕ). n) (value_bytes (option_map text value)) (map value_bytes back), so_far, room)
+
 pub Keeps-none : (bs : List ℕ) (cells : List (Option Span)) → Keeps bs cells bs cells
 Keeps-none bs cells =
     record { more_bytes = []; utf8 = IsUtf8-nil; bytes_are = sym (append-nil bs); more_cells = []; cells_are = sym (append-nil cells) }
@@ -65,13 +90,14 @@ Keeps-then bs0 bs bs1 cells0 cells cells1 h k = record {
 
 pub Grows-none : (bs : List ℕ) (cells : List (Option Span)) → AreSpans bs cells → Grows bs cells bs cells []
 Grows-none bs cells h =
-    record { keeps = Keeps-none bs cells; spans = h; texts = sym (append-nil (texts_in bs cells)) }
+    record { keeps = Keeps-none bs cells; spans = h; texts = sym (append-nil (texts_in bs cells)); long = omega arith }
 
 pub Grows-then : (bs0 bs bs1 : List ℕ) (cells0 cells cells1 : List (Option Span)) (m n : List (Option (List ℕ))) → Grows bs0 cells0 bs cells m → Grows bs cells bs1 cells1 n → Grows bs0 cells0 bs1 cells1 (m ++ n)
 Grows-then bs0 bs bs1 cells0 cells cells1 m n h k = record {
   keeps = Keeps-then bs0 bs bs1 cells0 cells cells1 h.keeps k.keeps;
   spans = k.spans;
   texts = k.texts ∙ ap (λ (xs : List (Option (List ℕ))). xs ++ n) h.texts ∙ append_assoc (texts_in bs0 cells0) m n;
+  long = omega (arith, h.long, k.long, bytes_of-append m n);
 }
 
 pub Grows-null : (bs : List ℕ) (cells new : List (Option Span)) → new ≡ cells ++ None ∷ [] → AreSpans bs cells → Grows bs cells bs new (None ∷ [])
@@ -79,6 +105,7 @@ Grows-null bs cells new e h = rw e (record {
   keeps = record { more_bytes = []; utf8 = IsUtf8-nil; bytes_are = sym (append-nil bs); more_cells = None ∷ []; cells_are = refl };
   spans = All-push (λ cell. IfSome cell (IsSpan bs)) cells None h tt;
   texts = map-append (option_map (text_in bs)) cells (None ∷ []);
+  long = omega arith;
 })
 
 -- where a text stands that was appended
@@ -101,7 +128,21 @@ Grows-text bs ts bs1 cells new span utf8 eb ec start end h = rw (eb, ec) (record
   keeps = record { more_bytes = ts; utf8 = utf8; bytes_are = refl; more_cells = Some span ∷ []; cells_are = refl };
   spans = All-push (λ cell. IfSome cell (IsSpan (bs ++ ts))) cells (Some span) (AreSpans-grown bs ts cells utf8 h) (IsSpan-appended bs ts span utf8 start end);
   texts = map-append (option_map (text_in (bs ++ ts))) cells (Some span ∷ []) ∙ rw (texts_in-grown bs ts cells h, text_in-appended bs ts span start end) refl;
+  long = omega (arith, length-append bs ts);
 })
 
 pub Keeps-boundary : (bs bs1 : List ℕ) (cells cells1 : List (Option Span)) → Keeps bs cells bs1 cells1 → IsCharBoundary bs1 (length bs)
 Keeps-boundary bs bs1 cells cells1 h = IsCharBoundary-at_seam bs1 bs h.more_bytes h.bytes_are h.utf8
+
+-- ---- texts that are short
+
+pub none_short : AreShort []
+none_short = All-nil (λ value. IfSome value (λ text. length text ≤ max_value))
+
+pub one_short : {T : Type 0} (text : T → List ℕ) (values : List (Option T)) (i : ℕ) (value : Option T) → i < length values → value ≡ get_or values i value → AreShort (texts_by text (take i values)) → IfSome (option_map text value) (λ t. length t ≤ max_value) → AreShort (texts_by text (take (i + 1) values))
+one_short text values i value lt is all this =
+    subst AreShort (sym (texts_more text values i value lt is)) (All-push (λ value. IfSome value (λ t. length t ≤ max_value)) (texts_by text (take i values)) (option_map text value) all this)
+
+pub one_long : {T : Type 0} (text : T → List ℕ) (values : List (Option T)) (i : ℕ) (value : Option T) → i < length values → value ≡ get_or values i value → AreShort (texts_by text values) → ¬ (IfSome (option_map text value) (λ t. length t ≤ max_value)) → ⊥
+one_long {T} text values i value lt is all long =
+    long (subst (λ v. IfSome v (λ t. length t ≤ max_value)) (get_or-map (option_map text) values i value (option_map text value) lt ∙ ap (option_map text) (sym is)) (all i (option_map text value) (rw length-map lt)))

@@ -35,9 +35,13 @@ IsInside interval row = Has interval row.time
 abbrev pub max_value : ℕ
 max_value = 1_024
 
+-- no text is longer than the value of a dimension may be
+abbrev pub AreShort : List (Option (List ℕ)) → Type 0
+AreShort values = All (λ value. IfSome value (λ text. length text ≤ max_value)) values
+
 -- no value of a dimension is longer
 abbrev pub HasShortValues : Values → Type 0
-HasShortValues row = All (λ value. IfSome value (λ text. length text ≤ max_value)) row.dimensions
+HasShortValues row = AreShort row.dimensions
 
 -- a row without any value
 abbrev pub no_row : Values
@@ -47,6 +51,14 @@ no_row = record { time = 0; dimensions = []; metrics = [] }
 abbrev pub texts_of : List (String Global) → List (List ℕ)
 texts_of texts = map string_bytes texts
 
+-- the bytes of texts that may be null, and that are kept in any way
+abbrev pub texts_by : {T : Type 0} → (T → List ℕ) → List (Option T) → List (Option (List ℕ))
+texts_by text values = map (option_map text) values
+
 -- the bytes of texts that may be null
 abbrev pub nullable_texts_of : List (Option (String Global)) → List (Option (List ℕ))
-nullable_texts_of texts = map (option_map string_bytes) texts
+nullable_texts_of texts = texts_by string_bytes texts
+
+-- the row of these parts
+abbrev pub row_of : ℕ → List (Option (List ℕ)) → List (Option ℤ) → Values
+row_of time dimensions metrics = record { time = time; dimensions = dimensions; metrics = metrics }

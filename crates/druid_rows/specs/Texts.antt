@@ -1,5 +1,6 @@
 -- Texts that stand one after another in one list of bytes.
-use Rattle.std.specs.Prelude.{◌≡◌, ℕ, ◌≤◌, List, ◌++◌, map, slice_range, All, Option, IfSome, IsUtf8}
+use Rattle.std.specs.Prelude.{◌≡◌, ℕ, ◌+◌, ◌≤◌, List, ◌++◌, length, map, slice_range, All, Option, None, Some, IfSome, IsUtf8}
+use Rattle.std.specs.List.{sum}
 use Rattle.std.specs.Option.{option_map}
 use Rattle.std.specs.Str.{IsCharBoundary}
 use Rattle.druid_rows.specs.declared.texts.Span.{Span}
@@ -18,6 +19,15 @@ pub record IsSpan (bytes : List ℕ) (span : Span) : Type 0 where
   pub start : IsCharBoundary bytes span.start
   pub end : IsCharBoundary bytes span.end
 
+-- the bytes of a value
+abbrev pub value_bytes : Option (List ℕ) → ℕ
+value_bytes None = 0
+value_bytes (Some text) = length text
+
+-- the bytes of all values
+abbrev pub bytes_of : List (Option (List ℕ)) → ℕ
+bytes_of values = sum (map value_bytes values)
+
 abbrev pub AreSpans : List ℕ → List (Option Span) → Type 0
 AreSpans bytes cells = All (λ cell. IfSome cell (IsSpan bytes)) cells
 
@@ -34,3 +44,4 @@ pub record Grows (old_bytes : List ℕ) (old_cells : List (Option Span)) (bytes 
   pub keeps : Keeps old_bytes old_cells bytes cells
   pub spans : AreSpans bytes cells
   pub texts : texts_in bytes cells ≡ texts_in old_bytes old_cells ++ more
+  pub long : length bytes ≡ length old_bytes + bytes_of more

@@ -1,10 +1,13 @@
 ghost use Rattle.std.specs.Prelude.{◌≡◌, ◌↔◌, [], IfOk, OnOk, OnErr, IsErrOf, IsOkUnless};
-ghost use Rattle.druid_rows.specs.Rows.{IsSchema, HasShape, IsInside};
+ghost use Rattle.druid_rows.specs.Rows.{texts_by, row_of, IsSchema, HasShape, IsInside};
 ghost use Rattle.druid_rows.specs.Segment.{Content, IsWithinLimits, IsSegment, segment_of, with_row};
 
+use crate::lent::LentRow;
 use crate::{Row, RowFault, Schema, Segment};
 use druid_shard::Descriptor;
+use druid_time::Instant;
 use std::alloc::Global;
+use std::convert::AsStr;
 use std::marker::Model;
 
 /// Makes a segment row by row, for a caller that does not have them all at once. At each moment it is a segment.
@@ -46,6 +49,40 @@ impl SegmentBuilder {
     /// Adds a row behind the others. `TooLong` where a limit would be passed, then `RowShape`, then `RowOutside`, and
     /// then `Memory`; a refusal leaves the rows as they were.
     pub fn push(&mut self, row: &Row) -> Result<(), RowFault>
+        ensures ok { OnOk result (self.new ≡ with_row self.old row.now) }
+        ensures err { OnErr result (self.new ≡ self.old) }
+        ensures accepts { IsSegment (with_row self.old row.now) → IsOkUnless result RowFault.Memory }
+        ensures too_long { IsErrOf result RowFault.TooLong ↔ (¬ IsWithinLimits (with_row self.old row.now)) }
+        ensures row_shape { IsErrOf result RowFault.RowShape
+            ↔ (IsWithinLimits (with_row self.old row.now) × (¬ HasShape self.old.fields row.now)) }
+        ensures row_outside { IsErrOf result RowFault.RowOutside
+            ↔ (IsWithinLimits (with_row self.old row.now) × HasShape self.old.fields row.now
+            × (¬ IsInside self.old.descriptor.id.interval row.now)) }
+    {
+        self.push_lent(&row.lend())
+    }
+
+    /// Adds a row of these values behind the others, as `push` does. Each text is copied once, to where it stays.
+    pub fn push_values<T: AsStr>(
+        &mut self,
+        time: Instant,
+        dimensions: &[Option<T>],
+        metrics: &[Option<i64>],
+    ) -> Result<(), RowFault>
+        ensures ok { OnOk result (self.new ≡ with_row self.old (row_of time (texts_by T.text dimensions.entry.now) metrics.now)) }
+        ensures err { OnErr result (self.new ≡ self.old) }
+        ensures accepts { IsSegment (with_row self.old (row_of time (texts_by T.text dimensions.entry.now) metrics.now)) → IsOkUnless result RowFault.Memory }
+        ensures too_long { IsErrOf result RowFault.TooLong ↔ (¬ IsWithinLimits (with_row self.old (row_of time (texts_by T.text dimensions.entry.now) metrics.now))) }
+        ensures row_shape { IsErrOf result RowFault.RowShape
+            ↔ (IsWithinLimits (with_row self.old (row_of time (texts_by T.text dimensions.entry.now) metrics.now)) × (¬ HasShape self.old.fields (row_of time (texts_by T.text dimensions.entry.now) metrics.now))) }
+        ensures row_outside { IsErrOf result RowFault.RowOutside
+            ↔ (IsWithinLimits (with_row self.old (row_of time (texts_by T.text dimensions.entry.now) metrics.now)) × HasShape self.old.fields (row_of time (texts_by T.text dimensions.entry.now) metrics.now)
+            × (¬ IsInside self.old.descriptor.id.interval (row_of time (texts_by T.text dimensions.entry.now) metrics.now))) }
+    {
+        self.push_lent(&LentRow::new(time, dimensions, metrics))
+    }
+
+    fn push_lent<T: AsStr>(&mut self, row: &LentRow<'_, T>) -> Result<(), RowFault>
         ensures ok { OnOk result (self.new ≡ with_row self.old row.now) }
         ensures err { OnErr result (self.new ≡ self.old) }
         ensures accepts { IsSegment (with_row self.old row.now) → IsOkUnless result RowFault.Memory }

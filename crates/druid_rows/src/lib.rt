@@ -3,17 +3,17 @@
 
 mod builder;
 mod fault;
+mod lent;
 mod page;
 mod row;
 mod schema;
 mod segment;
 mod table;
-#[cfg(test)]
-mod tests;
 mod texts;
 
 pub use builder::SegmentBuilder;
 pub use fault::RowFault;
+pub use lent::MAX_VALUE;
 pub use row::Row;
-pub use schema::Schema;
-pub use segment::Segment;
+pub use schema::{MAX_NAME, Schema};
+pub use segment::{MAX_FIELDS, MAX_ROWS, MAX_TEXT, Segment};

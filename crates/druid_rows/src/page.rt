@@ -1,16 +1,19 @@
-ghost use Rattle.std.specs.Prelude.{◌≡◌, ◌<◌, [], length, slice_index_or, string_bytes, None, IfOk, OnOk, OnErr};
+ghost use Rattle.std.specs.Prelude.{◌≡◌, ◌+◌, ◌<◌, ◌≤◌, [], length, map, sum, slice_index_or, string_bytes, None, IfOk, OnOk, OnErr};
 ghost use Rattle.std.specs.Option.{option_map};
 ghost use Rattle.druid_rows.specs.Rows.{no_row, nullable_texts_of};
+ghost use Rattle.druid_rows.specs.Segment.{row_length, max_text};
 ghost use Rattle.druid_rows.specs.Sheet.{HasWidths, with_one_more};
 
 use crate::Row;
+use crate::lent::LentRow;
 use crate::texts::Texts;
 use druid_time::Instant;
 use std::alloc::{AllocError, Global};
+use std::convert::AsStr;
 use std::marker::Model;
 
-/// Rows that have the same number of values. These stand row by row in one list of each kind, so that a row takes
-/// little more memory than its values.
+// Rows that have the same number of values. These stand row by row in one list of each kind, so that a row takes
+// little more memory than its values.
 #[derive(Debug, Drop)]
 pub(crate) struct Page {
     alloc: Global,
@@ -43,7 +46,7 @@ fn copy_of(alloc: Global, value: Option<&str>) -> Result<Option<String>, AllocEr
 }
 
 impl Page {
-    /// No rows, of that many values of each kind.
+    // No rows, of that many values of each kind.
     pub(crate) fn new(alloc: Global, dimensions: usize, metrics: usize) -> Page
         ensures { result ≡ record { dimensions = dimensions; metrics = metrics; rows = [] } }
     {
@@ -57,14 +60,14 @@ impl Page {
         }
     }
 
-    /// No rows, of as many values of each kind.
+    // No rows, of as many values of each kind.
     pub(crate) fn empty(&self) -> Page
         ensures { result ≡ record { dimensions = self.now.dimensions; metrics = self.now.metrics; rows = [] } }
     {
         Page::new(self.alloc, self.dimensions, self.metrics)
     }
 
-    /// The number of rows.
+    // The number of rows.
     #[tactic(auto, using(crate::proofs::PageLemmas::length_rows_in))]
     pub(crate) fn len(&self) -> usize
         ensures { result ≡ length self.now.rows }
@@ -72,7 +75,7 @@ impl Page {
         self.times.len()
     }
 
-    /// The instant of the row at that place.
+    // The instant of the row at that place.
     #[tactic(auto, using(crate::proofs::PageLemmas::row_steps))]
     pub(crate) fn time(&self, row: usize) -> Instant
         requires { row < length self.now.rows }
@@ -81,7 +84,7 @@ impl Page {
         self.times[row]
     }
 
-    /// The value of a row for the dimension at that place. None for null.
+    // The value of a row for the dimension at that place. None for null.
     #[tactic(auto, using(crate::proofs::PageLemmas::row_steps))]
     pub(crate) fn dimension(&self, row: usize, dimension: usize) -> Option<&str>
         requires row { row < length self.now.rows }
@@ -89,11 +92,12 @@ impl Page {
         ensures { option_map (λ text. text.now) result
             ≡ slice_index_or (slice_index_or self.now.rows row no_row).dimensions dimension None }
     {
+        // Read for the proof: the reader tells what its type keeps.
         let _cells = self.texts.len();
         self.texts.get(row * self.dimensions + dimension)
     }
 
-    /// The value of a row for the metric at that place. None for null.
+    // The value of a row for the metric at that place. None for null.
     pub(crate) fn metric(&self, row: usize, metric: usize) -> Option<i64>
         requires row { row < length self.now.rows }
         requires metric { metric < self.now.metrics }
@@ -102,7 +106,7 @@ impl Page {
         self.metrics_of(row)[metric]
     }
 
-    /// A copy of the row at that place.
+    // A copy of the row at that place.
     pub(crate) fn row(&self, row: usize) -> Result<Row, AllocError>
         requires { row < length self.now.rows }
         ensures { IfOk result (λ copy. copy ≡ slice_index_or self.now.rows row no_row) }
@@ -134,11 +138,14 @@ impl Page {
         &self.numbers[start..start + self.metrics]
     }
 
-    /// Adds a row behind the others, or nothing.
+    // Adds a row behind the others, or nothing.
     #[tactic(auto, using(crate::proofs::PageLemmas::push_steps))]
-    pub(crate) fn push(&mut self, row: &Row) -> Result<(), AllocError>
-        requires { HasWidths self.old.dimensions self.old.metrics row.now }
-        ensures ok { OnOk result (self.new ≡ with_one_more self.old row.now) }
+    pub(crate) fn push<T: AsStr>(&mut self, row: &LentRow<'_, T>) -> Result<(), AllocError>
+        requires widths { HasWidths self.old.dimensions self.old.metrics row.now }
+        requires room { sum (map row_length self.old.rows)
+            + row_length row.now ≤ max_text }
+        ensures ok { OnOk result (self.new
+            ≡ with_one_more self.old row.now) }
         ensures err { OnErr result (self.new ≡ self.old) }
     {
         self.times.reserve(1)?;
@@ -154,7 +161,7 @@ impl Page {
         Ok(())
     }
 
-    /// Gives back the memory that it does not need.
+    // Gives back the memory that it does not need.
     pub(crate) fn shrink(&mut self)
         ensures { self.new ≡ self.old }
     {

@@ -4,8 +4,12 @@ ghost use Rattle.druid_rows.specs.Names.{is_field_byte, is_field_name, IsFieldNa
 ghost use Rattle.druid_rows.specs.Rows.{texts_of, IsSchema, HasShape};
 ghost use Rattle.druid_rows.specs.Segment.{names_length};
 
-use crate::Row;
+use crate::lent::LentRow;
+use std::convert::AsStr;
 use std::marker::Model;
+
+/// The most bytes of the name of a field.
+pub const MAX_NAME: usize = 100;
 
 /// The names of the dimensions and of the metrics of a segment's rows. A schema keeps any names; a segment takes only
 /// a schema whose names are field names and distinct.
@@ -52,7 +56,7 @@ impl Schema {
         ensures names { IsTrue result ↔ IsFieldName name.now }
     {
         let bytes = name.as_bytes();
-        1 <= bytes.len() && bytes.len() <= 100 && are_field_bytes(bytes)
+        1 <= bytes.len() && bytes.len() <= MAX_NAME && are_field_bytes(bytes)
     }
 
     /// These names, in this order.
@@ -82,7 +86,7 @@ impl Schema {
         &self.metrics
     }
 
-    /// Whether its names are field names and distinct. It takes no memory.
+    // Whether its names are field names and distinct. It takes no memory.
     pub(crate) fn is_valid(&self) -> bool
         ensures { IsTrue result ↔ IsSchema self.now }
     {
@@ -92,14 +96,14 @@ impl Schema {
         self.has_distinct_names()
     }
 
-    /// Whether the row has a value for each field.
-    pub(crate) fn fits(&self, row: &Row) -> bool
+    // Whether the row has a value for each field.
+    pub(crate) fn fits<T: AsStr>(&self, row: &LentRow<'_, T>) -> bool
         ensures { IsTrue result ↔ HasShape self.now row.now }
     {
         row.dimensions().len() == self.dimensions.len() && row.metrics().len() == self.metrics.len()
     }
 
-    /// The room that its names leave of this room. None where they are longer.
+    // The room that its names leave of this room. None where they are longer.
     pub(crate) fn room_after(&self, room: usize) -> Option<usize>
         ensures { SomeIff result
             (names_length self.now.dimensions + names_length self.now.metrics ≤ room)

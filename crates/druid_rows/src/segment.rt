@@ -3,23 +3,25 @@ ghost use Rattle.std.specs.Option.{option_map};
 ghost use Rattle.druid_rows.specs.Rows.{IsSchema, HasShape, IsInside, HasShortValues};
 ghost use Rattle.druid_rows.specs.Segment.{Content, IsWithinLimits, HaveShape, AreInside, IsSegment, row_at, segment_of, with_row, row_length, head_length, text_length, max_text};
 
+use crate::lent::LentRow;
 use crate::table::Table;
 use crate::{Row, RowFault, Schema};
 use druid_shard::Descriptor;
 use druid_time::{Instant, Interval};
 use std::alloc::{AllocError, Global};
+use std::convert::AsStr;
 use std::marker::Model;
 
 /// The most dimensions of a segment, and the most metrics.
-const MAX_FIELDS: usize = 64;
+pub const MAX_FIELDS: usize = 64;
 
 /// The most rows of a segment.
-const MAX_ROWS: usize = 100_000;
+pub const MAX_ROWS: usize = 100_000;
 
 /// The most bytes of the text of a segment.
-const MAX_TEXT: usize = 16_777_216;
+pub const MAX_TEXT: usize = 16_777_216;
 
-/// The bytes of a text that stand before the rows, besides the source, the version and the names.
+// The bytes of a text that stand before the rows, besides the source, the version and the names.
 const FIXED_HEAD: usize = 38;
 
 /// A segment: its descriptor, its schema and its rows, which never change. How the rows are kept is private.
@@ -53,7 +55,7 @@ fn room_after_head(descriptor: &Descriptor, schema: &Schema) -> Option<usize>
         (max_text - head_length descriptor.now schema.now) }
 {
     let id = descriptor.id();
-    let texts = id.source().as_str().len() + id.version().as_str().len();
+    let texts = id.source().as_str().len() + id.version().len();
     schema.room_after(MAX_TEXT - FIXED_HEAD - texts)
 }
 
@@ -63,7 +65,7 @@ fn room_after_rows(rows: &[Row], mut room: usize) -> Option<usize>
     ensures { SomeIff result (sum (map row_length rows.now) ≤ room) (room - sum (map row_length rows.now)) }
 {
     for row in rows {
-        room = row.room_after(room)?;
+        room = row.lend().room_after(room)?;
     }
     Some(room)
 }
@@ -71,7 +73,7 @@ fn room_after_rows(rows: &[Row], mut room: usize) -> Option<usize>
 fn have_short_values(rows: &[Row]) -> bool
     ensures { IsTrue result ↔ All HasShortValues rows.now }
 {
-    rows.iter().all(|row| row.has_short_values())
+    rows.iter().all(|row| row.lend().has_short_values())
 }
 
 // The room that is left in the text of a segment. None where a limit is passed.
@@ -91,7 +93,7 @@ fn room_left(descriptor: &Descriptor, schema: &Schema, rows: &[Row]) -> Option<u
 fn have_shape(schema: &Schema, rows: &[Row]) -> bool
     ensures { IsTrue result ↔ All (HasShape schema.now) rows.now }
 {
-    rows.iter().all(|row| schema.fits(row))
+    rows.iter().all(|row| schema.fits(&row.lend()))
 }
 
 fn are_inside(interval: Interval, rows: &[Row]) -> bool
@@ -180,18 +182,21 @@ impl Segment {
         })
     }
 
-    /// The room that is left behind one more row. None where a limit would be passed.
-    pub(crate) fn room_behind(&self, row: &Row) -> Option<usize>
+    // The room that is left behind one more row. None where a limit would be passed.
+    pub(crate) fn room_behind<T: AsStr>(&self, row: &LentRow<'_, T>) -> Option<usize>
         ensures { SomeIff result (IsWithinLimits (with_row self.now row.now))
             (max_text - text_length (with_row self.now row.now)) }
     {
-        if self.len == MAX_ROWS || !row.has_short_values() {
+        if self.len == MAX_ROWS {
+            return None;
+        }
+        if !row.has_short_values() {
             return None;
         }
         row.room_after(self.room)
     }
 
-    /// Gives back the memory that it does not need.
+    // Gives back the memory that it does not need.
     pub(crate) fn shrink(&mut self)
         ensures value { self.new ≡ self.old }
         ensures valid { IsSegment self.new }

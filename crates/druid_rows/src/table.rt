@@ -1,19 +1,22 @@
-ghost use Rattle.std.specs.Prelude.{◌≡◌, ◌<◌, [], ◌∷◌, ◌++◌, length, slice_index_or, None, All, IfOk, OnOk, OnErr};
+ghost use Rattle.std.specs.Prelude.{◌≡◌, ◌+◌, ◌<◌, ◌≤◌, [], ◌∷◌, ◌++◌, length, map, sum, slice_index_or, None, All, IfOk, OnOk, OnErr};
 ghost use Rattle.std.specs.Option.{option_map};
 ghost use Rattle.druid_rows.specs.Rows.{no_row};
+ghost use Rattle.druid_rows.specs.Segment.{row_length, max_text};
 ghost use Rattle.druid_rows.specs.Sheet.{HasWidths, with_one_more};
 
 use crate::Row;
+use crate::lent::LentRow;
 use crate::page::Page;
 use druid_time::Instant;
 use std::alloc::{AllocError, Global};
+use std::convert::AsStr;
 use std::marker::Model;
 use std::mem;
 
-/// The rows of a full page.
+// The rows of a full page.
 const PAGE_ROWS: usize = 256;
 
-/// Rows that have the same number of values, in pages: as the table grows, no row moves, and no memory is left over.
+// Rows that have the same number of values, in pages: as the table grows, no row moves, and no memory is left over.
 #[derive(Debug, Drop)]
 pub(crate) struct Table {
     full: Vec<Page>,
@@ -51,7 +54,7 @@ fn turn(full: &mut Vec<Page>, last: &mut Page) -> Result<(), AllocError>
 }
 
 impl Table {
-    /// No rows, of that many values of each kind.
+    // No rows, of that many values of each kind.
     pub(crate) fn new(alloc: Global, dimensions: usize, metrics: usize) -> Table
         ensures { result ≡ record { dimensions = dimensions; metrics = metrics; rows = [] } }
     {
@@ -61,20 +64,21 @@ impl Table {
         }
     }
 
-    /// These rows, of that many values of each kind. It takes them one by one, so that each is kept once only.
+    // These rows, of that many values of each kind. It takes them one by one, so that each is kept once only.
     pub(crate) fn of_rows(
         alloc: Global,
         dimensions: usize,
         metrics: usize,
         rows: Vec<Row>,
     ) -> Result<Table, AllocError>
-        requires { All (HasWidths dimensions metrics) rows.items }
+        requires widths { All (HasWidths dimensions metrics) rows.items }
+        requires room { sum (map row_length rows.items) ≤ max_text }
         ensures { IfOk result
             (λ table. table ≡ record { dimensions = dimensions; metrics = metrics; rows = rows.items }) }
     {
         let mut table = Table::new(alloc, dimensions, metrics);
         for row in rows {
-            table.push(&row)?;
+            table.push(&row.lend())?;
         }
         table.shrink();
         Ok(table)
@@ -94,7 +98,7 @@ impl Table {
         }
     }
 
-    /// The instant of the row at that place.
+    // The instant of the row at that place.
     pub(crate) fn time(&self, row: usize) -> Instant
         requires { row < length self.now.rows }
         ensures { result ≡ (slice_index_or self.now.rows row no_row).time }
@@ -103,7 +107,7 @@ impl Table {
         page.time(place)
     }
 
-    /// The value of a row for the dimension at that place. None for null.
+    // The value of a row for the dimension at that place. None for null.
     pub(crate) fn dimension(&self, row: usize, dimension: usize) -> Option<&str>
         requires row { row < length self.now.rows }
         requires dimension { dimension < self.now.dimensions }
@@ -114,7 +118,7 @@ impl Table {
         page.dimension(place, dimension)
     }
 
-    /// The value of a row for the metric at that place. None for null.
+    // The value of a row for the metric at that place. None for null.
     pub(crate) fn metric(&self, row: usize, metric: usize) -> Option<i64>
         requires row { row < length self.now.rows }
         requires metric { metric < self.now.metrics }
@@ -124,7 +128,7 @@ impl Table {
         page.metric(place, metric)
     }
 
-    /// A copy of the row at that place.
+    // A copy of the row at that place.
     pub(crate) fn row(&self, row: usize) -> Result<Row, AllocError>
         requires { row < length self.now.rows }
         ensures { IfOk result (λ copy. copy ≡ slice_index_or self.now.rows row no_row) }
@@ -133,10 +137,13 @@ impl Table {
         page.row(place)
     }
 
-    /// Adds a row behind the others, or nothing.
-    pub(crate) fn push(&mut self, row: &Row) -> Result<(), AllocError>
-        requires { HasWidths self.old.dimensions self.old.metrics row.now }
-        ensures ok { OnOk result (self.new ≡ with_one_more self.old row.now) }
+    // Adds a row behind the others, or nothing.
+    pub(crate) fn push<T: AsStr>(&mut self, row: &LentRow<'_, T>) -> Result<(), AllocError>
+        requires widths { HasWidths self.old.dimensions self.old.metrics row.now }
+        requires room { sum (map row_length self.old.rows)
+            + row_length row.now ≤ max_text }
+        ensures ok { OnOk result (self.new
+            ≡ with_one_more self.old row.now) }
         ensures err { OnErr result (self.new ≡ self.old) }
     {
         if self.last.len() == PAGE_ROWS {
@@ -145,7 +152,7 @@ impl Table {
         self.last.push(row)
     }
 
-    /// Gives back the memory that it does not need.
+    // Gives back the memory that it does not need.
     pub(crate) fn shrink(&mut self)
         ensures { self.new ≡ self.old }
     {

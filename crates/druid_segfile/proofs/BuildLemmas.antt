@@ -1,30 +1,25 @@
 -- A segment that is built from the rows that are read: there is always room for them.
-use Rattle.std.proofs.Common.{◌≡◌, ℕ, ◌+◌, ◌-◌, ◌^◌, ◌<◌, ◌≤◌, List, [], ◌∷◌, ◌++◌, map, length, Result, Ok, String, string_bytes, refl, sym, ap, subst, ◌∙◌, arith}
+use Rattle.std.proofs.Common.{◌≡◌, ℕ, ◌+◌, ◌-◌, ◌^◌, ◌<◌, ◌≤◌, List, [], ◌∷◌, ◌++◌, map, length, take, Option, ℤ, Result, Ok, Err, refl, sym, ap, subst, ◌∙◌, arith}
 use Rattle.std.specs.List.{sum}
-use Rattle.std.specs.Global.{Global}
 use Rattle.std.specs.Int.{w32, to_be_bytes}
-use Rattle.std.proofs.lemmas.List.{length-append, length-map, length_push, map_push}
+use Rattle.std.proofs.lemmas.List.{length-append, length-take, length-map, length_push, map_push}
 use Rattle.std.proofs.lemmas.List.Sums.{sum_by_push}
 use Rattle.std.proofs.lemmas.List.Elements.{All-nil, All-push, All-weaker}
 use Rattle.druid_shard.specs.Described.{Described}
-use Rattle.druid_rows.specs.Rows.{Fields, Values, texts_of, HasShape, IsInside, HasShortValues}
+use Rattle.druid_rows.specs.Rows.{Fields, Values, row_of, HasShape, IsInside, HasShortValues}
 use Rattle.druid_rows.specs.Segment.{Content, IsSegment, segment_of, with_row, text_length, head_length, row_length, max_rows, max_text}
-use Rattle.druid_rows.specs.declared.fault.RowFault.{RowFault}
-use Rattle.druid_rows.specs.declared.fault.RowFault.TheVariants as unmade
 use Rattle.druid_segfile.specs.declared.fault.FileFault.{FileFault}
 use Rattle.druid_segfile.specs.Spelling.{row}
-use Rattle.druid_segfile.specs.Reading.{Fails, number_at, at_most, magic_at, descriptor_at, fields_at, Shape, shape_of, values_at}
-use Rattle.druid_segfile.specs.Building.{refusal, HasRoom}
-use Rattle.druid_segfile.proofs.PartLemmas.{IsBytes, at_most_ok, wide32, number_read}
+use Rattle.druid_segfile.specs.Reading.{◌>>=◌, Cursor, number_at, at_most, magic_at, descriptor_at, fields_at, Shape, shape_of, each_at, values_at, rows_at, content_at}
+use Rattle.druid_segfile.specs.Building.{row_count_at, IsHead, IsWhole, HasRoom, with_read}
+use Rattle.druid_segfile.specs.Lent.{bytes_of, texts_lent, values_lent}
+use Rattle.std.specs.Borrow.{Bor}
+use Rattle.druid_segfile.proofs.PartLemmas.{IsBytes, IsBytes-take, bind_ok, ok_is, step_takes, at_most_ok, wide32, number_read}
 use Rattle.druid_segfile.proofs.HeadLemmas.{magic_takes, descriptor_read}
 use Rattle.druid_segfile.proofs.FieldLemmas.{AreFields, fields_read}
 use Rattle.druid_segfile.proofs.RowLemmas.{IsTextValue, IsRow, values_read}
 use Rattle.druid_segfile.proofs.LengthLemmas.{length_row, length_head}
 use Rattle.druid_segfile.proofs.SegmentLemmas.{text_is_short}
-
--- what is refused only for want of memory is told so
-pub refused_memory : (fault : RowFault) (told : FileFault) {A : Type 0} (whole : Result A FileFault) → told ≡ refusal fault → fault ≡ unmade.Memory → Fails told whole
-refused_memory fault told {A} whole is memory = rw (is, memory) tt
 
 text_length-with_row : (s : Content) (v : Values) → text_length (with_row s v) ≡ text_length s + row_length v
 text_length-with_row s v =
@@ -78,33 +73,64 @@ none_yet d fields h short = record {
   inside = All-nil (IsInside d.id.interval);
 }
 
--- the head of a segment was read, and the number of its rows
-pub record IsHead (short : FileFault) (bytes : List ℕ) (d : Described) (fields : Fields) (count : ℕ) (rest : List ℕ) : Type 0 where
-  pub behind : List ℕ
-  pub after_descriptor : List ℕ
-  pub after_fields : List ℕ
-  pub number : ℕ
-  pub layout : magic_at short bytes ≡ Ok behind
-  pub described : descriptor_at short behind ≡ Ok (d, after_descriptor)
-  pub named : fields_at short after_descriptor ≡ Ok (fields, after_fields)
-  pub counted : number_at short w32 after_fields ≡ Ok (number, rest)
-  pub limited : at_most max_rows number ≡ Ok count
-
 pub room_behind_head : (short : FileFault) (bytes : List ℕ) (d : Described) (fields : Fields) (count : ℕ) (rest : List ℕ) → IsBytes bytes → length bytes ≤ max_text → IsHead short bytes d fields count rest
     → HasRoom (segment_of d fields []) (shape_of d fields) count (length rest)
+unfolding row_count_at
 room_behind_head short bytes d fields count rest fits small h =
     let t1 = magic_takes short bytes h.behind fits h.layout in
     let t2 = (descriptor_read short).takes h.behind (d, h.after_descriptor) t1.rest_fits h.described in
     let t3 = (fields_read short).takes h.after_descriptor (fields, h.after_fields) t2.0.rest_fits h.named in
-    let t4 = (number_read short w32 (2 ^ 32) wide32).takes h.after_fields (h.number, rest) t3.0.rest_fits h.counted in
-    let limit = at_most_ok max_rows h.number count h.limited in
-    let len = length_head d fields bytes h.behind h.after_descriptor h.after_fields rest (to_be_bytes w32 h.number) refl t1.parts t2.0.parts t3.0.parts t4.0.parts in
+    let t4 = step_takes (number_read short w32 (2 ^ 32) wide32) (λ part. at_most max_rows part.0 >>= λ count. Ok (count, part.1)) h.after_fields (count, rest) t3.0.rest_fits h.counted in
+    let m = bind_ok (at_most max_rows t4.0.0) (λ count. Ok (count, t4.0.1)) (count, rest) t4.3 in
+    let limit = at_most_ok max_rows t4.0.0 m.0 m.1 in
+    let same = ok_is (m.0, t4.0.1) (count, rest) m.2 in
+    let len = length_head d fields bytes h.behind h.after_descriptor h.after_fields t4.0.1 (to_be_bytes w32 t4.0.0) refl t1.parts t2.0.parts t3.0.parts t4.1.parts in
+    let counted : m.0 ≡ count = ap (λ (p : ℕ × List ℕ). p.0) same in
+    let left : length t4.0.1 ≡ length rest = ap (λ (p : ℕ × List ℕ). length p.1) same in
     record {
       valid = none_yet d fields t3.1 (omega (arith, len, small));
       shaped = refl;
-      rows = omega (arith, limit.1);
-      text = omega (arith, len, small);
+      rows = omega (arith, limit.1, counted, limit.0);
+      text = omega (arith, len, small, left);
     }
 
-pub length_texts : (texts : List (String Global)) (names : List (List ℕ)) → texts_of texts ≡ names → length texts ≡ length names
-length_texts texts names e = sym (length-map texts string_bytes) ∙ ap length e
+pub length_lent : (texts : List (Bor (List ℕ))) (names : List (List ℕ)) → texts_lent texts ≡ names → length texts ≡ length names
+length_lent texts names e = sym (length-map texts bytes_of) ∙ ap length e
+
+-- ---- what was judged
+
+abbrev beside : List ℕ → ℕ → Result (ℕ × List ℕ) FileFault
+beside bytes n = Ok (n, bytes)
+
+regroup_limited : {A : Type 0} (counted : Result ℕ FileFault) (bytes : List ℕ) (f : ℕ → List ℕ → Result A FileFault) → (counted >>= λ n. f n bytes) ≡ ((counted >>= beside bytes) >>= λ (c : ℕ × List ℕ). f c.0 c.1)
+regroup_limited (Ok n) bytes f = refl
+regroup_limited (Err fault) bytes f = refl
+
+regroup_count : {A : Type 0} (read : Result (ℕ × List ℕ) FileFault) (limit : ℕ) (f : ℕ → List ℕ → Result A FileFault) → (read >>= λ (part : ℕ × List ℕ). at_most limit part.0 >>= λ n. f n part.1) ≡ ((read >>= λ (part : ℕ × List ℕ). at_most limit part.0 >>= beside part.1) >>= λ (c : ℕ × List ℕ). f c.0 c.1)
+regroup_count (Ok part) limit f = regroup_limited (at_most limit part.0) part.1 f
+regroup_count (Err fault) limit f = refl
+
+-- the number of rows, and then the rows
+pub rows_counted : (short : FileFault) (shape : Shape) (bytes : List ℕ) → rows_at short shape bytes ≡ (row_count_at short bytes >>= λ c. each_at (values_at short shape) c.0 c.1)
+unfolding rows_at row_count_at
+rows_counted short shape bytes = regroup_count (number_at short w32 bytes) max_rows (λ n rest. each_at (values_at short shape) n rest)
+
+pub whole_content : (short : FileFault) (bytes : List ℕ) (d : Described) (fields : Fields) (count : ℕ) (rest after : List ℕ) → (w : IsWhole short bytes d fields count rest after) → content_at short bytes ≡ Ok (segment_of d fields w.rows, after)
+unfolding content_at
+whole_content short bytes d fields count rest after w =
+    rw (w.head.layout, w.head.described, w.head.named, rows_counted short (shape_of d fields) w.head.after_fields, w.head.counted, w.read) refl
+
+-- what was judged is what is built
+pub built_is : (short0 short : FileFault) (d : Described) (fields : Fields) (count : ℕ) (bytes left after : List ℕ) (rows : List Values) (s : Content) → short0 ≡ short → each_at (values_at short0 (shape_of d fields)) count bytes ≡ Ok (rows, left) → with_read (segment_of d fields []) (each_at (values_at short (shape_of d fields)) count bytes) ≡ Ok (s, after) → segment_of d fields rows ≡ s
+built_is short0 short d fields count bytes left after rows s same read built =
+    let read2 : each_at (values_at short (shape_of d fields)) count bytes ≡ Ok (rows, left) = subst (λ (f : FileFault). each_at (values_at f (shape_of d fields)) count bytes ≡ Ok (rows, left)) same read in
+    let built2 = rw read2 at built in
+    ap (λ (p : Content × List ℕ). p.0) (ok_is (segment_of d fields rows, left) (s, after) built2)
+
+pub room_at_cursor : (n : ℕ) (bytes : List ℕ) (short : FileFault) (cursor : Cursor) (d : Described) (fields : Fields) (count : ℕ) (rest : List ℕ) → n ≤ max_text → IsBytes bytes → cursor ≡ record { rest = take n bytes; short = short } → IsHead cursor.short cursor.rest d fields count rest → HasRoom (segment_of d fields []) (shape_of d fields) count (length rest)
+room_at_cursor n bytes short cursor d fields count rest few fits at head =
+    let window : cursor.rest ≡ take n bytes = ap (λ (c : Cursor). c.rest) at in
+    room_behind_head cursor.short cursor.rest d fields count rest (subst IsBytes (sym window) (IsBytes-take n bytes fits)) (omega (arith, ap length window, length-take n bytes, few)) head
+
+pub lent_row : (time : ℕ) (texts others : List (Option (Bor (List ℕ)))) (numbers others_numbers : List (Option ℤ)) → others ≡ texts → others_numbers ≡ numbers → row_of time (values_lent others) others_numbers ≡ row_of time (values_lent texts) numbers
+lent_row time texts others numbers others_numbers e f = rw (e, f) refl

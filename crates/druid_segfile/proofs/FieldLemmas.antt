@@ -1,9 +1,10 @@
 -- The names of fields, read and written: each is new, where all are distinct.
-use Rattle.std.proofs.Common.{◌≡◌, ℕ, zero, suc, ◌<◌, ◌≤◌, Bool, true, false, not, ◌||◌, List, [], ◌∷◌, ◌++◌, length, get_or, Ok, String, string_bytes, refl, sym, ap, subst, ◌∙◌, append_assoc, arith, inl, inr}
+use Rattle.std.proofs.Common.{◌≡◌, ℕ, zero, suc, ◌<◌, ◌≤◌, Bool, true, false, not, ◌||◌, List, [], ◌∷◌, ◌++◌, length, get_or, Ok, refl, sym, ap, subst, ◌∙◌, append_assoc, arith, inl, inr}
 use Rattle.std.specs.Prelude.{bytes_eq, All}
 use Rattle.std.specs.List.{flat_map, list_any}
 use Rattle.std.specs.Str.{IsUtf8}
-use Rattle.std.specs.Global.{Global}
+use Rattle.std.specs.Borrow.{Bor}
+use Rattle.druid_segfile.specs.Lent.{bytes_of, texts_lent}
 use Rattle.std.specs.Cmp.Lexicographic.{bytes_decides}
 use Rattle.std.proofs.lemmas.Bool.{and_parts, and_from, not-true, not_from_false, false_from_ne_true, false≢true, cases_order}
 use Rattle.std.proofs.lemmas.List.{append-nil, length-append, length_push, get_or_append_left, get_or_push, get_or_at}
@@ -11,7 +12,7 @@ use Rattle.std.proofs.lemmas.List.Concat.{flat_map-cons}
 use Rattle.std.proofs.lemmas.List.Elements.{All-nil, All-cons, All-head, All-tail}
 use Rattle.std.proofs.lemmas.List.Folds.{list_any_at, Any-from_list_any, list_any-append}
 use Rattle.druid_rows.specs.Names.{is_field_name, IsFieldName, AreDistinct}
-use Rattle.druid_rows.specs.Rows.{Fields, IsSchema, texts_of}
+use Rattle.druid_rows.specs.Rows.{Fields, IsSchema}
 use Rattle.druid_rows.specs.Segment.{max_fields}
 use Rattle.druid_segfile.specs.declared.fault.FileFault.{FileFault}
 use Rattle.druid_segfile.specs.Spelling.{short_text, names}
@@ -191,9 +192,9 @@ among_both test xs ys = list_any-append test xs ys
 pub no_new_name : (before : List (List ℕ)) (text : List ℕ) → ¬ (IsUtf8 text) → is_new_name before text ≡ false
 no_new_name before text not = rw (no_field_name text not) refl
 
-any_of_texts : (test : List ℕ → Bool) (names : List (String Global)) → list_any test (texts_of names) ≡ list_any (λ name. test (string_bytes name)) names
+any_of_texts : (test : List ℕ → Bool) (names : List (Bor (List ℕ))) → list_any test (texts_lent names) ≡ list_any (λ name. test (bytes_of name)) names
 any_of_texts test [] = refl
-any_of_texts test (name ∷ names) = ap (λ b. test (string_bytes name) || b) (any_of_texts test names)
+any_of_texts test (name ∷ names) = ap (λ b. test (bytes_of name) || b) (any_of_texts test names)
 
-pub any_text : (test : List ℕ → Bool) (names : List (String Global)) (answer : Bool) → answer ≡ list_any (λ name. test (string_bytes name)) names → answer ≡ list_any test (texts_of names)
+pub any_text : (test : List ℕ → Bool) (names : List (Bor (List ℕ))) (answer : Bool) → answer ≡ list_any (λ name. test (bytes_of name)) names → answer ≡ list_any test (texts_lent names)
 any_text test names answer e = e ∙ sym (any_of_texts test names)

@@ -1,28 +1,35 @@
 -- Readers are steady: with more bytes behind, each gives the same value or the same fault, unless the bytes ended in it. None gives the fault of a failed write.
-use Rattle.std.proofs.Common.{◌≡◌, ◌≢◌, ◌⊎◌, ℕ, zero, suc, ◌<◌, Bool, true, false, ◌&&◌, cond, ltb, leb, eqb, List, [], ◌∷◌, ◌++◌, length, take, drop, Option, Some, None, Result, Ok, Err, refl, sym, ap, subst, ◌∙◌, arith, inl, inr}
+use Rattle.std.proofs.Common.{◌≡◌, ◌≢◌, ◌⊎◌, ℕ, zero, suc, ◌<◌, ◌≤◌, Bool, true, false, ◌&&◌, cond, ltb, leb, eqb, List, [], ◌∷◌, ◌++◌, length, take, drop, Option, Some, None, Result, Ok, Err, refl, sym, ap, subst, ◌∙◌, arith, inl, inr}
 use Rattle.std.specs.Prelude.{ok_or, bytes_eq, nat_le}
 use Rattle.std.specs.Str.{is_utf8}
 use Rattle.std.specs.Int.{Width, w16, w32, w64, byte_len}
 use Rattle.std.proofs.lemmas.Bool.{ltb-false, le-ltb}
-use Rattle.std.proofs.lemmas.List.{length-append, length-drop, take-append-drop, take-append-le, drop-append-le}
+use Rattle.std.proofs.lemmas.List.{length-append, length-drop, take_all, take-append-drop, take-append-le, drop-append-le}
 use Rattle.druid_time.specs.Extent.{Extent}
 use Rattle.druid_segid.specs.Names.{is_name, is_version}
 use Rattle.druid_shard.specs.Described.{max_core}
 use Rattle.druid_rows.specs.Rows.{max_value}
 use Rattle.druid_rows.specs.Segment.{Content, max_fields, max_rows, max_text}
 use Rattle.druid_segfile.specs.declared.fault.FileFault.{FileFault}
-use Rattle.druid_segfile.specs.declared.fault.FileFault.TheVariants.{Magic, Cut, Field, RowOutside, TooLong, Trailing, Write}
+use Rattle.druid_segfile.specs.declared.fault.FileFault.TheVariants.{Magic, Cut, Field, RowOutside, TooLong, Trailing, Read, Write, Memory}
 use Rattle.druid_segfile.specs.Spelling.{magic}
-use Rattle.druid_segfile.specs.Reading.{◌>>=◌, Fails, Gives, bytes_at, byte_at, number_at, signed_at, at_most, accepted, short_text_at, text_at, each_at, instant_of, moment_at, interval_at, name_at, version_at, core_at, descriptor_at, is_new_name, field_name_at, field_names_at, names_at, fields_at, instant_in, row_time_at, text_value_at, number_value_at, Shape, shape_of, values_at, rows_at, magic_at, content_at, short_of, segment_within, segment_at}
+use Rattle.druid_segfile.specs.Reading.{◌>>=◌, GivesInMemory, bytes_at, byte_at, number_at, signed_at, at_most, accepted, short_text_at, text_at, each_at, instant_of, moment_at, interval_at, name_at, version_at, core_at, descriptor_at, is_new_name, field_name_at, field_names_at, names_at, fields_at, instant_in, row_time_at, text_value_at, number_value_at, Shape, shape_of, values_at, rows_at, magic_at, content_at, short_of, segment_within, segment_at}
 use Rattle.druid_segfile.proofs.PartLemmas.{ok_is}
 
 -- the same value, with more bytes after it
 abbrev longer : {A : Type 0} → List ℕ → A × List ℕ → A × List ℕ
 longer more x = (x.0, x.1 ++ more)
 
+-- a fault that bytes can have
+abbrev pub IsOfBytes : FileFault → Type 0
+IsOfBytes Read = ⊥
+IsOfBytes Write = ⊥
+IsOfBytes Memory = ⊥
+IsOfBytes fault = Unit {0}
+
 abbrev Stays : {A : Type 0} → FileFault → (A → A) → Result A FileFault → Result A FileFault → Type 0
 Stays short add (Ok x) whole = whole ≡ Ok (add x)
-Stays short add (Err fault) whole = (fault ≡ short) ⊎ ((whole ≡ Err fault) × (fault ≢ Write))
+Stays short add (Err fault) whole = (fault ≡ short) ⊎ ((whole ≡ Err fault) × IsOfBytes fault)
 
 -- what is read of a front, and what of the whole: the same but for what `add` does, unless the front ends too soon
 record Keeps (A : Type 0) (short : FileFault) (add : A → A) (front whole : Result A FileFault) : Type 0 where
@@ -45,7 +52,7 @@ bound {A} {B} {short} {add} {end} {front} {whole} first f g next = bound_by shor
 read_ok : {A : Type 0} {short : FileFault} {add : A → A} (x : A) → Keeps A short add (Ok x) (Ok (add x))
 read_ok x = record { stays = refl }
 
-refused : {A : Type 0} {short : FileFault} {add : A → A} (fault : FileFault) → fault ≢ Write → Keeps A short add (Err fault) (Err fault)
+refused : {A : Type 0} {short : FileFault} {add : A → A} (fault : FileFault) → IsOfBytes fault → Keeps A short add (Err fault) (Err fault)
 refused fault own = record { stays = inr (refl, own) }
 
 either : {A : Type 0} {short : FileFault} {add : A → A} (b : Bool) {r s v w : Result A FileFault} → Keeps A short add r v → Keeps A short add s w → Keeps A short add (cond b r s) (cond b v w)
@@ -56,17 +63,17 @@ either false p q = q
 abbrev IsPlain : {A : Type 0} → FileFault → Result A FileFault → Type 0
 IsPlain {A} short r = Keeps A short (λ x. x) r r
 
-known : {A : Type 0} (short : FileFault) (o : Option A) (fault : FileFault) → fault ≢ Write → IsPlain short (ok_or o fault)
+known : {A : Type 0} (short : FileFault) (o : Option A) (fault : FileFault) → IsOfBytes fault → IsPlain short (ok_or o fault)
 known short None fault own = refused fault own
 known short (Some x) fault own = read_ok x
 
 no_more_than : (short : FileFault) (limit n : ℕ) → IsPlain short (at_most limit n)
 unfolding at_most
-no_more_than short limit n = either (ltb limit n) (refused TooLong (λ e. absurd cc)) (read_ok n)
+no_more_than short limit n = either (ltb limit n) (refused TooLong tt) (read_ok n)
 
 tested : {A : Type 0} (short : FileFault) (test : A → Bool) (x : A) → IsPlain short (accepted test x)
 unfolding accepted
-tested short test x = either (test x) (read_ok x) (refused Field (λ e. absurd cc))
+tested short test x = either (test x) (read_ok x) (refused Field tt)
 
 -- ---- parts
 
@@ -130,7 +137,7 @@ moment_steady : (short : FileFault) → IsSteady short (moment_at short)
 unfolding moment_at
 moment_steady short bytes more =
     bound (signed_steady short bytes more) _ _ (λ ms.
-    bound (known short (instant_of ms.0) Field (λ e. absurd cc)) _ _ (λ moment.
+    bound (known short (instant_of ms.0) Field tt) _ _ (λ moment.
     read_ok _))
 
 interval_steady : (short : FileFault) → IsSteady short (interval_at short)
@@ -138,7 +145,7 @@ unfolding interval_at
 interval_steady short bytes more =
     bound (moment_steady short bytes more) _ _ (λ start.
     bound (moment_steady short start.1 more) _ _ (λ end.
-    either (ltb start.0 end.0) (read_ok _) (refused Field (λ e. absurd cc))))
+    either (ltb start.0 end.0) (read_ok _) (refused Field tt)))
 
 name_steady : (short : FileFault) → IsSteady short (name_at short)
 unfolding name_at
@@ -197,7 +204,7 @@ row_time_steady : (short : FileFault) (interval : Extent) → IsSteady short (ro
 unfolding row_time_at
 row_time_steady short interval bytes more =
     bound (signed_steady short bytes more) _ _ (λ ms.
-    bound (known short (instant_in interval (instant_of ms.0)) RowOutside (λ e. absurd cc)) _ _ (λ time.
+    bound (known short (instant_in interval (instant_of ms.0)) RowOutside tt) _ _ (λ time.
     read_ok _))
 
 text_value_steady : (short : FileFault) → IsSteady short (text_value_at short)
@@ -205,14 +212,14 @@ unfolding text_value_at
 text_value_steady short [] more = record { stays = inl refl }
 text_value_steady short (zero ∷ bytes) more = read_ok (None, bytes)
 text_value_steady short (suc zero ∷ bytes) more = bound (text_steady short bytes more) _ _ (λ text. read_ok _)
-text_value_steady short (suc (suc mark) ∷ bytes) more = refused Field (λ e. absurd cc)
+text_value_steady short (suc (suc mark) ∷ bytes) more = refused Field tt
 
 number_value_steady : (short : FileFault) → IsSteady short (number_value_at short)
 unfolding number_value_at
 number_value_steady short [] more = record { stays = inl refl }
 number_value_steady short (zero ∷ bytes) more = read_ok (None, bytes)
 number_value_steady short (suc zero ∷ bytes) more = bound (signed_steady short bytes more) _ _ (λ number. read_ok _)
-number_value_steady short (suc (suc mark) ∷ bytes) more = refused Field (λ e. absurd cc)
+number_value_steady short (suc (suc mark) ∷ bytes) more = refused Field tt
 
 values_steady : (short : FileFault) (shape : Shape) → IsSteady short (values_at short shape)
 unfolding values_at
@@ -235,7 +242,7 @@ magic_steady : (short : FileFault) (bytes more : List ℕ) → Keeps (List ℕ) 
 unfolding magic_at
 magic_steady short bytes more =
     bound (bytes_steady short 4 bytes more) _ _ (λ part.
-    either (bytes_eq part.0 magic) (read_ok part.1) (refused Magic (λ e. absurd cc)))
+    either (bytes_eq part.0 magic) (read_ok part.1) (refused Magic tt))
 
 content_steady : (short : FileFault) → IsSteady short (content_at short)
 unfolding content_at
@@ -262,33 +269,61 @@ front_short short bytes s k is lt =
     let more = drop k bytes in
     short_of_more short more s (content_at short front) (content_at short (front ++ more)) (content_steady short front more).stays (ap (content_at short) (take-append-drop k bytes) ∙ is) (omega (arith, length-drop k bytes, lt))
 
--- no reader gives the fault of a failed write
-no_write : {A : Type 0} (short : FileFault) (add : A → A) (front whole : Result A FileFault) → short ≢ Write → Stays short add front whole → front ≢ Err Write
-no_write short add (Ok x) whole fine stays e = absurd cc
-no_write short add (Err fault) whole fine (inl same) e = let is : short ≡ Write = cc in fine is
-no_write short add (Err fault) whole fine (inr own) e = let is : fault ≡ Write = cc in own.1 is
+-- every fault that is read is one of the bytes
+own_fault : {A : Type 0} (short : FileFault) (add : A → A) (front whole : Result A FileFault) (fault : FileFault) → IsOfBytes short → Stays short add front whole → front ≡ Err fault → IsOfBytes fault
+own_fault short add (Ok x) whole fault own stays e = absurd cc
+own_fault short add (Err of) whole fault own (inl same) e = let is : short ≡ fault = cc in subst IsOfBytes is own
+own_fault short add (Err of) whole fault own (inr stays) e = let is : of ≡ fault = cc in subst IsOfBytes is stays.1
 
-short_no_write : (b : Bool) → cond b TooLong Cut ≢ Write
-short_no_write true e = absurd cc
-short_no_write false e = absurd cc
+short_own : (b : Bool) → IsOfBytes (cond b TooLong Cut)
+short_own true = tt
+short_own false = tt
 
-trailing_no_write : (b : Bool) (s : Content) → cond b (Ok s) (Err Trailing) ≢ Err Write
-trailing_no_write true s e = absurd cc
-trailing_no_write false s e = absurd cc
+trailing_own : (b : Bool) (s : Content) (fault : FileFault) → cond b (Ok s) (Err Trailing) ≡ Err fault → IsOfBytes fault
+trailing_own true s fault e = absurd cc
+trailing_own false s fault e = let is : Trailing ≡ fault = cc in subst IsOfBytes is tt
 
-judged_no_write : (r : Result (Content × List ℕ) FileFault) (test : List ℕ → Bool) → r ≢ Err Write → (r >>= λ x. cond (test x.1) (Ok x.0) (Err Trailing)) ≢ Err Write
-judged_no_write (Err fault) test none e = let is : fault ≡ Write = cc in none (ap Err is)
-judged_no_write (Ok x) test none e = trailing_no_write (test x.1) x.0 e
+judged_own : (r : Result (Content × List ℕ) FileFault) (test : List ℕ → Bool) (fault : FileFault) → ((f : FileFault) → r ≡ Err f → IsOfBytes f) → (r >>= λ x. cond (test x.1) (Ok x.0) (Err Trailing)) ≡ Err fault → IsOfBytes fault
+judged_own (Err of) test fault own e = let is : of ≡ fault = cc in subst IsOfBytes is (own of refl)
+judged_own (Ok x) test fault own e = trailing_own (test x.1) x.0 fault e
 
-within_no_write : (limit : ℕ) (bytes : List ℕ) → segment_within limit bytes ≢ Err Write
+pub within_own : (limit : ℕ) (bytes : List ℕ) (fault : FileFault) → segment_within limit bytes ≡ Err fault → IsOfBytes fault
 unfolding segment_within
-within_no_write limit bytes =
+within_own limit bytes fault e =
     let short = short_of limit bytes in
     let steady = content_steady short (take limit bytes) [] in
-    judged_no_write (content_at short (take limit bytes)) (λ rest. eqb (length rest) 0 && leb (length bytes) limit) (no_write short (longer []) _ _ (short_no_write (ltb limit (length bytes))) steady.stays)
+    judged_own (content_at short (take limit bytes)) (λ rest. eqb (length rest) 0 && leb (length bytes) limit) fault (λ f is. own_fault short (longer []) _ _ f (short_own (ltb limit (length bytes))) steady.stays is) e
 
-pub gives_no_write : (bytes : List ℕ) (result : Result Content FileFault) → Gives result (segment_at bytes) → result ≢ Err Write
+pub gives_no_write : (bytes : List ℕ) (result : Result Content FileFault) → GivesInMemory result (segment_at bytes) → result ≢ Err Write
 gives_no_write bytes (Ok s) gives e = absurd cc
 gives_no_write bytes (Err fault) gives e =
     let same : fault ≡ Write = cc in
-    within_no_write max_text bytes (subst (λ (f : FileFault). Fails f (segment_at bytes)) same gives)
+    within_own max_text bytes Write (subst (λ (f : FileFault). GivesInMemory (Err f) (segment_at bytes)) same gives)
+
+-- ---- a fault stays, whatever follows
+
+judged_ok : (b : Bool) (s : Content) (fault : FileFault) → cond b (Ok s) (Err Trailing) ≡ Err fault → fault ≢ Trailing → ⊥
+judged_ok true s fault e none = absurd cc
+judged_ok false s fault e none = let same : Trailing ≡ fault = cc in none (sym same)
+
+judged_fault : (r : Result (Content × List ℕ) FileFault) (test : List ℕ → Bool) (fault : FileFault) → (r >>= λ x. cond (test x.1) (Ok x.0) (Err Trailing)) ≡ Err fault → fault ≢ Trailing → r ≡ Err fault
+judged_fault (Err own) test fault e none = let same : own ≡ fault = cc in ap Err same
+judged_fault (Ok x) test fault e none = absurd (judged_ok (test x.1) x.0 fault e none)
+
+stays_fault : {A : Type 0} (short fault : FileFault) (add : A → A) (front whole : Result A FileFault) → Stays short add front whole → front ≡ Err fault → fault ≢ short → whole ≡ Err fault
+stays_fault short fault add (Ok x) whole stays e other = absurd cc
+stays_fault short fault add (Err own) whole (inl same) e other = let is : own ≡ fault = cc in absurd (other (sym is ∙ same))
+stays_fault short fault add (Err own) whole (inr stays) e other = let is : own ≡ fault = cc in stays.0 ∙ ap Err is
+
+within_stays : (limit : ℕ) (front more : List ℕ) (fault : FileFault) → length (front ++ more) ≤ limit → segment_within limit front ≡ Err fault → fault ≢ Cut → fault ≢ Trailing → segment_within limit (front ++ more) ≡ Err fault
+unfolding segment_within
+within_stays limit front more fault fits e cut trailing =
+    let len = length-append front more in
+    let few : length front ≤ limit = omega (arith, len, fits) in
+    let first : (content_at Cut front >>= λ x. cond (eqb (length x.1) 0 && leb (length front) limit) (Ok x.0) (Err Trailing)) ≡ Err fault = rw (le-ltb limit (length front) few, take_all limit front few) at e in
+    let read = judged_fault (content_at Cut front) (λ rest. eqb (length rest) 0 && leb (length front) limit) fault first trailing in
+    let whole = stays_fault Cut fault (longer more) (content_at Cut front) (content_at Cut (front ++ more)) (content_steady Cut front more).stays read cut in
+    rw (le-ltb limit (length (front ++ more)) fits, take_all limit (front ++ more) fits, whole) refl
+
+pub fault_stays : (front more : List ℕ) (fault : FileFault) → length (front ++ more) ≤ max_text → segment_at front ≡ Err fault → fault ≢ Cut → fault ≢ Trailing → segment_at (front ++ more) ≡ Err fault
+fault_stays front more fault fits e cut trailing = within_stays max_text front more fault fits e cut trailing

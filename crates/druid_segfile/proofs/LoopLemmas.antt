@@ -1,21 +1,8 @@
 -- Parts that a loop reads one after the other.
-use Rattle.std.proofs.Common.{◌≡◌, ℕ, suc, ◌-◌, ◌+◌, ◌≤◌, ◌<◌, List, [], ◌∷◌, ◌++◌, Result, Ok, Err, refl, sym, ap, ◌∙◌, append_assoc, arith}
+use Rattle.std.proofs.Common.{◌≡◌, ℕ, suc, ◌-◌, ◌+◌, ◌≤◌, ◌<◌, List, [], ◌∷◌, ◌++◌, Result, Ok, Err, IsOk, refl, sym, ap, ◌∙◌, append_assoc, arith}
 use Rattle.std.proofs.lemmas.List.{append-nil}
 use Rattle.druid_segfile.specs.declared.fault.FileFault.{FileFault}
-use Rattle.druid_segfile.specs.declared.fault.FileFault.TheVariants.{Magic, Cut, Field, RowOutside, TooLong, Trailing, Read, Write, Memory}
-use Rattle.druid_segfile.specs.Reading.{◌>>=◌, Fails, each_at, field_name_at, field_names_at}
-
--- where a part fails, the whole does so
-pub fails_whole : {A B : Type 0} (fault : FileFault) (part : Result A FileFault) (whole : Result B FileFault) → ((f : FileFault) → part ≡ Err f → whole ≡ Err f) → Fails fault part → Fails fault whole
-fails_whole Magic part whole on h = on Magic h
-fails_whole Cut part whole on h = on Cut h
-fails_whole Field part whole on h = on Field h
-fails_whole RowOutside part whole on h = on RowOutside h
-fails_whole TooLong part whole on h = on TooLong h
-fails_whole Trailing part whole on h = on Trailing h
-fails_whole Read part whole on h = tt
-fails_whole Write part whole on h = on Write h
-fails_whole Memory part whole on h = tt
+use Rattle.druid_segfile.specs.Reading.{◌>>=◌, each_at, field_name_at, field_names_at}
 
 -- what is made of the parts that were read before, and of those that are still read
 abbrev pub gathered : {A B : Type 0} → (List A → B) → List A → Result (List A × List ℕ) FileFault → Result (B × List ℕ) FileFault
@@ -23,6 +10,16 @@ gathered make front read = read >>= λ x. Ok (make (front ++ x.0), x.1)
 
 abbrev pub with_front : {A : Type 0} → List A → Result (List A × List ℕ) FileFault → Result (List A × List ℕ) FileFault
 with_front front read = read >>= λ x. Ok (front ++ x.0, x.1)
+
+nothing_before : {A : Type 0} (read : Result (List A × List ℕ) FileFault) → with_front [] read ≡ read
+nothing_before (Ok x) = refl
+nothing_before (Err fault) = refl
+
+-- before the first part
+pub with_none : {A : Type 0} (read : List ℕ → Result (A × List ℕ) FileFault) (count : ℕ) (bytes : List ℕ) → with_front [] (each_at read (count - 0) bytes) ≡ each_at read count bytes
+with_none read count bytes =
+    let all : count - 0 ≡ count = omega arith in
+    rw all (nothing_before (each_at read count bytes))
 
 regroup : {A B : Type 0} (make : List A → B) (front : List A) (first : A) (read : Result (List A × List ℕ) FileFault) → gathered make front (read >>= λ x. Ok (first ∷ x.0, x.1)) ≡ gathered make (front ++ first ∷ []) read
 regroup {A} {B} make front first (Ok x) =
@@ -37,14 +34,13 @@ goes_on make read front count i bytes first after total lt h so_far =
     let one : gathered make front (each_at read (count - i) bytes) ≡ gathered make (front ++ first ∷ []) (each_at read (count - (i + 1)) after) = rw (k, h) (regroup make front first (each_at read (count - (i + 1)) after)) in
     sym one ∙ so_far
 
-pub ends : {A B : Type 0} (make : List A → B) (read : List ℕ → Result (A × List ℕ) FileFault) (fault : FileFault) (front : List A) (count i : ℕ) (bytes : List ℕ) (total : Result (B × List ℕ) FileFault) → i < count → Fails fault (read bytes)
-    → gathered make front (each_at read (count - i) bytes) ≡ total → Fails fault total
+pub ends : {A B : Type 0} (make : List A → B) (read : List ℕ → Result (A × List ℕ) FileFault) (fault : FileFault) (front : List A) (count i : ℕ) (bytes : List ℕ) (total : Result (B × List ℕ) FileFault) → i < count → read bytes ≡ Err fault
+    → gathered make front (each_at read (count - i) bytes) ≡ total → total ≡ Err fault
 unfolding each_at
 ends make read fault front count i bytes total lt h so_far =
-    fails_whole fault (read bytes) total (λ f e.
     let k : count - i ≡ suc (count - (i + 1)) = omega arith in
-    let one : gathered make front (each_at read (count - i) bytes) ≡ Err f = rw (k, e) refl in
-    sym so_far ∙ one) h
+    let one : gathered make front (each_at read (count - i) bytes) ≡ Err fault = rw (k, h) refl in
+    sym so_far ∙ one
 
 pub is_done : {A B : Type 0} (make : List A → B) (read : List ℕ → Result (A × List ℕ) FileFault) (front : List A) (count i : ℕ) (bytes : List ℕ) (total : Result (B × List ℕ) FileFault) → count ≤ i
     → gathered make front (each_at read (count - i) bytes) ≡ total → total ≡ Ok (make front, bytes)
@@ -65,14 +61,13 @@ names_go_on short others front count i bytes name after total lt h so_far =
     let one : with_front front (field_names_at short (count - i) (others ++ front) bytes) ≡ with_front (front ++ name ∷ []) (field_names_at short (count - (i + 1)) ((others ++ front) ++ name ∷ []) after) = rw (k, h) (regroup (λ (xs : List (List ℕ)). xs) front name (field_names_at short (count - (i + 1)) ((others ++ front) ++ name ∷ []) after)) in
     ap (λ (before : List (List ℕ)). with_front (front ++ name ∷ []) (field_names_at short (count - (i + 1)) before after)) (sym behind) ∙ sym one ∙ so_far
 
-pub names_end : (short fault : FileFault) (others front : List (List ℕ)) (count i : ℕ) (bytes : List ℕ) (total : Result (List (List ℕ) × List ℕ) FileFault) → i < count → Fails fault (field_name_at short (others ++ front) bytes)
-    → with_front front (field_names_at short (count - i) (others ++ front) bytes) ≡ total → Fails fault total
+pub names_end : (short fault : FileFault) (others front : List (List ℕ)) (count i : ℕ) (bytes : List ℕ) (total : Result (List (List ℕ) × List ℕ) FileFault) → i < count → field_name_at short (others ++ front) bytes ≡ Err fault
+    → with_front front (field_names_at short (count - i) (others ++ front) bytes) ≡ total → total ≡ Err fault
 unfolding field_names_at
 names_end short fault others front count i bytes total lt h so_far =
-    fails_whole fault (field_name_at short (others ++ front) bytes) total (λ f e.
     let k : count - i ≡ suc (count - (i + 1)) = omega arith in
-    let one : with_front front (field_names_at short (count - i) (others ++ front) bytes) ≡ Err f = rw (k, e) refl in
-    sym so_far ∙ one) h
+    let one : with_front front (field_names_at short (count - i) (others ++ front) bytes) ≡ Err fault = rw (k, h) refl in
+    sym so_far ∙ one
 
 pub names_done : (short : FileFault) (others front : List (List ℕ)) (count i : ℕ) (bytes : List ℕ) (total : Result (List (List ℕ) × List ℕ) FileFault) → count ≤ i
     → with_front front (field_names_at short (count - i) (others ++ front) bytes) ≡ total → total ≡ Ok (front, bytes)
@@ -81,3 +76,8 @@ names_done short others front count i bytes total le so_far =
     let k : count - i ≡ 0 = omega arith in
     let one : with_front front (field_names_at short (count - i) (others ++ front) bytes) ≡ Ok (front, bytes) = rw k (ap (λ (xs : List (List ℕ)). Ok (xs, bytes)) (append-nil front)) in
     sym so_far ∙ one
+
+-- what is made of something that is read in whole is no fault
+pub is_read : {A B : Type 0} (read : Result A FileFault) (make : A → B) (fault : FileFault) → IsOk read → (read >>= λ x. Ok (make x)) ≡ Err fault → ⊥
+is_read (Ok x) make fault ok e = absurd cc
+is_read (Err of) make fault ok e = absurd cc

@@ -1,5 +1,5 @@
 -- A segment, read and written.
-use Rattle.std.proofs.Common.{◌≡◌, ℕ, ◌+◌, ◌-◌, ◌<◌, ◌≤◌, true, false, ◌&&◌, cond, eqb, ltb, leb, List, [], ◌++◌, length, take, Option, Some, None, Result, Ok, Err, refl, sym, ap, subst, ◌∙◌, append_assoc, option_map, arith, min, inl, inr}
+use Rattle.std.proofs.Common.{◌≡◌, ℕ, ◌+◌, ◌-◌, ◌<◌, ◌≤◌, true, false, ◌&&◌, cond, eqb, ltb, leb, List, [], ◌++◌, length, take, Option, Some, None, Result, Ok, Err, refl, sym, ap, subst, ◌∙◌, append_assoc, option_map, arith, min, inl, inr, rules}
 use Rattle.std.specs.Prelude.{IfOk, IfSome}
 use Rattle.std.specs.Str.{IsUtf8}
 use Rattle.std.proofs.lemmas.Bool.{and_parts, and_left, and_right, and_from, cond-true, cond-false, cases_lt, eqb-true, leb-true, le-leb, lt-leb, lt-ltb, le-ltb, ne_eqb}
@@ -11,16 +11,15 @@ use Rattle.druid_shard.specs.Described.{Described, IsDescribed}
 use Rattle.druid_rows.specs.Rows.{Fields, Values, HasShape, IsInside, HasShortValues, max_value}
 use Rattle.druid_rows.specs.Segment.{Content, IsSegment, segment_of, max_text, text_length}
 use Rattle.druid_segfile.specs.declared.fault.FileFault.{FileFault}
-use Rattle.druid_segfile.specs.declared.fault.FileFault.TheVariants.{Cut, Trailing}
+use Rattle.druid_segfile.specs.declared.fault.FileFault.TheVariants.{Magic, Cut, Field, RowOutside, TooLong, Trailing, Read, Write, Memory}
 use Rattle.druid_segfile.specs.Spelling.{magic, descriptor, names, rows, spelling, AreValues, Fits}
-use Rattle.druid_segfile.specs.Reading.{◌>>=◌, Fails, Gives, magic_at, descriptor_at, fields_at, rows_at, shape_of, content_at, short_of, segment_within, segment_at}
+use Rattle.druid_segfile.specs.Reading.{◌>>=◌, GivesInMemory, GivesOfReader, Cursor, magic_at, descriptor_at, fields_at, rows_at, shape_of, content_at, short_of, segment_within, segment_at}
 use Rattle.druid_segfile.proofs.PartLemmas.{bind_ok, passed_ok, ok_is, IsBytes, IsBytes-take, Takes, Takes-then, step_takes, step_again}
 use Rattle.druid_segfile.proofs.HeadLemmas.{descriptor_read, magic_takes, magic_again}
 use Rattle.druid_segfile.proofs.FieldLemmas.{fields_text, AreFields, fields_read}
 use Rattle.druid_segfile.proofs.RowLemmas.{IsTextValue, IsRow, AreRows, rows_read}
 use Rattle.druid_segfile.proofs.LengthLemmas.{length_spelling}
-use Rattle.druid_segfile.proofs.LoopLemmas.{fails_whole}
-use Rattle.druid_segfile.proofs.FrontLemmas.{front_short}
+use Rattle.druid_segfile.proofs.FrontLemmas.{front_short, IsOfBytes, within_own}
 
 -- what has a spelling, but for its length
 pub record IsContent (content : Content) : Type 0 where
@@ -190,14 +189,27 @@ front_again : (front : List ℕ) (s : Content) → IsSegment s → Fits s → fr
 front_again front s h fits is =
     ap segment_at (is ∙ take_all (max_text + 1) (spelling s) (omega (arith, length_spelling s, h.within.text))) ∙ segment_again s h fits
 
-pub known_only : (known : Option (List ℕ)) (front : List ℕ) (result : Result Content FileFault) → IsFront front known → Gives result (segment_at front) → (s : Content) → IsSegment s → Fits s → known ≡ Some (spelling s) → Gives result (Ok s)
+of_reader : {X : Type 0} (result read : Result X FileFault) → GivesInMemory result read → GivesOfReader result read
+of_reader (Ok x) read h = h
+of_reader (Err Magic) read h = h
+of_reader (Err Cut) read h = h
+of_reader (Err Field) read h = h
+of_reader (Err RowOutside) read h = h
+of_reader (Err TooLong) read h = h
+of_reader (Err Trailing) read h = h
+of_reader (Err Read) read h = tt
+of_reader (Err Write) read h = h
+of_reader (Err Memory) read h = tt
+
+pub known_only : (known : Option (List ℕ)) (front : List ℕ) (result : Result Content FileFault) → IsFront front known → GivesInMemory result (segment_at front) → (s : Content) → IsSegment s → Fits s → known ≡ Some (spelling s) → GivesOfReader result (Ok s)
 known_only known front result is gives s h fits e =
     let one : IsFront front (Some (spelling s)) = subst (IsFront front) e is in
-    subst (Gives result) (front_again front s h fits one) gives
+    of_reader result (Ok s) (subst (GivesInMemory result) (front_again front s h fits one) gives)
 
-pub known_exact : (known : Option (List ℕ)) (front : List ℕ) (result : Result Content FileFault) → IsFront front known → Gives result (segment_at front) → IfSome known (λ bytes. Gives result (segment_at bytes))
+pub known_exact : (known : Option (List ℕ)) (front : List ℕ) (result : Result Content FileFault) → IsFront front known → GivesInMemory result (segment_at front) → IfSome known (λ bytes. GivesOfReader result (segment_at bytes))
 known_exact None front result is gives = tt
-known_exact (Some bytes) front result is gives = subst (Gives result) (ap segment_at is ∙ within_front max_text bytes) gives
+known_exact (Some bytes) front result is gives =
+    of_reader result (segment_at bytes) (subst (GivesInMemory result) (ap segment_at is ∙ within_front max_text bytes) gives)
 
 -- ---- for the code, whose window is a front of the bytes
 
@@ -210,10 +222,11 @@ same_content : (limit n : ℕ) (bytes : List ℕ) (short : FileFault) → short 
 same_content limit n bytes short s e =
     ap (λ window. content_at (short_of limit bytes) window) (sym (same_window limit n bytes e)) ∙ ap (λ d. content_at d (take n bytes)) (sym s)
 
-pub content_fails : (limit n : ℕ) (bytes : List ℕ) (short fault : FileFault) → short ≡ short_of limit bytes → n ≡ min (length bytes) limit → Fails fault (content_at short (take n bytes)) → Fails fault (segment_within limit bytes)
+pub content_fails : (limit n : ℕ) (bytes : List ℕ) (short fault : FileFault) → short ≡ short_of limit bytes → n ≡ min (length bytes) limit → content_at short (take n bytes) ≡ Err fault → segment_within limit bytes ≡ Err fault
 unfolding segment_within
-content_fails limit n bytes short fault s e h =
-    fails_whole fault (content_at short (take n bytes)) _ (λ f is. let one : content_at (short_of limit bytes) (take limit bytes) ≡ Err f = same_content limit n bytes short s e ∙ is in rw one refl) h
+content_fails limit n bytes short fault s e is =
+    let one : content_at (short_of limit bytes) (take limit bytes) ≡ Err fault = same_content limit n bytes short s e ∙ is in
+    rw one refl
 
 content_judged : (limit n : ℕ) (bytes : List ℕ) (short : FileFault) (x : Content × List ℕ) → short ≡ short_of limit bytes → n ≡ min (length bytes) limit → content_at short (take n bytes) ≡ Ok x
     → segment_within limit bytes ≡ cond (eqb (length x.1) 0 && leb (length bytes) limit) (Ok x.0) (Err Trailing)
@@ -233,6 +246,39 @@ passes_limit limit n bytes short x s e is long =
 pub is_all : (limit n : ℕ) (bytes : List ℕ) (short : FileFault) (x : Content × List ℕ) → short ≡ short_of limit bytes → n ≡ min (length bytes) limit → content_at short (take n bytes) ≡ Ok x → eqb (length x.1) 0 ≡ true → length bytes ≤ limit → segment_within limit bytes ≡ Ok x.0
 is_all limit n bytes short x s e is none fits =
     content_judged limit n bytes short x s e is ∙ cond-true _ (Ok x.0) (Err Trailing) (and_from (eqb (length x.1) 0) (leb (length bytes) limit) none (le-leb (length bytes) limit fits))
+
+told_err : {X : Type 0} (fault : FileFault) (read : Result X FileFault) → IsOfBytes fault → read ≡ Err fault → GivesInMemory (Err fault) read
+told_err Magic read own e = e
+told_err Cut read own e = e
+told_err Field read own e = e
+told_err RowOutside read own e = e
+told_err TooLong read own e = e
+told_err Trailing read own e = e
+told_err Read read own e = e
+told_err Write read own e = e
+told_err Memory read own e = absurd own
+
+-- a fault of the bytes
+pub judged_err : (limit n : ℕ) (bytes : List ℕ) (short fault : FileFault) (cursor : Cursor) → short ≡ short_of limit bytes → n ≡ min (length bytes) limit → cursor ≡ record { rest = take n bytes; short = short } → content_at cursor.short cursor.rest ≡ Err fault → GivesInMemory (Err fault) (segment_within limit bytes)
+judged_err limit n bytes short fault cursor s e at h =
+    let fails = content_fails limit n bytes short fault s e (subst (λ (c : Cursor). content_at c.short c.rest ≡ Err fault) at h) in
+    told_err fault (segment_within limit bytes) (within_own limit bytes fault fails) fails
+
+-- the bytes are all read
+pub judged_ok : (limit n : ℕ) (bytes : List ℕ) (short : FileFault) (cursor : Cursor) (s : Content) (after : List ℕ) → short ≡ short_of limit bytes → n ≡ min (length bytes) limit → cursor ≡ record { rest = take n bytes; short = short } → content_at cursor.short cursor.rest ≡ Ok (s, after) → eqb (length after) 0 ≡ true → length bytes ≤ limit → segment_within limit bytes ≡ Ok s
+judged_ok limit n bytes short cursor s after is e at h none fits =
+    is_all limit n bytes short (s, after) is e (subst (λ (c : Cursor). content_at c.short c.rest ≡ Ok (s, after)) at h) none fits
+
+pub judged_trails : (limit n : ℕ) (bytes : List ℕ) (short : FileFault) (cursor : Cursor) (s : Content) (after : List ℕ) → short ≡ short_of limit bytes → n ≡ min (length bytes) limit → cursor ≡ record { rest = take n bytes; short = short } → content_at cursor.short cursor.rest ≡ Ok (s, after) → eqb (length after) 0 ≡ false → segment_within limit bytes ≡ Err Trailing
+judged_trails limit n bytes short cursor s after is e at h more =
+    trails limit n bytes short (s, after) is e (subst (λ (c : Cursor). content_at c.short c.rest ≡ Ok (s, after)) at h) more
+
+pub judged_passes : (limit n : ℕ) (bytes : List ℕ) (short : FileFault) (cursor : Cursor) (s : Content) (after : List ℕ) → short ≡ short_of limit bytes → n ≡ min (length bytes) limit → cursor ≡ record { rest = take n bytes; short = short } → content_at cursor.short cursor.rest ≡ Ok (s, after) → limit < length bytes → segment_within limit bytes ≡ Err Trailing
+judged_passes limit n bytes short cursor s after is e at h long =
+    passes_limit limit n bytes short (s, after) is e (subst (λ (c : Cursor). content_at c.short c.rest ≡ Ok (s, after)) at h) long
+
+pub may_lack_memory : {X : Type 0} (read : Result X FileFault) (x : X) (told : FileFault) → read ≡ Ok x → told ≡ Memory → GivesInMemory (Err told) read
+may_lack_memory read x told e is = rw (is, e) (search rules)
 
 -- ---- cut files and long ones
 

@@ -3,3 +3,4 @@ pub mod Reading
 pub mod Written
 pub mod Building
 pub mod Heading
+pub mod Lent

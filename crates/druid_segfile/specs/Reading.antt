@@ -1,5 +1,5 @@
 -- Reading a segment from left to right, with the first fault that is met.
-use Rattle.std.specs.Prelude.{◌≡◌, ℕ, ℤ, pos, negsuc, zero, suc, ◌+ℤ◌, Bool, ◌&&◌, ◌==◌, not, List, [], ◌∷◌, ◌++◌, length, take, drop, Option, Some, None, ok_or, Result, Ok, Err, nat_lt, nat_le, if◌then◌else◌, bytes_eq}
+use Rattle.std.specs.Prelude.{◌≡◌, ℕ, ℤ, pos, negsuc, zero, suc, ◌+ℤ◌, Bool, ◌&&◌, ◌==◌, not, List, [], ◌∷◌, ◌++◌, length, take, drop, Option, Some, None, ok_or, Result, Ok, Err, IsOk, nat_lt, nat_le, if◌then◌else◌, bytes_eq}
 use Rattle.std.specs.List.{list_any}
 use Rattle.std.specs.Int.{Width, w16, w32, w64, byte_len, from_be_bytes, cast_signed}
 use Rattle.std.specs.Str.{is_utf8}
@@ -19,21 +19,36 @@ abbrev pub ◌>>=◌ : {A B : Type 0} → Result A FileFault → (A → Result B
 (Ok x) >>= f = f x
 (Err e) >>= f = Err e
 
--- nothing is said of a failed read and of refused memory; any other fault is the first one
-abbrev pub Fails : {X : Type 0} → FileFault → Result X FileFault → Type 0
-Fails Read read = Unit {0}
-Fails Memory read = Unit {0}
-Fails fault read = read ≡ Err fault
-
--- what a call returned is what reading gives, unless the reader failed or memory was refused
+-- what a call returned is what reading gives
 abbrev pub Gives : {X : Type 0} → Result X FileFault → Result X FileFault → Type 0
 Gives (Ok x) read = read ≡ Ok x
-Gives (Err fault) read = Fails fault read
+Gives (Err fault) read = read ≡ Err fault
 
 -- the same of a value that is seen by `view`
 abbrev pub GivesAs : {X Y : Type 0} → (X → Y) → Result X FileFault → Result Y FileFault → Type 0
 GivesAs view (Ok x) read = read ≡ Ok (view x)
-GivesAs view (Err fault) read = Fails fault read
+GivesAs view (Err fault) read = read ≡ Err fault
+
+-- the same, but that memory may be refused, though only where something is read
+abbrev pub GivesInMemory : {X : Type 0} → Result X FileFault → Result X FileFault → Type 0
+GivesInMemory (Err Memory) read = IsOk read
+GivesInMemory result read = Gives result read
+
+-- the same of a reader, that may fail before all is read, or be refused memory
+abbrev pub GivesOfReader : {X : Type 0} → Result X FileFault → Result X FileFault → Type 0
+GivesOfReader (Err Read) read = Unit {0}
+GivesOfReader (Err Memory) read = Unit {0}
+GivesOfReader result read = Gives result read
+
+-- what is left of the bytes, and the fault where a part passes their end
+pub record Cursor : Type 0 where
+  pub rest : List ℕ
+  pub short : FileFault
+
+-- the part, seen by `view`, is what reading gives, and the cursor stands behind it; or the fault is the one of reading
+abbrev pub TakesAs : {X A : Type 0} → (X → A) → Cursor → Cursor → Result X FileFault → Result (A × List ℕ) FileFault → Type 0
+TakesAs view old new (Ok x) read = (read ≡ Ok (view x, new.rest)) × (new.short ≡ old.short)
+TakesAs view old new (Err fault) read = read ≡ Err fault
 
 -- ---- Parts. A part that is read is a value and the bytes after it; `short` is the fault where the bytes end in it.
 

@@ -1,31 +1,51 @@
 //! Readers of the names of the fields.
-ghost use Rattle.std.specs.Prelude.{◌≡◌, [], ◌++◌, bytes_eq, string_bytes};
+ghost use Rattle.std.specs.Prelude.{◌≡◌, ◌++◌, ◌≤◌, [], length, map, bytes_eq, IfOk};
 ghost use Rattle.std.specs.List.{list_any};
 ghost use Rattle.druid_rows.specs.Rows.{texts_of};
-ghost use Rattle.druid_segfile.specs.Reading.{GivesAs, accepted, is_new_name, field_name_at, field_names_at, names_at, fields_at};
+ghost use Rattle.druid_rows.specs.Segment.{max_fields};
+ghost use Rattle.druid_segfile.specs.Reading.{GivesAs, TakesAs, accepted, is_new_name, field_name_at, field_names_at, names_at, fields_at};
+ghost use Rattle.druid_segfile.specs.Lent.{texts_lent};
 
 use crate::FileFault;
-use crate::parts::{at_most, byte_at, short_text_at};
-use druid_rows::Schema;
-use std::alloc::Global;
+use crate::cursor::{Cursor, at_most};
+use arrayvec::ArrayVec;
+use druid_rows::{MAX_FIELDS, MAX_NAME, Schema};
+use std::alloc::{AllocError, Global};
+use std::marker::Model;
 use std::str;
 
-/// The most dimensions of a segment, and the most metrics.
-const MAX_FIELDS: usize = 64;
+// Names that lie in the bytes of a segment.
+type Names<'a> = ArrayVec<&'a str, MAX_FIELDS>;
 
-/// The most bytes of the name of a field.
-const MAX_NAME: usize = 100;
-
-fn is_among(name: &str, names: &[String]) -> bool
-    ensures { result ≡ list_any (bytes_eq name.now) (texts_of names.now) }
-{
-    names.iter().any(|other| name == other.as_str())
+// The names of the dimensions and of the metrics.
+#[derive(Debug, Drop)]
+pub(crate) struct FieldNames<'a> {
+    dimensions: Names<'a>,
+    metrics: Names<'a>,
 }
 
-/// Whether it is a field name, and none of the names before it: first the others, and then these.
+impl<'a> Model for FieldNames<'a> {
+    ghost use Rattle.druid_rows.specs.Rows.{Fields};
+    ghost use Rattle.druid_segfile.specs.Lent.{texts_lent};
+
+    ghost Value = { Fields };
+
+    ghost view = { λ a. record {
+      dimensions = texts_lent a.dimensions.items;
+      metrics = texts_lent a.metrics.items;
+    } };
+}
+
+fn is_among(name: &str, names: &[&str]) -> bool
+    ensures { result ≡ list_any (bytes_eq name.now) (texts_lent names.now) }
+{
+    names.iter().any(|other| name == *other)
+}
+
+// Whether it is a field name, and none of the names before it: first the others, and then these.
 #[tactic(auto, using(crate::proofs::FieldLemmas::among_both))]
-fn is_new_name(name: &str, others: &[String], names: &[String]) -> bool
-    ensures { result ≡ is_new_name (texts_of others.now ++ texts_of names.now) name.now }
+fn is_new_name(name: &str, others: &[&str], names: &[&str]) -> bool
+    ensures { result ≡ is_new_name (texts_lent others.now ++ texts_lent names.now) name.now }
 {
     if !Schema::accepts(name) {
         return false;
@@ -34,14 +54,9 @@ fn is_new_name(name: &str, others: &[String], names: &[String]) -> bool
 }
 
 #[tactic(auto, using(crate::proofs::FieldLemmas::no_new_name), unfolding(crate::specs::Reading::accepted))]
-fn field_name_of(
-    alloc: Global,
-    text: &[u8],
-    others: &[String],
-    names: &[String],
-) -> Result<String, FileFault>
-    ensures { GivesAs string_bytes result
-        (accepted (is_new_name (texts_of others.now ++ texts_of names.now)) text.now) }
+fn field_name_of<'a>(text: &'a [u8], others: &[&str], names: &[&str]) -> Result<&'a str, FileFault>
+    ensures { GivesAs (λ name. name.now) result
+        (accepted (is_new_name (texts_lent others.now ++ texts_lent names.now)) text.now) }
 {
     let Ok(text) = str::from_utf8(text) else {
         return Err(FileFault::Field);
@@ -49,69 +64,90 @@ fn field_name_of(
     if !is_new_name(text, others, names) {
         return Err(FileFault::Field);
     }
-    Ok(String::from_str(alloc, text)?)
+    Ok(text)
 }
 
-#[tactic(auto, unfolding(crate::specs::Reading::field_name_at))]
-fn field_name_at<'a>(
-    alloc: Global,
-    bytes: &'a [u8],
-    others: &[String],
-    names: &[String],
-    short: FileFault,
-) -> Result<(String, &'a [u8]), FileFault>
-    ensures { GivesAs (λ x. (string_bytes x.0, x.1.now)) result
-        (field_name_at short (texts_of others.now ++ texts_of names.now) bytes.now) }
+fn strings(alloc: Global, names: &[&str]) -> Result<Vec<String>, AllocError>
+    ensures { IfOk result (λ strings. texts_of strings.items ≡ texts_lent names.now) }
 {
-    let (text, rest) = short_text_at(bytes, MAX_NAME, short)?;
-    Ok((field_name_of(alloc, text, others, names)?, rest))
-}
-
-fn field_names_at<'a>(
-    alloc: Global,
-    count: usize,
-    bytes: &'a [u8],
-    others: &[String],
-    short: FileFault,
-) -> Result<(Vec<String>, &'a [u8]), FileFault>
-    ensures { GivesAs (λ x. (texts_of x.0.items, x.1.now)) result
-        (field_names_at short count (texts_of others.now) bytes.now) }
-{
-    let mut names = Vec::new(alloc);
-    let mut rest = bytes;
-    for _ in 0..count {
-        let (name, after) = field_name_at(alloc, rest, others, &names, short)?;
-        names.push(name)?;
-        rest = after;
+    let mut strings = Vec::with_capacity(alloc, names.len())?;
+    for name in names {
+        strings.push(String::from_str(alloc, name)?)?;
     }
-    Ok((names, rest))
+    Ok(strings)
 }
 
-/// Names behind their number, which is one byte. None of them is one of the others.
-#[tactic(auto, unfolding(crate::specs::Reading::names_at))]
-fn names_at<'a>(
-    alloc: Global,
-    bytes: &'a [u8],
-    others: &[String],
-    short: FileFault,
-) -> Result<(Vec<String>, &'a [u8]), FileFault>
-    ensures { GivesAs (λ x. (texts_of x.0.items, x.1.now)) result
-        (names_at short (texts_of others.now) bytes.now) }
-{
-    let (count, rest) = byte_at(bytes, short)?;
-    let count = at_most(MAX_FIELDS, usize::from(count))?;
-    field_names_at(alloc, count, rest, others, short)
+impl<'a> Cursor<'a> {
+    #[tactic(auto, unfolding(crate::specs::Reading::field_name_at))]
+    fn field_name(&mut self, others: &[&str], names: &[&str]) -> Result<&'a str, FileFault>
+        ensures { TakesAs (λ name. name.now) self.old self.new result
+            (field_name_at self.old.short (texts_lent others.now ++ texts_lent names.now) self.old.rest) }
+    {
+        field_name_of(self.short_text(MAX_NAME)?, others, names)
+    }
+
+    fn field_names(&mut self, count: usize, others: &[&str]) -> Result<Names<'a>, FileFault>
+        requires { count ≤ max_fields }
+        ensures { TakesAs (λ names. texts_lent names.items) self.old self.new result
+            (field_names_at self.old.short count (texts_lent others.now) self.old.rest) }
+    {
+        let mut names = Names::new();
+        for _ in 0..count {
+            let name = self.field_name(others, names.as_slice())?;
+            names.push(name);
+        }
+        Ok(names)
+    }
+
+    // Names behind their number, which is one byte. None of them is one of the others.
+    #[tactic(auto, unfolding(crate::specs::Reading::names_at, crate::specs::Reading::at_most))]
+    fn names(&mut self, others: &[&str]) -> Result<Names<'a>, FileFault>
+        ensures { TakesAs (λ names. texts_lent names.items) self.old self.new result
+            (names_at self.old.short (texts_lent others.now) self.old.rest) }
+    {
+        let count = usize::from(self.byte()?);
+        if count > MAX_FIELDS {
+            return Err(FileFault::TooLong);
+        }
+        self.field_names(count, others)
+    }
+
+    #[tactic(auto, unfolding(crate::specs::Reading::fields_at))]
+    pub(crate) fn fields(&mut self) -> Result<FieldNames<'a>, FileFault>
+        ensures { TakesAs (λ fields. fields) self.old self.new result (fields_at self.old.short self.old.rest) }
+    {
+        let dimensions = self.names(&[])?;
+        let metrics = self.names(&dimensions)?;
+        Ok(FieldNames {
+            dimensions,
+            metrics,
+        })
+    }
 }
 
-#[tactic(auto, unfolding(crate::specs::Reading::fields_at))]
-pub(crate) fn fields_at(
-    alloc: Global,
-    bytes: &[u8],
-    short: FileFault,
-) -> Result<(Schema, &[u8]), FileFault>
-    ensures { GivesAs (λ x. (x.0, x.1.now)) result (fields_at short bytes.now) }
-{
-    let (dimensions, rest) = names_at(alloc, bytes, &[], short)?;
-    let (metrics, rest) = names_at(alloc, rest, &dimensions, short)?;
-    Ok((Schema::new(dimensions, metrics), rest))
+impl FieldNames<'_> {
+    // The names of the dimensions.
+    pub(crate) fn dimensions(&self) -> &[&str]
+        ensures value { texts_lent result.now ≡ self.now.dimensions }
+        ensures few { length result.now ≤ max_fields }
+    {
+        &self.dimensions
+    }
+
+    // The names of the metrics.
+    pub(crate) fn metrics(&self) -> &[&str]
+        ensures value { texts_lent result.now ≡ self.now.metrics }
+        ensures few { length result.now ≤ max_fields }
+    {
+        &self.metrics
+    }
+
+    // The schema of these names.
+    pub(crate) fn schema(&self, alloc: Global) -> Result<Schema, AllocError>
+        ensures { IfOk result (λ schema. schema ≡ self.now) }
+    {
+        let dimensions = strings(alloc, &self.dimensions)?;
+        let metrics = strings(alloc, &self.metrics)?;
+        Ok(Schema::new(dimensions, metrics))
+    }
 }

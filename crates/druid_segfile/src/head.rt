@@ -1,41 +1,55 @@
-//! Readers of what stands before the names of the fields.
-ghost use Rattle.std.specs.Prelude.{◌≡◌, ok_or};
-ghost use Rattle.druid_segfile.specs.Reading.{Gives, GivesAs, accepted, instant_of, interval_at, name_at, version_at, core_at, descriptor_at, magic_at};
-ghost use Rattle.druid_segid.specs.Names.{is_name, is_version};
+//! Readers of what is announced of a segment.
+ghost use Rattle.std.specs.Prelude.{◌≡◌, ◌≤◌, ok_or, IfOk};
+ghost use Rattle.druid_segid.specs.Names.{is_name, is_version, IsName, IsVersion};
+ghost use Rattle.druid_shard.specs.Described.{max_core};
+ghost use Rattle.druid_segfile.specs.Reading.{Gives, GivesAs, TakesAs, accepted, instant_of, moment_at, interval_at, name_at, version_at, core_at, descriptor_at};
 
 use crate::FileFault;
-use crate::parts::{bytes_at, i64_at, short_text_at, u16_at, u64_at};
-use druid_segid::{IdFault, Name, SegmentId, Version};
+use crate::cursor::Cursor;
+use druid_segid::{Name, SegmentId, Version};
 use druid_shard::Descriptor;
 use druid_time::{Instant, Interval};
-use std::alloc::Global;
+use std::alloc::{AllocError, Global};
+use std::marker::Model;
 use std::str;
 
-/// What a file begins with.
-pub(crate) const MAGIC: [u8; 4] = *b"DSG1";
-
-/// The most bytes of the name of a data source.
+// The most bytes of the name of a data source.
 const MAX_NAME: usize = 100;
 
-/// The most bytes of a version.
+// The most bytes of a version.
 const MAX_VERSION: usize = 64;
 
-/// The most core partitions that a descriptor names.
+// The most core partitions that a descriptor names.
 const MAX_CORE: u16 = 32_768;
 
-/// What the layout begins with, and the bytes after it.
-#[tactic(auto, unfolding(crate::specs::Reading::magic_at))]
-pub(crate) fn magic_at(bytes: &[u8], short: FileFault) -> Result<&[u8], FileFault>
-    ensures { GivesAs (λ rest. rest.now) result (magic_at short bytes.now) }
-{
-    let (magic, rest) = bytes_at(bytes, MAGIC.len(), short)?;
-    if magic != MAGIC.as_slice() {
-        return Err(FileFault::Magic);
-    }
-    Ok(rest)
+// What is announced of a segment, with texts that lie in its bytes.
+#[derive(Debug, Drop)]
+pub(crate) struct Announced<'a> {
+    source: &'a str,
+    interval: Interval,
+    version: &'a str,
+    partition: u16,
+    core: u16,
+    size: u64,
 }
 
-/// The instant that many milliseconds after the start of 1970, if it is one.
+impl<'a> Model for Announced<'a> {
+    ghost use Rattle.std.specs.Prelude.{◌≤◌};
+    ghost use Rattle.druid_segid.specs.Names.{IsName, IsVersion};
+    ghost use Rattle.druid_shard.specs.Described.{Described, max_core};
+
+    ghost Value = { Described };
+
+    ghost view = { λ a. record {
+      id = record { source = a.source.now; interval = a.interval; version = a.version.now; partition = a.partition };
+      core = a.core;
+      size = a.size;
+    } };
+
+    ghost invariant = { λ a. IsName a.source.now × IsVersion a.version.now × (a.core ≤ max_core) };
+}
+
+// The instant that many milliseconds after the start of 1970, if it is one.
 #[tactic(auto, using(crate::proofs::MomentLemmas::instant_made))]
 pub(crate) fn instant_of(ms: i64) -> Option<Instant>
     ensures { result ≡ instant_of ms }
@@ -49,95 +63,126 @@ fn moment(ms: i64) -> Result<Instant, FileFault>
     instant_of(ms).ok_or(FileFault::Field)
 }
 
-#[tactic(auto, unfolding(crate::specs::Reading::interval_at, crate::specs::Reading::moment_at))]
-fn interval_at(bytes: &[u8], short: FileFault) -> Result<(Interval, &[u8]), FileFault>
-    ensures { GivesAs (λ x. (x.0, x.1.now)) result (interval_at short bytes.now) }
-{
-    let (start, rest) = i64_at(bytes, short)?;
-    let start = moment(start)?;
-    let (end, rest) = i64_at(rest, short)?;
-    let end = moment(end)?;
-    let Some(interval) = Interval::new(start, end) else {
-        return Err(FileFault::Field);
-    };
-    Ok((interval, rest))
-}
-
 #[tactic(auto, using(crate::proofs::TextLemmas::no_name, crate::proofs::TextLemmas::refused_name, crate::proofs::TextLemmas::taken_name), unfolding(crate::specs::Reading::accepted))]
-fn name_of(alloc: Global, text: &[u8]) -> Result<Name, FileFault>
-    ensures { Gives result (accepted is_name text.now) }
+fn name_of(text: &[u8]) -> Result<&str, FileFault>
+    ensures value { GivesAs (λ name. name.now) result (accepted is_name text.now) }
+    ensures valid { IfOk result (λ name. IsName name.now) }
 {
     let Ok(text) = str::from_utf8(text) else {
         return Err(FileFault::Field);
     };
-    match Name::new(alloc, text) {
-        Ok(name) => Ok(name),
-        Err(IdFault::BadName) => Err(FileFault::Field),
-        Err(_) => Err(FileFault::Memory),
+    if !Name::accepts(text) {
+        return Err(FileFault::Field);
     }
-}
-
-#[tactic(auto, unfolding(crate::specs::Reading::name_at))]
-fn name_at(alloc: Global, bytes: &[u8], short: FileFault) -> Result<(Name, &[u8]), FileFault>
-    ensures { GivesAs (λ x. (x.0, x.1.now)) result (name_at short bytes.now) }
-{
-    let (text, rest) = short_text_at(bytes, MAX_NAME, short)?;
-    Ok((name_of(alloc, text)?, rest))
+    Ok(text)
 }
 
 #[tactic(auto, using(crate::proofs::TextLemmas::no_version, crate::proofs::TextLemmas::refused_version, crate::proofs::TextLemmas::taken_version), unfolding(crate::specs::Reading::accepted))]
-fn version_of(alloc: Global, text: &[u8]) -> Result<Version, FileFault>
-    ensures { Gives result (accepted is_version text.now) }
+fn version_of(text: &[u8]) -> Result<&str, FileFault>
+    ensures value { GivesAs (λ version. version.now) result (accepted is_version text.now) }
+    ensures valid { IfOk result (λ version. IsVersion version.now) }
 {
     let Ok(text) = str::from_utf8(text) else {
         return Err(FileFault::Field);
     };
-    match Version::new(alloc, text) {
-        Ok(version) => Ok(version),
-        Err(IdFault::BadVersion) => Err(FileFault::Field),
-        Err(_) => Err(FileFault::Memory),
+    if !Version::accepts(text) {
+        return Err(FileFault::Field);
+    }
+    Ok(text)
+}
+
+impl<'a> Cursor<'a> {
+    #[tactic(auto, unfolding(crate::specs::Reading::moment_at))]
+    fn moment(&mut self) -> Result<Instant, FileFault>
+        ensures { TakesAs (λ time. time) self.old self.new result (moment_at self.old.short self.old.rest) }
+    {
+        moment(self.i64()?)
+    }
+
+    #[tactic(auto, unfolding(crate::specs::Reading::interval_at))]
+    fn interval(&mut self) -> Result<Interval, FileFault>
+        ensures { TakesAs (λ extent. extent) self.old self.new result (interval_at self.old.short self.old.rest) }
+    {
+        let start = self.moment()?;
+        let end = self.moment()?;
+        Interval::new(start, end).ok_or(FileFault::Field)
+    }
+
+    #[tactic(auto, unfolding(crate::specs::Reading::name_at))]
+    fn name(&mut self) -> Result<&'a str, FileFault>
+        ensures valid { IfOk result (λ name. IsName name.now) }
+        ensures value { TakesAs (λ name. name.now) self.old self.new result (name_at self.old.short self.old.rest) }
+    {
+        name_of(self.short_text(MAX_NAME)?)
+    }
+
+    #[tactic(auto, unfolding(crate::specs::Reading::version_at))]
+    fn version(&mut self) -> Result<&'a str, FileFault>
+        ensures valid { IfOk result (λ version. IsVersion version.now) }
+        ensures value { TakesAs (λ version. version.now) self.old self.new result (version_at self.old.short self.old.rest) }
+    {
+        version_of(self.short_text(MAX_VERSION)?)
+    }
+
+    // The number of core partitions.
+    #[tactic(auto, unfolding(crate::specs::Reading::core_at, crate::specs::Reading::accepted))]
+    fn core(&mut self) -> Result<u16, FileFault>
+        ensures valid { IfOk result (λ core. core ≤ max_core) }
+        ensures value { TakesAs (λ core. core) self.old self.new result (core_at self.old.short self.old.rest) }
+    {
+        let core = self.u16()?;
+        if core > MAX_CORE {
+            return Err(FileFault::Field);
+        }
+        Ok(core)
+    }
+
+    #[tactic(auto, unfolding(crate::specs::Reading::descriptor_at))]
+    pub(crate) fn announced(&mut self) -> Result<Announced<'a>, FileFault>
+        ensures { TakesAs (λ announced. announced) self.old self.new result (descriptor_at self.old.short self.old.rest) }
+    {
+        let source = self.name()?;
+        let interval = match self.interval() {
+            Ok(interval) => interval,
+            Err(fault) => return Err(fault),
+        };
+        let version = self.version()?;
+        let partition = self.u16()?;
+        let core = self.core()?;
+        let size = self.u64()?;
+        Ok(Announced {
+            source,
+            interval,
+            version,
+            partition,
+            core,
+            size,
+        })
     }
 }
 
-#[tactic(auto, unfolding(crate::specs::Reading::version_at))]
-fn version_at(alloc: Global, bytes: &[u8], short: FileFault) -> Result<(Version, &[u8]), FileFault>
-    ensures { GivesAs (λ x. (x.0, x.1.now)) result (version_at short bytes.now) }
-{
-    let (text, rest) = short_text_at(bytes, MAX_VERSION, short)?;
-    Ok((version_of(alloc, text)?, rest))
-}
-
-#[tactic(auto, unfolding(crate::specs::Reading::core_at, crate::specs::Reading::accepted))]
-fn core_at(bytes: &[u8], short: FileFault) -> Result<(u16, &[u8]), FileFault>
-    ensures { GivesAs (λ x. (x.0, x.1.now)) result (core_at short bytes.now) }
-{
-    let (core, rest) = u16_at(bytes, short)?;
-    if core > MAX_CORE {
-        return Err(FileFault::Field);
+impl Announced<'_> {
+    // The instants that the rows lie between.
+    pub(crate) fn interval(&self) -> Interval
+        ensures { result ≡ self.now.id.interval }
+    {
+        self.interval
     }
-    Ok((core, rest))
-}
 
-#[tactic(auto, unfolding(crate::specs::Reading::descriptor_at))]
-pub(crate) fn descriptor_at(
-    alloc: Global,
-    bytes: &[u8],
-    short: FileFault,
-) -> Result<(Descriptor, &[u8]), FileFault>
-    ensures { GivesAs (λ x. (x.0, x.1.now)) result (descriptor_at short bytes.now) }
-{
-    let (source, rest) = name_at(alloc, bytes, short)?;
-    let (interval, rest) = match interval_at(rest, short) {
-        Ok(part) => part,
-        Err(fault) => return Err(fault),
-    };
-    let (version, rest) = version_at(alloc, rest, short)?;
-    let (partition, rest) = u16_at(rest, short)?;
-    let (core, rest) = core_at(rest, short)?;
-    let (size, rest) = u64_at(rest, short)?;
-    let id = SegmentId::new(source, interval, version, partition);
-    let Some(descriptor) = Descriptor::new(id, core, size) else {
-        return Err(FileFault::Field);
-    };
-    Ok((descriptor, rest))
+    // The descriptor of these parts.
+    pub(crate) fn descriptor(&self, alloc: Global) -> Result<Descriptor, AllocError>
+        ensures { IfOk result (λ descriptor. descriptor ≡ self.now) }
+    {
+        let Ok(source) = Name::new(alloc, self.source) else {
+            return Err(AllocError);
+        };
+        let Ok(version) = Version::new(alloc, self.version) else {
+            return Err(AllocError);
+        };
+        let id = SegmentId::new(source, self.interval, version, self.partition);
+        let Some(descriptor) = Descriptor::new(id, self.core, self.size) else {
+            unreachable!();
+        };
+        Ok(descriptor)
+    }
 }

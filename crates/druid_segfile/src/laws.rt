@@ -1,8 +1,9 @@
 //! Facts that hold of all segments.
-ghost use Rattle.std.specs.Prelude.{◌≡◌, ◌<◌, ℕ, List, ◌++◌, length, take, Ok, Err};
-ghost use Rattle.druid_rows.specs.Segment.{Content, IsSegment, text_length};
+ghost use Rattle.std.specs.Prelude.{◌≡◌, ◌≢◌, ◌<◌, ◌≤◌, ℕ, List, ◌++◌, length, take, Ok, Err};
+ghost use Rattle.druid_rows.specs.Segment.{Content, IsSegment, text_length, max_text};
 ghost use Rattle.druid_segfile.specs.Spelling.{spelling, Fits};
 ghost use Rattle.druid_segfile.specs.Reading.{segment_at};
+ghost use Rattle.druid_segfile.specs.declared.fault.FileFault.{FileFault};
 ghost use Rattle.druid_segfile.specs.declared.fault.FileFault.TheVariants.{Cut, Trailing};
 
 /// The length of a segment's spelling is the one that its limit is about.
@@ -23,4 +24,10 @@ pub fn cut_files_are_cut()
 /// A file that goes on behind its segment has trailing bytes, whatever they are and however many.
 pub fn longer_files_have_trailing_bytes()
     ensures { (s : Content) (more : List ℕ) → IsSegment s → Fits s → 0 < length more → segment_at (spelling s ++ more) ≡ Err Trailing }
+{}
+
+/// A file that begins with a fault has that fault, whatever bytes follow within the limit: what is no magic, a part that
+/// breaks a rule, a row outside the interval, a count or a length that passes its limit.
+pub fn faults_stay()
+    ensures { (front more : List ℕ) (fault : FileFault) → length (front ++ more) ≤ max_text → segment_at front ≡ Err fault → fault ≢ Cut → fault ≢ Trailing → segment_at (front ++ more) ≡ Err fault }
 {}

@@ -1,26 +1,20 @@
-ghost use Rattle.std.specs.Prelude.{◌≡◌, ◌≢◌, ◌⊎◌, ◌+◌, ◌≤◌, [], length, take, Some, Ok, Err, IfOk, IfErr, IfSome};
+ghost use Rattle.std.specs.Prelude.{◌≡◌, ◌≢◌, ◌⊎◌, ◌+◌, ◌≤◌, ℕ, List, [], length, take, Some, Ok, Err, IsOk, IfOk, IfErr, IfSome};
 ghost use Rattle.druid_rows.specs.Segment.{Content, IsSegment, segment_of, max_text};
 ghost use Rattle.druid_segfile.specs.Spelling.{spelling, Fits};
-ghost use Rattle.druid_segfile.specs.Reading.{Gives, GivesAs, each_at, values_at, shape_of, content_at, short_of, segment_at};
-ghost use Rattle.druid_segfile.specs.Building.{HasRoom, with_read};
+ghost use Rattle.druid_segfile.specs.Reading.{Gives, GivesInMemory, GivesOfReader, TakesAs, each_at, values_at, shape_of, magic_at, content_at, short_of, segment_at};
+ghost use Rattle.druid_segfile.specs.Building.{Passes, row_count_at, IsWhole, HasRoom, with_read};
 
 use crate::FileFault;
-use crate::fields::fields_at;
-use crate::head::{descriptor_at, magic_at};
-use crate::parts::{at_most, u32_at};
-use crate::rows::{Shape, refusal, with_rows};
-use druid_rows::{Schema, Segment, SegmentBuilder};
-use druid_shard::Descriptor;
-use std::alloc::Global;
+use crate::cursor::{Cursor, at_most};
+use crate::fields::FieldNames;
+use crate::head::Announced;
+use crate::rows::{Shape, want_of_memory, with_rows};
+use crate::spelling::MAGIC;
+use druid_rows::{MAX_ROWS, MAX_TEXT, Segment, SegmentBuilder};
+use std::alloc::{AllocError, Global};
 use std::io::{ErrorKind, Read};
 
-/// The most rows of a segment.
-const MAX_ROWS: usize = 100_000;
-
-/// The most bytes of the spelling of a segment.
-const MAX_TEXT: usize = 16_777_216;
-
-/// The front of what a reader has, by which it is known whether there is more than a segment may have.
+// The front of what a reader has, by which it is known whether there is more than a segment may have.
 fn first_bytes<R: Read>(alloc: Global, reader: &mut R) -> Result<Vec<u8>, FileFault>
     ensures front { IfOk result (λ front. IfSome (R.remaining reader.old) (λ bytes. front.items ≡ take (max_text + 1) bytes)) }
     ensures faults { IfErr result (λ fault. (fault ≡ FileFault.Read) ⊎ (fault ≡ FileFault.Memory)) }
@@ -33,61 +27,90 @@ fn first_bytes<R: Read>(alloc: Global, reader: &mut R) -> Result<Vec<u8>, FileFa
     }
 }
 
-/// How the rows of a segment are read.
-#[tactic(auto, using(crate::proofs::BuildLemmas::length_texts))]
-fn shape_of(descriptor: &Descriptor, schema: &Schema) -> Shape
-    ensures { result ≡ shape_of descriptor.now schema.now }
+// A segment whose bytes were judged. What stands before the rows is read, and the rows are not.
+#[derive(Debug, Drop)]
+struct Judged<'a> {
+    announced: Announced<'a>,
+    fields: FieldNames<'a>,
+    count: usize,
+    rows: &'a [u8],
+}
+
+// How the rows of a segment are read.
+#[tactic(auto, using(crate::proofs::BuildLemmas::length_lent))]
+fn shape_of(announced: &Announced<'_>, fields: &FieldNames<'_>) -> Shape
+    ensures { result ≡ shape_of announced.now fields.now }
 {
     Shape {
-        interval: descriptor.id().interval(),
-        dimensions: schema.dimensions().len(),
-        metrics: schema.metrics().len(),
+        interval: announced.interval(),
+        dimensions: fields.dimensions().len(),
+        metrics: fields.metrics().len(),
     }
 }
 
-/// The segment of that descriptor and that schema, with that many rows out of the bytes, and the bytes after them.
-fn with_head(
-    alloc: Global,
-    descriptor: Descriptor,
-    schema: Schema,
-    count: usize,
-    bytes: &[u8],
-    short: FileFault,
-) -> Result<(SegmentBuilder, &[u8]), FileFault>
-    requires { HasRoom (segment_of descriptor schema []) (shape_of descriptor schema) count (length bytes.now) }
-    ensures { GivesAs (λ x. (x.0, x.1.now)) result
-        (with_read (segment_of descriptor schema [])
-        (each_at (values_at short (shape_of descriptor schema)) count bytes.now)) }
-{
-    let shape = shape_of(&descriptor, &schema);
-    match SegmentBuilder::new(alloc, descriptor, schema) {
-        Ok(builder) => with_rows(alloc, builder, shape, count, bytes, short),
-        Err(fault) => Err(refusal(fault)),
+impl<'a> Cursor<'a> {
+    // What a file begins with.
+    #[tactic(auto, unfolding(crate::specs::Reading::magic_at))]
+    fn magic(&mut self) -> Result<(), FileFault>
+        ensures { Passes self.old self.new result (magic_at self.old.short self.old.rest) }
+    {
+        if self.bytes(MAGIC.len())? != MAGIC.as_slice() {
+            return Err(FileFault::Magic);
+        }
+        Ok(())
+    }
+
+    // How many rows there are.
+    #[tactic(auto, unfolding(crate::specs::Building::row_count_at))]
+    fn row_count(&mut self) -> Result<usize, FileFault>
+        ensures { TakesAs (λ count. count) self.old self.new result (row_count_at self.old.short self.old.rest) }
+    {
+        at_most(MAX_ROWS, self.u32()? as usize)
+    }
+
+    // A segment, of which all is judged, and the rows are not kept.
+    #[tactic(auto, unfolding(crate::specs::Reading::content_at, crate::specs::Reading::rows_at, crate::specs::Building::row_count_at))]
+    fn judged(&mut self) -> Result<Judged<'a>, FileFault>
+        ensures whole { IfOk result (λ j. IsWhole self.old.short self.old.rest j.announced j.fields j.count j.rows.now self.new.rest) }
+        ensures fault { IfErr result (λ fault. content_at self.old.short self.old.rest ≡ Err fault) }
+    {
+        self.magic()?;
+        let announced = match self.announced() {
+            Ok(announced) => announced,
+            Err(fault) => return Err(fault),
+        };
+        let fields = self.fields()?;
+        let count = self.row_count()?;
+        let rows = self.rest();
+        self.skip_rows(shape_of(&announced, &fields), count)?;
+        Ok(Judged {
+            announced,
+            fields,
+            count,
+            rows,
+        })
     }
 }
 
-/// A segment, and the bytes after it.
-#[tactic(auto, unfolding(crate::specs::Reading::content_at, crate::specs::Reading::rows_at))]
-fn content_at(
-    alloc: Global,
-    bytes: &[u8],
-    short: FileFault,
-) -> Result<(SegmentBuilder, &[u8]), FileFault>
-    requires { length bytes.now ≤ max_text }
-    ensures { GivesAs (λ x. (x.0, x.1.now)) result (content_at short bytes.now) }
-{
-    let rest = magic_at(bytes, short)?;
-    let (descriptor, rest) = match descriptor_at(alloc, rest, short) {
-        Ok(part) => part,
-        Err(fault) => return Err(fault),
-    };
-    let (schema, rest) = fields_at(alloc, rest, short)?;
-    let (count, rest) = u32_at(rest, short)?;
-    let count = at_most(MAX_ROWS, count as usize)?;
-    with_head(alloc, descriptor, schema, count, rest, short)
+impl Judged<'_> {
+    // The segment of these rows.
+    fn segment(&self, alloc: Global, short: FileFault) -> Result<Segment, AllocError>
+        requires room { HasRoom (segment_of self.now.announced self.now.fields []) (shape_of self.now.announced self.now.fields) self.now.count (length self.now.rows.now) }
+        requires judged { IsOk (each_at (values_at short (shape_of self.now.announced self.now.fields)) self.now.count self.now.rows.now) }
+        ensures { IfOk result (λ segment. (after : List ℕ)
+            × (with_read (segment_of self.now.announced self.now.fields [])
+            (each_at (values_at short (shape_of self.now.announced self.now.fields)) self.now.count self.now.rows.now) ≡ Ok (segment, after))) }
+    {
+        let shape = shape_of(&self.announced, &self.fields);
+        let descriptor = self.announced.descriptor(alloc)?;
+        match SegmentBuilder::new(alloc, descriptor, self.fields.schema(alloc)?) {
+            Ok(builder) => Ok(with_rows(builder, shape, self.count, self.rows, short)?.finish()),
+            Err(fault) => Err(want_of_memory(fault)),
+        }
+    }
 }
 
-/// The fault where a part passes the end of what a file may have, or of the bytes.
+// The fault where a part passes the end of what a file may have, or of the bytes.
 fn short_of(bytes: &[u8]) -> FileFault
     ensures { result ≡ short_of max_text bytes.now }
 {
@@ -98,25 +121,22 @@ fn short_of(bytes: &[u8]) -> FileFault
     }
 }
 
-/// The segment that the bytes spell, all of them.
-#[tactic(auto, unfolding(crate::specs::Reading::segment_within))]
+// The segment that the bytes spell, all of them. They are judged before memory is asked for.
 fn segment_in(alloc: Global, bytes: &[u8]) -> Result<Segment, FileFault>
     ensures found { IfOk result (λ segment. bytes.now ≡ spelling segment) }
     ensures valid { IfOk result IsSegment }
-    ensures exact { Gives result (segment_at bytes.now) }
+    ensures exact { GivesInMemory result (segment_at bytes.now) }
 {
-    let window = &bytes[..bytes.len().min(MAX_TEXT)];
-    let (builder, rest) = match content_at(alloc, window, short_of(bytes)) {
-        Ok(part) => part,
-        Err(fault) => return Err(fault),
-    };
-    if !rest.is_empty() {
+    let short = short_of(bytes);
+    let mut cursor = Cursor::new(&bytes[..bytes.len().min(MAX_TEXT)], short);
+    let judged = cursor.judged()?;
+    if !cursor.is_at_end() {
         return Err(FileFault::Trailing);
     }
     if bytes.len() > MAX_TEXT {
         return Err(FileFault::Trailing);
     }
-    Ok(builder.finish())
+    Ok(judged.segment(alloc, short)?)
 }
 
 /// The segment that the bytes of a reader spell, all of them to its end. No more than 16,777,217 bytes are read.
@@ -124,15 +144,16 @@ fn segment_in(alloc: Global, bytes: &[u8]) -> Result<Segment, FileFault>
 /// The fault is the first one from the left: `Magic` where the first four bytes are not `DSG1`, `Cut` where the input
 /// ends inside a part, `Field` where a part breaks a rule, `RowOutside` where a row's instant lies outside the
 /// interval, `TooLong` where a count or a length passes its limit or more than 16,777,216 bytes are needed, and
-/// `Trailing` where a byte follows the last row. `Read` where the reader fails, and `Memory` where memory is refused.
+/// `Trailing` where a byte follows the last row. `Read` where the reader fails, and `Memory` where memory is refused:
+/// for the bytes as they come, before they are judged, and for the segment, once they are found to spell one.
 pub fn read_segment<R: Read>(alloc: Global, reader: &mut R) -> Result<Segment, FileFault>
     // What is read is spelled so, each byte of it, and the input ends there.
     ensures found { IfOk result (λ segment. IfSome (R.remaining reader.old) (λ bytes. bytes ≡ spelling segment)) }
     ensures valid { IfOk result IsSegment }
     // What is spelled so is read, unless the reader fails or memory is refused.
-    ensures only { (s : Content) → IsSegment s → Fits s → R.remaining reader.old ≡ Some (spelling s) → Gives result (Ok s) }
+    ensures only { (s : Content) → IsSegment s → Fits s → R.remaining reader.old ≡ Some (spelling s) → GivesOfReader result (Ok s) }
     // Which fault it is.
-    ensures exact { IfSome (R.remaining reader.old) (λ bytes. Gives result (segment_at bytes)) }
+    ensures exact { IfSome (R.remaining reader.old) (λ bytes. GivesOfReader result (segment_at bytes)) }
     ensures no_write { result ≢ Err FileFault.Write }
 {
     let bytes = first_bytes(alloc, reader)?;

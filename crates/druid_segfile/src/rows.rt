@@ -1,19 +1,22 @@
 //! Readers of rows.
-ghost use Rattle.std.specs.Prelude.{◌≡◌, ok_or, length, string_bytes};
+ghost use Rattle.std.specs.Prelude.{◌≡◌, ◌≤◌, ℕ, List, ok_or, length, Ok, IsOk, IfOk, OnOk};
 ghost use Rattle.std.specs.Option.{option_map};
-ghost use Rattle.druid_rows.specs.Rows.{nullable_texts_of};
-ghost use Rattle.druid_segfile.specs.Reading.{Gives, GivesAs, instant_of, instant_in, text_value_at, number_value_at, each_at, values_at};
-ghost use Rattle.druid_segfile.specs.Building.{refusal, HasRoom, with_read};
+ghost use Rattle.druid_rows.specs.Rows.{row_of};
+ghost use Rattle.druid_rows.specs.Segment.{max_fields};
+ghost use Rattle.druid_segfile.specs.Reading.{Gives, TakesAs, instant_of, instant_in, row_time_at, text_value_at, number_value_at, each_at, values_at};
+ghost use Rattle.druid_segfile.specs.Building.{Skips, HasRoom, with_read};
+ghost use Rattle.druid_segfile.specs.Lent.{bytes_of, values_lent};
 
 use crate::FileFault;
+use crate::cursor::Cursor;
 use crate::head::instant_of;
-use crate::parts::{i64_at, text_at};
-use druid_rows::{Row, RowFault, SegmentBuilder};
+use arrayvec::ArrayVec;
+use druid_rows::{MAX_FIELDS, RowFault, SegmentBuilder};
 use druid_time::{Instant, Interval};
-use std::alloc::Global;
+use std::alloc::AllocError;
 use std::marker::Model;
 
-/// How a row is read: the interval that it lies in, and how many dimensions and metrics it has.
+// How a row is read: the interval that it lies in, and how many dimensions and metrics it has.
 #[derive(Clone, Copy, Debug)]
 pub(crate) struct Shape {
     pub(crate) interval: Interval,
@@ -22,6 +25,8 @@ pub(crate) struct Shape {
 }
 
 impl Model for Shape {
+    ghost use Rattle.std.specs.Prelude.{◌≤◌};
+    ghost use Rattle.druid_rows.specs.Segment.{max_fields};
     ghost use Rattle.druid_segfile.specs.Reading.{Shape};
 
     ghost Value = { Shape };
@@ -29,9 +34,34 @@ impl Model for Shape {
     ghost view = { λ a. record { interval = a.interval; dimensions = a.dimensions; metrics = a.metrics } };
 
     ghost inverse = { λ s. record { interval = s.interval; dimensions = s.dimensions; metrics = s.metrics } };
+
+    ghost invariant = { λ a. (a.dimensions ≤ max_fields) × (a.metrics ≤ max_fields) };
 }
 
-/// The instant that many milliseconds after the start of 1970, if it lies in the interval.
+// The texts of a row, which lie in the bytes of the segment.
+type Texts<'a> = ArrayVec<Option<&'a str>, MAX_FIELDS>;
+
+// The numbers of a row.
+type Numbers = ArrayVec<Option<i64>, MAX_FIELDS>;
+
+// The values of one row after the other. They take no memory.
+#[derive(Debug, Drop)]
+pub(crate) struct RowValues<'a> {
+    texts: Texts<'a>,
+    numbers: Numbers,
+}
+
+impl RowValues<'_> {
+    // No values.
+    pub(crate) fn new() -> Self {
+        RowValues {
+            texts: ArrayVec::new(),
+            numbers: ArrayVec::new(),
+        }
+    }
+}
+
+// The instant that many milliseconds after the start of 1970, if it lies in the interval.
 fn row_time(ms: i64, interval: Interval) -> Result<Instant, FileFault>
     ensures { Gives result (ok_or (instant_in interval (instant_of ms)) FileFault.RowOutside) }
 {
@@ -44,131 +74,127 @@ fn row_time(ms: i64, interval: Interval) -> Result<Instant, FileFault>
     Ok(time)
 }
 
-/// A text, or null.
-#[tactic(auto, unfolding(crate::specs::Reading::text_value_at))]
-fn text_value_at(
-    alloc: Global,
-    bytes: &[u8],
-    short: FileFault,
-) -> Result<(Option<String>, &[u8]), FileFault>
-    ensures { GivesAs (λ x. (option_map string_bytes x.0, x.1.now)) result (text_value_at short bytes.now) }
-{
-    match bytes {
-        [] => Err(short),
-        [0, rest @ ..] => Ok((None, rest)),
-        [1, rest @ ..] => {
-            let (text, rest) = text_at(rest, short)?;
-            Ok((Some(String::from_str(alloc, text)?), rest))
+impl<'a> Cursor<'a> {
+    #[tactic(auto, unfolding(crate::specs::Reading::row_time_at))]
+    fn row_time(&mut self, interval: Interval) -> Result<Instant, FileFault>
+        ensures { TakesAs (λ time. time) self.old self.new result (row_time_at self.old.short interval self.old.rest) }
+    {
+        row_time(self.i64()?, interval)
+    }
+
+    // A text, or null.
+    #[tactic(auto, unfolding(crate::specs::Reading::text_value_at, crate::specs::Reading::byte_at))]
+    fn text_value(&mut self) -> Result<Option<&'a str>, FileFault>
+        ensures { TakesAs (option_map bytes_of) self.old self.new result (text_value_at self.old.short self.old.rest) }
+    {
+        match self.byte()? {
+            0 => Ok(None),
+            1 => Ok(Some(self.text()?)),
+            _ => Err(FileFault::Field),
         }
-        [_, ..] => Err(FileFault::Field),
     }
-}
 
-/// A number, or null.
-#[tactic(auto, unfolding(crate::specs::Reading::number_value_at))]
-fn number_value_at(bytes: &[u8], short: FileFault) -> Result<(Option<i64>, &[u8]), FileFault>
-    ensures { GivesAs (λ x. (x.0, x.1.now)) result (number_value_at short bytes.now) }
-{
-    match bytes {
-        [] => Err(short),
-        [0, rest @ ..] => Ok((None, rest)),
-        [1, rest @ ..] => {
-            let (number, rest) = i64_at(rest, short)?;
-            Ok((Some(number), rest))
+    // A number, or null.
+    #[tactic(auto, unfolding(crate::specs::Reading::number_value_at, crate::specs::Reading::byte_at))]
+    fn number_value(&mut self) -> Result<Option<i64>, FileFault>
+        ensures { TakesAs (λ value. value) self.old self.new result (number_value_at self.old.short self.old.rest) }
+    {
+        match self.byte()? {
+            0 => Ok(None),
+            1 => Ok(Some(self.i64()?)),
+            _ => Err(FileFault::Field),
         }
-        [_, ..] => Err(FileFault::Field),
+    }
+
+    fn texts(&mut self, count: usize, texts: &mut Texts<'a>) -> Result<(), FileFault>
+        requires { count ≤ max_fields }
+        ensures { TakesAs (λ _. values_lent texts.new.items) self.old self.new result
+            (each_at (text_value_at self.old.short) count self.old.rest) }
+    {
+        texts.clear();
+        for _ in 0..count {
+            let value = self.text_value()?;
+            texts.push(value);
+        }
+        Ok(())
+    }
+
+    fn numbers(&mut self, count: usize, numbers: &mut Numbers) -> Result<(), FileFault>
+        requires { count ≤ max_fields }
+        ensures { TakesAs (λ _. numbers.new.items) self.old self.new result
+            (each_at (number_value_at self.old.short) count self.old.rest) }
+    {
+        numbers.clear();
+        for _ in 0..count {
+            let value = self.number_value()?;
+            numbers.push(value);
+        }
+        Ok(())
+    }
+
+    // The instant of a row. Its values are put into the place for them.
+    #[tactic(auto, unfolding(crate::specs::Reading::values_at))]
+    fn row(&mut self, shape: Shape, values: &mut RowValues<'a>) -> Result<Instant, FileFault>
+        ensures { TakesAs (λ time. row_of time (values_lent values.new.texts.items) values.new.numbers.items)
+            self.old self.new result (values_at self.old.short shape self.old.rest) }
+    {
+        let time = match self.row_time(shape.interval) {
+            Ok(time) => time,
+            Err(fault) => return Err(fault),
+        };
+        self.texts(shape.dimensions, &mut values.texts)?;
+        self.numbers(shape.metrics, &mut values.numbers)?;
+        Ok(time)
+    }
+
+    // Passes over that many rows. Each is judged, and none kept.
+    pub(crate) fn skip_rows(&mut self, shape: Shape, count: usize) -> Result<(), FileFault>
+        ensures { Skips self.old self.new result (each_at (values_at self.old.short shape) count self.old.rest) }
+    {
+        let mut values = RowValues::new();
+        for _ in 0..count {
+            if let Err(fault) = self.row(shape, &mut values) {
+                return Err(fault);
+            }
+        }
+        Ok(())
     }
 }
 
-fn text_values_at(
-    alloc: Global,
-    count: usize,
-    bytes: &[u8],
-    short: FileFault,
-) -> Result<(Vec<Option<String>>, &[u8]), FileFault>
-    ensures { GivesAs (λ x. (nullable_texts_of x.0.items, x.1.now)) result
-        (each_at (text_value_at short) count bytes.now) }
-{
-    let mut values = Vec::with_capacity(alloc, count)?;
-    let mut rest = bytes;
-    for _ in 0..count {
-        let (value, after) = text_value_at(alloc, rest, short)?;
-        values.push(value)?;
-        rest = after;
-    }
-    Ok((values, rest))
-}
-
-fn number_values_at(
-    alloc: Global,
-    count: usize,
-    bytes: &[u8],
-    short: FileFault,
-) -> Result<(Vec<Option<i64>>, &[u8]), FileFault>
-    ensures { GivesAs (λ x. (x.0.items, x.1.now)) result
-        (each_at (number_value_at short) count bytes.now) }
-{
-    let mut values = Vec::with_capacity(alloc, count)?;
-    let mut rest = bytes;
-    for _ in 0..count {
-        let (value, after) = number_value_at(rest, short)?;
-        values.push(value)?;
-        rest = after;
-    }
-    Ok((values, rest))
-}
-
-#[tactic(auto, unfolding(crate::specs::Reading::values_at, crate::specs::Reading::row_time_at))]
-fn row_at(
-    alloc: Global,
-    shape: Shape,
-    bytes: &[u8],
-    short: FileFault,
-) -> Result<(Row, &[u8]), FileFault>
-    ensures { GivesAs (λ x. (x.0, x.1.now)) result (values_at short shape bytes.now) }
-{
-    let (ms, rest) = i64_at(bytes, short)?;
-    let time = row_time(ms, shape.interval)?;
-    let (dimensions, rest) = text_values_at(alloc, shape.dimensions, rest, short)?;
-    let (metrics, rest) = number_values_at(alloc, shape.metrics, rest, short)?;
-    Ok((Row::new(time, dimensions, metrics), rest))
-}
-
-/// The fault of what druid_rows refused.
-pub(crate) fn refusal(fault: RowFault) -> FileFault
-    ensures { result ≡ refusal fault }
+// What is told of a fault of values that were judged: memory was refused.
+pub(crate) fn want_of_memory(fault: RowFault) -> AllocError
+    requires { fault ≡ RowFault.Memory }
 {
     match fault {
-        RowFault::BadSchema | RowFault::RowShape => FileFault::Field,
-        RowFault::TooLong => FileFault::TooLong,
-        RowFault::RowOutside => FileFault::RowOutside,
-        RowFault::Memory => FileFault::Memory,
+        RowFault::Memory => AllocError,
+        _ => unreachable!(),
     }
 }
 
-/// Reads that many rows, and adds them one by one, so that they do not stand in memory twice.
+// Adds rows that were judged, one by one, so that they do not stand in memory twice.
 pub(crate) fn with_rows(
-    alloc: Global,
     mut builder: SegmentBuilder,
     shape: Shape,
     count: usize,
     bytes: &[u8],
     short: FileFault,
-) -> Result<(SegmentBuilder, &[u8]), FileFault>
-    requires { HasRoom builder shape count (length bytes.now) }
-    ensures { GivesAs (λ x. (x.0, x.1.now)) result
-        (with_read builder (each_at (values_at short shape) count bytes.now)) }
+) -> Result<SegmentBuilder, AllocError>
+    requires room { HasRoom builder shape count (length bytes.now) }
+    requires judged { IsOk (each_at (values_at short shape) count bytes.now) }
+    ensures { IfOk result (λ made. (after : List ℕ)
+        × (with_read builder (each_at (values_at short shape) count bytes.now) ≡ Ok (made, after))) }
 {
-    let mut rest = bytes;
+    let mut cursor = Cursor::new(bytes, short);
+    let mut values = RowValues::new();
     for _ in 0..count {
-        let (row, after) = match row_at(alloc, shape, rest, short) {
-            Ok(part) => part,
-            Err(fault) => return Err(fault),
+        let time = match cursor.row(shape, &mut values) {
+            Ok(time) => time,
+            Err(_) => unreachable!(),
         };
-        if let Err(fault) = builder.push(&row) {
-            return Err(refusal(fault));
+        match builder.push_values(time, values.texts.as_slice(), values.numbers.as_slice()) {
+            Ok(()) => {}
+            Err(fault) => return Err(want_of_memory(fault)),
         }
-        rest = after;
     }
-    Ok((builder, rest))
+    Ok(builder)
 }

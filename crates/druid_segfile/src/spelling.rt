@@ -7,11 +7,13 @@ ghost use Rattle.druid_rows.specs.Segment.{row_at};
 ghost use Rattle.druid_segfile.specs.Spelling.{instant, interval, short_text, names, descriptor, text_value, number_value, row};
 ghost use Rattle.druid_segfile.specs.Heading.{heading};
 
-use crate::head::MAGIC;
 use druid_rows::Segment;
 use druid_shard::Descriptor;
 use druid_time::{Instant, Interval};
 use std::alloc::{AllocError, Global};
+
+// What a file begins with.
+pub(crate) const MAGIC: [u8; 4] = *b"DSG1";
 
 fn append_instant(out: &mut Vec<u8>, time: Instant) -> Result<(), AllocError>
     ensures { OnOk result (out.new.items ≡ out.old.items ++ instant time) }
@@ -27,7 +29,7 @@ fn append_interval(out: &mut Vec<u8>, extent: Interval) -> Result<(), AllocError
     Ok(())
 }
 
-/// A text behind its length, which is one byte.
+// A text behind its length, which is one byte.
 fn append_short_text(out: &mut Vec<u8>, text: &str) -> Result<(), AllocError>
     requires { length text.now < 256 }
     ensures { OnOk result (out.new.items ≡ out.old.items ++ short_text text.now) }
@@ -36,7 +38,7 @@ fn append_short_text(out: &mut Vec<u8>, text: &str) -> Result<(), AllocError>
     out.extend_from_slice(text.as_bytes())
 }
 
-/// Names behind their number, which is one byte.
+// Names behind their number, which is one byte.
 fn append_names(out: &mut Vec<u8>, texts: &[String]) -> Result<(), AllocError>
     requires count { length texts.now < 256 }
     requires each { All (λ name. length name < 256) (texts_of texts.now) }
@@ -49,34 +51,39 @@ fn append_names(out: &mut Vec<u8>, texts: &[String]) -> Result<(), AllocError>
     Ok(())
 }
 
-fn append_descriptor(out: &mut Vec<u8>, announced: &Descriptor) -> Result<(), AllocError>
+fn append_descriptor(
+    alloc: Global,
+    out: &mut Vec<u8>,
+    announced: &Descriptor,
+) -> Result<(), AllocError>
     ensures { OnOk result (out.new.items ≡ out.old.items ++ descriptor announced.now) }
 {
     let id = announced.id();
+    let version = id.version().text(alloc)?;
     append_short_text(out, id.source().as_str())?;
     append_interval(out, id.interval())?;
-    append_short_text(out, id.version().as_str())?;
+    append_short_text(out, version.as_str())?;
     out.extend_from_slice(&id.partition().to_be_bytes())?;
     out.extend_from_slice(&announced.core().to_be_bytes())?;
     out.extend_from_slice(&announced.size().to_be_bytes())?;
     Ok(())
 }
 
-/// What stands before the first row.
+// What stands before the first row.
 pub(crate) fn heading(alloc: Global, segment: &Segment) -> Result<Vec<u8>, AllocError>
     ensures { IfOk result (λ out. out.items ≡ heading segment.now) }
 {
     let schema = segment.schema();
     let mut out = Vec::new(alloc);
     out.extend_from_slice(&MAGIC)?;
-    append_descriptor(&mut out, segment.descriptor())?;
+    append_descriptor(alloc, &mut out, segment.descriptor())?;
     append_names(&mut out, schema.dimensions())?;
     append_names(&mut out, schema.metrics())?;
     out.extend_from_slice(&(segment.len() as u32).to_be_bytes())?;
     Ok(out)
 }
 
-/// A text behind its mark and its length, or the mark of null.
+// A text behind its mark and its length, or the mark of null.
 fn append_text_value(out: &mut Vec<u8>, value: Option<&str>) -> Result<(), AllocError>
     requires { IfSome (option_map (λ text. text.now) value) (λ text. length text ≤ max_value) }
     ensures { OnOk result (out.new.items
@@ -91,7 +98,7 @@ fn append_text_value(out: &mut Vec<u8>, value: Option<&str>) -> Result<(), Alloc
     out.extend_from_slice(text.as_bytes())
 }
 
-/// A number behind its mark, or the mark of null.
+// A number behind its mark, or the mark of null.
 fn append_number_value(out: &mut Vec<u8>, value: Option<i64>) -> Result<(), AllocError>
     ensures { OnOk result (out.new.items ≡ out.old.items ++ number_value value) }
 {

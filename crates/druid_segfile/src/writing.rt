@@ -10,14 +10,14 @@ use druid_rows::Segment;
 use std::alloc::Global;
 use std::io::{ErrorKind, Write};
 
-/// So many bytes are gathered before they are written out.
+// So many bytes are gathered before they are written out.
 const GATHERED: usize = 65_536;
 
-/// Writes all of the bytes. A write that was interrupted is tried again.
+// Writes all of the bytes. A write that was interrupted is tried again.
 fn write_out<W: Write>(writer: &mut W, bytes: &[u8]) -> Result<(), FileFault>
     ensures ok { OnOk result (Appends (W.contents writer.old) (W.contents writer.new) bytes.now) }
     ensures err { OnErr result (AppendsFront (W.contents writer.old) (W.contents writer.new) bytes.now) }
-    ensures faults { IfErr result (λ fault. fault ≡ FileFault.Write) }
+    ensures faults { IfErr result (λ fault. (fault ≡ FileFault.Write) ⊎ (fault ≡ FileFault.Memory)) }
 {
     let mut rest = bytes;
     for _ in 0..u64::MAX {
@@ -28,18 +28,19 @@ fn write_out<W: Write>(writer: &mut W, bytes: &[u8]) -> Result<(), FileFault>
             Ok(0) => return Err(FileFault::Write),
             Ok(count) => rest = &rest[count..],
             Err(error) if error.kind() == ErrorKind::Interrupted => {}
+            Err(error) if error.kind() == ErrorKind::OutOfMemory => return Err(FileFault::Memory),
             Err(_) => return Err(FileFault::Write),
         }
     }
     Err(FileFault::Write)
 }
 
-/// Writes out what was gathered, once it is enough for a write.
+// Writes out what was gathered, once it is enough for a write.
 fn write_gathered<W: Write>(writer: &mut W, gathered: &mut Vec<u8>) -> Result<(), FileFault>
     ensures ok { OnOk result (AppendsUpTo (W.contents writer.old) (W.contents writer.new) gathered.old.items gathered.new.items) }
     ensures few { OnOk result (length gathered.new.items < GATHERED) }
     ensures err { OnErr result (AppendsFront (W.contents writer.old) (W.contents writer.new) gathered.old.items) }
-    ensures faults { IfErr result (λ fault. fault ≡ FileFault.Write) }
+    ensures faults { IfErr result (λ fault. (fault ≡ FileFault.Write) ⊎ (fault ≡ FileFault.Memory)) }
 {
     if gathered.len() < GATHERED {
         return Ok(());
@@ -49,8 +50,8 @@ fn write_gathered<W: Write>(writer: &mut W, gathered: &mut Vec<u8>) -> Result<()
     Ok(())
 }
 
-/// Writes the spelling of a segment. `Write` where the writer fails and `Memory` where memory is refused: then it has
-/// got some front of the spelling. Nothing is flushed.
+/// Writes the spelling of a segment. `Write` where the writer fails and `Memory` where memory is refused, also to the
+/// writer: then it has got some front of the spelling. Nothing is flushed.
 pub fn write_segment<W: Write>(
     alloc: Global,
     segment: &Segment,

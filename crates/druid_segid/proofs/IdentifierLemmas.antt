@@ -15,6 +15,7 @@ use Rattle.std.proofs.lemmas.List.Elements.{All-head, All-tail}
 use Rattle.druid_time.specs.Texts.{instant_text, civil_text, digit}
 use Rattle.druid_time.proofs.TextLemmas.{length-instant_text, IsAscii-instant_text, instant_text_injective, slice_cmp-instant_text}
 use Rattle.druid_segid.specs.Names.{is_name_byte, IsName, is_version_byte, IsVersion}
+use Rattle.druid_segid.specs.IdentifierLaws.{identifier_same}
 use Rattle.druid_segid.specs.Identifier.{Identifier, IsIdentifier, identifier_text, partition_suffix}
 use Rattle.druid_segid.proofs.OrderLemmas.{slice_cmp-front, slice_cmp-append, slice_cmp-Equal}
 
@@ -198,10 +199,6 @@ length-source a b h k e =
     let long = simp length-append at (ap length cut.0) in
     omega (arith, long, length-hour_of a.interval.start, length-hour_of b.interval.start)
 
-identifier_same : (a b : Identifier) → a.source ≡ b.source → a.interval.start ≡ b.interval.start → a.interval.end ≡ b.interval.end → a.version ≡ b.version → a.partition ≡ b.partition → a ≡ b
-identifier_same a b source start end version partition i =
-    record { source = source i; interval = record { start = start i; end = end i }; version = version i; partition = partition i }
-
 -- no two identifiers share a text
 pub identifier_text_injective : (a b : Identifier) → IsIdentifier a → IsIdentifier b → identifier_text a ≡ identifier_text b → a ≡ b
 identifier_text_injective a b h k e =
@@ -242,12 +239,6 @@ identifier_text-order a b h k same =
 pub identifier_text-tie : (a b : Identifier) → IsIdentifier a → IsIdentifier b → slice_cmp nat_cmp (identifier_text a) (identifier_text b) ≡ Equal → a ≡ b
 identifier_text-tie a b h k e = identifier_text_injective a b h k (slice_cmp-Equal (identifier_text a) (identifier_text b) e)
 
--- the test of equal texts tells equal identifiers
-pub bytes_eq-identifier_text : (a b : Identifier) → IsIdentifier a → IsIdentifier b → Decides (bytes_eq (identifier_text a) (identifier_text b)) (a ≡ b)
-bytes_eq-identifier_text a b h k =
-    let texts = bytes_decides (identifier_text a) (identifier_text b) in
-    (λ e. identifier_text_injective a b h k (texts.0 e), λ e. texts.1 (ap identifier_text e))
-
 first_decides : (o p : Ordering) → o ≢ Equal → ordering_then o p ≡ o
 first_decides Less p apart = refl
 first_decides Equal p apart = absurd (apart refl)
@@ -272,5 +263,3 @@ identifier_text-sources a b n mine theirs o e f least answer apart =
 pub ruleset text_facts = (IsUtf8-identifier_text, length-identifier_text)
 
 pub ruleset order_facts = (identifier_text-order)
-
-pub ruleset equality_facts = (bytes_eq-identifier_text)

@@ -2,3 +2,4 @@ pub mod OrderLemmas
 pub mod GroupLemmas
 pub mod IdentifierLemmas
 pub mod NameLemmas
+pub mod EqualLemmas

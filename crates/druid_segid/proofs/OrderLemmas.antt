@@ -51,7 +51,7 @@ slice_cmp-short [] (v ∷ vs) ys h = refl
 slice_cmp-short (u ∷ us) [] ys h = absurd (omega arith)
 slice_cmp-short (u ∷ us) (v ∷ vs) ys h = ap (ordering_then (nat_cmp u v)) (slice_cmp-short us vs ys (omega arith))
 
-both-Equal : (o p : Ordering) → ordering_then o p ≡ Equal → (o ≡ Equal) × (p ≡ Equal)
+pub both-Equal : (o p : Ordering) → ordering_then o p ≡ Equal → (o ≡ Equal) × (p ≡ Equal)
 both-Equal Less p e = absurd (cc)
 both-Equal Equal p e = (refl, e)
 both-Equal Greater p e = absurd (cc)

@@ -1,5 +1,8 @@
 -- Identifiers of segments, and their texts.
-use Rattle.std.specs.Prelude.{ℕ, ◌<◌, ◌==◌, List, [], ◌++◌, codes, decimal, if◌then◌else◌}
+use Rattle.std.specs.Prelude.{ℕ, ◌<◌, Bool, ◌==◌, ◌&&◌, List, [], ◌++◌, codes, decimal, bytes_eq, if◌then◌else◌}
+use Rattle.std.specs.Ordering.{nat_cmp, ordering_then}
+use Rattle.std.specs.Cmp.Lexicographic.{slice_cmp}
+use Rattle.std.specs.declared.cmp.Ordering.{Ordering}
 use Rattle.druid_time.specs.Extent.{Extent, IsExtent}
 use Rattle.druid_time.specs.Texts.{instant_text}
 use Rattle.druid_segid.specs.Names.{IsName, IsVersion}
@@ -27,3 +30,21 @@ unfoldable pub identifier_text : Identifier → List ℕ
 identifier_text id =
     id.source ++ codes "_" ++ instant_text id.interval.start ++ codes "_" ++ instant_text id.interval.end
     ++ codes "_" ++ id.version ++ partition_suffix id.partition
+
+-- the test of equal identifiers
+abbrev pub same_identifier : Identifier → Identifier → Bool
+same_identifier a b =
+    bytes_eq a.source b.source && a.interval.start == b.interval.start && a.interval.end == b.interval.end
+    && bytes_eq a.version b.version && a.partition == b.partition
+
+-- one part after another
+abbrev pub parts_cmp : Identifier → Identifier → Ordering
+parts_cmp a b =
+    ordering_then (ordering_then (ordering_then (ordering_then (slice_cmp nat_cmp a.source b.source)
+    (nat_cmp a.interval.start b.interval.start)) (nat_cmp a.interval.end b.interval.end))
+    (slice_cmp nat_cmp a.version b.version)) (nat_cmp a.partition b.partition)
+
+-- the order of identifiers: by the bytes of their texts. No two identifiers share a text; the parts make it an order of
+-- all values
+abbrev pub identifier_cmp : Identifier → Identifier → Ordering
+identifier_cmp a b = ordering_then (slice_cmp nat_cmp (identifier_text a) (identifier_text b)) (parts_cmp a b)

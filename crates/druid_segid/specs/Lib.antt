@@ -1,3 +1,4 @@
 pub mod Names
 pub mod Identifier
 pub mod Group
+pub mod IdentifierLaws

@@ -5,16 +5,18 @@ mod count;
 mod fault;
 mod group;
 mod identifier;
-pub mod laws;
+mod laws;
 mod meter;
 mod name;
-#[cfg(test)]
-mod tests;
+mod order;
+mod spelling;
+mod text;
 mod version;
 
 pub use fault::IdFault;
 pub use group::{GroupKey, Rank};
 pub use identifier::SegmentId;
+pub use laws::{identifiers_go_by_their_texts, one_text, ranks_are_total};
 pub use meter::Meter;
-pub use name::Name;
-pub use version::Version;
+pub use name::{MAX_NAME, Name};
+pub use version::{MAX_VERSION, Version};

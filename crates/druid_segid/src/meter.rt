@@ -29,7 +29,7 @@ impl Meter {
         }
     }
 
-    /// The meter after one comparison more.
+    // The meter after one comparison more.
     pub(crate) fn counted(&self) -> Meter
         ensures { result ≡ self.now + 1 }
     {

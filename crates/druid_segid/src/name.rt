@@ -1,36 +1,38 @@
-ghost use Rattle.std.specs.Prelude.{◌≡◌, ◌↔◌, ◌⊎◌, Some, refl, IsTrue, IsOkUnless, IsErrOf, IfOk, IfErr, OnOk, bytes_eq, string_bytes, All};
+ghost use Rattle.std.specs.Prelude.{◌≡◌, ◌↔◌, ◌⊎◌, Some, refl, IsTrue, IsOkUnless, IsErrOf, IfOk, IfErr, OnOk, string_bytes, bytes_eq, All};
 ghost use Rattle.std.specs.List.{list_all};
-ghost use Rattle.std.proofs.Common.{rules};
-ghost use Rattle.std.specs.Ordering.{nat_cmp};
-ghost use Rattle.std.specs.Hash as fed;
 ghost use Rattle.std.specs.Cmp.{partial_equiv_from_equiv};
+ghost use Rattle.std.specs.Ordering.{nat_cmp};
 ghost use Rattle.std.specs.Cmp.Lexicographic.{slice_cmp, nat_list_eq_equiv, nat_list_cmp_total, texts_ties, texts_po};
-ghost use Rattle.std.specs.Cmp.Rules.{hashing};
 ghost use Rattle.druid_segid.specs.Names.{is_name_byte, is_name, IsName};
 
 use crate::IdFault;
+use crate::text::Text;
 use std::alloc::{AllocError, Global};
 use std::cmp::Ordering;
-use std::hash::{Hash, Hasher};
 use std::marker::Model;
+
+/// The most bytes of the name of a data source.
+pub const MAX_NAME: usize = 100;
 
 /// The name of a data source: 1 to 100 bytes of `A-Z a-z 0-9 _ - .`, in the order of their bytes.
 ///
 /// A contract sees its bytes.
-#[derive(Debug, Drop)]
+#[derive(Debug, Hash, Drop)]
 pub struct Name {
-    text: String,
+    text: Text,
 }
 
 impl Model for Name {
-    ghost use Rattle.std.specs.Prelude.{ℕ, List, string_bytes};
+    ghost use Rattle.std.specs.Prelude.{ℕ, List};
     ghost use Rattle.druid_segid.specs.Names.{IsName};
 
     ghost Value = { List ℕ };
 
-    ghost view = { λ a. string_bytes a.text };
+    ghost view = { λ a. a.text };
 
-    ghost invariant = { λ a. IsName (string_bytes a.text) };
+    ghost invariant = { λ a. IsName a.text };
+
+    ghost inverse = { λ text. record { text = text } };
 }
 
 fn is_name_byte(byte: u8) -> bool
@@ -53,7 +55,7 @@ impl Name {
         ensures names { IsTrue result ↔ IsName text.now }
     {
         let bytes = text.as_bytes();
-        1 <= bytes.len() && bytes.len() <= 100 && are_name_bytes(bytes)
+        1 <= bytes.len() && bytes.len() <= MAX_NAME && are_name_bytes(bytes)
     }
 
     /// The name of that text. I1 where the text is no name, I9 where memory ran out.
@@ -69,7 +71,7 @@ impl Name {
             return Err(IdFault::BadName);
         }
         Ok(Name {
-            text: String::from_str(alloc, text)?,
+            text: Text::new(alloc, text)?,
         })
     }
 
@@ -137,15 +139,5 @@ impl Ord for Name {
 
     fn cmp(&self, other: &Name) -> Ordering {
         self.text.cmp(&other.text)
-    }
-}
-
-impl Hash for Name {
-    ghost hash_input = { fed.str };
-
-    ghost respects_eq = { Prim.search (hashing, rules) };
-
-    fn hash<H: Hasher>(&self, state: &mut H) {
-        self.text.hash(state);
     }
 }

@@ -1,35 +1,37 @@
-ghost use Rattle.std.specs.Prelude.{◌≡◌, ◌↔◌, ◌⊎◌, IsTrue, IsOkUnless, IsErrOf, IfOk, IfErr, OnOk, bytes_eq, string_bytes, All};
+ghost use Rattle.std.specs.Prelude.{◌≡◌, ◌↔◌, ◌⊎◌, length, IsTrue, IsOkUnless, IsErrOf, IfOk, IfErr, OnOk, string_bytes, bytes_eq, All};
 ghost use Rattle.std.specs.List.{list_all};
-ghost use Rattle.std.proofs.Common.{rules};
-ghost use Rattle.std.specs.Hash as fed;
 ghost use Rattle.std.specs.Cmp.{partial_equiv_from_equiv};
 ghost use Rattle.std.specs.Cmp.Lexicographic.{nat_list_eq_equiv};
-ghost use Rattle.std.specs.Cmp.Rules.{hashing};
 ghost use Rattle.druid_segid.specs.Names.{is_version_byte, is_version, IsVersion};
 
 use crate::IdFault;
+use crate::text::Text;
 use std::alloc::{AllocError, Global};
-use std::hash::{Hash, Hasher};
 use std::marker::Model;
+
+/// The most bytes of a version.
+pub const MAX_VERSION: usize = 64;
 
 /// A version: 1 to 64 bytes of printable ASCII without `_`, `/`, `"` and `\`.
 /// Versions are ordered only within the rank of a group.
 ///
 /// A contract sees its bytes.
-#[derive(Debug, Drop)]
+#[derive(Debug, Hash, Drop)]
 pub struct Version {
-    text: String,
+    text: Text,
 }
 
 impl Model for Version {
-    ghost use Rattle.std.specs.Prelude.{ℕ, List, string_bytes};
+    ghost use Rattle.std.specs.Prelude.{ℕ, List};
     ghost use Rattle.druid_segid.specs.Names.{IsVersion};
 
     ghost Value = { List ℕ };
 
-    ghost view = { λ a. string_bytes a.text };
+    ghost view = { λ a. a.text };
 
-    ghost invariant = { λ a. IsVersion (string_bytes a.text) };
+    ghost invariant = { λ a. IsVersion a.text };
+
+    ghost inverse = { λ text. record { text = text } };
 }
 
 fn is_version_byte(byte: u8) -> bool
@@ -52,7 +54,7 @@ impl Version {
         ensures versions { IsTrue result ↔ IsVersion text.now }
     {
         let bytes = text.as_bytes();
-        1 <= bytes.len() && bytes.len() <= 64 && are_version_bytes(bytes)
+        1 <= bytes.len() && bytes.len() <= MAX_VERSION && are_version_bytes(bytes)
     }
 
     /// The version of that text. I2 where the text is no version, I9 where memory ran out.
@@ -68,7 +70,7 @@ impl Version {
             return Err(IdFault::BadVersion);
         }
         Ok(Version {
-            text: String::from_str(alloc, text)?,
+            text: Text::new(alloc, text)?,
         })
     }
 
@@ -79,17 +81,16 @@ impl Version {
         String::from_str(alloc, self.as_str())
     }
 
-    /// A copy of the version.
-    pub(crate) fn copy(&self, alloc: Global) -> Result<Version, AllocError>
-        ensures { IfOk result (λ copy. copy ≡ self.now) }
+    /// How many bytes its text has.
+    pub fn len(&self) -> usize
+        ensures value { result ≡ length self.now }
+        ensures version { IsVersion self.now }
     {
-        Ok(Version {
-            text: String::from_str(alloc, self.as_str())?,
-        })
+        self.text.as_str().len()
     }
 
-    /// The text.
-    pub fn as_str(&self) -> &str
+    // The text, lent. Others get a copy: versions are compared by the rank of their group alone.
+    pub(crate) fn as_str(&self) -> &str
         ensures value { result.now ≡ self.now }
         ensures version { IsVersion self.now }
     {
@@ -122,14 +123,4 @@ impl PartialEq for Version {
 
 impl Eq for Version {
     ghost laws = { nat_list_eq_equiv };
-}
-
-impl Hash for Version {
-    ghost hash_input = { fed.str };
-
-    ghost respects_eq = { Prim.search (hashing, rules) };
-
-    fn hash<H: Hasher>(&self, state: &mut H) {
-        self.text.hash(state);
-    }
 }

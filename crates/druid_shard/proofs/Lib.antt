@@ -2,3 +2,4 @@ pub mod SortedLemmas
 pub mod JsonLemmas
 pub mod MemberLemmas
 pub mod SlotLemmas
+pub mod DescribedLemmas

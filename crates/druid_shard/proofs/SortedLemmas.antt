@@ -10,9 +10,9 @@ use Rattle.std.proofs.lemmas.Bool.{cases_order, cases_eq, false≢true}
 use Rattle.std.proofs.lemmas.Cmp.{nat_list_cmp_total, tied_itself}
 use Rattle.std.proofs.lemmas.List.Edits.{length-swap, swapped_from_swap}
 use Rattle.std.proofs.lemmas.List.Sorted.{IsPermutation-keeps}
-use Rattle.druid_segid.specs.Identifier.{identifier_text}
+use Rattle.druid_segid.specs.Identifier.{identifier_text, parts_cmp}
 use Rattle.druid_segid.proofs.OrderLemmas.{slice_cmp-Equal}
-use Rattle.druid_shard.specs.Described.{Described}
+use Rattle.druid_shard.specs.Described.{Described, described_cmp}
 use Rattle.druid_shard.specs.Reply.{IsBefore, AreSorted, HaveOwnIdentifiers}
 
 -- no identifier comes before itself
@@ -48,13 +48,8 @@ AreSorted-own ds h i j d li lj same =
       | inr (inr above) ↦ absurd (later_differs ds h j i d above li (sym same))
     ]
 
--- by identifier, then by core count, then by size
-abbrev pub described_cmp : Described → Described → Ordering
-described_cmp a b =
-    ordering_then (slice_cmp nat_cmp (identifier_text a.id) (identifier_text b.id)) (ordering_then (nat_cmp a.core b.core) (nat_cmp a.size b.size))
-
 less_first : (a b : Described) → IsBefore a b → described_cmp a b ≡ Less
-less_first a b before = ap (λ o. ordering_then o (ordering_then (nat_cmp a.core b.core) (nat_cmp a.size b.size))) before
+less_first a b before = (λ i. ordering_then (ordering_then (ordering_then (before i) (parts_cmp a.id b.id)) (nat_cmp a.core b.core)) (nat_cmp a.size b.size))
 
 -- sorted by an order that looks at the texts first, and with no identifier twice, they are in order
 pub own-AreSorted : (ds : List Described) → IsSorted described_cmp ds → HaveOwnIdentifiers ds → AreSorted ds

@@ -1,6 +1,8 @@
 -- What a node announces of a segment.
-use Rattle.std.specs.Prelude.{◌<◌, ◌≤◌, ◌^◌, ℕ}
-use Rattle.druid_segid.specs.Identifier.{Identifier, IsIdentifier}
+use Rattle.std.specs.Prelude.{◌<◌, ◌≤◌, ◌^◌, ℕ, Bool, ◌==◌, ◌&&◌}
+use Rattle.std.specs.declared.cmp.Ordering.{Ordering}
+use Rattle.std.specs.Ordering.{nat_cmp, ordering_then}
+use Rattle.druid_segid.specs.Identifier.{Identifier, IsIdentifier, same_identifier, identifier_cmp}
 
 -- its identifier, the number of core partitions that it names for its chunk, and the size that its producer states
 pub record Described : Type 0 where
@@ -12,10 +14,20 @@ pub record Described : Type 0 where
 abbrev pub max_core : ℕ
 max_core = 32_768
 
+-- each part is one
 pub record IsDescribed (d : Described) : Type 0 where
   pub id : IsIdentifier d.id
   pub core : d.core ≤ max_core
   pub size : d.size < 2 ^ 64
+
+-- the test of equal descriptors
+abbrev pub same_described : Described → Described → Bool
+same_described a b = same_identifier a.id b.id && a.core == b.core && a.size == b.size
+
+-- by identifier, then by core count, then by size
+abbrev pub described_cmp : Described → Described → Ordering
+described_cmp a b =
+    ordering_then (ordering_then (identifier_cmp a.id b.id) (nat_cmp a.core b.core)) (nat_cmp a.size b.size)
 
 -- the place of a segment in its chunk: its number, and the number of core partitions that it names
 pub record Place : Type 0 where

@@ -1,9 +1,10 @@
 -- The JSON of a descriptor.
-use Rattle.std.specs.Prelude.{◌≡◌, ℕ, ◌<◌, ◌≤◌, Bool, ◌&&◌, List, codes, Option, Some, None, Result, Ok, Err, IsOk, option_and_then, nat_le, nat_lt, if◌then◌else◌}
+use Rattle.std.specs.Prelude.{◌≡◌, ℕ, ◌<◌, ◌≤◌, Bool, ◌&&◌, List, codes, Option, Some, None, Result, Ok, Err, IsOk, ⊤, option_and_then, nat_le, nat_lt, if◌then◌else◌}
 use Rattle.std.specs.Str.{bytes_eq}
 use Rattle.serde_json.specs.Data.{Data, object, Members, member, no_members, number, unsigned, string}
 use Rattle.serde_json.specs.Find.{get, as_str, as_number, as_u64, as_object}
 use Rattle.druid_time.specs.Extent.{Extent}
+use Rattle.druid_time.specs.Results.{◌>>=◌}
 use Rattle.druid_time.specs.Texts.{extent_text, extent_at}
 use Rattle.druid_segid.specs.Names.{is_name, is_version}
 use Rattle.druid_shard.specs.Described.{Described, Place, max_core}
@@ -33,11 +34,6 @@ pub data Refusal : Type 0 where
   other_type : Refusal
   bad_shard : Refusal
   bad_field : (key : List ℕ) → Refusal
-
-infixl 10 ◌>>=◌
-abbrev pub ◌>>=◌ : {A B : Type 0} → Result A Refusal → (A → Result B Refusal) → Result B Refusal
-(Ok x) >>= f = f x
-(Err e) >>= f = Err e
 
 -- the value, or else the refusal
 abbrev pub or_refuse : {A : Type 0} → Option A → Refusal → Result A Refusal
@@ -104,3 +100,8 @@ Tells faults.Memory read = IsOk read
 abbrev pub Gives : {A : Type 0} → Result A ShardFault → Result A Refusal → Type 0
 Gives (Ok x) read = read ≡ Ok x
 Gives (Err e) read = Tells e read
+
+-- the same of a function that only looks whether it reads
+abbrev pub Checks : {A : Type 0} → Result ⊤ ShardFault → Result A Refusal → Type 0
+Checks (Ok _) read = IsOk read
+Checks (Err e) read = Tells e read

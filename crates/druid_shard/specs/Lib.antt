@@ -5,3 +5,4 @@ pub mod Mark
 pub mod Reply
 pub mod ReplyBody
 pub mod Slots
+pub mod Orders

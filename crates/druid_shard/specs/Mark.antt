@@ -1,5 +1,5 @@
 -- How far a node's history has been followed.
-use Rattle.std.specs.Prelude.{ℕ}
+use Rattle.std.specs.Prelude.{ℕ, Bool, ◌==◌, ◌&&◌}
 use Rattle.std.specs.declared.cmp.Ordering.{Ordering}
 use Rattle.std.specs.Ordering.{nat_cmp, ordering_then}
 
@@ -10,6 +10,10 @@ pub record Point : Type 0 where
 
 abbrev pub never : Point
 never = record { incarnation = 0; count = 0 }
+
+-- the test of equal marks
+abbrev pub same_mark : Point → Point → Bool
+same_mark a b = a.incarnation == b.incarnation && a.count == b.count
 
 -- by incarnation, and then by count
 abbrev pub mark_cmp : Point → Point → Ordering

@@ -1,4 +1,4 @@
--- Members, kept by partition.
+-- Members, kept by partition: only proofs use this.
 use Rattle.std.specs.Prelude.{◌≡◌, ℕ, List, map, Some, Contains}
 use Rattle.std.specs.Ordering.{nat_cmp}
 use Rattle.std.specs.BTreeMap.{BTreeMap, get}

@@ -1,13 +1,14 @@
-ghost use Rattle.std.specs.Prelude.{◌≡◌, ◌≤◌, ◌<◌, SomeIff};
-ghost use Rattle.druid_shard.specs.Described.{max_core};
-ghost use Rattle.druid_segid.specs.Identifier.{IsIdentifier};
+ghost use Rattle.std.specs.Prelude.{◌≡◌, ◌≤◌, ◌<◌, ◌↔◌, Some, refl, IsTrue, SomeIff, IfSome};
+ghost use Rattle.druid_shard.specs.Described.{IsDescribed, same_described, described_cmp, max_core};
+ghost use Rattle.druid_shard.specs.Orders as orders;
 
 use druid_segid::SegmentId;
 use std::alloc::AllocError;
+use std::cmp::Ordering;
 use std::marker::Model;
 
 /// The most core partitions that a numbered shard spec names.
-pub(crate) const MAX_CORE: u16 = 32_768;
+pub const MAX_CORE: u16 = 32_768;
 
 /// A numbered shard spec: the partition of a segment in its chunk, and the number of core partitions of the chunk.
 #[derive(Clone, Copy, Debug, PartialEq, Eq, Hash)]
@@ -58,7 +59,7 @@ impl Shard {
 }
 
 /// What a node announces of a segment. Descriptors are ordered by their identifiers, and then by core count and size.
-#[derive(Debug, Drop, PartialEq, Eq, PartialOrd, Ord)]
+#[derive(Debug, Drop)]
 pub struct Descriptor {
     id: SegmentId,
     core: u16,
@@ -66,16 +67,13 @@ pub struct Descriptor {
 }
 
 impl Model for Descriptor {
-    ghost use Rattle.std.specs.Prelude.{◌≤◌};
-    ghost use Rattle.druid_shard.specs.Described.{Described, max_core};
+    ghost use Rattle.druid_shard.specs.Described.{Described, IsDescribed};
 
     ghost Value = { Described };
 
     ghost view = { λ a. record { id = a.id; core = a.core; size = a.size } };
 
-    ghost invariant = { λ a. a.core ≤ max_core };
-
-    ghost inverse = { λ d. record { id = d.id; core = d.core; size = d.size } };
+    ghost invariant = { λ a. IsDescribed (record { id = a.id; core = a.core; size = a.size }) };
 }
 
 impl Clone for Descriptor {
@@ -94,8 +92,11 @@ impl Descriptor {
     /// The descriptor of a segment whose chunk has that many core partitions; `size` is what its producer states.
     /// None where there are more than 32,768 core partitions.
     pub fn new(id: SegmentId, core: u16, size: u64) -> Option<Descriptor>
-        ensures { SomeIff result (core ≤ max_core) (record { id = id; core = core; size = size }) }
+        ensures value { SomeIff result (core ≤ max_core) (record { id = id; core = core; size = size }) }
+        ensures valid { IfSome result IsDescribed }
     {
+        // Read for the proof: the reader tells what its type keeps.
+        let _ = id.partition();
         if core <= MAX_CORE {
             Some(Descriptor { id, core, size })
         } else {
@@ -106,25 +107,68 @@ impl Descriptor {
     /// The identifier of the segment.
     pub fn id(&self) -> &SegmentId
         ensures value { result.now ≡ self.now.id }
-        ensures valid { IsIdentifier self.now.id }
-        ensures limit { self.now.core ≤ max_core }
+        ensures valid { IsDescribed self.now }
     {
-        let _ = self.id.partition();
         &self.id
     }
 
     /// The number of core partitions that it names for its chunk.
     pub fn core(&self) -> u16
         ensures value { result ≡ self.now.core }
-        ensures valid { result ≤ max_core }
+        ensures valid { IsDescribed self.now }
     {
         self.core
     }
 
     /// The size that the producer of the segment states, which is only carried.
     pub fn size(&self) -> u64
-        ensures { result ≡ self.now.size }
+        ensures value { result ≡ self.now.size }
+        ensures valid { IsDescribed self.now }
     {
         self.size
+    }
+}
+
+impl PartialEq for Descriptor {
+    ghost eq = { same_described };
+
+    ghost laws = { orders.same_described-per };
+
+    #[tactic(auto, using(crate::proofs::DescribedLemmas::equality_facts))]
+    fn eq(&self, other: &Descriptor) -> bool
+        ensures value { result ≡ same_described self.now other.now }
+        ensures same { IsTrue result ↔ (self.now ≡ other.now) }
+    {
+        self.id == other.id && self.core == other.core && self.size == other.size
+    }
+}
+
+impl Eq for Descriptor {
+    ghost laws = { orders.same_described-equiv };
+}
+
+impl PartialOrd for Descriptor {
+    ghost partial_cmp = { λ a b. Some (described_cmp a b) };
+
+    ghost laws = { orders.described_cmp-po };
+
+    fn partial_cmp(&self, other: &Descriptor) -> Option<Ordering> {
+        Some(self.cmp(other))
+    }
+}
+
+impl Ord for Descriptor {
+    ghost cmp = { described_cmp };
+
+    ghost total = { orders.described_cmp-total };
+
+    ghost matches_partial_cmp = { λ a b. refl };
+
+    ghost matches_eq = { orders.described_cmp-ties };
+
+    fn cmp(&self, other: &Descriptor) -> Ordering {
+        let id = self.id.cmp(&other.id);
+        let core = self.core.cmp(&other.core);
+        id.then(core).then(self.size.cmp(&other.size))
     }
 }

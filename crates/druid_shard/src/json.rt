@@ -1,7 +1,7 @@
 ghost use Rattle.std.specs.Prelude.{◌≡◌, ◌≢◌, ◌≤◌, IfOk, option_map, option_and_then, option_copied};
 ghost use Rattle.serde_json.specs.View.{view};
 ghost use Rattle.serde_json.specs.Find.{as_object, as_str, get};
-ghost use Rattle.druid_shard.specs.Json.{descriptor_data, descriptor_at, place_at, text_at, number_at, limited_at, interval_at, source_at, version_at, Gives};
+ghost use Rattle.druid_shard.specs.Json.{descriptor_data, descriptor_at, place_at, text_at, number_at, limited_at, interval_at, source_at, version_at, Gives, Checks};
 ghost use Rattle.druid_shard.specs.Described.{max_core};
 
 use crate::descriptor::MAX_CORE;
@@ -10,6 +10,7 @@ use druid_segid::{Name, SegmentId, Version};
 use druid_time::Interval;
 use serde_json::{Value, json};
 use std::alloc::{AllocError, Global};
+use std::marker::Model;
 
 /// The JSON of a descriptor: `dataSource`, `interval`, `shardSpec`, `size` and `version`.
 #[tactic(auto, unfolding(crate::specs::Json::descriptor_data))]
@@ -18,6 +19,7 @@ pub fn descriptor_value(alloc: Global, descriptor: &Descriptor) -> Result<Value,
 {
     let id = descriptor.id();
     let interval = id.interval().text(alloc)?;
+    let version = id.version().text(alloc)?;
     json!(in alloc; {
         "dataSource": id.source().as_str(),
         "interval": interval.as_str(),
@@ -27,26 +29,26 @@ pub fn descriptor_value(alloc: Global, descriptor: &Descriptor) -> Result<Value,
             "type": "numbered",
         },
         "size": descriptor.size(),
-        "version": id.version().as_str(),
+        "version": version.as_str(),
     })
 }
 
-// The text at a key.
-fn text_field<'a>(value: &'a Value, key: &str) -> Option<&'a str>
+/// The text at a key of an object; None where there is no such key or it holds no text.
+pub fn text_field<'a>(value: &'a Value, key: &str) -> Option<&'a str>
     ensures { option_map (λ s. s.now) result ≡ text_at key.now (view value.now) }
 {
     value.get(key).and_then(Value::as_str)
 }
 
-// The whole number at a key.
-fn number_field(value: &Value, key: &str) -> Option<u64>
+/// The whole number at a key of an object, below 2^64; None where there is none.
+pub fn number_field(value: &Value, key: &str) -> Option<u64>
     ensures { result ≡ number_at key.now (view value.now) }
 {
     value.get(key).and_then(Value::as_u64)
 }
 
-// The number at a key, where it is at most a limit.
-fn limited_field(value: &Value, key: &str, limit: u16) -> Option<u16>
+/// The whole number at a key of an object, where it is at most the limit.
+pub fn limited_field(value: &Value, key: &str, limit: u16) -> Option<u16>
     ensures { result ≡ limited_at limit key.now (view value.now) }
 {
     let number = number_field(value, key)?;
@@ -112,12 +114,32 @@ fn version_field(value: &Value) -> Option<&str>
     }
 }
 
-/// Reads a descriptor. S3 for `dataSource`, `interval`, `version` and `size`, in this order; then S2 where
-/// `shardSpec` is no object, S1 where its `type` is not `numbered`, and S2 where its numbers are out of range. S9 comes
-/// last. Other keys are passed over.
+// What the value of a descriptor says, its texts lent.
+#[derive(Drop)]
+struct Parts<'a> {
+    source: &'a str,
+    interval: Interval,
+    version: &'a str,
+    shard: Shard,
+    size: u64,
+}
+
+impl<'a> Model for Parts<'a> {
+    ghost use Rattle.druid_shard.specs.Described.{Described};
+
+    ghost Value = { Described };
+
+    ghost view = { λ a. record {
+      id = record { source = a.source.now; interval = a.interval; version = a.version.now; partition = a.shard.partition };
+      core = a.shard.core;
+      size = a.size;
+    } };
+}
+
 #[tactic(auto, unfolding(crate::specs::Json::descriptor_at))]
-pub fn read_descriptor(alloc: Global, value: &Value) -> Result<Descriptor, ShardFault>
-    ensures { Gives result (descriptor_at (view value.now)) }
+fn parts_of(value: &Value) -> Result<Parts<'_>, ShardFault>
+    ensures read { Gives result (descriptor_at (view value.now)) }
+    ensures memory { result ≢ Err ShardFault.Memory }
 {
     let Some(source) = source_field(value) else {
         return Err(ShardFault::BadField("dataSource"));
@@ -131,16 +153,45 @@ pub fn read_descriptor(alloc: Global, value: &Value) -> Result<Descriptor, Shard
     let Some(size) = number_field(value, "size") else {
         return Err(ShardFault::BadField("size"));
     };
-    let shard = match shard_field(value) {
-        Ok(shard) => shard,
+    match shard_field(value) {
+        Ok(shard) => Ok(Parts {
+            source,
+            interval,
+            version,
+            shard,
+            size,
+        }),
+        Err(fault) => Err(fault),
+    }
+}
+
+/// Whether a value is a descriptor: the refusal of `read_descriptor` where it is none. It takes no memory.
+pub fn check_descriptor(value: &Value) -> Result<(), ShardFault>
+    ensures read { Checks result (descriptor_at (view value.now)) }
+    ensures memory { result ≢ Err ShardFault.Memory }
+{
+    match parts_of(value) {
+        Ok(_) => Ok(()),
+        Err(fault) => Err(fault),
+    }
+}
+
+/// Reads a descriptor. S3 for `dataSource`, `interval`, `version` and `size`, in this order; then S2 where
+/// `shardSpec` is no object, S1 where its `type` is not `numbered`, and S2 where its numbers are out of range. S9 comes
+/// last. Other keys are passed over.
+pub fn read_descriptor(alloc: Global, value: &Value) -> Result<Descriptor, ShardFault>
+    ensures { Gives result (descriptor_at (view value.now)) }
+{
+    let parts = match parts_of(value) {
+        Ok(parts) => parts,
         Err(fault) => return Err(fault),
     };
-    let Ok(source) = Name::new(alloc, source) else {
+    let Ok(source) = Name::new(alloc, parts.source) else {
         return Err(ShardFault::Memory);
     };
-    let Ok(version) = Version::new(alloc, version) else {
+    let Ok(version) = Version::new(alloc, parts.version) else {
         return Err(ShardFault::Memory);
     };
-    let id = SegmentId::new(source, interval, version, shard.partition());
-    Descriptor::new(id, shard.core(), size).ok_or(ShardFault::BadShard)
+    let id = SegmentId::new(source, parts.interval, version, parts.shard.partition());
+    Descriptor::new(id, parts.shard.core(), parts.size).ok_or(ShardFault::BadShard)
 }

@@ -1,11 +1,13 @@
-ghost use Rattle.std.specs.Prelude.{◌≡◌};
-ghost use Rattle.druid_shard.specs.Mark.{never};
+ghost use Rattle.std.specs.Prelude.{◌≡◌, ◌↔◌, Some, refl, IsTrue};
+ghost use Rattle.druid_shard.specs.Mark.{never, same_mark, mark_cmp};
+ghost use Rattle.druid_shard.specs.Orders as orders;
 
+use std::cmp::Ordering;
 use std::marker::Model;
 
 /// How far a node's history has been followed: the incarnation of the node, and the number of its changes.
 /// Marks are ordered by incarnation, and then by count. (0, 0) is never synced.
-#[derive(Clone, Copy, Debug, PartialEq, Eq, PartialOrd, Ord, Hash)]
+#[derive(Clone, Copy, Debug, Hash)]
 pub struct Mark {
     incarnation: u64,
     count: u64,
@@ -48,5 +50,47 @@ impl Mark {
         ensures { result ≡ self.now.count }
     {
         self.count
+    }
+}
+
+impl PartialEq for Mark {
+    ghost eq = { same_mark };
+
+    ghost laws = { orders.same_mark-per };
+
+    fn eq(&self, other: &Mark) -> bool
+        ensures value { result ≡ same_mark self.now other.now }
+        ensures same { IsTrue result ↔ (self.now ≡ other.now) }
+    {
+        self.incarnation == other.incarnation && self.count == other.count
+    }
+}
+
+impl Eq for Mark {
+    ghost laws = { orders.same_mark-equiv };
+}
+
+impl PartialOrd for Mark {
+    ghost partial_cmp = { λ a b. Some (mark_cmp a b) };
+
+    ghost laws = { orders.mark_cmp-po };
+
+    fn partial_cmp(&self, other: &Mark) -> Option<Ordering> {
+        Some(self.cmp(other))
+    }
+}
+
+impl Ord for Mark {
+    ghost cmp = { mark_cmp };
+
+    ghost total = { orders.mark_cmp-total };
+
+    ghost matches_partial_cmp = { λ a b. refl };
+
+    ghost matches_eq = { orders.mark_cmp-ties };
+
+    fn cmp(&self, other: &Mark) -> Ordering {
+        let incarnation = self.incarnation.cmp(&other.incarnation);
+        incarnation.then(self.count.cmp(&other.count))
     }
 }

@@ -36,7 +36,7 @@ impl Model for Members {
 }
 
 // Adds a node with its core count to a partition. False where it is there already.
-fn add_to(
+fn add_member(
     alloc: Global,
     slots: &mut BTreeMap<u16, Slot>,
     partition: u16,
@@ -57,6 +57,7 @@ fn add_to(
     ensures was_ordered { tree.IsOrdered nat_cmp slots.old }
     ensures none_empty { NoneEmpty slots.old → NoneEmpty slots.new }
 {
+    // Read for the proof: the reader tells what its type keeps.
     let _ = slots.len();
     if let Some(slot) = slots.get_mut(&partition) {
         return slot.add(node, core);
@@ -98,7 +99,7 @@ impl Members {
     {
         let partition = descriptor.id().partition();
         let core = descriptor.core();
-        let added = add_to(self.alloc, &mut self.slots, partition, node, core)?;
+        let added = add_member(self.alloc, &mut self.slots, partition, node, core)?;
         if added {
             self.core = self.core.max(core);
             self.has_member = true;
@@ -118,6 +119,7 @@ impl Members {
         ensures rising { IsStrictlyIncreasing result.now }
         ensures nodes { (n : ℕ) → Contains result.now n ↔ HoldsPlace self.now partition n }
     {
+        // Read for the proof: the reader tells what its type keeps.
         let _ = self.slots.len();
         match self.slots.get(&partition) {
             Some(slot) => slot.nodes(),
@@ -126,12 +128,13 @@ impl Members {
     }
 
     /// The partitions that a node serves, rising.
-    pub fn partitions(&self, alloc: Global) -> Result<Vec<u16>, AllocError>
+    pub fn partitions(&self) -> Result<Vec<u16>, AllocError>
         ensures rising { IfOk result (λ v. IsStrictlyIncreasing v.items) }
         ensures all { IfOk result (λ v. (p : ℕ) → Contains v.items p ↔ HasPartition self.now p) }
     {
+        // Read for the proof: the reader tells what its type keeps.
         let _ = self.slots.len();
-        let keys = keys_of(alloc, &self.slots)?;
+        let keys = keys_of(self.alloc, &self.slots)?;
         Ok(keys)
     }
 

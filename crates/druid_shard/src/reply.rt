@@ -2,11 +2,12 @@ ghost use Rattle.std.specs.Prelude.{◌≡◌, ◌≢◌, ◌↔◌, ◌<◌, �
 ghost use Rattle.druid_shard.specs.Reply.{max_segments, HaveOwnIdentifiers, AreSorted};
 
 use crate::{Descriptor, Mark};
+use std::cmp::Ordering;
 use std::marker::Model;
 use thiserror::Error;
 
 /// The most segments that a node serves.
-const MAX_SEGMENTS: usize = 20_000;
+pub const MAX_SEGMENTS: usize = 20_000;
 
 /// Why values make no reply.
 #[derive(Clone, Copy, Debug, PartialEq, Eq, Drop, Error)]
@@ -95,7 +96,7 @@ fn are_sorted(segments: &[Descriptor]) -> bool
     ensures { IsTrue result ↔ AreSorted segments.now }
 {
     for i in 1..segments.len() {
-        if segments[i - 1].id() >= segments[i].id() {
+        if segments[i - 1].id().cmp(segments[i].id()) != Ordering::Less {
             return false;
         }
     }

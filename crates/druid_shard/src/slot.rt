@@ -6,7 +6,7 @@ use crate::NodeNo;
 use std::alloc::{AllocError, Global};
 use std::marker::Model;
 
-/// The nodes that serve one partition, rising, and beside each the number of core partitions that it names.
+// The nodes that serve one partition, rising, and beside each the number of core partitions that it names.
 #[derive(Debug, Drop)]
 pub(crate) struct Slot {
     nodes: Vec<NodeNo>,
@@ -45,7 +45,7 @@ fn place_of(nodes: &[NodeNo], node: NodeNo) -> Result<usize, usize>
 }
 
 impl Slot {
-    /// No node.
+    // No node.
     pub(crate) fn new(alloc: Global) -> Slot
         ensures { result ≡ [] }
     {
@@ -55,7 +55,7 @@ impl Slot {
         }
     }
 
-    /// The nodes.
+    // The nodes.
     pub(crate) fn nodes(&self) -> &[NodeNo]
         ensures value { result.now ≡ map (λ r. r.0) self.now }
         ensures rising { IsStrictlyIncreasing result.now }
@@ -63,7 +63,7 @@ impl Slot {
         self.nodes.as_slice()
     }
 
-    /// Adds a node with its core count. False where it is there already.
+    // Adds a node with its core count. False where it is there already.
     pub(crate) fn add(&mut self, node: NodeNo, core: u16) -> Result<bool, AllocError>
         ensures held { IfOk result (λ added. IsTrue added ↔ (Contains (map (λ r. r.0) self.old) node → ⊥)) }
         ensures added { IsOkAnd result IsTrue → (x : ℕ × ℕ) → Contains self.new x ↔ ((x ≡ (node, core)) ⊎ Contains self.old x) }

@@ -9,7 +9,8 @@ use Rattle.std.specs.declared.alloc.Global.{Global}
 use Rattle.std.specs.declared.string.String.{String}
 use Rattle.druid_store.specs.FileName.{IsFileName}
 use Rattle.druid_store.specs.declared.fault.StoreFault.{StoreFault}
-use Rattle.druid_store.specs.declared.fault.StoreFault.TheVariants.{Device, BadNumber, AtEnd, Memory}
+use Rattle.druid_store.specs.declared.folder.TheConstants.{MAX_FILE}
+use Rattle.druid_store.specs.declared.fault.StoreFault.TheVariants.{Device, BadNumber, AtEnd, BadName, Memory}
 
 -- the bytes of the file of each name, and None where there is no such file
 abbrev pub Content : Type 0
@@ -66,7 +67,7 @@ pub record LeavesOnly {F : Type 0} (moment : F → ℕ) (left_since : F → ℕ 
 
 -- the most bytes that a file is to have
 abbrev pub max_file : ℕ
-max_file = 16_777_216
+max_file = MAX_FILE
 
 -- what a read gives of a file: all of it, or one byte more than a file is to have
 unfoldable pub read_part : Option (List ℕ) → Option (List ℕ)
@@ -94,6 +95,7 @@ abbrev pub faults_at : StoreFault → ℕ → ℕ
 faults_at Device n = min (n + 1) (2 ^ 64 - 1)
 faults_at BadNumber n = n
 faults_at AtEnd n = n
+faults_at BadName n = n
 faults_at Memory n = n
 
 -- and after an answer
@@ -106,4 +108,5 @@ abbrev pub IsOwnFault : StoreFault → Type 0
 IsOwnFault Device = Unit {0}
 IsOwnFault BadNumber = ⊥
 IsOwnFault AtEnd = ⊥
+IsOwnFault BadName = ⊥
 IsOwnFault Memory = Unit {0}

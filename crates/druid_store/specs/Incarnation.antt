@@ -3,7 +3,7 @@ use Rattle.std.specs.Prelude.{◌≡◌, ◌⊎◌, ℕ, ◌+◌, ◌-◌, ◌^�
 use Rattle.std.specs.Fmt.{decimal}
 use Rattle.druid_store.specs.Folder.{Content}
 use Rattle.druid_store.specs.declared.fault.StoreFault.{StoreFault}
-use Rattle.druid_store.specs.declared.fault.StoreFault.TheVariants.{Device, BadNumber, AtEnd, Memory}
+use Rattle.druid_store.specs.declared.fault.StoreFault.TheVariants.{Device, BadNumber, AtEnd, BadName, Memory}
 
 -- the file that has the number
 abbrev pub number_file : List ℕ
@@ -28,6 +28,7 @@ abbrev pub Answers : Option (List ℕ) → Result ℕ StoreFault → Type 0
 Answers file (Ok n) = (before : ℕ) × HasNumber file before × (n ≡ before + 1) × (n < 2 ^ 64)
 Answers file (Err BadNumber) = (n : ℕ) → HasNumber file n → ⊥
 Answers file (Err AtEnd) = HasNumber file (2 ^ 64 - 1)
+Answers file (Err BadName) = ⊥
 Answers file (Err Device) = Unit {0}
 Answers file (Err Memory) = Unit {0}
 
@@ -38,10 +39,6 @@ IsNext old new = (n : ℕ) × HasNumber old n × (new ≡ Some (number_text (n +
 -- new is the old file, or has the number after the one that it has
 abbrev pub IsSameOrNext : Option (List ℕ) → Option (List ℕ) → Type 0
 IsSameOrNext old new = (new ≡ old) ⊎ IsNext old new
-
--- the file that has the number is as a stop might have left it, or is this text
-abbrev pub IsKeptOr : (Content → Type 0) → List ℕ → Content → Type 0
-IsKeptOr left text c = ((d : Content) × left d × (c number_file ≡ d number_file)) ⊎ (c number_file ≡ Some text)
 
 -- the file that has the number is as a stop might have left it, or has the number after the one that was read
 abbrev pub IsKeptOrNext : (Content → Type 0) → Option (List ℕ) → Content → Type 0

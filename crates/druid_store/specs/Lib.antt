@@ -1,6 +1,13 @@
 pub mod Disk
+pub mod Event
 pub mod FileName
 pub mod Folder
+pub mod Honest
+pub mod HonestLaws
 pub mod Incarnation
+pub mod Keeping
+pub mod Model
+pub mod Noted
 pub mod Record
 pub mod RecordLaws
+pub mod System

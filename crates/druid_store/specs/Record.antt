@@ -1,4 +1,4 @@
--- What the calls of a folder in memory have made of it.
+-- For proofs alone: what the calls of a folder in memory have made of it. Of such a folder its clauses say enough.
 use Rattle.std.specs.Prelude.{◌≡◌, ℕ, ◌≤◌, List, [], ◌∷◌, length, take, Option, Some, None, string_bytes}
 use Rattle.druid_store.specs.Folder.{Content, nothing, with_file, without, renamed, Torn, DoneOrNot}
 use Rattle.druid_store.specs.declared.memory.Call.{Call}

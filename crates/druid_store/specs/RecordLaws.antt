@@ -1,4 +1,4 @@
--- The laws of a folder, for one in memory.
+-- For proofs alone: the laws of a folder, of one in memory.
 use Rattle.std.specs.Prelude.{◌≡◌, ℕ, ◌≤◌, List, [], ◌∷◌, length, Some, refl}
 use Rattle.std.proofs.Common.{inr, sym, subst, arith}
 use Rattle.std.proofs.lemmas.List.{take_all}

@@ -1,103 +1,126 @@
-ghost use Rattle.std.specs.Prelude.{◌≡◌, ◌+◌, ◌≤◌, length, IfOk, IfErr, IfSome, All};
-ghost use Rattle.std.specs.Result.{result_ok};
-ghost use Rattle.druid_store.specs.FileName.{IsFileName};
-ghost use Rattle.druid_store.specs.Folder.{max_file, names_of, faults_after, IsOwnFault};
+ghost use Rattle.std.specs.Prelude.{◌≡◌, ◌+◌, ◌≤◌, length, false, None, Ok, IfOk, IfErr, IfSome, All};
+ghost use Rattle.druid_store.specs.System.{TellsFile, TellsRemoved, TellsEntry, TellsFault};
+ghost use Rattle.druid_store.specs.FileName.{is_file_name, IsFileName};
+ghost use Rattle.druid_store.specs.Folder.{AreInOrder, max_file, names_of, faults_after, IsOwnFault};
 
+use crate::log::{Log, Note};
 use crate::name::put_in_order;
-use crate::{Folder, MAX_FILE, StoreFault, is_file_name};
+use crate::{Device, Folder, MAX_FILE, StoreFault, is_file_name};
 use std::alloc::{AllocError, Global};
-use std::fs::OpenFile;
+use std::fs::{Metadata, OpenFile};
 use std::io::{ErrorKind, Read, Write};
+use std::marker::{Brand, PhantomData};
 use std::path::{Path, PathBuf};
 use std::rt::Files;
 use std::{fs, io};
 
 /// A folder of the operating system.
 ///
-/// That it is honest is a premise of whoever relies on it: no proof says what a real file gives
-/// back, nor what a stop leaves of it.
+/// It keeps, for proofs alone, the calls that were made on it and what each answered. It has been
+/// honest so far where the device `D` did with each of them what an honest device does, and nobody
+/// else changed the folder. That the real device is such a one is a premise of whoever relies on
+/// it: no proof says what a real file gives back, nor what a stop leaves of it.
 #[derive(Drop)]
-pub struct DiskFolder<R: Files + AllocGlobal + Clone + Drop> {
+pub struct DiskFolder<R: Files + AllocGlobal + Clone + Drop, D = Brand> {
     rt: R,
     path: String,
     faults: u64,
+    log: Log,
+    device: PhantomData<D>,
 }
 
-impl<R: Files + AllocGlobal + Clone + Drop> DiskFolder<R> {
+impl<R: Files + AllocGlobal + Clone + Drop, D: Device> DiskFolder<R, D> {
     /// The folder at that path, which is not looked at before the first call. An empty path is the
     /// working folder.
-    pub fn new(rt: R, path: String) -> DiskFolder<R>
-        ensures { ⟦<DiskFolder<R> as Folder>⟧.faults result ≡ 0 }
+    pub fn new(rt: R, path: String) -> DiskFolder<R, D>
+        ensures faults { ⟦<DiskFolder<R, D> as Folder>⟧.faults result ≡ 0 }
+        ensures no_calls { ⟦<DiskFolder<R, D> as Folder>⟧.moment result ≡ 0 }
     {
         DiskFolder {
             rt,
             path,
             faults: 0,
+            log: Log::new(),
+            device: PhantomData,
         }
     }
 }
 
-impl<R: Files + AllocGlobal + Clone + Drop> Folder for DiskFolder<R> {
-    ghost use Rattle.std.specs.Prelude.{◌≡◌};
-    ghost use Rattle.druid_store.specs.Disk.{disk_failures};
-    ghost use Rattle.druid_store.specs.Folder.{nothing};
+impl<R: Files + AllocGlobal + Clone + Drop, D: Device> Folder for DiskFolder<R, D> {
+    ghost use Rattle.std.specs.Prelude.{length};
+    ghost use Rattle.druid_store.specs.Disk.{calls_made, disk_failures};
+    ghost use Rattle.druid_store.specs.Honest.{HonestIn, LeftFrom};
+    ghost use Rattle.druid_store.specs.HonestLaws.{honest_content, left_counts, left_alone};
 
-    ghost is_honest = { λ d. ⊥ };
+    ghost is_honest = { λ d. HonestIn D.content D.left D.during (calls_made d) };
 
-    ghost content = { λ d. nothing };
+    ghost content = { λ d. D.content (length (calls_made d)) };
 
-    ghost may_leave = { λ d c. Unit {0} };
+    ghost may_leave = { λ d. D.left (length (calls_made d)) };
 
-    ghost moment = { λ d. 0 };
+    ghost moment = { λ d. length (calls_made d) };
 
-    ghost left_since = { λ d t c. Unit {0} };
+    ghost left_since = { λ d. LeftFrom D.left D.during (length (calls_made d)) };
 
     ghost faults = { disk_failures };
 
-    ghost may_stay = { λ d honest. tt };
+    ghost may_stay = { λ d honest. honest_content D.content D.left D.during (calls_made d) honest };
 
-    ghost counts_now = { λ d t c honest le left. tt };
+    ghost counts_now = { λ d t c honest le left.
+        left_counts D.left D.during (length (calls_made d)) t c le left };
 
-    ghost only_now = { λ d c honest left. tt };
+    ghost only_now = { λ d c honest left.
+        left_alone D.left D.during (length (calls_made d)) c left };
 
     fn list(&mut self, alloc: Global) -> Result<Vec<String>, StoreFault> {
-        let answer = files_in(&self.rt, alloc, folder_path(&self.path));
-        let mut names = counted(&mut self.faults, answer)?;
-        put_in_order(&mut names);
-        Ok(names)
+        let found = files_in(&self.rt, alloc, folder_path(&self.path));
+        let answer = counted(&mut self.faults, found);
+        self.log = self.log.then(&Note::List(&answer));
+        answer
     }
 
     fn read(&mut self, alloc: Global, name: &str) -> Result<Option<Vec<u8>>, StoreFault> {
-        if !is_file_name(name) {
-            return Ok(None);
-        }
-        let path = path_of(alloc, &self.path, name)?;
-        let answer = read_file(&self.rt, alloc, path.as_path());
-        counted(&mut self.faults, answer)
+        let found = read_named(&self.rt, alloc, &self.path, name);
+        let answer = counted(&mut self.faults, found);
+        self.log = self.log.then(&Note::Read(name, &answer));
+        answer
     }
 
     fn write(&mut self, name: &str, bytes: &[u8]) -> Result<(), StoreFault> {
-        let path = path_of(self.rt.alloc(), &self.path, name)?;
-        let answer = write_file(&self.rt, path.as_path(), bytes);
-        counted(&mut self.faults, answer)
+        if !is_file_name(name) {
+            return Err(StoreFault::BadName);
+        }
+        let done = write_named(&self.rt, &self.path, name, bytes);
+        let answer = counted(&mut self.faults, done);
+        self.log = self.log.then(&Note::Write(name, bytes, answer.is_ok()));
+        answer
     }
 
     fn sync(&mut self) -> Result<(), StoreFault> {
-        let answer = sync_folder(&self.rt, folder_path(&self.path));
-        counted(&mut self.faults, answer)
+        let done = sync_folder(&self.rt, folder_path(&self.path));
+        let answer = counted(&mut self.faults, done);
+        self.log = self.log.then(&Note::Sync(answer.is_ok()));
+        answer
     }
 
     fn rename(&mut self, from: &str, to: &str) -> Result<(), StoreFault> {
-        let from = path_of(self.rt.alloc(), &self.path, from)?;
-        let to = path_of(self.rt.alloc(), &self.path, to)?;
-        let answer = fs::rename(&self.rt, from.as_path(), to.as_path());
-        counted(&mut self.faults, answer)
+        if !is_file_name(from) || !is_file_name(to) {
+            return Err(StoreFault::BadName);
+        }
+        let done = rename_named(&self.rt, &self.path, from, to);
+        let answer = counted(&mut self.faults, done);
+        self.log = self.log.then(&Note::Rename(from, to, answer.is_ok()));
+        answer
     }
 
     fn remove(&mut self, name: &str) -> Result<(), StoreFault> {
-        let path = path_of(self.rt.alloc(), &self.path, name)?;
-        let answer = remove_file(&self.rt, path.as_path());
-        counted(&mut self.faults, answer)
+        if !is_file_name(name) {
+            return Err(StoreFault::BadName);
+        }
+        let done = remove_named(&self.rt, &self.path, name);
+        let answer = counted(&mut self.faults, done);
+        self.log = self.log.then(&Note::Remove(name, answer.is_ok()));
+        answer
     }
 
     fn faults(&self) -> u64 {
@@ -105,9 +128,9 @@ impl<R: Files + AllocGlobal + Clone + Drop> Folder for DiskFolder<R> {
     }
 }
 
-// What a call on the system answered, as the folder's answer. A failure of the device counts.
+// What a call of the system answered, as the folder's answer. A failure of the device counts.
 fn counted<T>(faults: &mut u64, answer: io::Result<T>) -> Result<T, StoreFault>
-    ensures answer { result_ok result ≡ result_ok answer }
+    ensures told { TellsFault answer result }
     ensures counted { faults.new ≡ faults_after result faults.old }
     ensures fault { IfErr result IsOwnFault }
 {
@@ -121,6 +144,38 @@ fn counted<T>(faults: &mut u64, answer: io::Result<T>) -> Result<T, StoreFault>
     }
 }
 
+// Whether a status tells of a file. A folder, a pipe or a device is none.
+fn tells_file(status: io::Result<Metadata>) -> io::Result<bool>
+    ensures { TellsFile status result }
+{
+    match status {
+        Ok(status) => Ok(status.is_file()),
+        Err(error) if error.kind() == ErrorKind::NotFound => Ok(false),
+        Err(error) => Err(error),
+    }
+}
+
+// The removal of what is not there is done.
+fn tells_removed(removal: io::Result<()>) -> io::Result<()>
+    ensures { TellsRemoved removal result }
+{
+    match removal {
+        Err(error) if error.kind() == ErrorKind::NotFound => Ok(()),
+        answer => answer,
+    }
+}
+
+// An entry of a folder. A name that is no text is passed over.
+fn tells_entry<T>(entry: io::Result<T>) -> io::Result<Option<T>>
+    ensures { TellsEntry entry result }
+{
+    match entry {
+        Ok(entry) => Ok(Some(entry)),
+        Err(error) if error.kind() == ErrorKind::InvalidFilename => Ok(None),
+        Err(error) => Err(error),
+    }
+}
+
 fn folder_path(path: &str) -> &str {
     if path.is_empty() { "." } else { path }
 }
@@ -129,54 +184,62 @@ fn path_of(alloc: Global, folder: &str, name: &str) -> Result<PathBuf, AllocErro
     Path::new(folder).join(alloc, name)
 }
 
-// Whether a file is there. A folder, a pipe or a device is none.
-fn is_file(rt: &impl Files, path: Path<'_>) -> io::Result<bool> {
-    match fs::metadata(rt, path) {
-        Ok(metadata) => Ok(metadata.is_file()),
-        Err(error) if error.kind() == ErrorKind::NotFound => Ok(false),
-        Err(error) => Err(error),
-    }
-}
-
-// The names of the files of a folder, in any order. A name that is no text is passed over.
+// The names of the files of a folder, in the order of their bytes.
 fn files_in<R: Files + AllocGlobal + Clone + Drop>(
     rt: &R,
     alloc: Global,
     path: &str,
 ) -> io::Result<Vec<String>>
-    ensures { IfOk result (λ names. All IsFileName (names_of names.items)) }
+    ensures file_names { IfOk result (λ names. All IsFileName (names_of names.items)) }
+    ensures order { IfOk result (λ names. AreInOrder (names_of names.items)) }
 {
     let mut names = Vec::new(alloc);
     for entry in fs::read_dir(rt, path)? {
-        let entry = match entry {
-            Ok(entry) => entry,
-            Err(error) if error.kind() == ErrorKind::InvalidFilename => continue,
-            Err(error) => return Err(error),
+        let Some(entry) = tells_entry(entry)? else {
+            continue;
         };
         let name = entry.file_name();
-        if is_file_name(name) && is_file(rt, entry.path())? {
+        if is_file_name(name) && tells_file(fs::metadata(rt, entry.path()))? {
             names.push(String::from_str(alloc, name)?)?;
         }
     }
+    put_in_order(&mut names);
     Ok(names)
 }
 
-fn read_file<R: Files>(rt: &R, alloc: Global, path: Path<'_>) -> io::Result<Option<Vec<u8>>>
-    ensures { IfOk result (λ found. IfSome found (λ bytes. length bytes.items ≤ max_file + 1)) }
+// The bytes of a file. None where no file has the name, or can have it.
+fn read_named<R: Files>(
+    rt: &R,
+    alloc: Global,
+    folder: &str,
+    name: &str,
+) -> io::Result<Option<Vec<u8>>>
+    ensures no_name { is_file_name name.now ≡ false → result ≡ Ok None }
+    ensures bound { IfOk result (λ found. IfSome found (λ bytes. length bytes.items ≤ max_file + 1)) }
 {
-    if !is_file(rt, path)? {
+    if !is_file_name(name) {
+        return Ok(None);
+    }
+    let path = path_of(alloc, folder, name)?;
+    if !tells_file(fs::metadata(rt, path.as_path()))? {
         return Ok(None);
     }
     let mut bytes = Vec::new(alloc);
-    let mut part = fs::open(rt, path)?.take(MAX_FILE as u64 + 1);
+    let mut part = fs::open(rt, path.as_path())?.take(MAX_FILE as u64 + 1);
     part.read_to_end(&mut bytes)?;
     bytes.truncate(MAX_FILE + 1);
     Ok(Some(bytes))
 }
 
 // The bytes are on the device before it answers.
-fn write_file<R: Files>(rt: &R, path: Path<'_>, bytes: &[u8]) -> io::Result<()> {
-    let mut file = fs::create(rt, path)?;
+fn write_named<R: Files + AllocGlobal>(
+    rt: &R,
+    folder: &str,
+    name: &str,
+    bytes: &[u8],
+) -> io::Result<()> {
+    let path = path_of(rt.alloc(), folder, name)?;
+    let mut file = fs::create(rt, path.as_path())?;
     file.write_all(bytes)?;
     file.sync_all()
 }
@@ -186,9 +249,18 @@ fn sync_folder<R: Files>(rt: &R, path: &str) -> io::Result<()> {
     fs::open(rt, path)?.sync_all()
 }
 
-fn remove_file(rt: &impl Files, path: Path<'_>) -> io::Result<()> {
-    match fs::remove_file(rt, path) {
-        Err(error) if error.kind() == ErrorKind::NotFound => Ok(()),
-        answer => answer,
-    }
+fn rename_named<R: Files + AllocGlobal>(
+    rt: &R,
+    folder: &str,
+    from: &str,
+    to: &str,
+) -> io::Result<()> {
+    let from = path_of(rt.alloc(), folder, from)?;
+    let to = path_of(rt.alloc(), folder, to)?;
+    fs::rename(rt, from.as_path(), to.as_path())
+}
+
+fn remove_named<R: Files + AllocGlobal>(rt: &R, folder: &str, name: &str) -> io::Result<()> {
+    let path = path_of(rt.alloc(), folder, name)?;
+    tells_removed(fs::remove_file(rt, path.as_path()))
 }

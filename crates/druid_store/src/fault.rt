@@ -16,6 +16,9 @@ pub enum StoreFault {
     /// O3: there is no number after the last one, 2^64 - 1.
     #[error("O3: the last incarnation number")]
     AtEnd,
+    /// O4: no file can have the name.
+    #[error("O4: no name of a file")]
+    BadName,
     /// O9: memory ran out.
     #[error("O9: out of memory")]
     Memory,

@@ -5,7 +5,7 @@ ghost use Rattle.druid_store.specs.Folder.{Content, AreNames, Only, nothing, max
 ghost use Rattle.druid_store.specs.Record.{done, puts, content_after, file_from};
 
 use crate::name::{FileName, put_in_order};
-use crate::{Folder, MAX_FILE, StoreFault};
+use crate::{Folder, MAX_FILE, StoreFault, is_file_name};
 use std::alloc::{AllocError, Global};
 
 // A call on a folder, with what it was given.
@@ -85,6 +85,9 @@ impl Folder for MemoryFolder {
     }
 
     fn write(&mut self, name: &str, bytes: &[u8]) -> Result<(), StoreFault> {
+        if !is_file_name(name) {
+            return Err(StoreFault::BadName);
+        }
         let name = FileName::new(self.alloc, name)?;
         let bytes = bytes.to_vec(self.alloc)?;
         note(&mut self.calls, Call::Wrote(name, bytes))?;
@@ -97,6 +100,9 @@ impl Folder for MemoryFolder {
     }
 
     fn rename(&mut self, from: &str, to: &str) -> Result<(), StoreFault> {
+        if !is_file_name(from) || !is_file_name(to) {
+            return Err(StoreFault::BadName);
+        }
         if find(&self.calls, from.as_bytes()).is_none() {
             note(&mut self.calls, Call::Failed)?;
             self.faults = self.faults.saturating_add(1);
@@ -109,6 +115,9 @@ impl Folder for MemoryFolder {
     }
 
     fn remove(&mut self, name: &str) -> Result<(), StoreFault> {
+        if !is_file_name(name) {
+            return Err(StoreFault::BadName);
+        }
         let name = FileName::new(self.alloc, name)?;
         note(&mut self.calls, Call::Removed(name))?;
         Ok(())

@@ -1,3 +1,5 @@
+pub mod Results
+pub mod Options
 pub mod Instant
 pub mod Extent
 pub mod Civil

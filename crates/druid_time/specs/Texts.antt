@@ -4,6 +4,7 @@ use Rattle.std.specs.Char.{is_ascii_digit}
 use Rattle.std.specs.List.{list_any, before_first, after_first}
 use Rattle.druid_time.specs.Civil.{Civil, is_civil, instant_of, civil_of}
 use Rattle.druid_time.specs.Extent.{Extent}
+use Rattle.druid_time.specs.Results.{◌>>=◌}
 use Rattle.druid_time.specs.declared.fault.TimeFault.{TimeFault}
 use Rattle.druid_time.specs.declared.fault.TimeFault.TheVariants.{NotATime, OutOfRange, Empty}
 
@@ -85,11 +86,6 @@ instant_at text =
     if has_form text
     then (if is_civil (civil_parts text) then Ok (instant_of (civil_parts text)) else Err OutOfRange)
     else Err NotATime
-
-infixl 10 ◌>>=◌
-abbrev pub ◌>>=◌ : {A B : Type 0} → Result A TimeFault → (A → Result B TimeFault) → Result B TimeFault
-(Ok x) >>= f = f x
-(Err e) >>= f = Err e
 
 -- the interval that a text names: two instants round the one `/`, the start before the end
 unfoldable pub extent_at : List ℕ → Result Extent TimeFault

@@ -89,7 +89,7 @@ impl Civil {
         Some(days as u64 * DAY + self.time_of_day())
     }
 
-    /// Whether no part is above the largest that some date or time has.
+    // Whether no part is above the largest that some date or time has.
     fn is_within_limits(&self) -> bool
         ensures { IsTrue result ↔ IsWithinLimits self.now }
     {
@@ -102,7 +102,7 @@ impl Civil {
             && self.milli < 1000
     }
 
-    /// The milliseconds since the day began.
+    // The milliseconds since the day began.
     fn time_of_day(&self) -> u64
         requires { IsWithinLimits self.now }
         ensures value { result ≡ time_of_day self.now }
@@ -147,7 +147,7 @@ impl Civil {
     }
 }
 
-/// The last digit of a number, in ASCII.
+// The last digit of a number, in ASCII.
 fn digit(number: u32) -> u8
     ensures { result ≡ digit number }
 {

@@ -7,10 +7,10 @@ use crate::civil::Civil;
 use crate::reading::has_form;
 use std::marker::Model;
 
-/// The first instant, 0000-01-01T00:00:00.000Z, in milliseconds since 1970.
+// The first instant, 0000-01-01T00:00:00.000Z, in milliseconds since 1970.
 const FIRST_MS: i64 = -62_167_219_200_000;
 
-/// The last instant, 9999-12-31T23:59:59.999Z, in milliseconds since 1970.
+// The last instant, 9999-12-31T23:59:59.999Z, in milliseconds since 1970.
 const LAST_MS: i64 = 253_402_300_799_999;
 
 /// A whole millisecond of the years 0000 to 9999, in UTC.

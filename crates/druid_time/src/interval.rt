@@ -108,7 +108,7 @@ impl Interval {
         Interval::new(self.start.max(other.start), self.end.min(other.end))
     }
 
-    /// The same start, and the later of the two ends.
+    // The same start, and the later of the two ends.
     pub(crate) fn extended_to(&self, other: &Interval) -> Interval
         ensures { result ≡ record { start = self.now.start; end = max self.now.end other.now.end } }
     {

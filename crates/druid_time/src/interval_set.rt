@@ -54,8 +54,8 @@ impl IntervalSet {
     }
 }
 
-/// The parts of the set of the instants that lie in one of the intervals, which are sorted by their
-/// starts.
+// The parts of the set of the instants that lie in one of the intervals, which are sorted by their
+// starts.
 fn merged(alloc: Global, sorted: &[Interval]) -> Result<Vec<Interval>, AllocError>
     requires { IsNonDecreasingBy (λ e. e.start) sorted.now }
     ensures parts { IfOk result (λ v. AreParts v.items) }

@@ -7,12 +7,11 @@ mod fault;
 mod instant;
 mod interval;
 mod interval_set;
-pub mod laws;
+mod laws;
 mod reading;
-#[cfg(test)]
-mod tests;
 
 pub use fault::TimeFault;
 pub use instant::Instant;
 pub use interval::Interval;
 pub use interval_set::IntervalSet;
+pub use laws::{calendar_is_exact, one_list_of_parts, texts_are_read_back, texts_keep_order};

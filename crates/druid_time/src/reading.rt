@@ -18,7 +18,7 @@ pub fn has_form(text: &[u8]) -> bool
     }
 }
 
-/// Whether the text has this form: a `d` stands for a digit, and each other byte for itself.
+// Whether the text has this form: a `d` stands for a digit, and each other byte for itself.
 fn fits(form: &[u8], text: &[u8]) -> bool
     ensures { result ≡ fits_form form.now text.now }
 {
@@ -33,7 +33,7 @@ fn fits(form: &[u8], text: &[u8]) -> bool
     true
 }
 
-/// Whether a byte of a text fits the byte of a form.
+// Whether a byte of a text fits the byte of a form.
 fn byte_fits(wanted: u8, byte: u8) -> bool
     ensures { result ≡ byte_fits wanted byte }
 {
@@ -56,7 +56,7 @@ pub fn number(text: &[u8], at: usize, count: usize) -> u32
     value(&text[at..at + count])
 }
 
-/// The number that digits spell.
+// The number that digits spell.
 fn value(digits: &[u8]) -> u32
     requires { length digits.now ≤ 4 }
     ensures { result ≡ digits_value digits.now }

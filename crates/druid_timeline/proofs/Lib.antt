@@ -3,3 +3,4 @@ pub mod ChunkLemmas
 pub mod SweepLemmas
 pub mod LookupLemmas
 pub mod CutLemmas
+pub mod HullLemmas

@@ -1,4 +1,4 @@
--- What is held, kept by chunk.
+-- What is held, kept by chunk: only proofs use this.
 use Rattle.std.specs.Prelude.{◌≡◌, ℕ, List, [], map, unwrap_or, Option, MatchOption, ◌⊎◌, Contains}
 use Rattle.std.specs.HashMap as hash
 use Rattle.std.specs.HashMap.{HashMap}

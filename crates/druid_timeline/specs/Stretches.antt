@@ -1,4 +1,4 @@
--- What a sweep over the chunks of a part finds.
+-- What a sweep over the chunks of a part finds: only proofs use this.
 use Rattle.std.specs.Prelude.{◌≡◌, ℕ, ◌<◌, ◌≤◌, List, map, ◌⊎◌, ◌↔◌, Contains}
 use Rattle.druid_time.specs.Extent.{Extent, Share, AnyHas}
 use Rattle.druid_segid.specs.Group.{Group}
@@ -30,6 +30,10 @@ EndBy rs t = (u : ℕ) (g : Group) → Shows rs u g → u < t
 pub record AreCandidatesIn (part : Extent) (chunks found : List Chunk) : Type 0 where
   pub among : (e : Chunk) → Contains found e → Contains chunks e
   pub all : (e : Chunk) → Contains chunks e → IsComplete e.1 → Share part e.0.interval → Contains found e
+
+-- the part lies in the hull
+abbrev pub IsWithin : Extent → Extent → Type 0
+IsWithin part hull = (hull.start ≤ part.start) × (part.end ≤ hull.end)
 
 -- the instant is one of the bounds, if it lies strictly inside the part
 abbrev pub IsBoundIf : Extent → List ℕ → ℕ → Type 0

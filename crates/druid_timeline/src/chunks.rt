@@ -41,7 +41,7 @@ pub(crate) fn serves(chunks: &HashMap<GroupKey, Members>, id: &SegmentId, node: 
 }
 
 // Adds a segment that a node serves to its chunk.
-pub(crate) fn add_to(
+pub(crate) fn add_to_chunk(
     alloc: Global,
     chunks: &mut HashMap<GroupKey, Members>,
     key: GroupKey,
@@ -57,6 +57,7 @@ pub(crate) fn add_to(
     ensures unique { hash.IsUnique same_group chunks.new }
     ensures was_unique { hash.IsUnique same_group chunks.old }
 {
+    // Read for the proof: the reader tells what its type keeps.
     let _ = chunks.len();
     if let Some(members) = chunks.get_mut(&key) {
         if holds(members, descriptor.id().partition(), node) {

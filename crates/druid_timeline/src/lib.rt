@@ -6,8 +6,6 @@ mod fault;
 mod laws;
 mod piece;
 mod sweep;
-#[cfg(test)]
-mod tests;
 mod timeline;
 
 pub use fault::TimelineFault;

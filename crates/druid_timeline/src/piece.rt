@@ -1,29 +1,34 @@
-ghost use Rattle.std.specs.Prelude.{◌≡◌};
+ghost use Rattle.std.specs.Prelude.{◌≡◌, IfOk};
 
 use druid_segid::GroupKey;
 use druid_time::Interval;
+use std::alloc::{AllocError, Global};
 use std::marker::Model;
+use std::sync::Arc;
 
-/// Partition numbers, rising. A contract sees a list.
+/// Partition numbers, rising. Copies share one list. A contract sees a list.
 #[derive(Debug, Drop)]
 pub struct Partitions {
-    items: Vec<u16>,
+    items: Arc<Vec<u16>, Global>,
 }
 
 impl Model for Partitions {
     ghost use Rattle.std.specs.Prelude.{List, ℕ};
+    ghost use Rattle.std.specs.Arc.{arc_value};
 
     ghost Value = { List ℕ };
 
-    ghost view = { λ a. a.items.items };
+    ghost view = { λ a. (arc_value a.items).items };
 }
 
 impl Partitions {
     /// These numbers, in this order.
-    pub fn new(items: Vec<u16>) -> Partitions
-        ensures { result ≡ items.items }
+    pub fn new(alloc: Global, items: Vec<u16>) -> Result<Partitions, AllocError>
+        ensures { IfOk result (λ parts. parts ≡ items.items) }
     {
-        Partitions { items }
+        Ok(Partitions {
+            items: Arc::new(alloc, items)?,
+        })
     }
 
     /// The numbers, lent.
@@ -31,6 +36,16 @@ impl Partitions {
         ensures { result.now ≡ self.now }
     {
         self.items.as_slice()
+    }
+}
+
+impl Clone for Partitions {
+    ghost is_clone = { λ parts copy. copy ≡ parts };
+
+    fn clone(&self) -> Result<Partitions, AllocError> {
+        Ok(Partitions {
+            items: Arc::try_clone(&self.items)?,
+        })
     }
 }
 

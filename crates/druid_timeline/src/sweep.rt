@@ -2,12 +2,12 @@
 ghost use Rattle.std.specs.Prelude.{◌≡◌, ◌<◌, ◌≤◌, ◌↔◌, ◌⊎◌, ℕ, List, [], map, IsTrue, IfOk, OnOk, MatchOption, option_map, Contains};
 ghost use Rattle.std.specs.HashMap as hash;
 ghost use Rattle.std.specs.List.Sorted.{IsNonDecreasing};
-ghost use Rattle.druid_time.specs.Extent.{Has, AreParts};
+ghost use Rattle.druid_time.specs.Extent.{Extent, Has, AreParts};
 ghost use Rattle.druid_segid.specs.Group.{Group, same_group, Outranks};
 ghost use Rattle.druid_shard.specs.Members.{IsComplete};
 ghost use Rattle.druid_timeline.specs.Chunks.{Chunk, IsBest, IsBestOf};
 ghost use Rattle.druid_timeline.specs.Pieces.{AreRuns, Shows, IsStretch, ArePartitions, shown_of, Told};
-ghost use Rattle.druid_timeline.specs.Stretches.{Stretch, shown_by, chunk_by, AreOf, EndBy, AreCandidatesIn, HaveBounds, NoBoundWithin, AreRunsIn};
+ghost use Rattle.druid_timeline.specs.Stretches.{Stretch, shown_by, chunk_by, AreOf, EndBy, AreCandidatesIn, IsWithin, HaveBounds, NoBoundWithin, AreRunsIn};
 
 use crate::chunks::beats;
 use crate::{Partitions, Piece};
@@ -18,38 +18,48 @@ use std::alloc::{AllocError, Global};
 use std::collections::HashMap;
 use std::marker::Model;
 
-/// A complete chunk, with its interval at hand.
-///
-/// A contract sees the chunk and its members.
+// A complete chunk, with its interval and the list of its partitions at hand.
+//
+// A contract sees the chunk and its members.
 #[derive(Drop)]
 pub(crate) struct Candidate<'a> {
     interval: Interval,
     key: &'a GroupKey,
     members: &'a Members,
+    parts: Partitions,
 }
 
 impl<'a> Model for Candidate<'a> {
     ghost use Rattle.std.specs.Prelude.{◌≡◌};
     ghost use Rattle.druid_shard.specs.Members.{IsComplete};
     ghost use Rattle.druid_timeline.specs.Chunks.{Chunk};
+    ghost use Rattle.druid_timeline.specs.Pieces.{ArePartitions};
 
     ghost Value = { Chunk };
 
     ghost view = { λ a. (a.key.now, a.members.now) };
 
-    ghost invariant = { λ a. (a.interval ≡ a.key.now.interval) × IsComplete a.members.now };
+    ghost invariant = { λ a. (a.interval ≡ a.key.now.interval) × IsComplete a.members.now
+        × ArePartitions a.members.now a.parts };
 }
 
 impl<'a> Candidate<'a> {
-    fn new(key: &'a GroupKey, members: &'a Members) -> Candidate<'a>
+    fn new(
+        alloc: Global,
+        key: &'a GroupKey,
+        members: &'a Members,
+    ) -> Result<Candidate<'a>, AllocError>
         requires { IsComplete members.now }
-        ensures { result ≡ (key.now, members.now) }
+        ensures { IfOk result (λ candidate. candidate ≡ (key.now, members.now)) }
     {
-        Candidate {
+        let numbers = members.partitions()?;
+        let parts = Partitions::new(alloc, numbers)?;
+        Ok(Candidate {
             interval: key.interval(),
             key,
             members,
-        }
+            parts,
+        })
     }
 
     fn start(&self) -> Instant
@@ -85,33 +95,36 @@ impl<'a> Candidate<'a> {
     }
 
     // The stretch of it between two instants.
-    fn run(&self, start: Instant, end: Instant) -> Run<'a>
-        ensures { result ≡ record {
+    fn run(&self, start: Instant, end: Instant) -> Result<Run<'a>, AllocError>
+        ensures { IfOk result (λ run. run ≡ record {
           shown = record { interval = record { start = start; end = end }; group = self.now.0 };
           members = self.now.1;
-        } }
+        }) }
     {
-        Run {
+        Ok(Run {
             start,
             end,
             key: self.key,
             members: self.members,
-        }
+            parts: self.parts.clone()?,
+        })
     }
 }
 
-/// A stretch of time in which one chunk is visible.
-///
-/// A contract sees the stretch, the chunk and its members.
+// A stretch of time in which one chunk is visible, with the list of the chunk's partitions.
+//
+// A contract sees the stretch, the chunk and its members.
 #[derive(Drop)]
 pub(crate) struct Run<'a> {
     start: Instant,
     end: Instant,
     key: &'a GroupKey,
     members: &'a Members,
+    parts: Partitions,
 }
 
 impl<'a> Model for Run<'a> {
+    ghost use Rattle.druid_timeline.specs.Pieces.{ArePartitions};
     ghost use Rattle.druid_timeline.specs.Stretches.{Stretch};
 
     ghost Value = { Stretch };
@@ -120,6 +133,8 @@ impl<'a> Model for Run<'a> {
       shown = record { interval = record { start = a.start; end = a.end }; group = a.key.now };
       members = a.members.now;
     } };
+
+    ghost invariant = { λ a. ArePartitions a.members.now a.parts };
 }
 
 impl<'a> Run<'a> {
@@ -147,23 +162,35 @@ impl<'a> Run<'a> {
             end: other.end,
             key: self.key,
             members: self.members,
+            parts: self.parts,
         }
     }
 
-    // The piece of the chunk, with its partitions.
-    fn piece(&self, alloc: Global) -> Result<Piece, AllocError>
+    // The piece of the chunk, which shares the list of its partitions.
+    fn piece(&self) -> Result<Piece, AllocError>
         requires { IsStretch self.now.shown }
         ensures shown { IfOk result (λ piece. shown_of piece ≡ self.now.shown) }
         ensures parts { IfOk result (λ piece. ArePartitions self.now.members piece.parts) }
     {
         let interval = Interval::new(self.start, self.end).unwrap();
-        let parts = Partitions::new(self.members.partitions(alloc)?);
-        Ok(Piece::new(interval, self.key.clone()?, parts))
+        Ok(Piece::new(interval, self.key.clone()?, self.parts.clone()?))
     }
 }
 
-/// The complete chunks that have an instant of the part.
-pub(crate) fn candidates_in<'a>(
+// From the start of the first part to the end of the last one.
+fn hull_of(parts: &[Interval]) -> Option<Interval>
+    requires { AreParts parts.now }
+    ensures { (part : Extent) → Contains parts.now part → MatchOption result ⊥ (IsWithin part) }
+{
+    if parts.is_empty() {
+        return None;
+    }
+    let last = parts.len() - 1;
+    Interval::new(parts[0].start(), parts[last].end())
+}
+
+// The complete chunks that have an instant of the part.
+fn candidates_in<'a>(
     alloc: Global,
     chunks: &'a HashMap<GroupKey, Members>,
     part: Interval,
@@ -173,10 +200,28 @@ pub(crate) fn candidates_in<'a>(
     let mut found = Vec::new(alloc);
     for (key, members) in chunks.iter() {
         if part.overlaps(&key.interval()) && members.is_complete() {
-            found.push(Candidate::new(key, members))?;
+            let candidate = Candidate::new(alloc, key, members)?;
+            found.push(candidate)?;
         }
     }
     Ok(found)
+}
+
+// The complete chunks that have an instant of one of the parts, and maybe some between them: all chunks are looked at
+// once, however many parts there are.
+fn candidates_of<'a>(
+    alloc: Global,
+    chunks: &'a HashMap<GroupKey, Members>,
+    parts: &[Interval],
+) -> Result<Vec<Candidate<'a>>, AllocError>
+    requires { AreParts parts.now }
+    ensures { IfOk result (λ found. (part : Extent) → Contains parts.now part
+        → AreCandidatesIn part chunks.now.entries found.items) }
+{
+    match hull_of(parts) {
+        Some(hull) => candidates_in(alloc, chunks, hull),
+        None => Ok(Vec::new(alloc)),
+    }
 }
 
 // The best of the candidates that have the instant.
@@ -285,13 +330,16 @@ fn add_stretch<'a>(
         → ((e : Chunk) → Contains candidates.now e → Contains chunks e) → AreOf chunks runs.new.items) }
 {
     match best_at(candidates, from) {
-        Some(best) => push_run(runs, best.run(from, to)),
+        Some(best) => {
+            let stretch = best.run(from, to)?;
+            push_run(runs, stretch)
+        }
         None => Ok(()),
     }
 }
 
-/// Adds what is visible in a part, which lies behind the runs.
-pub(crate) fn add_part<'a>(
+// Adds what is visible in a part, which lies behind the runs.
+fn add_part<'a>(
     alloc: Global,
     runs: &mut Vec<Run<'a>>,
     candidates: &[Candidate<'a>],
@@ -316,7 +364,7 @@ pub(crate) fn add_part<'a>(
     Ok(())
 }
 
-/// The runs that show what is visible in the parts of a set.
+// The runs that show what is visible in the parts of a set.
 pub(crate) fn runs_in<'a>(
     alloc: Global,
     chunks: &'a HashMap<GroupKey, Members>,
@@ -326,16 +374,17 @@ pub(crate) fn runs_in<'a>(
     ensures runs { IfOk result (λ v. AreRunsIn parts.now chunks.now.entries v.items) }
     ensures unique { hash.IsUnique same_group chunks.now }
 {
+    // Read for the proof: the reader tells what its type keeps.
     let _ = chunks.len();
+    let candidates = candidates_of(alloc, chunks, parts)?;
     let mut runs = Vec::new(alloc);
     for part in parts {
-        let candidates = candidates_in(alloc, chunks, *part)?;
         add_part(alloc, &mut runs, &candidates, *part)?;
     }
     Ok(runs)
 }
 
-/// The pieces of the runs, each with the partitions of its chunk.
+// The pieces of the runs, each with the partitions of its chunk.
 pub(crate) fn pieces_of(alloc: Global, runs: &[Run]) -> Result<Vec<Piece>, AllocError>
     requires { AreRuns (map shown_by runs.now) }
     ensures shown { IfOk result (λ found. map shown_of found.items ≡ map shown_by runs.now) }
@@ -344,7 +393,7 @@ pub(crate) fn pieces_of(alloc: Global, runs: &[Run]) -> Result<Vec<Piece>, Alloc
 {
     let mut pieces = Vec::new(alloc);
     for run in runs {
-        pieces.push(run.piece(alloc)?)?;
+        pieces.push(run.piece()?)?;
     }
     Ok(pieces)
 }

@@ -4,7 +4,7 @@ ghost use Rattle.druid_timeline.specs.Holding.{held_of, members_of, IsHeld, Adds
 ghost use Rattle.druid_timeline.specs.Pieces.{ArePiecesIn, ArePartitions, shown_of};
 ghost use Rattle.druid_timeline.specs.Visible.{IsVisible, NothingVisible};
 
-use crate::chunks::{add_to, best_of, serves};
+use crate::chunks::{add_to_chunk, best_of, serves};
 use crate::sweep::{pieces_of, runs_in};
 use crate::{Piece, TimelineFault};
 use druid_segid::{GroupKey, Meter, Name};
@@ -68,12 +68,13 @@ impl Timeline {
         ensures err { OnErr result (SameHeld self.old.held self.new.held) }
         ensures source { self.new.source ≡ self.old.source }
     {
+        // One comparison could be counted, and none is made.
         let _ = meter;
         let id = descriptor.id();
         if id.source() != &self.source {
             return Err(TimelineFault::OtherSource);
         }
-        let Ok(key) = id.group(self.alloc) else {
+        let Ok(key) = id.group() else {
             // The segment may be there already, and that is said first.
             return Err(if serves(&self.chunks, id, node) {
                 TimelineFault::AlreadyThere
@@ -81,7 +82,7 @@ impl Timeline {
                 TimelineFault::Memory
             });
         };
-        add_to(self.alloc, &mut self.chunks, key, descriptor, node)
+        add_to_chunk(self.alloc, &mut self.chunks, key, descriptor, node)
     }
 
     /// The chunk that is visible at an instant, if one is. It takes no memory.

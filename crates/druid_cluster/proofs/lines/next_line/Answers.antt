@@ -6,12 +6,12 @@ use Rattle.druid_cluster.proofs.lines.next_line.Goals as goal
 
 pub returns-then-len-gt-MAX_LINE-clause-found : goal.returns-then-len-gt-MAX_LINE-clause-found
 returns-then-len-gt-MAX_LINE-clause-found g c =
-    finds_long c.append_part.new.line.items (feed_of c.in_ok-part.part) _ _
-    (grown_plain c.in_ok-part.part c.loop.line.items c.append_part.new.line.items _ _ _ c.loop.invariant.plain c.in_ok-part.ensures)
-    (omega (arith, c.append_part.new.line.ok.0))
-    (grown_taken c.in_ok-part.part c.loop.line.items c.append_part.new.line.items _ _ _ _ c.loop.invariant.taken c.in_ok-part.ensures)
+    finds_long c.next_part.new.line.items (feed_of c.in_ok-part.part) _ _
+    (grown_plain c.in_ok-part.part c.loop.line.items c.next_part.new.line.items _ _ _ c.loop.invariant.plain c.in_ok-part.ensures)
+    (omega (arith, c.next_part.new.line.ok.0))
+    (grown_taken c.in_ok-part.part c.loop.line.items c.next_part.new.line.items _ _ _ _ c.loop.invariant.taken c.in_ok-part.ensures)
 
 pub returns-in-Ended-clause-found : goal.returns-in-Ended-clause-found
 returns-in-Ended-clause-found g c =
-    let some : 0 < length c.append_part.new.line.items = grind (arith, common_steps) in
-    finds_last_at c.in_ok-part.part c.loop.line.items c.append_part.new.line.items _ _ _ _ c.in-Ended.is c.loop.invariant.plain c.loop.invariant.taken c.in_ok-part.ensures some
+    let some : 0 < length c.next_part.new.line.items = grind (arith, common_steps) in
+    finds_last_at c.in_ok-part.part c.loop.line.items c.next_part.new.line.items _ _ _ _ c.in-Ended.is c.loop.invariant.plain c.loop.invariant.taken c.in_ok-part.ensures some

@@ -13,21 +13,21 @@ use Rattle.druid_inventory.proofs.timelines.add_segment.Goals as goal
 pub returns-in-Some : goal.returns-in-Some
 returns-in-Some c =
     let same = c.source-source.ensures.value ∙ ap (λ (id : Identifier). id.source) c.id.ensures.value in
-    let writes = (c.get_mut.follows.holds c.add_to.new.timeline).3 (ap is_some (sym c.in-Some.ensures.value)) in
-    on_ok_weaker c.add_to.result
-    (λ adds. AddsSegment-grown c.args.timelines.now (c.get_mut.follows.lender c.add_to.new.timeline) c.source-source.result.now
-    c.in-Some.timeline.now c.add_to.new.timeline c.args.node c.args.descriptor.now
-    same c.in-Some.ensures.value c.requires writes c.add_to.ensures.source adds)
-    c.add_to.ensures.added
+    let writes = (c.get_mut.follows.holds c.add_to_timeline.new.timeline).3 (ap is_some (sym c.in-Some.ensures.value)) in
+    on_ok_weaker c.add_to_timeline.result
+    (λ adds. AddsSegment-grown c.args.timelines.now (c.get_mut.follows.lender c.add_to_timeline.new.timeline) c.source-source.result.now
+    c.in-Some.timeline.now c.add_to_timeline.new.timeline c.args.node c.args.descriptor.now
+    same c.in-Some.ensures.value c.requires writes c.add_to_timeline.ensures.source adds)
+    c.add_to_timeline.ensures.added
 
 -- a timeline with the segment is put into the map
 pub returns-in_ok-insert-in-None : goal.returns-in_ok-insert-in-None
 returns-in_ok-insert-in-None c =
     let same = c.source-source.ensures.value ∙ ap (λ (id : Identifier). id.source) c.id.ensures.value in
-    let writes = subst (λ (m : BTreeMap (List ℕ) Serving). UpdatesBy (slice_cmp nat_cmp) (slice_cmp nat_cmp c.in_ok-clone-in-None-2.field-0) m c.insert.new.self (Some c.add_to-in-None.new.timeline))
+    let writes = subst (λ (m : BTreeMap (List ℕ) Serving). UpdatesBy (slice_cmp nat_cmp) (slice_cmp nat_cmp c.in_ok-clone-in-None-2.field-0) m c.insert.new.self (Some c.add_to_timeline-in-None.new.timeline))
     c.get_mut.follows.holds-at-none c.in_ok-insert-in-None.ensures.updates in
     AddsSegment-begun c.args.timelines.now c.insert.new.self c.source-source.result.now
-    c.in_ok-clone-in-None-2.field-0 c.in_ok-clone-in-None.field-0 c.new-timeline.result c.add_to-in-None.new.timeline
+    c.in_ok-clone-in-None-2.field-0 c.in_ok-clone-in-None.field-0 c.new-timeline.result c.add_to_timeline-in-None.new.timeline
     c.args.node c.args.descriptor.now
     same c.in-None.ensures.value c.in_ok-clone-in-None-2.ensures.cases c.in_ok-clone-in-None.ensures.cases c.new-timeline.ensures
-    writes c.add_to-in-None.ensures.source c.in_ok-add_to-in-None.ensures.added
+    writes c.add_to_timeline-in-None.ensures.source c.in_ok-add_to_timeline-in-None.ensures.added

@@ -1,4 +1,5 @@
-use Rattle.std.proofs.Common.{string_bytes, rules}
+use Rattle.druid_segfile.specs.Lent.{bytes_of}
+use Rattle.std.proofs.Common.{rules}
 use Rattle.std.specs.Prelude.{bytes_eq}
 use Rattle.std.proofs.lemmas.Iterator.{YieldsList-from_slice}
 use Rattle.std.proofs.lemmas.Iterator.Search.{any_from_yields_List}
@@ -9,4 +10,4 @@ use Rattle.druid_segfile.proofs.fields.is_among.Goals as goal
 pub returns : goal.returns
 returns c =
     any_text (bytes_eq c.args.name.now) c.args.names.now c.any.result
-    (any_from_yields_List (λ other. bytes_eq c.args.name.now (string_bytes other)) _ _ c.any.result c.any.ensures.ran (YieldsList-from_slice c.args.names.now cc) (λ x b q k. search (rules, tests)))
+    (any_from_yields_List (λ other. bytes_eq c.args.name.now (bytes_of other)) _ _ c.any.result c.any.ensures.ran (YieldsList-from_slice c.args.names.now cc) (λ x b q k. search (rules, tests)))

@@ -1,24 +1,57 @@
-use Rattle.std.proofs.Common.{sym, ap, Ok, ◌∙◌, arith}
-use Rattle.druid_segfile.proofs.SegmentLemmas.{content_fails, trails, passes_limit, is_all, is_spelling}
+use Rattle.std.proofs.Common.{◌≡◌, ◌∙◌, List, ℕ, Ok, eqb, length, sym, ap, arith}
+use Rattle.std.proofs.lemmas.Result.{err_from_is_err_and}
+use Rattle.druid_segfile.specs.Reading.{Cursor}
+use Rattle.druid_segfile.proofs.SegmentLemmas.{judged_err, judged_ok, judged_trails, judged_passes, may_lack_memory, is_spelling}
+use Rattle.druid_segfile.proofs.BuildLemmas.{whole_content, built_is, room_at_cursor}
 use Rattle.druid_segfile.proofs.reading.segment_in.Goals as goal
 
-pub returns-in-Err-clause-exact : goal.returns-in-Err-clause-exact
-returns-in-Err-clause-exact c =
-    content_fails 16777216 c.min.result c.args.bytes.now c.short_of.result c.in-Err.fault c.short_of.ensures c.min.ensures c.in-Err.ensures
+pub returns-in_err-judged-clause-exact : goal.returns-in_err-judged-clause-exact
+returns-in_err-judged-clause-exact c =
+    let p = err_from_is_err_and c.from_residual.result c.from_residual.ensures.1 in
+    rw (p.1, p.2) (judged_err 16777216 c.min.result c.args.bytes.now c.short_of-short.result c.in_err-judged.field-0.0 c.new-cursor.result c.short_of-short.ensures c.min.ensures c.new-cursor.ensures c.in_err-judged.ensures.fault)
 
-pub returns-then-not-is_empty-clause-exact : goal.returns-then-not-is_empty-clause-exact
-returns-then-not-is_empty-clause-exact c =
-    trails 16777216 c.min.result c.args.bytes.now c.short_of.result (c.in-Ok.part.0, c.in-Ok.part.1.now) c.short_of.ensures c.min.ensures c.in-Ok.ensures (sym c.is_empty.ensures ∙ c.if-not-is_empty.true)
+pub returns-then-not-is_at_end-clause-exact : goal.returns-then-not-is_at_end-clause-exact
+returns-then-not-is_at_end-clause-exact c =
+    let j = c.in_ok-judged.judged in
+    let after = c.judged.new.self.rest in
+    let read = whole_content c.new-cursor.result.short c.new-cursor.result.rest j.announced j.fields j.count j.rows.now after c.in_ok-judged.ensures.whole in
+    judged_trails 16777216 c.min.result c.args.bytes.now c.short_of-short.result c.new-cursor.result _ after c.short_of-short.ensures c.min.ensures c.new-cursor.ensures read (sym c.is_at_end.ensures ∙ c.if-not-is_at_end.true)
 
 pub returns-then-bytes-gt-MAX_TEXT-clause-exact : goal.returns-then-bytes-gt-MAX_TEXT-clause-exact
 returns-then-bytes-gt-MAX_TEXT-clause-exact c =
-    passes_limit 16777216 c.min.result c.args.bytes.now c.short_of.result (c.in-Ok.part.0, c.in-Ok.part.1.now) c.short_of.ensures c.min.ensures c.in-Ok.ensures c.if-bytes-gt-MAX_TEXT.true
+    let j = c.in_ok-judged.judged in
+    let after = c.judged.new.self.rest in
+    let read = whole_content c.new-cursor.result.short c.new-cursor.result.rest j.announced j.fields j.count j.rows.now after c.in_ok-judged.ensures.whole in
+    judged_passes 16777216 c.min.result c.args.bytes.now c.short_of-short.result c.new-cursor.result _ after c.short_of-short.ensures c.min.ensures c.new-cursor.ensures read c.if-bytes-gt-MAX_TEXT.true
+
+pub segment-requires-clause-room : goal.segment-requires-clause-room
+segment-requires-clause-room c =
+    let j = c.in_ok-judged.judged in
+    room_at_cursor c.min.result c.args.bytes.now c.short_of-short.result c.new-cursor.result j.announced j.fields j.count j.rows.now (omega (arith, c.min.ensures)) (λ i. omega (arith, c.type_inv.bytes i)) c.new-cursor.ensures c.in_ok-judged.ensures.whole.head
+
+pub returns-in_err-segment-clause-exact : goal.returns-in_err-segment-clause-exact
+returns-in_err-segment-clause-exact c =
+    let j = c.in_ok-judged.judged in
+    let after = c.judged.new.self.rest in
+    let read = whole_content c.new-cursor.result.short c.new-cursor.result.rest j.announced j.fields j.count j.rows.now after c.in_ok-judged.ensures.whole in
+    let nothing = sym c.is_at_end.ensures ∙ c.if-not-is_at_end.false in
+    let found = judged_ok 16777216 c.min.result c.args.bytes.now c.short_of-short.result c.new-cursor.result _ after c.short_of-short.ensures c.min.ensures c.new-cursor.ensures read nothing c.if-bytes-gt-MAX_TEXT.false in
+    let p = err_from_is_err_and c.from_residual-in_err-segment.result c.from_residual-in_err-segment.ensures.1 in
+    rw p.1 (may_lack_memory _ _ _ found p.2)
+
+found_is : goal.returns-clause-exact
+found_is c =
+    let j = c.in_ok-judged.judged in
+    let after = c.judged.new.self.rest in
+    let whole = c.in_ok-judged.ensures.whole in
+    let read = whole_content c.new-cursor.result.short c.new-cursor.result.rest j.announced j.fields j.count j.rows.now after whole in
+    let nothing = sym c.is_at_end.ensures ∙ c.if-not-is_at_end.false in
+    let found = judged_ok 16777216 c.min.result c.args.bytes.now c.short_of-short.result c.new-cursor.result _ after c.short_of-short.ensures c.min.ensures c.new-cursor.ensures read nothing c.if-bytes-gt-MAX_TEXT.false in
+    let made = built_is c.new-cursor.result.short c.short_of-short.result j.announced j.fields j.count j.rows.now after c.in_ok-segment.ensures.0 whole.rows c.in_ok-segment.field-0 (ap (λ (k : Cursor). k.short) c.new-cursor.ensures) whole.read c.in_ok-segment.ensures.1 in
+    found ∙ ap (λ s. Ok s) made
 
 pub returns-clause-found : goal.returns-clause-found
-returns-clause-found c =
-    is_spelling c.args.bytes.now c.finish.result (λ i. omega (arith, c.type_inv.bytes i)) (is_all 16777216 c.min.result c.args.bytes.now c.short_of.result (c.in-Ok.part.0, c.in-Ok.part.1.now) c.short_of.ensures c.min.ensures c.in-Ok.ensures (sym c.is_empty.ensures ∙ c.if-not-is_empty.false) c.if-bytes-gt-MAX_TEXT.false ∙ ap (λ s. Ok s) (sym c.finish.ensures.value))
+returns-clause-found c = is_spelling c.args.bytes.now c.in_ok-segment.field-0 (λ i. omega (arith, c.type_inv.bytes i)) (found_is c)
 
 pub returns-clause-exact : goal.returns-clause-exact
-returns-clause-exact c =
-    is_all 16777216 c.min.result c.args.bytes.now c.short_of.result (c.in-Ok.part.0, c.in-Ok.part.1.now) c.short_of.ensures c.min.ensures c.in-Ok.ensures (sym c.is_empty.ensures ∙ c.if-not-is_empty.false) c.if-bytes-gt-MAX_TEXT.false
-    ∙ ap (λ s. Ok s) (sym c.finish.ensures.value)
+returns-clause-exact c = found_is c

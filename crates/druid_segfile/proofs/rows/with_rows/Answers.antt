@@ -1,39 +1,51 @@
-use Rattle.std.proofs.Common.{◌≡◌, ◌-◌, ◌+◌, length, subst, sym, ap, arith}
-use Rattle.druid_rows.specs.Segment.{Content, segment_of}
+use Rattle.std.proofs.Common.{◌≡◌, ◌-◌, ◌+◌, ◌++◌, ◌∷◌, ◌∙◌, [], List, ℕ, Ok, Err, length, subst, sym, ap, arith}
+use Rattle.druid_rows.specs.Rows.{Values, row_of}
+use Rattle.druid_rows.specs.Segment.{Content, IsSegment, segment_of, with_row}
 use Rattle.druid_segfile.specs.Reading.{each_at, values_at}
 use Rattle.druid_segfile.specs.Building.{HasRoom, with_read}
-use Rattle.druid_segfile.proofs.LoopLemmas.{goes_on, ends, is_done}
-use Rattle.druid_segfile.proofs.BuildLemmas.{refused_memory, room_for_row}
+use Rattle.druid_segfile.specs.Lent.{values_lent}
+use Rattle.druid_segfile.proofs.LoopLemmas.{goes_on, ends, is_done, is_read}
+use Rattle.druid_segfile.proofs.BuildLemmas.{room_for_row, lent_row}
 use Rattle.druid_segfile.proofs.rows.with_rows.Goals as goal
 
-pub loop-init : goal.loop-init
-loop-init c =
-    let all : c.args.count - 0 ≡ c.args.count = omega arith in
-    record {
-      room = subst (λ n. HasRoom c.args.builder c.args.shape n (length c.args.bytes.now)) (sym all) c.requires;
-      fits = λ i. omega (arith, c.type_inv.bytes i);
-      reading = ap (λ n. with_read c.args.builder (each_at (values_at c.args.short c.args.shape) n c.args.bytes.now)) all;
-    }
+-- the rows with those that were read before them
+abbrev made : Content → List Values × List ℕ → Content × List ℕ
+made s x = (segment_of s.descriptor s.fields (s.rows ++ x.0), x.1)
 
-pub returns-in-Err : goal.returns-in-Err
-returns-in-Err c =
-    ends (segment_of c.loop.builder.descriptor c.loop.builder.fields) (values_at c.args.short c.args.shape) c.in-Err.fault c.loop.builder.rows c.args.count c.loop.counter c.loop.rest.now (with_read c.args.builder (each_at (values_at c.args.short c.args.shape) c.args.count c.args.bytes.now)) c.loop-test.true c.in-Err.ensures c.loop.invariant.reading
+pub unreachable-requires : goal.unreachable-requires
+unreachable-requires c =
+    let failed = subst (λ s. values_at s c.args.shape c.loop.cursor.rest ≡ Err c.in-Err.field-0) c.loop.invariant.short c.in-Err.ensures in
+    let none = ends (segment_of c.loop.builder.descriptor c.loop.builder.fields) (values_at c.args.short c.args.shape) c.in-Err.field-0 c.loop.builder.rows c.args.count c.loop.counter c.loop.cursor.rest (with_read c.args.builder (each_at (values_at c.args.short c.args.shape) c.args.count c.args.bytes.now)) c.loop-test.true failed c.loop.invariant.reading in
+    is_read (each_at (values_at c.args.short c.args.shape) c.args.count c.args.bytes.now) (made c.args.builder) c.in-Err.field-0 c.requires.judged none
 
-pub returns-in-Err-push : goal.returns-in-Err-push
-returns-in-Err-push c =
-    let room = room_for_row c.args.short c.loop.builder c.args.shape c.args.count c.loop.counter c.loop.rest.now c.in-Ok.part.0 c.in-Ok.part.1.now c.loop.invariant.room c.loop-test.true c.loop.invariant.fits c.in-Ok.ensures in
-    refused_memory c.in-Err-push.fault c.refusal.result (with_read c.args.builder (each_at (values_at c.args.short c.args.shape) c.args.count c.args.bytes.now)) c.refusal.ensures (c.in-Err-push.ensures.accepts room.0.valid)
+pub want_of_memory-requires : goal.want_of_memory-requires
+want_of_memory-requires c =
+    let values = c.row.new.values in
+    let after = c.row.new.self in
+    let row : Values = row_of c.in-Ok.time (values_lent values.texts.items) values.numbers.items in
+    let read = subst (λ s. values_at s c.args.shape c.loop.cursor.rest ≡ Ok (row, after.rest)) c.loop.invariant.short c.in-Ok.ensures.0 in
+    let room = room_for_row c.args.short c.loop.builder c.args.shape c.args.count c.loop.counter c.loop.cursor.rest row after.rest c.loop.invariant.room c.loop-test.true c.loop.invariant.fits read in
+    let same = lent_row c.in-Ok.time values.texts.items c.as_slice.result.now values.numbers.items c.as_slice-in-loop.result.now c.as_slice.ensures.value c.as_slice-in-loop.ensures.value in
+    let valid : IsSegment (with_row c.loop.builder (row_of c.in-Ok.time (values_lent c.as_slice.result.now) c.as_slice-in-loop.result.now)) = subst (λ (r : Values). IsSegment (with_row c.loop.builder r)) (sym same) room.0.valid in
+    c.in-Err-push_values.ensures.accepts valid
 
 pub loop-preserved : goal.loop-preserved
 loop-preserved c =
-    let room = room_for_row c.args.short c.loop.builder c.args.shape c.args.count c.loop.counter c.loop.rest.now c.in-Ok.part.0 c.in-Ok.part.1.now c.loop.invariant.room c.loop-test.true c.loop.invariant.fits c.in-Ok.ensures in
-    let on = goes_on (segment_of c.loop.builder.descriptor c.loop.builder.fields) (values_at c.args.short c.args.shape) c.loop.builder.rows c.args.count c.loop.counter c.loop.rest.now c.in-Ok.part.0 c.in-Ok.part.1.now (with_read c.args.builder (each_at (values_at c.args.short c.args.shape) c.args.count c.args.bytes.now)) c.loop-test.true c.in-Ok.ensures c.loop.invariant.reading in
+    let values = c.row.new.values in
+    let after = c.row.new.self in
+    let row : Values = row_of c.in-Ok.time (values_lent values.texts.items) values.numbers.items in
+    let read = subst (λ s. values_at s c.args.shape c.loop.cursor.rest ≡ Ok (row, after.rest)) c.loop.invariant.short c.in-Ok.ensures.0 in
+    let room = room_for_row c.args.short c.loop.builder c.args.shape c.args.count c.loop.counter c.loop.cursor.rest row after.rest c.loop.invariant.room c.loop-test.true c.loop.invariant.fits read in
+    let on = goes_on (segment_of c.loop.builder.descriptor c.loop.builder.fields) (values_at c.args.short c.args.shape) c.loop.builder.rows c.args.count c.loop.counter c.loop.cursor.rest row after.rest (with_read c.args.builder (each_at (values_at c.args.short c.args.shape) c.args.count c.args.bytes.now)) c.loop-test.true read c.loop.invariant.reading in
+    let same = lent_row c.in-Ok.time values.texts.items c.as_slice.result.now values.numbers.items c.as_slice-in-loop.result.now c.as_slice.ensures.value c.as_slice-in-loop.ensures.value in
+    let pushed : c.push_values.new.self ≡ with_row c.loop.builder row = subst (λ (r : Values). c.push_values.new.self ≡ with_row c.loop.builder r) same c.in-Ok-push_values.ensures.ok in
     record {
-      room = subst (λ (s : Content). HasRoom s c.args.shape (c.args.count - (c.loop.counter + 1)) (length c.in-Ok.part.1.now)) (sym c.in_default.ensures.ok) room.0;
+      room = subst (λ (s : Content). HasRoom s c.args.shape (c.args.count - (c.loop.counter + 1)) (length after.rest)) (sym pushed) room.0;
       fits = room.1;
-      reading = subst (λ (s : Content). with_read s (each_at (values_at c.args.short c.args.shape) (c.args.count - (c.loop.counter + 1)) c.in-Ok.part.1.now) ≡ with_read c.args.builder (each_at (values_at c.args.short c.args.shape) c.args.count c.args.bytes.now)) (sym c.in_default.ensures.ok) on;
+      short = c.in-Ok.ensures.1 ∙ c.loop.invariant.short;
+      reading = subst (λ (s : Content). with_read s (each_at (values_at c.args.short c.args.shape) (c.args.count - (c.loop.counter + 1)) after.rest) ≡ with_read c.args.builder (each_at (values_at c.args.short c.args.shape) c.args.count c.args.bytes.now)) (sym pushed) on;
     }
 
 pub returns : goal.returns
 returns c =
-    is_done (segment_of c.loop.builder.descriptor c.loop.builder.fields) (values_at c.args.short c.args.shape) c.loop.builder.rows c.args.count c.loop.counter c.loop.rest.now (with_read c.args.builder (each_at (values_at c.args.short c.args.shape) c.args.count c.args.bytes.now)) c.loop-test.false c.loop.invariant.reading
+    (c.loop.cursor.rest, is_done (segment_of c.loop.builder.descriptor c.loop.builder.fields) (values_at c.args.short c.args.shape) c.loop.builder.rows c.args.count c.loop.counter c.loop.cursor.rest (with_read c.args.builder (each_at (values_at c.args.short c.args.shape) c.args.count c.args.bytes.now)) c.loop-test.false c.loop.invariant.reading)

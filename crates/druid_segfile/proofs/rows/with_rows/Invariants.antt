@@ -1,4 +1,5 @@
-use Rattle.std.proofs.Common.{◌≡◌, ◌-◌, length}
+use Rattle.std.proofs.Common.{◌≡◌, ◌-◌, List, length}
+use Rattle.druid_rows.specs.Rows.{Values}
 use Rattle.druid_segfile.specs.Reading.{each_at, values_at}
 use Rattle.druid_segfile.specs.Building.{HasRoom, with_read}
 use Rattle.druid_segfile.proofs.PartLemmas.{IsBytes}
@@ -6,7 +7,8 @@ use Rattle.druid_segfile.proofs.rows.with_rows.Given as goal
 
 abbrev pub invariant-loop : goal.invariant-loop
 invariant-loop l = record {
-  room : HasRoom l.builder l.shape (l.count - l.counter) (length l.rest);
-  fits : IsBytes l.rest;
-  reading : with_read l.builder (each_at (values_at l.short l.shape) (l.count - l.counter) l.rest) ≡ with_read l.fn.builder (each_at (values_at l.short l.shape) l.count l.bytes);
+  room : HasRoom l.builder l.fn.shape (l.count - l.counter) (length l.cursor.rest);
+  fits : IsBytes l.cursor.rest;
+  short : l.cursor.short ≡ l.fn.short;
+  reading : with_read l.builder (each_at (values_at l.fn.short l.fn.shape) (l.count - l.counter) l.cursor.rest) ≡ with_read l.fn.builder (each_at (values_at l.fn.short l.fn.shape) l.count l.fn.bytes);
 }

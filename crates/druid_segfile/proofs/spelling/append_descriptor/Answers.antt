@@ -8,10 +8,10 @@ returns c =
     c.as_str.result.now c.interval.result c.as_str-2.result.now c.partition.result c.core.result c.size.result
     (c.as_str.ensures.value ∙ (c.source.ensures.value ∙ ap (λ id. id.source) c.id-id.ensures.value))
     (c.interval.ensures.value ∙ ap (λ id. id.interval) c.id-id.ensures.value)
-    (c.as_str-2.ensures.value ∙ (c.version.ensures.value ∙ ap (λ id. id.version) c.id-id.ensures.value))
+    (c.as_str-2.ensures.value ∙ (c.in_ok-version.ensures ∙ (c.version.ensures.value ∙ ap (λ id. id.version) c.id-id.ensures.value)))
     (c.partition.ensures.value ∙ ap (λ id. id.partition) c.id-id.ensures.value)
     c.core.ensures.value
-    c.size.ensures
+    c.size.ensures.value
     c.in_ok-append_short_text.ensures
     c.in_ok-append_interval.ensures
     c.in_ok-append_short_text-2.ensures

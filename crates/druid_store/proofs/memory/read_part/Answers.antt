@@ -1,4 +1,5 @@
-use Rattle.std.proofs.Common.{refl, arith}
+use Rattle.std.proofs.Common.{◌+◌, refl, arith}
+use Rattle.druid_store.specs.Folder.{max_file}
 use Rattle.druid_store.proofs.ReadPart.{whole_read, cut_read, cut_length}
 use Rattle.druid_store.proofs.memory.read_part.Goals as goal
 
@@ -6,7 +7,7 @@ pub returns-then-bytes-le-MAX_FILE-clause-part : goal.returns-then-bytes-le-MAX_
 returns-then-bytes-le-MAX_FILE-clause-part c = whole_read c.from_slice.result c.args.bytes.now (omega arith) c.from_slice.ensures.items
 
 pub returns-clause-part : goal.returns-clause-part
-returns-clause-part c = cut_read c.from_slice-2.result 16777217 c.args.bytes.now c.from_slice-2.ensures.items refl
+returns-clause-part c = cut_read c.from_slice-2.result (max_file + 1) c.args.bytes.now c.from_slice-2.ensures.items refl
 
 pub returns-clause-bound : goal.returns-clause-bound
-returns-clause-bound c = cut_length c.from_slice-2.result 16777217 c.args.bytes.now c.from_slice-2.ensures.items (omega arith)
+returns-clause-bound c = cut_length c.from_slice-2.result (max_file + 1) c.args.bytes.now c.from_slice-2.ensures.items (omega arith)

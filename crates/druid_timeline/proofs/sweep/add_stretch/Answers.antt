@@ -13,19 +13,19 @@ on_ok : {T E : Type 0} (r : Result T E) (P Q : Type 0) → (P → Q) → OnOk r 
 on_ok (Ok x) P Q f p = f p
 on_ok (Err e) P Q f p = tt
 
-pub returns-in-Some-clause-shows : goal.returns-in-Some-clause-shows
-returns-in-Some-clause-shows c =
+pub returns-in_ok-stretch-in-Some-clause-shows : goal.returns-in_ok-stretch-in-Some-clause-shows
+returns-in_ok-stretch-in-Some-clause-shows c =
     on_ok c.push_run.result _ _
-    (λ (h : (t : ℕ) (g : Group) → Shows (map shown_by c.push_run.new.runs.items) t g ↔ (Shows (map shown_by c.args.runs.now.items) t g ⊎ ((c.run.result.shown.group ≡ g) × Has c.run.result.shown.interval t))) t g.
+    (λ (h : (t : ℕ) (g : Group) → Shows (map shown_by c.push_run.new.runs.items) t g ↔ (Shows (map shown_by c.args.runs.now.items) t g ⊎ ((c.in_ok-stretch-in-Some.stretch.shown.group ≡ g) × Has c.in_ok-stretch-in-Some.stretch.shown.interval t))) t g.
     level_shows c.args.candidates.now c.args.from c.args.to c.in-Some.best.now.0 (map shown_by c.args.runs.now.items) (map shown_by c.push_run.new.runs.items) t g c.requires.level c.requires.order c.in-Some.ensures.best
-    (subst (λ (r : Stretch). Shows (map shown_by c.push_run.new.runs.items) t g ↔ (Shows (map shown_by c.args.runs.now.items) t g ⊎ ((r.shown.group ≡ g) × Has r.shown.interval t))) c.run.ensures (h t g)))
+    (subst (λ (r : Stretch). Shows (map shown_by c.push_run.new.runs.items) t g ↔ (Shows (map shown_by c.args.runs.now.items) t g ⊎ ((r.shown.group ≡ g) × Has r.shown.interval t))) c.in_ok-stretch-in-Some.ensures (h t g)))
     c.push_run.ensures.shows
 
-pub returns-in-Some-clause-members : goal.returns-in-Some-clause-members
-returns-in-Some-clause-members c =
+pub returns-in_ok-stretch-in-Some-clause-members : goal.returns-in_ok-stretch-in-Some-clause-members
+returns-in_ok-stretch-in-Some-clause-members c =
     on_ok c.push_run.result _ _
-    (λ (h : (chunks : List Chunk) → AreOf chunks c.args.runs.now.items → Contains chunks (chunk_by c.run.result) → AreOf chunks c.push_run.new.runs.items) chunks of_old all.
-    h chunks of_old (subst (λ (r : Stretch). Contains chunks (chunk_by r)) (sym c.run.ensures) (all c.in-Some.best.now c.in-Some.ensures.among)))
+    (λ (h : (chunks : List Chunk) → AreOf chunks c.args.runs.now.items → Contains chunks (chunk_by c.in_ok-stretch-in-Some.stretch) → AreOf chunks c.push_run.new.runs.items) chunks of_old all.
+    h chunks of_old (subst (λ (r : Stretch). Contains chunks (chunk_by r)) (sym c.in_ok-stretch-in-Some.ensures) (all c.in-Some.best.now c.in-Some.ensures.among)))
     c.push_run.ensures.members
 
 pub returns-in-None-clause-shows : goal.returns-in-None-clause-shows

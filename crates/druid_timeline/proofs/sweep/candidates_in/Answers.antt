@@ -13,7 +13,7 @@ loop-key-preserved-then-is_complete c =
     let e = rest_more deref_pair c.loop-key.key-iterator c.next.new.self c.next.result (c.in-Some.key, c.in-Some.members) c.in-Some.is c.next.ensures.steps in
     AreGathered-more c.args.part c.args.chunks.now.entries c.next.new.self c.loop-key.found.items c.push.new.self.items (c.in-Some.key.now, c.in-Some.members.now)
     (subst (λ (rest : List Chunk). AreGathered c.args.part c.args.chunks.now.entries rest c.loop-key.found.items) e c.loop-key.invariant)
-    (c.in_ok-push.ensures.items ∙ ap (λ (x : Chunk). c.loop-key.found.items ++ x ∷ []) c.new.ensures)
+    (c.in_ok-push.ensures.items ∙ ap (λ (x : Chunk). c.loop-key.found.items ++ x ∷ []) c.in_ok-candidate.ensures)
 
 pub loop-key-preserved : goal.loop-key-preserved
 loop-key-preserved c =

@@ -24,21 +24,21 @@ held_same added members value slot p q n e f h k =
 
 pub invariant_of-self : goal.invariant_of-self
 invariant_of-self c =
-    let e = c.add_to.ensures in
-    let same = SameMembers-slot c.self.inside.slots c.add_to.new.slots c.partition-partition.result e.was_ordered e.ordered e.others c.in_err-added.ensures.err in
-    (c.self.invariant.0 ∙ sym (core_count-same _ _ same), HasMember-same _ _ _ same c.self.invariant.1, c.add_to.ensures.none_empty c.self.invariant.2)
+    let e = c.add_member.ensures in
+    let same = SameMembers-slot c.self.inside.slots c.add_member.new.slots c.partition-partition.result e.was_ordered e.ordered e.others c.in_err-added.ensures.err in
+    (c.self.invariant.0 ∙ sym (core_count-same _ _ same), HasMember-same _ _ _ same c.self.invariant.1, c.add_member.ensures.none_empty c.self.invariant.2)
 
 pub returns-in_err-added-clause-err : goal.returns-in_err-added-clause-err
 returns-in_err-added-clause-err c =
-    let e = c.add_to.ensures in
-    let same = SameMembers-slot c.self.inside.slots c.add_to.new.slots c.partition-partition.result e.was_ordered e.ordered e.others c.in_err-added.ensures.err in
-    always_err c.from_residual.result _ (subst (λ (ms : List Member). SameMembers ms (members_in c.add_to.new.slots.entries)) c.self.view_is same)
+    let e = c.add_member.ensures in
+    let same = SameMembers-slot c.self.inside.slots c.add_member.new.slots c.partition-partition.result e.was_ordered e.ordered e.others c.in_err-added.ensures.err in
+    always_err c.from_residual.result _ (subst (λ (ms : List Member). SameMembers ms (members_in c.add_member.new.slots.entries)) c.self.view_is same)
 
 pub invariant_of-self-then-added : goal.invariant_of-self-then-added
 invariant_of-self-then-added c =
-    let e = c.add_to.ensures in
-    let adds = Adds-slot c.self.inside.slots c.add_to.new.slots c.partition-partition.result c.args.node c.core-core.result e.was_ordered e.ordered e.others (c.in_ok-added.ensures.added c.if-added.true) in
-    (c.max-self-inside.ensures ∙ ap (λ (k : ℕ). max k c.core-core.result) c.self.invariant.0 ∙ sym (core_count-adds _ _ _ adds), (λ _. (record { node = c.args.node; partition = c.partition-partition.result; core = c.core-core.result }, (adds _).1 (inl refl)), λ _. refl), c.add_to.ensures.none_empty c.self.invariant.2)
+    let e = c.add_member.ensures in
+    let adds = Adds-slot c.self.inside.slots c.add_member.new.slots c.partition-partition.result c.args.node c.core-core.result e.was_ordered e.ordered e.others (c.in_ok-added.ensures.added c.if-added.true) in
+    (c.max-self-inside.ensures ∙ ap (λ (k : ℕ). max k c.core-core.result) c.self.invariant.0 ∙ sym (core_count-adds _ _ _ adds), (λ _. (record { node = c.args.node; partition = c.partition-partition.result; core = c.core-core.result }, (adds _).1 (inl refl)), λ _. refl), c.add_member.ensures.none_empty c.self.invariant.2)
 
 -- where nothing was added the slot is as before
 unchanged : (added : Bool) (P : Type 0) → added ≡ false → (IsTrue added ⊎ P) → P
@@ -47,29 +47,29 @@ unchanged added P not_added (inr p) = p
 
 pub invariant_of-self-else-added : goal.invariant_of-self-else-added
 invariant_of-self-else-added c =
-    let e = c.add_to.ensures in
-    let same = SameMembers-slot c.self.inside.slots c.add_to.new.slots c.partition-partition.result e.was_ordered e.ordered e.others (unchanged c.in_ok-added.added _ c.if-added.false c.in_ok-added.ensures.same) in
-    (c.self.invariant.0 ∙ sym (core_count-same _ _ same), HasMember-same _ _ _ same c.self.invariant.1, c.add_to.ensures.none_empty c.self.invariant.2)
+    let e = c.add_member.ensures in
+    let same = SameMembers-slot c.self.inside.slots c.add_member.new.slots c.partition-partition.result e.was_ordered e.ordered e.others (unchanged c.in_ok-added.added _ c.if-added.false c.in_ok-added.ensures.same) in
+    (c.self.invariant.0 ∙ sym (core_count-same _ _ same), HasMember-same _ _ _ same c.self.invariant.1, c.add_member.ensures.none_empty c.self.invariant.2)
 
 pub returns-then-added-clause-held : goal.returns-then-added-clause-held
 returns-then-added-clause-held c =
-    held_same c.in_ok-added.added (members_in c.self.inside.slots.entries) c.args.self.now _ c.partition-partition.result _ c.args.node c.self.view_is (c.partition-partition.ensures.value ∙ ap (λ (id : Identifier). id.partition) c.id.ensures.value) (HoldsPlace-slot c.self.inside.slots c.partition-partition.result c.args.node c.add_to.ensures.was_ordered) c.in_ok-added.ensures.held
+    held_same c.in_ok-added.added (members_in c.self.inside.slots.entries) c.args.self.now _ c.partition-partition.result _ c.args.node c.self.view_is (c.partition-partition.ensures.value ∙ ap (λ (id : Identifier). id.partition) c.id.ensures.value) (HoldsPlace-slot c.self.inside.slots c.partition-partition.result c.args.node c.add_member.ensures.was_ordered) c.in_ok-added.ensures.held
 
 pub returns-then-added-clause-added : goal.returns-then-added-clause-added
 returns-then-added-clause-added c told =
-    let e = c.add_to.ensures in
-    let adds = Adds-slot c.self.inside.slots c.add_to.new.slots c.partition-partition.result c.args.node c.core-core.result e.was_ordered e.ordered e.others (c.in_ok-added.ensures.added c.if-added.true) in
+    let e = c.add_member.ensures in
+    let adds = Adds-slot c.self.inside.slots c.add_member.new.slots c.partition-partition.result c.args.node c.core-core.result e.was_ordered e.ordered e.others (c.in_ok-added.ensures.added c.if-added.true) in
     let at = c.partition-partition.ensures.value ∙ ap (λ (id : Identifier). id.partition) c.id.ensures.value in
     let one : record { node = c.args.node; partition = c.partition-partition.result; core = c.core-core.result } ≡ member_of c.args.node c.args.descriptor.now = λ i. record { node = c.args.node; partition = at i; core = c.core-core.ensures.value i } in
-    subst (λ (m : Member). Adds c.args.self.now (members_in c.add_to.new.slots.entries) m) one
-    (subst (λ (ms : List Member). Adds ms (members_in c.add_to.new.slots.entries) (record { node = c.args.node; partition = c.partition-partition.result; core = c.core-core.result })) c.self.view_is adds)
+    subst (λ (m : Member). Adds c.args.self.now (members_in c.add_member.new.slots.entries) m) one
+    (subst (λ (ms : List Member). Adds ms (members_in c.add_member.new.slots.entries) (record { node = c.args.node; partition = c.partition-partition.result; core = c.core-core.result })) c.self.view_is adds)
 
 pub returns-else-added-clause-held : goal.returns-else-added-clause-held
 returns-else-added-clause-held c =
-    held_same c.in_ok-added.added (members_in c.self.inside.slots.entries) c.args.self.now _ c.partition-partition.result _ c.args.node c.self.view_is (c.partition-partition.ensures.value ∙ ap (λ (id : Identifier). id.partition) c.id.ensures.value) (HoldsPlace-slot c.self.inside.slots c.partition-partition.result c.args.node c.add_to.ensures.was_ordered) c.in_ok-added.ensures.held
+    held_same c.in_ok-added.added (members_in c.self.inside.slots.entries) c.args.self.now _ c.partition-partition.result _ c.args.node c.self.view_is (c.partition-partition.ensures.value ∙ ap (λ (id : Identifier). id.partition) c.id.ensures.value) (HoldsPlace-slot c.self.inside.slots c.partition-partition.result c.args.node c.add_member.ensures.was_ordered) c.in_ok-added.ensures.held
 
 pub returns-else-added-clause-same : goal.returns-else-added-clause-same
 returns-else-added-clause-same c =
-    let e = c.add_to.ensures in
-    let same = SameMembers-slot c.self.inside.slots c.add_to.new.slots c.partition-partition.result e.was_ordered e.ordered e.others (unchanged c.in_ok-added.added _ c.if-added.false c.in_ok-added.ensures.same) in
-    inr (subst (λ (ms : List Member). SameMembers ms (members_in c.add_to.new.slots.entries)) c.self.view_is same)
+    let e = c.add_member.ensures in
+    let same = SameMembers-slot c.self.inside.slots c.add_member.new.slots c.partition-partition.result e.was_ordered e.ordered e.others (unchanged c.in_ok-added.added _ c.if-added.false c.in_ok-added.ensures.same) in
+    inr (subst (λ (ms : List Member). SameMembers ms (members_in c.add_member.new.slots.entries)) c.self.view_is same)

@@ -5,6 +5,12 @@ use Rattle.druid_store.specs.declared.memory.Call.TheVariants.{Wrote}
 use Rattle.druid_store.proofs.Calls.{content_pushed, left_before, elapses_pushed, torn_unchanged, torn_left, torn_named, on_err}
 use Rattle.druid_store.proofs.memory.MemoryFolderFolder.write.Goals as goal
 
+pub returns-then-not-is_file_name-clause-failed : goal.returns-then-not-is_file_name-clause-failed
+returns-then-not-is_file_name-clause-failed c honest = torn_unchanged c.args.name.now c.args.self.now.calls.items c.args.self.now.calls.items refl
+
+pub returns-then-not-is_file_name-clause-stop : goal.returns-then-not-is_file_name-clause-stop
+returns-then-not-is_file_name-clause-stop c honest = torn_left c.args.name.now c.args.self.now.calls.items c.args.self.now.calls.items refl
+
 pub returns-in_err-name-clause-failed : goal.returns-in_err-name-clause-failed
 returns-in_err-name-clause-failed c honest = on_err c.from_residual.result (torn_unchanged c.args.name.now c.args.self.now.calls.items c.args.self.now.calls.items refl)
 

@@ -1,0 +1,14 @@
+//! What no contract says of the crates from instants to inventories: worked examples, printed texts, and that calls
+//! succeed with ample memory. A module has the name of the crate that it tests.
+#![tactic(auto)]
+
+#[cfg(test)]
+mod inventory;
+#[cfg(test)]
+mod segid;
+#[cfg(test)]
+mod shard;
+#[cfg(test)]
+mod time;
+#[cfg(test)]
+mod timeline;

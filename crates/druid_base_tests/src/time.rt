@@ -1,0 +1,153 @@
+use druid_time::{Instant, Interval, IntervalSet};
+use std::alloc::Global;
+use std::test::Fail;
+
+// A text, and the milliseconds since 1970 of the instant that it names, or its fault.
+const INSTANTS: &str = "2024-01-01T10:00 = 1704103200000
+2024-02-30 = C2: no such date or time
+2024-2-3 = C1: not a time
+2018-05-21 = 1526860800000
+2018-05-21T16:07 = 1526918820000
+2018-05-21T16:07Z = 1526918820000
+2018-05-21T16:07:09 = 1526918829000
+2018-05-21T16:07:09Z = 1526918829000
+2018-05-21T16:07:09.123 = 1526918829123
+2018-05-21T16:07:09.123Z = 1526918829123
+2000-02-29 = 951782400000
+2024-02-29 = 1709164800000
+1900-03-01 = -2203891200000
+1582-10-10 = -12219724800000
+0001-01-01 = -62135596800000
+0000-01-01 = -62167219200000
+9999-12-31T23:59:59.999 = 253402300799999
+1900-02-29 = C2: no such date or time
+2023-02-29 = C2: no such date or time
+2024-04-31 = C2: no such date or time
+2024-00-10 = C2: no such date or time
+2024-13-10 = C2: no such date or time
+2024-01-00 = C2: no such date or time
+2024-01-32 = C2: no such date or time
+2024-01-01T24:00 = C2: no such date or time
+2024-01-01T23:60 = C2: no such date or time
+2024-01-01T23:59:60 = C2: no such date or time
+ = C1: not a time
+2024 = C1: not a time
+2024-01 = C1: not a time
+2024-01-01Z = C1: not a time
+2024-01-01T10 = C1: not a time
+2024-01-01 10:00 = C1: not a time
+2024-01-01T10:00z = C1: not a time
+2024-01-01T10:00:00.1 = C1: not a time
+2024-01-01T10:00:00,123 = C1: not a time
+2024-01-01T10:00:00.000ZZ = C1: not a time
+-024-01-01 = C1: not a time
+2024/01/01 = C1: not a time
+20240-1-01 = C1: not a time
+２4-01-01 = C1: not a time";
+
+// Milliseconds since 1970, and the printed form of the instant there.
+const PRINTED: &str = "-1 = 1969-12-31T23:59:59.999Z
+0 = 1970-01-01T00:00:00.000Z
+1526918829123 = 2018-05-21T16:07:09.123Z
+951782400000 = 2000-02-29T00:00:00.000Z
+-62167219200000 = 0000-01-01T00:00:00.000Z
+253402300799999 = 9999-12-31T23:59:59.999Z
+-62167219200001 = none
+253402300800000 = none";
+
+// A text, and the printed form of the interval that it names, or its fault.
+const INTERVALS: &str =
+    "2024-01-01/2024-01-02T00:00:00Z = 2024-01-01T00:00:00.000Z/2024-01-02T00:00:00.000Z
+2024-01-02/2024-01-02 = C3: an empty interval
+2024-01-01 = C1: not a time
+2024-01-01/2024-01-02/2024-01-03 = C1: not a time
+2024-01-01/P1D = C1: not a time
+2024-01-32/P1D = C2: no such date or time
+P1D/2024-01-32 = C1: not a time
+2024-01-01/2024-01-32 = C2: no such date or time
+2024-01-02/2024-01-01 = C3: an empty interval
+2024-01-01T00:00/2024-01-01 = C3: an empty interval";
+
+// Intervals with a space between, and the parts of the set of their instants, each with a space behind it.
+const SETS: &str = " =\u{20}
+2024-01-01T00:00/2024-01-01T06:00 2024-01-01T06:00/2024-01-01T12:00 = 2024-01-01T00:00:00.000Z/2024-01-01T12:00:00.000Z\u{20}
+2024-01-03/2024-01-04 2024-01-01T06:00/2024-01-01T12:00 2024-01-01T00:00/2024-01-01T06:00 = 2024-01-01T00:00:00.000Z/2024-01-01T12:00:00.000Z 2024-01-03T00:00:00.000Z/2024-01-04T00:00:00.000Z\u{20}";
+
+fn instant_told(alloc: Global, text: &str) -> Result<String, Fail> {
+    match Instant::parse(text) {
+        Ok(instant) => Ok(format!(in alloc; "{}", instant.ms())?),
+        Err(fault) => Ok(fault.to_string(alloc)?),
+    }
+}
+
+fn printed(alloc: Global, ms: &str) -> Result<String, Fail> {
+    match Instant::new(ms.parse()?) {
+        Some(instant) => {
+            let mut text = [0; 24];
+            instant.write(&mut text);
+            Ok(String::from_utf8_lossy(alloc, &text)?)
+        }
+        None => Ok(String::from_str(alloc, "none")?),
+    }
+}
+
+fn interval_told(alloc: Global, text: &str) -> Result<String, Fail> {
+    match Interval::parse(text) {
+        Ok(interval) => Ok(interval.text(alloc)?),
+        Err(fault) => Ok(fault.to_string(alloc)?),
+    }
+}
+
+fn parts(alloc: Global, text: &str) -> Result<String, Fail> {
+    let mut intervals = Vec::new(alloc);
+    for interval in text.split_whitespace() {
+        intervals.push(Interval::parse(interval)?)?;
+    }
+    let set = IntervalSet::of(alloc, &intervals)?.clone()?;
+    let mut told = String::new(alloc);
+    for part in set.parts() {
+        told.push_str(part.text(alloc)?.as_str())?;
+        told.push(' ')?;
+    }
+    Ok(told)
+}
+
+#[test]
+fn instants(rt: HostRuntime) -> Result<(), Fail> {
+    for row in INSTANTS.lines() {
+        let (text, wanted) = row.split_once(" = ").ok_or("no row")?;
+        let told = instant_told(rt.alloc(), text)?;
+        assert_eq!(rt; told.as_str(), wanted, "at {text}");
+    }
+    Ok(())
+}
+
+#[test]
+fn printed_instants(rt: HostRuntime) -> Result<(), Fail> {
+    for row in PRINTED.lines() {
+        let (ms, wanted) = row.split_once(" = ").ok_or("no row")?;
+        let told = printed(rt.alloc(), ms)?;
+        assert_eq!(rt; told.as_str(), wanted, "at {ms}");
+    }
+    Ok(())
+}
+
+#[test]
+fn intervals(rt: HostRuntime) -> Result<(), Fail> {
+    for row in INTERVALS.lines() {
+        let (text, wanted) = row.split_once(" = ").ok_or("no row")?;
+        let told = interval_told(rt.alloc(), text)?;
+        assert_eq!(rt; told.as_str(), wanted, "at {text}");
+    }
+    Ok(())
+}
+
+#[test]
+fn ample_memory(rt: HostRuntime) -> Result<(), Fail> {
+    for row in SETS.lines() {
+        let (text, wanted) = row.split_once(" = ").ok_or("no row")?;
+        let told = parts(rt.alloc(), text)?;
+        assert_eq!(rt; told.as_str(), wanted, "at {text}");
+    }
+    Ok(())
+}

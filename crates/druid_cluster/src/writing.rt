@@ -1,0 +1,113 @@
+//! Answers, written as they are made.
+ghost use Rattle.std.specs.Prelude.{◌≡◌, ◌≤◌, ◌++◌, length, take, IfOk, OnOk, OnErr, string_bytes};
+ghost use Rattle.std.specs.Io.KnownBytes.{Appends, Keeps};
+ghost use Rattle.serde_json.specs.Written.{compact_text, comma_if};
+ghost use Rattle.druid_cluster.specs.Answers.{piece_data, line_text};
+ghost use Rattle.druid_cluster.specs.Runs.{AppendsFront};
+ghost use Rattle.druid_cluster.specs.declared.answer.Answer.TheVariants.{Found};
+
+use crate::answer::{Answer, answer_line, piece_value};
+use crate::interrupted::{MAX_TRIES, is_interrupted};
+use druid_timeline::Piece;
+use std::alloc::{AllocError, Global};
+use std::io;
+use std::io::{ErrorKind, Write};
+
+// Writes a front of a text, of one byte at least, and gives its length.
+#[tactic(auto, using(crate::proofs::WriteLemmas::kept_twice, crate::proofs::WriteLemmas::kept_appends))]
+fn write_some<W: Write>(writer: &mut W, text: &[u8]) -> io::Result<usize>
+    ensures bound { IfOk result (λ n. n ≤ length text.now) }
+    ensures progress { IfOk result (λ n. 1 ≤ n) }
+    ensures ok { IfOk result
+        (λ n. Appends (W.contents writer.old) (W.contents writer.new) (take n text.now)) }
+    ensures err { OnErr result (Keeps (W.contents writer.old) (W.contents writer.new)) }
+{
+    for _ in 0..MAX_TRIES {
+        match writer.write(text) {
+            Ok(0) => return Err(ErrorKind::WriteZero.into()),
+            Ok(written) => return Ok(written),
+            Err(error) => {
+                if !is_interrupted(&error) {
+                    return Err(error);
+                }
+            }
+        }
+    }
+    Err(ErrorKind::Interrupted.into())
+}
+
+/// Writes a text. Where the writer fails, it has got some front of the text, and not the whole.
+
+pub fn write_text<W: Write>(writer: &mut W, text: &[u8]) -> io::Result<()>
+    ensures ok { OnOk result (Appends (W.contents writer.old) (W.contents writer.new) text.now) }
+    ensures err { OnErr result
+        (AppendsFront (W.contents writer.old) (W.contents writer.new) text.now) }
+{
+    let mut rest = text;
+    while !rest.is_empty() {
+        let written = write_some(writer, rest)?;
+        let (_, left) = rest.split_at(written);
+        rest = left;
+    }
+    Ok(())
+}
+
+// The text of a piece, behind a comma where another stands before it.
+#[tactic(auto, using(crate::proofs::PlainLemmas::piece_plain))]
+fn piece_text(alloc: Global, piece: &Piece, later: bool) -> Result<String, AllocError>
+    ensures { IfOk result (λ text.
+        string_bytes text ≡ comma_if later ++ compact_text (piece_data piece.now)) }
+{
+    let plain = piece_value(alloc, piece)?.to_string(alloc)?;
+    if !later {
+        return Ok(plain);
+    }
+    let mut text = String::from_str(alloc, ",")?;
+    text.push_str(plain.as_str())?;
+    Ok(text)
+}
+
+// Writes the text of a piece, behind a comma where another stands before it.
+fn write_piece<W: Write>(
+    alloc: Global,
+    piece: &Piece,
+    later: bool,
+    writer: &mut W,
+) -> io::Result<()>
+    ensures ok { OnOk result (Appends (W.contents writer.old) (W.contents writer.new)
+        (comma_if later ++ compact_text (piece_data piece.now))) }
+    ensures err { OnErr result (AppendsFront (W.contents writer.old) (W.contents writer.new)
+        (comma_if later ++ compact_text (piece_data piece.now))) }
+{
+    let text = piece_text(alloc, piece, later)?;
+    write_text(writer, text.as_bytes())
+}
+
+// Writes the line of the pieces that were found, with memory for one at a time.
+fn write_pieces<W: Write>(alloc: Global, pieces: &[Piece], writer: &mut W) -> io::Result<()>
+    ensures ok { OnOk result
+        (Appends (W.contents writer.old) (W.contents writer.new) (line_text (Found pieces.now))) }
+    ensures err { OnErr result (AppendsFront (W.contents writer.old) (W.contents writer.new)
+        (line_text (Found pieces.now))) }
+{
+    write_text(writer, b"{\"pieces\":[")?;
+    for i in 0..pieces.len() {
+        write_piece(alloc, &pieces[i], 0 < i, writer)?;
+    }
+    write_text(writer, b"]}\n")
+}
+
+/// Writes the line of an answer. Where the writer fails or memory is refused, the writer has got some front of the line,
+/// and not the whole.
+pub fn write_answer<W: Write>(alloc: Global, answer: &Answer, writer: &mut W) -> io::Result<()>
+    ensures ok { OnOk result
+        (Appends (W.contents writer.old) (W.contents writer.new) (line_text answer.now)) }
+    ensures err { OnErr result
+        (AppendsFront (W.contents writer.old) (W.contents writer.new) (line_text answer.now)) }
+{
+    if let Answer::Found(pieces) = answer {
+        return write_pieces(alloc, pieces.as_slice(), writer);
+    }
+    let text = answer_line(alloc, answer)?;
+    write_text(writer, text.as_bytes())
+}

@@ -1,0 +1,516 @@
+use druid_rows::{RowFault, Schema, Segment, SegmentBuilder};
+use druid_segfile::{FileFault, read_segment, write_segment};
+use druid_segid::{Name, SegmentId, Version};
+use druid_shard::Descriptor;
+use druid_time::{Instant, Interval};
+use std::alloc::Global;
+use std::io::{Error, ErrorKind, Read, Result as IoResult, Write};
+use std::process::Abort;
+use std::test::Fail;
+
+// One row of the source `w`, as other programs spell it: examples/vector.dsg.
+fn vector() -> &'static str {
+    "44534731017700000000000000000000000005265c00017600000001000000000000000001016401016d0000000100000000000003e801000178010000000000000005"
+}
+
+// Three rows of a day of the source `wiki`, with nulls, an empty text and texts that are not ASCII, spelled by another
+// program.
+fn three_rows() -> &'static str {
+    "445347310477696b690000018cc251f4000000018cc7785000027631000380000000011f71fb04cb020463697479046e6f7465010468697473000000030000018cc251f4000100075ac3bc726963680001ffffffffffffffff0000018cc7784fff010000010009c3a9e282acf09d849e000000018cc251f4010000018000000000000000"
+}
+
+fn nibble(digit: u8) -> u8 {
+    match digit {
+        b'0'..=b'9' => digit - b'0',
+        b'a'..=b'f' => digit - b'a' + 10,
+        _ => 0,
+    }
+}
+
+fn push_pair(bytes: &mut Vec<u8>, high: u8, low: u8) -> Result<(), Fail> {
+    Ok(bytes.push(high.wrapping_mul(16).wrapping_add(low))?)
+}
+
+// The bytes of hexadecimal digits.
+fn bytes_of(alloc: Global, digits: &str) -> Result<Vec<u8>, Fail> {
+    let mut bytes = Vec::new(alloc);
+    let mut high = None;
+    for digit in digits.as_bytes() {
+        match high {
+            None => high = Some(nibble(*digit)),
+            Some(first) => {
+                push_pair(&mut bytes, first, nibble(*digit))?;
+                high = None;
+            }
+        }
+    }
+    Ok(bytes)
+}
+
+fn read(alloc: Global, mut bytes: &[u8]) -> Result<Segment, FileFault> {
+    read_segment(alloc, &mut bytes)
+}
+
+fn code(fault: FileFault) -> &'static str {
+    match fault {
+        FileFault::Magic => "F1",
+        FileFault::Cut => "F2",
+        FileFault::Field => "F3",
+        FileFault::RowOutside => "F4",
+        FileFault::TooLong => "F5",
+        FileFault::Trailing => "F6",
+        FileFault::Read => "F7",
+        FileFault::Write => "F8",
+        FileFault::Memory => "F9",
+    }
+}
+
+fn answer<T: Drop>(answered: Result<T, FileFault>) -> &'static str {
+    match answered {
+        Ok(_) => "ok",
+        Err(fault) => code(fault),
+    }
+}
+
+// The letters of the fault of these bytes, or `ok`.
+fn told(alloc: Global, bytes: &[u8]) -> &'static str {
+    answer(read(alloc, bytes))
+}
+
+// Puts the patch in the place of the bytes there.
+fn put(bytes: &mut Vec<u8>, place: usize, patch: &[u8]) {
+    for (n, byte) in patch.iter().enumerate() {
+        if let Some(old) = bytes.get_mut(place.wrapping_add(n)) {
+            *old = *byte;
+        }
+    }
+}
+
+// Whether the vector is told so once the hexadecimal bytes stand at that place: `4 00 F3`.
+fn is_told(alloc: Global, line: &str) -> Result<bool, Fail> {
+    let mut words = line.split(' ');
+    let place = words.next().ok_or("no place")?;
+    let patch = bytes_of(alloc, words.next().ok_or("no bytes")?)?;
+    let wanted = words.next().ok_or("no fault")?;
+    let mut bytes = bytes_of(alloc, vector())?;
+    put(&mut bytes, place.parse::<usize>()?, &patch);
+    Ok(told(alloc, &bytes) == wanted)
+}
+
+// The first line that is not told so.
+fn first_wrong<'a>(alloc: Global, table: &'a str) -> Result<Option<&'a str>, Fail> {
+    for line in table.lines() {
+        if !is_told(alloc, line)? {
+            return Ok(Some(line));
+        }
+    }
+    Ok(None)
+}
+
+// F1, F4, and what is not refused.
+fn few_changes() -> &'static str {
+    "0 45 F1
+0 44 ok
+3 32 F1
+46 0000000005265c00 F4
+46 0000000005265bff ok
+46 0000000000000000 ok
+46 ffffffffffffffff F4
+46 7fffffffffffffff F4"
+}
+
+// A name of no bytes, of a byte that is none of a name's, and of bytes that are no text; then the instants, the
+// version, the core, the fields and the marks.
+fn broken_rules() -> &'static str {
+    "4 00 F3
+5 20 F3
+5 ff F3
+6 7fffffffffffffff F3
+6 0000000005265c00 F3
+14 0000000000000000 F3
+14 7fffffffffffffff F3
+22 00 F3
+23 5f F3
+23 2f F3
+23 22 F3
+23 5c F3
+23 20 F3
+23 7f F3
+23 ff F3
+26 8000 ok
+26 8001 F3
+37 00 F3
+38 2d F3
+38 ff F3
+40 00 F3
+41 2e F3
+41 64 F3
+54 02 F3
+54 ff F3
+57 ff F3
+58 02 F3"
+}
+
+// Each count and each length, at its limit and above it.
+fn passed_limits() -> &'static str {
+    "4 64 F2
+4 65 F5
+22 40 F2
+22 41 F5
+36 40 F3
+36 41 F5
+37 64 F2
+37 65 F5
+39 40 F3
+39 41 F5
+40 64 F2
+40 65 F5
+42 000186a0 F2
+42 000186a1 F5
+55 0400 F2
+55 0401 F5"
+}
+
+#[test]
+fn changed_bytes(rt: HostRuntime) -> Result<(), Fail> {
+    let alloc = rt.alloc();
+    assert_eq!(rt; first_wrong(alloc, few_changes())?, None);
+    assert_eq!(rt; first_wrong(alloc, broken_rules())?, None);
+    assert_eq!(rt; first_wrong(alloc, passed_limits())?, None);
+    Ok(())
+}
+
+// The first length at which the front of the bytes is not told as cut.
+fn first_uncut(alloc: Global, bytes: &[u8]) -> usize {
+    for len in 0..bytes.len() {
+        if told(alloc, &bytes[..len]) != "F2" {
+            return len;
+        }
+    }
+    bytes.len()
+}
+
+// Whether each front is cut, all of it is read, and one byte more is one too many.
+fn ends_there(alloc: Global, digits: &str) -> Result<bool, Fail> {
+    let mut bytes = bytes_of(alloc, digits)?;
+    let is_cut = first_uncut(alloc, &bytes) == bytes.len();
+    let whole = told(alloc, &bytes);
+    bytes.push(0)?;
+    Ok(is_cut && whole == "ok" && told(alloc, &bytes) == "F6")
+}
+
+#[test]
+fn cut_or_long_files(rt: HostRuntime) -> Result<(), Fail> {
+    let alloc = rt.alloc();
+    assert!(rt; ends_there(alloc, vector())?);
+    assert!(rt; ends_there(alloc, three_rows())?);
+    Ok(())
+}
+
+// The row of the vector, with a text of that many bytes.
+fn push_long_row(bytes: &mut Vec<u8>, row: &[u8], text: &[u8]) -> Result<(), Fail> {
+    bytes.extend_from_slice(&row[..8.min(row.len())])?;
+    bytes.push(1)?;
+    bytes.extend_from_slice(&(text.len() as u16).to_be_bytes())?;
+    bytes.extend_from_slice(text)?;
+    bytes.push(0)?;
+    Ok(())
+}
+
+// A file of 46 bytes, 16,194 rows of 1,036 bytes each, and one row of 12 bytes and a text of that many.
+fn large(alloc: Global, last: usize) -> Result<Vec<u8>, Fail> {
+    let head = bytes_of(
+        alloc,
+        "44534731017700000000000000000000000005265c00017600000001000000000000000001016401016d00003f43",
+    )?;
+    let row = bytes_of(alloc, "00000000000003e8")?;
+    let text = "a".repeat(alloc, 1_024)?;
+    let mut bytes = Vec::new(alloc);
+    bytes.extend_from_slice(&head)?;
+    for _ in 0..16_194u32 {
+        push_long_row(&mut bytes, &row, text.as_bytes())?;
+    }
+    let short = "a".repeat(alloc, last)?;
+    push_long_row(&mut bytes, &row, short.as_bytes())?;
+    Ok(bytes)
+}
+
+// What is told of such a file, once it has that many bytes more.
+fn told_of_large(alloc: Global, last: usize, more: usize) -> Result<(usize, &'static str), Fail> {
+    let mut bytes = large(alloc, last)?;
+    for _ in 0..more {
+        bytes.push(0)?;
+    }
+    Ok((bytes.len(), told(alloc, &bytes)))
+}
+
+#[test]
+fn files_of_16_mib(rt: HostRuntime) -> Result<(), Fail> {
+    let alloc = rt.alloc();
+    assert_eq!(rt; told_of_large(alloc, 173, 0)?, (16_777_215, "ok"));
+    assert_eq!(rt; told_of_large(alloc, 174, 0)?, (16_777_216, "ok"));
+    assert_eq!(rt; told_of_large(alloc, 175, 0)?, (16_777_217, "F5"));
+    assert_eq!(rt; told_of_large(alloc, 173, 1)?, (16_777_216, "F6"));
+    assert_eq!(rt; told_of_large(alloc, 174, 1)?, (16_777_217, "F6"));
+    Ok(())
+}
+
+fn instant(ms: i64) -> Result<Instant, Fail> {
+    Ok(Instant::new(ms).ok_or("no instant")?)
+}
+
+fn descriptor(alloc: Global, end: i64) -> Result<Descriptor, Fail> {
+    let interval = Interval::new(instant(0)?, instant(end)?).ok_or("no interval")?;
+    let (source, version) = (Name::new(alloc, "w")?, Version::new(alloc, "v")?);
+    let id = SegmentId::new(source, interval, version, 0);
+    Ok(Descriptor::new(id, 1, 0).ok_or("no descriptor")?)
+}
+
+fn strings(alloc: Global, words: &str) -> Result<Vec<String>, Fail> {
+    let mut all = Vec::new(alloc);
+    for word in words.split(',') {
+        all.push(String::from_str(alloc, word)?)?;
+    }
+    Ok(all)
+}
+
+// Calls with long contracts stand alone, so that no test carries what they say.
+fn new_builder(alloc: Global, schema: Schema) -> Result<SegmentBuilder, Fail> {
+    Ok(SegmentBuilder::new(alloc, descriptor(alloc, 300)?, schema)?)
+}
+
+fn push_values(
+    builder: &mut SegmentBuilder,
+    time: Instant,
+    texts: &[Option<&str>],
+    numbers: &[Option<i64>],
+) -> Result<(), RowFault> {
+    builder.push_values(time, texts, numbers)
+}
+
+// Adds a row of a null, a text of 300 bytes that begins with the number, an empty text, and numbers.
+fn push_row(alloc: Global, builder: &mut SegmentBuilder, number: u16) -> Result<(), Fail> {
+    let text = format!(in alloc; "{number:0>300}")?;
+    let texts = [None, Some(text.as_str()), Some("")];
+    let numbers = [Some(i64::from(number)), None, Some(i64::MIN)];
+    let time = instant(i64::from(number))?;
+    Ok(push_values(builder, time, &texts, &numbers)?)
+}
+
+// A segment of 300 rows.
+fn many_rows(alloc: Global) -> Result<Segment, Fail> {
+    let schema = Schema::new(strings(alloc, "a,b,c")?, strings(alloc, "d,e,f")?);
+    let mut builder = new_builder(alloc, schema)?;
+    for number in 0..300u16 {
+        push_row(alloc, &mut builder, number)?;
+    }
+    Ok(builder.finish())
+}
+
+fn written(alloc: Global, segment: &Segment) -> Result<Vec<u8>, Fail> {
+    let mut bytes = Vec::new(alloc);
+    write_segment(alloc, segment, &mut bytes)?;
+    Ok(bytes)
+}
+
+// A row, printed. Nothing where there is none.
+fn row_told(alloc: Global, segment: &Segment, place: usize) -> Result<String, Fail> {
+    if place >= segment.len() {
+        return Ok(String::new(alloc));
+    }
+    let row = segment.row(place)?;
+    let (ms, dimensions, metrics) = (row.time().ms(), row.dimensions(), row.metrics());
+    Ok(format!(in alloc; "{ms} {dimensions:?} {metrics:?}")?)
+}
+
+// The first place at which the segments have other rows.
+fn first_other(alloc: Global, left: &Segment, right: &Segment) -> Result<Option<usize>, Fail> {
+    for place in 0..left.len().max(right.len()) {
+        if row_told(alloc, left, place)? != row_told(alloc, right, place)? {
+            return Ok(Some(place));
+        }
+    }
+    Ok(None)
+}
+
+#[test]
+fn written_and_read_back(rt: HostRuntime) -> Result<(), Fail> {
+    let alloc = rt.alloc();
+    let segment = many_rows(alloc)?;
+    let bytes = written(alloc, &segment)?;
+    assert!(rt; bytes.len() > 100_000);
+    let again = read(alloc, &bytes)?;
+    assert_eq!(rt; (segment.len(), again.len()), (300, 300));
+    assert_eq!(rt; first_other(alloc, &segment, &again)?, None);
+    assert!(rt; written(alloc, &again)? == bytes);
+    Ok(())
+}
+
+// What is read of these digits, and written again, is the same bytes.
+fn is_written_again(alloc: Global, digits: &str) -> Result<bool, Fail> {
+    let bytes = bytes_of(alloc, digits)?;
+    Ok(written(alloc, &read(alloc, &bytes)?)? == bytes)
+}
+
+#[test]
+fn ample_memory(rt: HostRuntime) -> Result<(), Fail> {
+    let alloc = rt.alloc();
+    assert!(rt; is_written_again(alloc, vector())?);
+    assert!(rt; is_written_again(alloc, three_rows())?);
+    let segment = read(alloc, &bytes_of(alloc, vector())?)?;
+    let row = row_told(alloc, &segment, 0)?;
+    assert_eq!(rt; row.as_str(), "1000 [Some(\"x\")] [Some(5)]");
+    Ok(())
+}
+
+// Gives its bytes, a few at a time, and counts them. Then it fails, if it has a fault, gives zeros for ever, or ends.
+#[derive(Drop)]
+struct Source<'a> {
+    bytes: &'a [u8],
+    step: usize,
+    fault: Option<ErrorKind>,
+    is_endless: bool,
+    is_interrupted: bool,
+    given: usize,
+}
+
+impl Read for Source<'_> {
+    fn read(&mut self, buf: &mut [u8]) -> IoResult<usize> {
+        self.is_interrupted = !self.is_interrupted;
+        if self.is_interrupted {
+            return Err(Error::new(ErrorKind::Interrupted, "interrupted"));
+        }
+        if self.bytes.is_empty() && self.is_endless {
+            buf.fill(0);
+            self.given = self.given.wrapping_add(buf.len());
+            return Ok(buf.len());
+        }
+        match self.fault {
+            Some(kind) if self.bytes.is_empty() => Err(Error::new(kind, "broken")),
+            _ => {
+                let room = self.step.min(buf.len());
+                let count = self.bytes.read(&mut buf[..room])?;
+                self.given = self.given.wrapping_add(count);
+                Ok(count)
+            }
+        }
+    }
+}
+
+fn reader_of(bytes: &[u8], step: usize, fault: Option<ErrorKind>) -> Source<'_> {
+    Source {
+        bytes,
+        step,
+        fault,
+        is_endless: false,
+        is_interrupted: false,
+        given: 0,
+    }
+}
+
+// What is told of a reader of the vector's first bytes that then fails.
+fn told_of_broken(
+    alloc: Global,
+    len: usize,
+    fault: Option<ErrorKind>,
+) -> Result<&'static str, Fail> {
+    let bytes = bytes_of(alloc, vector())?;
+    let mut reader = reader_of(&bytes[..len.min(bytes.len())], 1, fault);
+    Ok(answer(read_segment(alloc, &mut reader)))
+}
+
+#[test]
+fn readers_fail(rt: HostRuntime) -> Result<(), Fail> {
+    let alloc = rt.alloc();
+    let (broken, lack) = (Some(ErrorKind::BrokenPipe), Some(ErrorKind::OutOfMemory));
+    assert_eq!(rt; told_of_broken(alloc, 67, None)?, "ok");
+    assert_eq!(rt; told_of_broken(alloc, 66, None)?, "F2");
+    assert_eq!(rt; told_of_broken(alloc, 66, broken)?, "F7");
+    assert_eq!(rt; told_of_broken(alloc, 0, broken)?, "F7");
+    assert_eq!(rt; told_of_broken(alloc, 66, lack)?, "F9");
+    Ok(())
+}
+
+#[test]
+fn no_more_is_asked(rt: HostRuntime) -> Result<(), Fail> {
+    let bytes = bytes_of(rt.alloc(), vector())?;
+    let mut reader = reader_of(&bytes, 100, None);
+    reader.is_endless = true;
+    assert_eq!(rt; answer(read_segment(rt.alloc(), &mut reader)), "F6");
+    assert!(rt; reader.given <= 16_777_217);
+    Ok(())
+}
+
+// Takes one byte at each second call, up to so many, and then fails. The calls between are interrupted.
+#[derive(Drop)]
+struct Narrow {
+    room: usize,
+    is_interrupted: bool,
+    fault: Option<ErrorKind>,
+}
+
+impl Write for Narrow {
+    fn write(&mut self, buf: &[u8]) -> IoResult<usize> {
+        self.is_interrupted = !self.is_interrupted;
+        if self.is_interrupted {
+            return Err(Error::new(ErrorKind::Interrupted, "interrupted"));
+        }
+        if self.room == 0 || buf.is_empty() {
+            return match self.fault {
+                Some(kind) => Err(Error::new(kind, "full")),
+                None => Ok(0),
+            };
+        }
+        self.room -= 1;
+        Ok(1)
+    }
+
+    fn flush(&mut self) -> IoResult<()> {
+        Ok(())
+    }
+}
+
+fn told_of_narrow(
+    alloc: Global,
+    room: usize,
+    fault: Option<ErrorKind>,
+) -> Result<&'static str, Fail> {
+    let segment = read(alloc, &bytes_of(alloc, vector())?)?;
+    let mut writer = Narrow {
+        room,
+        is_interrupted: false,
+        fault,
+    };
+    Ok(answer(write_segment(alloc, &segment, &mut writer)))
+}
+
+#[test]
+fn writers_fail(rt: HostRuntime) -> Result<(), Fail> {
+    let alloc = rt.alloc();
+    let (broken, lack) = (Some(ErrorKind::BrokenPipe), Some(ErrorKind::OutOfMemory));
+    assert_eq!(rt; told_of_narrow(alloc, 67, None)?, "ok");
+    assert_eq!(rt; told_of_narrow(alloc, 66, None)?, "F8");
+    assert_eq!(rt; told_of_narrow(alloc, 66, broken)?, "F8");
+    assert_eq!(rt; told_of_narrow(alloc, 0, broken)?, "F8");
+    assert_eq!(rt; told_of_narrow(alloc, 30, lack)?, "F9");
+    Ok(())
+}
+
+#[test]
+fn printed_faults(rt: HostRuntime) -> Result<(), Fail> {
+    let alloc = rt.alloc();
+    for (fault, text) in [
+        (FileFault::Magic, "F1: not a segment file"),
+        (FileFault::Cut, "F2: a cut file"),
+        (FileFault::Field, "F3: a bad field"),
+        (FileFault::RowOutside, "F4: a row outside the interval"),
+        (FileFault::TooLong, "F5: too long"),
+        (FileFault::Trailing, "F6: bytes behind the last row"),
+        (FileFault::Read, "F7: a read failed"),
+        (FileFault::Write, "F8: a write failed"),
+        (FileFault::Memory, "F9: out of memory"),
+    ] {
+        assert_eq!(rt; format!(in alloc; "{fault}")?.as_str(), text);
+    }
+    Ok(())
+}

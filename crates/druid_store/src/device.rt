@@ -1,0 +1,34 @@
+ghost use Rattle.std.specs.Prelude.{◌≡◌, ℕ, List};
+ghost use Rattle.druid_store.specs.Event.{Event};
+ghost use Rattle.druid_store.specs.Folder.{Content, nothing};
+ghost use Rattle.druid_store.specs.Model.{AreRight, IsHonestModel};
+
+use std::marker::Brand;
+
+/// What happens on the device behind a [`crate::DiskFolder`], which no code can know. A type
+/// parameter stands for it, so that what is proved holds whatever it is.
+pub trait Device {
+    /// What is read after so many calls.
+    ghost content: { ℕ → Content };
+
+    /// What a stop may leave that comes after so many calls, and before the next.
+    ghost left: { ℕ → Content → Type 0 };
+
+    /// What a stop may leave that comes during the call after so many.
+    ghost during: { ℕ → Content → Type 0 };
+}
+
+/// The device of a program that states nothing of it: where a proof picks no other, one that stays
+/// empty.
+impl Device for Brand {
+    ghost content = { λ n. nothing };
+
+    ghost left = { λ n c. c ≡ nothing };
+
+    ghost during = { λ n c. c ≡ nothing };
+}
+
+/// A device can be honest: one that does what it is told is, in all calls whose answers are right.
+pub fn honest_model()
+    ensures { (calls : List Event) → AreRight calls → IsHonestModel calls }
+{}
