@@ -8,7 +8,8 @@ use Rattle.std.proofs.lemmas.List.{drop_more}
 use Rattle.serde_json.specs.Data.{Data}
 use Rattle.serde_json.specs.View.{view, items_view}
 use Rattle.serde_json.specs.declared.value.Value.{Value}
-use Rattle.druid_cluster.specs.Fields.{◌>>=◌, each_of}
+use Rattle.druid_time.specs.Options.{◌>>=◌}
+use Rattle.druid_cluster.specs.Fields.{each_of}
 
 -- what was read, and then what the rest reads as
 abbrev pub with_front : {A : Type 0} → List A → Option (List A) → Option (List A)

@@ -4,7 +4,9 @@ use Rattle.std.specs.Str.{bytes_eq}
 use Rattle.serde_json.specs.Data.{Data}
 use Rattle.serde_json.specs.Find.{get, as_array, as_str}
 use Rattle.druid_shard.specs.Json.{text_at, number_at, limited_at}
-use Rattle.druid_cluster.specs.Fields.{◌>>=◌, each_of}
+use Rattle.druid_inventory.specs.Entry.{max_nodes}
+use Rattle.druid_time.specs.Options.{◌>>=◌}
+use Rattle.druid_cluster.specs.Fields.{each_of}
 
 -- what a line asks for once brokers stand: that the broker takes a reply of a node, or the visible pieces of a source in
 -- an interval
@@ -18,7 +20,7 @@ brokers_at d = do
   count ← number_at (codes "count") d
   nodes ← option_and_then as_array (get (codes "nodes") d)
   names ← each_of as_str nodes
-  if (count == 1) && (nat_le 1 (length names) && nat_le (length names) 64) then Some names else None
+  if (count == 1) && (nat_le 1 (length names) && nat_le (length names) max_nodes) then Some names else None
 
 -- of the one broker
 unfoldable pub reply_at : Data → Option Command

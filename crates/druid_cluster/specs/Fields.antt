@@ -1,12 +1,7 @@
 -- The fields of JSON objects.
 use Rattle.std.specs.Prelude.{List, [], ◌∷◌, Option, Some, None}
 use Rattle.serde_json.specs.Data.{Data, Items, no_items, item}
-
-infixl 10 ◌>>=◌
--- the next step on the value, where there is one
-abbrev pub ◌>>=◌ : {A B : Type 0} → Option A → (A → Option B) → Option B
-(Some x) >>= f = f x
-None >>= f = None
+use Rattle.druid_time.specs.Options.{◌>>=◌}
 
 -- what each item reads as, in order, where each reads
 abbrev pub each_of : {A : Type 0} → (Data → Option A) → Items → Option (List A)

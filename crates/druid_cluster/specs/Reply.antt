@@ -10,7 +10,8 @@ use Rattle.druid_shard.specs.Json.{text_at, number_at, descriptor_at, result_ok}
 use Rattle.druid_shard.specs.Reply.{max_segments, HaveOwnIdentifiers}
 use Rattle.druid_shard.specs.ReplyBody.{IsSnapshotOf}
 use Rattle.druid_shard.specs.declared.reply.Body.{Body}
-use Rattle.druid_cluster.specs.Fields.{◌>>=◌, each_of}
+use Rattle.druid_time.specs.Options.{◌>>=◌}
+use Rattle.druid_cluster.specs.Fields.{each_of}
 use Rattle.druid_cluster.specs.declared.sync_fault.SyncFault.{SyncFault}
 use Rattle.druid_cluster.specs.declared.sync_fault.SyncFault.TheVariants.{NotJson, Shape, TooMany, DoubledSegment, Memory}
 

@@ -3,15 +3,14 @@ ghost use Rattle.std.specs.Prelude.{◌≡◌, ◌≤◌, length, option_map, is
 ghost use Rattle.std.specs.List.{list_all};
 ghost use Rattle.serde_json.specs.Find.{as_str};
 ghost use Rattle.serde_json.specs.View.{view, items_view};
+ghost use Rattle.druid_inventory.specs.Entry.{max_nodes};
 ghost use Rattle.druid_cluster.specs.Fields.{each_of};
 ghost use Rattle.druid_cluster.specs.Commands.{brokers_at, opening_at, reply_at, lookup_at, command_at};
 ghost use Rattle.druid_cluster.specs.Seen.{text_in, texts_in, command_seen};
 
+use druid_inventory::MAX_NODES;
 use druid_shard::{limited_field, number_field, text_field};
 use serde_json::Value;
-
-/// The most nodes that a broker follows.
-const MAX_NODES: usize = 64;
 
 /// What a line asks for once brokers stand.
 #[derive(Drop)]
@@ -64,7 +63,7 @@ fn texts_of(values: &[Value]) -> Option<&[Value]>
 fn brokers_of(value: &Value) -> Option<&[Value]>
     ensures value { option_map (λ names. texts_in names.now) result ≡ brokers_at (view value.now) }
     ensures some { IfSome result (λ names. 1 ≤ length names.now) }
-    ensures few { IfSome result (λ names. length names.now ≤ 64) }
+    ensures few { IfSome result (λ names. length names.now ≤ max_nodes) }
 {
     let count = number_field(value, "count")?;
     let nodes = value.get("nodes").and_then(Value::as_array)?;
@@ -82,7 +81,7 @@ fn brokers_of(value: &Value) -> Option<&[Value]>
 pub fn opening_of(value: &Value) -> Option<&[Value]>
     ensures value { option_map (λ names. texts_in names.now) result ≡ opening_at (view value.now) }
     ensures some { IfSome result (λ names. 1 ≤ length names.now) }
-    ensures few { IfSome result (λ names. length names.now ≤ 64) }
+    ensures few { IfSome result (λ names. length names.now ≤ max_nodes) }
 {
     if text_field(value, "do") == Some("brokers") {
         brokers_of(value)

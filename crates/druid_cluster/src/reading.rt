@@ -8,14 +8,11 @@ ghost use Rattle.druid_cluster.specs.Reply.{mark_at, load_at, has_snapshot_field
 
 use crate::sync_fault::SyncFault;
 use druid_shard::{
-    Descriptor, Mark, Reply, ReplyFault, check_descriptor, number_field, read_descriptor,
-    text_field,
+    Descriptor, MAX_SEGMENTS, Mark, Reply, ReplyFault, check_descriptor, number_field,
+    read_descriptor, text_field,
 };
 use serde_json::Value;
 use std::alloc::{AllocError, Global};
-
-/// The most segments that a node serves.
-const MAX_SEGMENTS: usize = 20_000;
 
 // A mark of an incarnation.
 #[tactic(auto, unfolding(crate::specs::Reply::mark_at))]

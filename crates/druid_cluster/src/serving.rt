@@ -1,7 +1,7 @@
 //! Commands, carried out.
 ghost use Rattle.std.specs.Prelude.{◌≡◌, ◌↔◌, ◌≤◌, ◌<◌, ℕ, List, All, Some, None, get_or, length, IsTrue, IfOk, OnErr, IfSome, IfNone};
 ghost use Rattle.druid_segid.specs.Names.{IsName};
-ghost use Rattle.druid_inventory.specs.Entry.{HaveOwnNames};
+ghost use Rattle.druid_inventory.specs.Entry.{HaveOwnNames, max_nodes};
 ghost use Rattle.serde_json.specs.View.{view};
 ghost use Rattle.druid_cluster.specs.Seen.{texts_in};
 ghost use Rattle.druid_cluster.specs.Serving.{TakesBrokers, TakesReply, AreFoundIn, LooksUp, Answers, IsNoCommand, IsAnswered, IsBad, AreNodes, ReplyWants, LookupWants, WantsMemory, max_line};
@@ -71,7 +71,7 @@ fn names_of(alloc: Global, nodes: &[Value]) -> Result<Vec<Name>, AllocError>
 // One broker over nodes of these names: what it is answered, and the inventory where it was taken.
 fn take_brokers(alloc: Global, nodes: &[Value]) -> Result<(Answer, Option<Inventory>), AllocError>
     requires some { 1 ≤ length nodes.now }
-    requires few { length nodes.now ≤ 64 }
+    requires few { length nodes.now ≤ max_nodes }
     ensures ok { IfOk result (λ r. TakesBrokers (texts_in nodes.now) r.0 r.1) }
     ensures memory { OnErr result (AreNodes (texts_in nodes.now)) }
 {

@@ -4,7 +4,7 @@ use Rattle.std.specs.Global.{Global}
 use Rattle.std.specs.List.{sum_by}
 use Rattle.std.proofs.lemmas.List.Sums.{sum-map}
 use Rattle.std.proofs.lemmas.List.Folds.{fold-map}
-use Rattle.druid_rows.specs.Rows.{Values, texts_of, texts_by}
+use Rattle.druid_rows.specs.Rows.{Row, texts_of, texts_by}
 use Rattle.druid_rows.specs.Segment.{text_value_length, number_value_length, row_length}
 
 -- the length of a name with its mark
@@ -25,5 +25,5 @@ sum_texts text values =
 pub sum_numbers : (values : List (Option ℤ)) → sum (map number_value_length values) ≡ sum_by number_value_length values
 sum_numbers values = sum-map number_value_length values
 
-pub sum_rows : (rows : List Values) → sum (map row_length rows) ≡ sum_by row_length rows
+pub sum_rows : (rows : List Row) → sum (map row_length rows) ≡ sum_by row_length rows
 sum_rows rows = sum-map row_length rows

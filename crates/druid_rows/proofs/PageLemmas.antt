@@ -5,7 +5,7 @@ use Rattle.std.proofs.lemmas.Nat.{rows}
 use Rattle.std.specs.List.{sum}
 use Rattle.std.proofs.lemmas.List.Sums.{sum_by-cons}
 use Rattle.std.proofs.lemmas.List.{length-take-le, take-append-le, drop-append-le, take_all, nil_from_length, drop-drop, take-append-drop}
-use Rattle.druid_rows.specs.Rows.{Values, no_row}
+use Rattle.druid_rows.specs.Rows.{Row, no_row}
 use Rattle.druid_rows.specs.Segment.{text_value_length, row_length, max_text}
 use Rattle.druid_rows.specs.Texts.{value_bytes, bytes_of}
 use Rattle.druid_rows.proofs.TextsLemmas.{bytes_of-append}
@@ -33,7 +33,7 @@ module _ {X : Type 0} where
       let none : length xs ≡ 0 = omega arith in
       rw (nil_from_length xs none) (take_all w ys (omega arith))
 
-pub rows_in_push : (d m : ℕ) (times : List ℕ) (texts : List (Option (List ℕ))) (numbers : List (Option ℤ)) (row : Values) → length texts ≡ length times * d → length numbers ≡ length times * m → length row.dimensions ≡ d → length row.metrics ≡ m → rows_in d m (times ++ row.time ∷ []) (texts ++ row.dimensions) (numbers ++ row.metrics) ≡ rows_in d m times texts numbers ++ row ∷ []
+pub rows_in_push : (d m : ℕ) (times : List ℕ) (texts : List (Option (List ℕ))) (numbers : List (Option ℤ)) (row : Row) → length texts ≡ length times * d → length numbers ≡ length times * m → length row.dimensions ≡ d → length row.metrics ≡ m → rows_in d m (times ++ row.time ∷ []) (texts ++ row.dimensions) (numbers ++ row.metrics) ≡ rows_in d m times texts numbers ++ row ∷ []
 rows_in_push d m [] texts numbers row ht hn rt rm =
     rw (row_only d texts row.dimensions ht rt, row_only m numbers row.metrics hn rm) refl
 rows_in_push d m (time ∷ times) texts numbers row ht hn rt rm =
@@ -47,7 +47,7 @@ rows_in_push d m (time ∷ times) texts numbers row ht hn rt rm =
 pub ruleset push_steps = (rows_in_push, common_steps)
 
 -- the row at a place
-pub rows_in_at : (d m : ℕ) (times : List ℕ) (texts : List (Option (List ℕ))) (numbers : List (Option ℤ)) (i : ℕ) (e : Values) → i < length times → get_or (rows_in d m times texts numbers) i e ≡ record { time = get_or times i 0; dimensions = take d (drop (i * d) texts); metrics = take m (drop (i * m) numbers) }
+pub rows_in_at : (d m : ℕ) (times : List ℕ) (texts : List (Option (List ℕ))) (numbers : List (Option ℤ)) (i : ℕ) (e : Row) → i < length times → get_or (rows_in d m times texts numbers) i e ≡ record { time = get_or times i 0; dimensions = take d (drop (i * d) texts); metrics = take m (drop (i * m) numbers) }
 rows_in_at d m [] texts numbers i e h = absurd (omega arith)
 rows_in_at d m (time ∷ times) texts numbers zero e h =
     let first_d : 0 * d ≡ 0 = omega arith in
@@ -98,7 +98,7 @@ values_shorter [] = omega arith
 values_shorter (v ∷ vs) =
     omega (arith, values_shorter vs, value_shorter v, sum_by-cons (λ (n : ℕ). n) (value_bytes v) (map value_bytes vs), sum_by-cons (λ (n : ℕ). n) (text_value_length v) (map text_value_length vs))
 
-pub row_shorter : (row : Values) → bytes_of row.dimensions ≤ row_length row
+pub row_shorter : (row : Row) → bytes_of row.dimensions ≤ row_length row
 row_shorter row = omega (arith, values_shorter row.dimensions)
 
 pub rows_shorter : (d m : ℕ) (times : List ℕ) (texts : List (Option (List ℕ))) (numbers : List (Option ℤ)) → length texts ≡ length times * d → bytes_of texts ≤ sum (map row_length (rows_in d m times texts numbers))
@@ -106,13 +106,13 @@ rows_shorter d m [] texts numbers h =
     let none : length texts ≡ 0 = omega (arith, h) in
     rw (nil_from_length texts none) (omega arith)
 rows_shorter d m (time ∷ times) texts numbers h =
-    let first : Values = record { time = time; dimensions = take d texts; metrics = take m numbers } in
+    let first : Row = record { time = time; dimensions = take d texts; metrics = take m numbers } in
     let others = rows_in d m times (drop d texts) (drop m numbers) in
     let rest = rows_shorter d m times (drop d texts) (drop m numbers) (length_rest (length times) d texts h) in
     let cut = ap bytes_of (take-append-drop d texts) in
     omega (arith, rest, row_shorter first, bytes_of-append (take d texts) (drop d texts), cut, sum_by-cons (λ (n : ℕ). n) (row_length first) (map row_length others))
 
 -- where a row has room behind the others, so have its texts
-pub room_for_texts : (d m : ℕ) (times : List ℕ) (texts : List (Option (List ℕ))) (numbers : List (Option ℤ)) (sheet : Sheet) (row : Values) → sheet_of d m times texts numbers ≡ sheet → length texts ≡ length times * d → sum (map row_length sheet.rows) + row_length row ≤ max_text → bytes_of texts + bytes_of row.dimensions ≤ max_text
+pub room_for_texts : (d m : ℕ) (times : List ℕ) (texts : List (Option (List ℕ))) (numbers : List (Option ℤ)) (sheet : Sheet) (row : Row) → sheet_of d m times texts numbers ≡ sheet → length texts ≡ length times * d → sum (map row_length sheet.rows) + row_length row ≤ max_text → bytes_of texts + bytes_of row.dimensions ≤ max_text
 room_for_texts d m times texts numbers sheet row e long room =
     omega (arith, rows_shorter d m times texts numbers long, row_shorter row, ap (λ (s : Sheet). sum (map row_length s.rows)) e, room)

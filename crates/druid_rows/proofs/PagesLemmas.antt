@@ -2,7 +2,7 @@
 use Rattle.std.proofs.Common.{◌≡◌, ◌∙◌, ℕ, zero, suc, ◌+◌, ◌-◌, ◌*◌, ◌/◌, ◌%◌, ◌<◌, ◌≤◌, List, [], ◌∷◌, ◌++◌, length, get_or, All, arith, sym, ap, append_assoc, append-nil, length-append}
 use Rattle.std.proofs.lemmas.List.{get_or_append_left, get_or-append_right, get_or-append-add}
 use Rattle.std.proofs.lemmas.List.Elements.{All-head, All-tail}
-use Rattle.druid_rows.specs.Rows.{Values, no_row}
+use Rattle.druid_rows.specs.Rows.{Row, no_row}
 use Rattle.druid_rows.specs.Sheet.{Sheet}
 use Rattle.druid_rows.specs.Pages.{IsFull, page_rows, rows_of, sheet_in}
 
@@ -15,7 +15,7 @@ length_rows_of size last (page ∷ pages) h =
     omega (arith, length-append page.rows (rows_of pages), here, rest)
 
 -- the row at a place of a full page
-pub row_in_page : (size : ℕ) (last : Sheet) (pages : List Sheet) (rest : List Values) (q r : ℕ) (d : Sheet) (e : Values) → All (IsFull size last) pages → q < length pages → r < size → get_or (rows_of pages ++ rest) (q * size + r) e ≡ get_or (get_or pages q d).rows r e
+pub row_in_page : (size : ℕ) (last : Sheet) (pages : List Sheet) (rest : List Row) (q r : ℕ) (d : Sheet) (e : Row) → All (IsFull size last) pages → q < length pages → r < size → get_or (rows_of pages ++ rest) (q * size + r) e ≡ get_or (get_or pages q d).rows r e
 row_in_page size last [] rest q r d e h hq hr = absurd (omega arith)
 row_in_page size last (page ∷ pages) rest zero r d e h hq hr =
     let here = (All-head (IsFull size last) page pages h).rows_are in
@@ -44,10 +44,10 @@ row_in_last full last table n i e h pages past within =
     let front : length (rows_of full) ≡ n * 256 = length_rows_of 256 last full h ∙ ap (λ (k : ℕ). k * 256) (sym pages) in
     let behind : n * 256 ≤ i = omega (arith, past, pages) in
     let left : i - n * 256 < length last.rows = omega (arith, within, ap length rows, length-append (rows_of full) last.rows, front) in
-    (left, sym (get_or-append_right (rows_of full) last.rows (n * 256) i no_row front behind) ∙ ap (λ (rs : List Values). get_or rs i no_row) rows)
+    (left, sym (get_or-append_right (rows_of full) last.rows (n * 256) i no_row front behind) ∙ ap (λ (rs : List Row). get_or rs i no_row) rows)
 
 -- one more page
 pub rows_of_push : (pages : List Sheet) (page : Sheet) → rows_of (pages ++ page ∷ []) ≡ rows_of pages ++ page.rows
 rows_of_push [] page = append-nil page.rows
 rows_of_push (first ∷ pages) page =
-    ap (λ (rows : List Values). first.rows ++ rows) (rows_of_push pages page) ∙ sym (append_assoc first.rows (rows_of pages) page.rows)
+    ap (λ (rows : List Row). first.rows ++ rows) (rows_of_push pages page) ∙ sym (append_assoc first.rows (rows_of pages) page.rows)

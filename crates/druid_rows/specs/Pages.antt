@@ -1,7 +1,7 @@
 -- Rows in pages.
 use Rattle.std.specs.Prelude.{◌≡◌, ℕ, List, ◌++◌, length}
 use Rattle.std.specs.List.{flat_map}
-use Rattle.druid_rows.specs.Rows.{Values}
+use Rattle.druid_rows.specs.Rows.{Row}
 use Rattle.druid_rows.specs.Sheet.{Sheet}
 
 -- the rows of a full page
@@ -15,7 +15,7 @@ pub record IsFull (size : ℕ) (last page : Sheet) : Type 0 where
   pub metrics_are : page.metrics ≡ last.metrics
 
 -- the rows of all pages
-abbrev pub rows_of : List Sheet → List Values
+abbrev pub rows_of : List Sheet → List Row
 rows_of pages = flat_map (λ page. page.rows) pages
 
 -- full pages and the last one as one sheet

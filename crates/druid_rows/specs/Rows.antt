@@ -6,29 +6,29 @@ use Rattle.druid_time.specs.Extent.{Extent, Has}
 use Rattle.druid_rows.specs.Names.{IsFieldName, AreDistinct}
 
 -- the names of the dimensions and of the metrics that each row has a value for, in order
-pub record Fields : Type 0 where
+pub record Schema : Type 0 where
   pub dimensions : List (List ℕ)
   pub metrics : List (List ℕ)
 
 -- a row: its instant, a text or null for each dimension, and a number or null for each metric
-pub record Values : Type 0 where
+pub record Row : Type 0 where
   pub time : ℕ
   pub dimensions : List (Option (List ℕ))
   pub metrics : List (Option ℤ)
 
 -- each name is a field name, and all are distinct, dimensions and metrics together
-pub record IsSchema (fields : Fields) : Type 0 where
+pub record IsSchema (fields : Schema) : Type 0 where
   pub dimensions : All IsFieldName fields.dimensions
   pub metrics : All IsFieldName fields.metrics
   pub distinct : AreDistinct (fields.dimensions ++ fields.metrics)
 
 -- a value for each field
-pub record HasShape (fields : Fields) (row : Values) : Type 0 where
+pub record HasShape (fields : Schema) (row : Row) : Type 0 where
   pub dimensions : length row.dimensions ≡ length fields.dimensions
   pub metrics : length row.metrics ≡ length fields.metrics
 
 -- its instant lies in the interval
-abbrev pub IsInside : Extent → Values → Type 0
+abbrev pub IsInside : Extent → Row → Type 0
 IsInside interval row = Has interval row.time
 
 -- the most bytes of the value of a dimension
@@ -40,11 +40,11 @@ abbrev pub AreShort : List (Option (List ℕ)) → Type 0
 AreShort values = All (λ value. IfSome value (λ text. length text ≤ max_value)) values
 
 -- no value of a dimension is longer
-abbrev pub HasShortValues : Values → Type 0
+abbrev pub HasShortValues : Row → Type 0
 HasShortValues row = AreShort row.dimensions
 
 -- a row without any value
-abbrev pub no_row : Values
+abbrev pub no_row : Row
 no_row = record { time = 0; dimensions = []; metrics = [] }
 
 -- the bytes of texts
@@ -60,5 +60,5 @@ abbrev pub nullable_texts_of : List (Option (String Global)) → List (Option (L
 nullable_texts_of texts = texts_by string_bytes texts
 
 -- the row of these parts
-abbrev pub row_of : ℕ → List (Option (List ℕ)) → List (Option ℤ) → Values
+abbrev pub row_of : ℕ → List (Option (List ℕ)) → List (Option ℤ) → Row
 row_of time dimensions metrics = record { time = time; dimensions = dimensions; metrics = metrics }

@@ -1,6 +1,6 @@
 ghost use Rattle.std.specs.Prelude.{◌≡◌, ◌↔◌, [], IfOk, OnOk, OnErr, IsErrOf, IsOkUnless};
 ghost use Rattle.druid_rows.specs.Rows.{texts_by, row_of, IsSchema, HasShape, IsInside};
-ghost use Rattle.druid_rows.specs.Segment.{Content, IsWithinLimits, IsSegment, segment_of, with_row};
+ghost use Rattle.druid_rows.specs.Segment.{Segment, IsWithinLimits, IsSegment, segment_of, with_row};
 
 use crate::lent::LentRow;
 use crate::{Row, RowFault, Schema, Segment};
@@ -17,9 +17,9 @@ pub struct SegmentBuilder {
 }
 
 impl Model for SegmentBuilder {
-    ghost use Rattle.druid_rows.specs.Segment.{Content};
+    ghost use Rattle.druid_rows.specs.Segment.{Segment};
 
-    ghost Value = { Content };
+    ghost Value = { Segment };
 
     ghost view = { λ a. a.segment };
 }

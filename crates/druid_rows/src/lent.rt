@@ -19,9 +19,9 @@ pub(crate) struct LentRow<'a, T: AsStr> {
 }
 
 impl<'a, T: AsStr> Model for LentRow<'a, T> {
-    ghost use Rattle.druid_rows.specs.Rows.{Values, texts_by};
+    ghost use Rattle.druid_rows.specs.Rows.{Row, texts_by};
 
-    ghost Value = { Values };
+    ghost Value = { Row };
 
     ghost view = { λ a. record {
       time = a.time;

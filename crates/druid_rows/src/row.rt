@@ -14,9 +14,9 @@ pub struct Row {
 }
 
 impl Model for Row {
-    ghost use Rattle.druid_rows.specs.Rows.{Values, nullable_texts_of};
+    ghost use Rattle.druid_rows.specs.Rows.{Row, nullable_texts_of};
 
-    ghost Value = { Values };
+    ghost Value = { Row };
 
     ghost view = { λ a. record {
       time = a.time;

@@ -20,9 +20,9 @@ pub struct Schema {
 }
 
 impl Model for Schema {
-    ghost use Rattle.druid_rows.specs.Rows.{Fields, texts_of};
+    ghost use Rattle.druid_rows.specs.Rows.{Schema, texts_of};
 
-    ghost Value = { Fields };
+    ghost Value = { Schema };
 
     ghost view = { λ a. record {
       dimensions = texts_of a.dimensions.items;

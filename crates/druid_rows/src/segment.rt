@@ -1,7 +1,7 @@
 ghost use Rattle.std.specs.Prelude.{◌≡◌, ◌↔◌, ◌-◌, ◌<◌, ◌≤◌, ◌==◌, length, map, sum, slice_index_or, None, All, IsTrue, SomeIff, IfOk, OnOk, OnErr, IsOk, IsErrOf, IsOkUnless};
 ghost use Rattle.std.specs.Option.{option_map};
 ghost use Rattle.druid_rows.specs.Rows.{IsSchema, HasShape, IsInside, HasShortValues};
-ghost use Rattle.druid_rows.specs.Segment.{Content, IsWithinLimits, HaveShape, AreInside, IsSegment, row_at, segment_of, with_row, row_length, head_length, text_length, max_text};
+ghost use Rattle.druid_rows.specs.Segment.{Segment, IsWithinLimits, HaveShape, AreInside, IsSegment, row_at, segment_of, with_row, row_length, head_length, text_length, max_text};
 
 use crate::lent::LentRow;
 use crate::table::Table;
@@ -36,9 +36,9 @@ pub struct Segment {
 
 impl Model for Segment {
     ghost use Rattle.std.specs.Prelude.{◌≡◌, ◌-◌, length};
-    ghost use Rattle.druid_rows.specs.Segment.{Content, IsSegment, segment_of, text_length, max_text};
+    ghost use Rattle.druid_rows.specs.Segment.{Segment, IsSegment, segment_of, text_length, max_text};
 
-    ghost Value = { Content };
+    ghost Value = { Segment };
 
     ghost view = { λ a. segment_of a.descriptor a.schema a.table.rows };
 

@@ -6,11 +6,12 @@ use Rattle.std.proofs.lemmas.List.{length-append, length-take, length-map, lengt
 use Rattle.std.proofs.lemmas.List.Sums.{sum_by_push}
 use Rattle.std.proofs.lemmas.List.Elements.{All-nil, All-push, All-weaker}
 use Rattle.druid_shard.specs.Described.{Described}
-use Rattle.druid_rows.specs.Rows.{Fields, Values, row_of, HasShape, IsInside, HasShortValues}
-use Rattle.druid_rows.specs.Segment.{Content, IsSegment, segment_of, with_row, text_length, head_length, row_length, max_rows, max_text}
+use Rattle.druid_rows.specs.Rows.{Schema, Row, row_of, HasShape, IsInside, HasShortValues}
+use Rattle.druid_rows.specs.Segment.{Segment, IsSegment, segment_of, with_row, text_length, head_length, row_length, max_rows, max_text}
 use Rattle.druid_segfile.specs.declared.fault.FileFault.{FileFault}
 use Rattle.druid_segfile.specs.Spelling.{row}
-use Rattle.druid_segfile.specs.Reading.{◌>>=◌, Cursor, number_at, at_most, magic_at, descriptor_at, fields_at, Shape, shape_of, each_at, values_at, rows_at, content_at}
+use Rattle.druid_time.specs.Results.{◌>>=◌}
+use Rattle.druid_segfile.specs.Reading.{Cursor, number_at, at_most, magic_at, descriptor_at, fields_at, Shape, shape_of, each_at, values_at, rows_at, content_at}
 use Rattle.druid_segfile.specs.Building.{row_count_at, IsHead, IsWhole, HasRoom, with_read}
 use Rattle.druid_segfile.specs.Lent.{bytes_of, texts_lent, values_lent}
 use Rattle.std.specs.Borrow.{Bor}
@@ -21,12 +22,12 @@ use Rattle.druid_segfile.proofs.RowLemmas.{IsTextValue, IsRow, values_read}
 use Rattle.druid_segfile.proofs.LengthLemmas.{length_row, length_head}
 use Rattle.druid_segfile.proofs.SegmentLemmas.{text_is_short}
 
-text_length-with_row : (s : Content) (v : Values) → text_length (with_row s v) ≡ text_length s + row_length v
+text_length-with_row : (s : Segment) (v : Row) → text_length (with_row s v) ≡ text_length s + row_length v
 text_length-with_row s v =
     let pushed : sum (map row_length (s.rows ++ v ∷ [])) ≡ sum (map row_length s.rows) + row_length v = ap sum (map_push row_length s.rows v) ∙ sum_by_push (λ (n : ℕ). n) (map row_length s.rows) (row_length v) in
     omega (arith, pushed)
 
-segment_with_row : (s : Content) (v : Values) → IsSegment s → IsRow (shape_of s.descriptor s.fields) v → length s.rows < max_rows → text_length (with_row s v) ≤ max_text → IsSegment (with_row s v)
+segment_with_row : (s : Segment) (v : Row) → IsSegment s → IsRow (shape_of s.descriptor s.fields) v → length s.rows < max_rows → text_length (with_row s v) ≤ max_text → IsSegment (with_row s v)
 segment_with_row s v h is more short = record {
   schema = h.schema;
   within = record {
@@ -41,7 +42,7 @@ segment_with_row s v h is more short = record {
 }
 
 -- a row that was read has room, and those behind it have room behind it
-pub room_for_row : (short : FileFault) (s : Content) (shape : Shape) (count i : ℕ) (bytes : List ℕ) (v : Values) (after : List ℕ) → HasRoom s shape (count - i) (length bytes) → i < count → IsBytes bytes → values_at short shape bytes ≡ Ok (v, after)
+pub room_for_row : (short : FileFault) (s : Segment) (shape : Shape) (count i : ℕ) (bytes : List ℕ) (v : Row) (after : List ℕ) → HasRoom s shape (count - i) (length bytes) → i < count → IsBytes bytes → values_at short shape bytes ≡ Ok (v, after)
     → HasRoom (with_row s v) shape (count - (i + 1)) (length after) × IsBytes after
 room_for_row short s shape count i bytes v after room lt fits e =
     let t = (values_read short shape).takes bytes (v, after) fits e in
@@ -59,7 +60,7 @@ room_for_row short s shape count i bytes v after room lt fits e =
 
 -- ---- before the first row
 
-none_yet : (d : Described) (fields : Fields) → AreFields fields → head_length d fields ≤ max_text → IsSegment (segment_of d fields [])
+none_yet : (d : Described) (fields : Schema) → AreFields fields → head_length d fields ≤ max_text → IsSegment (segment_of d fields [])
 none_yet d fields h short = record {
   schema = h.schema;
   within = record {
@@ -73,7 +74,7 @@ none_yet d fields h short = record {
   inside = All-nil (IsInside d.id.interval);
 }
 
-pub room_behind_head : (short : FileFault) (bytes : List ℕ) (d : Described) (fields : Fields) (count : ℕ) (rest : List ℕ) → IsBytes bytes → length bytes ≤ max_text → IsHead short bytes d fields count rest
+pub room_behind_head : (short : FileFault) (bytes : List ℕ) (d : Described) (fields : Schema) (count : ℕ) (rest : List ℕ) → IsBytes bytes → length bytes ≤ max_text → IsHead short bytes d fields count rest
     → HasRoom (segment_of d fields []) (shape_of d fields) count (length rest)
 unfolding row_count_at
 room_behind_head short bytes d fields count rest fits small h =
@@ -115,19 +116,19 @@ pub rows_counted : (short : FileFault) (shape : Shape) (bytes : List ℕ) → ro
 unfolding rows_at row_count_at
 rows_counted short shape bytes = regroup_count (number_at short w32 bytes) max_rows (λ n rest. each_at (values_at short shape) n rest)
 
-pub whole_content : (short : FileFault) (bytes : List ℕ) (d : Described) (fields : Fields) (count : ℕ) (rest after : List ℕ) → (w : IsWhole short bytes d fields count rest after) → content_at short bytes ≡ Ok (segment_of d fields w.rows, after)
+pub whole_content : (short : FileFault) (bytes : List ℕ) (d : Described) (fields : Schema) (count : ℕ) (rest after : List ℕ) → (w : IsWhole short bytes d fields count rest after) → content_at short bytes ≡ Ok (segment_of d fields w.rows, after)
 unfolding content_at
 whole_content short bytes d fields count rest after w =
     rw (w.head.layout, w.head.described, w.head.named, rows_counted short (shape_of d fields) w.head.after_fields, w.head.counted, w.read) refl
 
 -- what was judged is what is built
-pub built_is : (short0 short : FileFault) (d : Described) (fields : Fields) (count : ℕ) (bytes left after : List ℕ) (rows : List Values) (s : Content) → short0 ≡ short → each_at (values_at short0 (shape_of d fields)) count bytes ≡ Ok (rows, left) → with_read (segment_of d fields []) (each_at (values_at short (shape_of d fields)) count bytes) ≡ Ok (s, after) → segment_of d fields rows ≡ s
+pub built_is : (short0 short : FileFault) (d : Described) (fields : Schema) (count : ℕ) (bytes left after : List ℕ) (rows : List Row) (s : Segment) → short0 ≡ short → each_at (values_at short0 (shape_of d fields)) count bytes ≡ Ok (rows, left) → with_read (segment_of d fields []) (each_at (values_at short (shape_of d fields)) count bytes) ≡ Ok (s, after) → segment_of d fields rows ≡ s
 built_is short0 short d fields count bytes left after rows s same read built =
     let read2 : each_at (values_at short (shape_of d fields)) count bytes ≡ Ok (rows, left) = subst (λ (f : FileFault). each_at (values_at f (shape_of d fields)) count bytes ≡ Ok (rows, left)) same read in
     let built2 = rw read2 at built in
-    ap (λ (p : Content × List ℕ). p.0) (ok_is (segment_of d fields rows, left) (s, after) built2)
+    ap (λ (p : Segment × List ℕ). p.0) (ok_is (segment_of d fields rows, left) (s, after) built2)
 
-pub room_at_cursor : (n : ℕ) (bytes : List ℕ) (short : FileFault) (cursor : Cursor) (d : Described) (fields : Fields) (count : ℕ) (rest : List ℕ) → n ≤ max_text → IsBytes bytes → cursor ≡ record { rest = take n bytes; short = short } → IsHead cursor.short cursor.rest d fields count rest → HasRoom (segment_of d fields []) (shape_of d fields) count (length rest)
+pub room_at_cursor : (n : ℕ) (bytes : List ℕ) (short : FileFault) (cursor : Cursor) (d : Described) (fields : Schema) (count : ℕ) (rest : List ℕ) → n ≤ max_text → IsBytes bytes → cursor ≡ record { rest = take n bytes; short = short } → IsHead cursor.short cursor.rest d fields count rest → HasRoom (segment_of d fields []) (shape_of d fields) count (length rest)
 room_at_cursor n bytes short cursor d fields count rest few fits at head =
     let window : cursor.rest ≡ take n bytes = ap (λ (c : Cursor). c.rest) at in
     room_behind_head cursor.short cursor.rest d fields count rest (subst IsBytes (sym window) (IsBytes-take n bytes fits)) (omega (arith, ap length window, length-take n bytes, few)) head

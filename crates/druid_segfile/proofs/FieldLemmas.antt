@@ -12,11 +12,12 @@ use Rattle.std.proofs.lemmas.List.Concat.{flat_map-cons}
 use Rattle.std.proofs.lemmas.List.Elements.{All-nil, All-cons, All-head, All-tail}
 use Rattle.std.proofs.lemmas.List.Folds.{list_any_at, Any-from_list_any, list_any-append}
 use Rattle.druid_rows.specs.Names.{is_field_name, IsFieldName, AreDistinct}
-use Rattle.druid_rows.specs.Rows.{Fields, IsSchema}
+use Rattle.druid_rows.specs.Rows.{Schema, IsSchema}
 use Rattle.druid_rows.specs.Segment.{max_fields}
 use Rattle.druid_segfile.specs.declared.fault.FileFault.{FileFault}
 use Rattle.druid_segfile.specs.Spelling.{short_text, names}
-use Rattle.druid_segfile.specs.Reading.{◌>>=◌, at_most, is_new_name, field_name_at, field_names_at, names_at, fields_at}
+use Rattle.druid_time.specs.Results.{◌>>=◌}
+use Rattle.druid_segfile.specs.Reading.{at_most, is_new_name, field_name_at, field_names_at, names_at, fields_at}
 use Rattle.druid_segfile.proofs.TextLemmas.{is_field_name-is, is_field_name-true, no_field_name}
 use Rattle.druid_segfile.proofs.PartLemmas.{bind_ok, ok_is, at_most_ok, at_most_within, accepted_read, IsBytes, Takes, Takes-then, Reads, step_takes, step_again, byte_read, short_text_read}
 
@@ -138,16 +139,16 @@ names_read short before = record {
       ∙ field_names_again short xs before rest h.1;
 }
 
-abbrev pub fields_text : Fields → List ℕ
+abbrev pub fields_text : Schema → List ℕ
 fields_text fields = names fields.dimensions ++ names fields.metrics
 
 -- a schema, within the limits
-pub record AreFields (fields : Fields) : Type 0 where
+pub record AreFields (fields : Schema) : Type 0 where
   pub schema : IsSchema fields
   pub dimensions : length fields.dimensions ≤ max_fields
   pub metrics : length fields.metrics ≤ max_fields
 
-abbrev fields_of : List (List ℕ) → List (List ℕ) → Fields
+abbrev fields_of : List (List ℕ) → List (List ℕ) → Schema
 fields_of dimensions metrics = record { dimensions = dimensions; metrics = metrics }
 
 are_fields : (dimensions metrics : List (List ℕ)) → AreNames [] dimensions → AreNames dimensions metrics → AreFields (fields_of dimensions metrics)
@@ -161,15 +162,15 @@ are_fields dimensions metrics d m = record {
   metrics = m.0;
 }
 
-fields_takes : (short : FileFault) (bytes : List ℕ) (x : Fields × List ℕ) → IsBytes bytes → fields_at short bytes ≡ Ok x → Takes bytes (fields_text x.0) x.1 × AreFields x.0
+fields_takes : (short : FileFault) (bytes : List ℕ) (x : Schema × List ℕ) → IsBytes bytes → fields_at short bytes ≡ Ok x → Takes bytes (fields_text x.0) x.1 × AreFields x.0
 unfolding fields_at
 fields_takes short bytes x fits e =
     let d = step_takes (names_read short []) _ bytes x fits e in
     let m = step_takes (names_read short d.0.0) _ d.0.1 x d.1.rest_fits d.3 in
     let both = Takes-then bytes (names d.0.0) d.0.1 (names m.0.0) m.0.1 d.1 m.1 in
-    subst (λ (p : Fields × List ℕ). Takes bytes (fields_text p.0) p.1 × AreFields p.0) (ok_is (fields_of d.0.0 m.0.0, m.0.1) x m.3) (both, are_fields d.0.0 m.0.0 d.2 m.2)
+    subst (λ (p : Schema × List ℕ). Takes bytes (fields_text p.0) p.1 × AreFields p.0) (ok_is (fields_of d.0.0 m.0.0, m.0.1) x m.3) (both, are_fields d.0.0 m.0.0 d.2 m.2)
 
-fields_again : (short : FileFault) (fields : Fields) (rest : List ℕ) → AreFields fields → fields_at short (fields_text fields ++ rest) ≡ Ok (fields, rest)
+fields_again : (short : FileFault) (fields : Schema) (rest : List ℕ) → AreFields fields → fields_at short (fields_text fields ++ rest) ≡ Ok (fields, rest)
 unfolding fields_at
 fields_again short fields rest h =
     let d = new_distinct [] fields.dimensions (distinct_front fields.dimensions fields.metrics h.schema.distinct) h.schema.dimensions in
@@ -178,7 +179,7 @@ fields_again short fields rest h =
     ∙ step_again (names_read short []) _ fields.dimensions (names fields.metrics ++ rest) (h.dimensions, d)
     ∙ step_again (names_read short fields.dimensions) _ fields.metrics rest (h.metrics, m)
 
-pub fields_read : (short : FileFault) → Reads Fields (fields_at short) fields_text AreFields
+pub fields_read : (short : FileFault) → Reads Schema (fields_at short) fields_text AreFields
 fields_read short = record {
   takes = λ bytes x fits e. fields_takes short bytes x fits e;
   again = λ fields rest h. fields_again short fields rest h;

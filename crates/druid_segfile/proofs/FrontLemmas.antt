@@ -9,11 +9,12 @@ use Rattle.druid_time.specs.Extent.{Extent}
 use Rattle.druid_segid.specs.Names.{is_name, is_version}
 use Rattle.druid_shard.specs.Described.{max_core}
 use Rattle.druid_rows.specs.Rows.{max_value}
-use Rattle.druid_rows.specs.Segment.{Content, max_fields, max_rows, max_text}
+use Rattle.druid_rows.specs.Segment.{Segment, max_fields, max_rows, max_text}
 use Rattle.druid_segfile.specs.declared.fault.FileFault.{FileFault}
 use Rattle.druid_segfile.specs.declared.fault.FileFault.TheVariants.{Magic, Cut, Field, RowOutside, TooLong, Trailing, Read, Write, Memory}
 use Rattle.druid_segfile.specs.Spelling.{magic}
-use Rattle.druid_segfile.specs.Reading.{◌>>=◌, GivesInMemory, bytes_at, byte_at, number_at, signed_at, at_most, accepted, short_text_at, text_at, each_at, instant_of, moment_at, interval_at, name_at, version_at, core_at, descriptor_at, is_new_name, field_name_at, field_names_at, names_at, fields_at, instant_in, row_time_at, text_value_at, number_value_at, Shape, shape_of, values_at, rows_at, magic_at, content_at, short_of, segment_within, segment_at}
+use Rattle.druid_time.specs.Results.{◌>>=◌}
+use Rattle.druid_segfile.specs.Reading.{GivesInMemory, bytes_at, byte_at, number_at, signed_at, at_most, accepted, short_text_at, text_at, each_at, instant_of, moment_at, interval_at, name_at, version_at, core_at, descriptor_at, is_new_name, field_name_at, field_names_at, names_at, fields_at, instant_in, row_time_at, text_value_at, number_value_at, Shape, shape_of, values_at, rows_at, magic_at, content_at, short_of, segment_within, segment_at}
 use Rattle.druid_segfile.proofs.PartLemmas.{ok_is}
 
 -- the same value, with more bytes after it
@@ -263,7 +264,7 @@ short_of_more short more x (Err fault) whole (inl same) is some = ap Err same
 short_of_more short more x (Err fault) whole (inr own) is some = let clash = sym own.0 ∙ is in absurd cc
 
 -- of what is read to its end, each shorter front ends too soon
-pub front_short : (short : FileFault) (bytes : List ℕ) (s : Content) (k : ℕ) → content_at short bytes ≡ Ok (s, []) → k < length bytes → content_at short (take k bytes) ≡ Err short
+pub front_short : (short : FileFault) (bytes : List ℕ) (s : Segment) (k : ℕ) → content_at short bytes ≡ Ok (s, []) → k < length bytes → content_at short (take k bytes) ≡ Err short
 front_short short bytes s k is lt =
     let front = take k bytes in
     let more = drop k bytes in
@@ -279,11 +280,11 @@ short_own : (b : Bool) → IsOfBytes (cond b TooLong Cut)
 short_own true = tt
 short_own false = tt
 
-trailing_own : (b : Bool) (s : Content) (fault : FileFault) → cond b (Ok s) (Err Trailing) ≡ Err fault → IsOfBytes fault
+trailing_own : (b : Bool) (s : Segment) (fault : FileFault) → cond b (Ok s) (Err Trailing) ≡ Err fault → IsOfBytes fault
 trailing_own true s fault e = absurd cc
 trailing_own false s fault e = let is : Trailing ≡ fault = cc in subst IsOfBytes is tt
 
-judged_own : (r : Result (Content × List ℕ) FileFault) (test : List ℕ → Bool) (fault : FileFault) → ((f : FileFault) → r ≡ Err f → IsOfBytes f) → (r >>= λ x. cond (test x.1) (Ok x.0) (Err Trailing)) ≡ Err fault → IsOfBytes fault
+judged_own : (r : Result (Segment × List ℕ) FileFault) (test : List ℕ → Bool) (fault : FileFault) → ((f : FileFault) → r ≡ Err f → IsOfBytes f) → (r >>= λ x. cond (test x.1) (Ok x.0) (Err Trailing)) ≡ Err fault → IsOfBytes fault
 judged_own (Err of) test fault own e = let is : of ≡ fault = cc in subst IsOfBytes is (own of refl)
 judged_own (Ok x) test fault own e = trailing_own (test x.1) x.0 fault e
 
@@ -294,7 +295,7 @@ within_own limit bytes fault e =
     let steady = content_steady short (take limit bytes) [] in
     judged_own (content_at short (take limit bytes)) (λ rest. eqb (length rest) 0 && leb (length bytes) limit) fault (λ f is. own_fault short (longer []) _ _ f (short_own (ltb limit (length bytes))) steady.stays is) e
 
-pub gives_no_write : (bytes : List ℕ) (result : Result Content FileFault) → GivesInMemory result (segment_at bytes) → result ≢ Err Write
+pub gives_no_write : (bytes : List ℕ) (result : Result Segment FileFault) → GivesInMemory result (segment_at bytes) → result ≢ Err Write
 gives_no_write bytes (Ok s) gives e = absurd cc
 gives_no_write bytes (Err fault) gives e =
     let same : fault ≡ Write = cc in
@@ -302,11 +303,11 @@ gives_no_write bytes (Err fault) gives e =
 
 -- ---- a fault stays, whatever follows
 
-judged_ok : (b : Bool) (s : Content) (fault : FileFault) → cond b (Ok s) (Err Trailing) ≡ Err fault → fault ≢ Trailing → ⊥
+judged_ok : (b : Bool) (s : Segment) (fault : FileFault) → cond b (Ok s) (Err Trailing) ≡ Err fault → fault ≢ Trailing → ⊥
 judged_ok true s fault e none = absurd cc
 judged_ok false s fault e none = let same : Trailing ≡ fault = cc in none (sym same)
 
-judged_fault : (r : Result (Content × List ℕ) FileFault) (test : List ℕ → Bool) (fault : FileFault) → (r >>= λ x. cond (test x.1) (Ok x.0) (Err Trailing)) ≡ Err fault → fault ≢ Trailing → r ≡ Err fault
+judged_fault : (r : Result (Segment × List ℕ) FileFault) (test : List ℕ → Bool) (fault : FileFault) → (r >>= λ x. cond (test x.1) (Ok x.0) (Err Trailing)) ≡ Err fault → fault ≢ Trailing → r ≡ Err fault
 judged_fault (Err own) test fault e none = let same : own ≡ fault = cc in ap Err same
 judged_fault (Ok x) test fault e none = absurd (judged_ok (test x.1) x.0 fault e none)
 

@@ -12,7 +12,8 @@ use Rattle.druid_shard.specs.Described.{Described, IsDescribed, max_core}
 use Rattle.druid_segfile.specs.declared.fault.FileFault.{FileFault}
 use Rattle.druid_segfile.specs.declared.fault.FileFault.TheVariants.{Field, Magic}
 use Rattle.druid_segfile.specs.Spelling.{magic, number, instant, interval, short_text, descriptor}
-use Rattle.druid_segfile.specs.Reading.{◌>>=◌, number_at, accepted, instant_of, moment_at, interval_at, name_at, version_at, core_at, descriptor_at, magic_at}
+use Rattle.druid_time.specs.Results.{◌>>=◌}
+use Rattle.druid_segfile.specs.Reading.{number_at, accepted, instant_of, moment_at, interval_at, name_at, version_at, core_at, descriptor_at, magic_at}
 use Rattle.druid_segfile.proofs.MomentLemmas.{instant_of-unix_ms, of_instant, FitsSigned-unix_ms}
 use Rattle.druid_segfile.proofs.TextLemmas.{is_name-is, is_version-is}
 use Rattle.druid_segfile.proofs.PartLemmas.{bind_ok, passed_ok, ok_is, accepted_ok, accepted_read, IsBytes, Takes, Takes-then, Reads, step_takes, step_again, bytes_read, wide16, wide64, number_read, signed_read, short_text_read}

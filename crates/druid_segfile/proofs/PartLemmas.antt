@@ -15,7 +15,8 @@ use Rattle.std.proofs.lemmas.Nat.{be_bytes_2, be_bytes_4, be_bytes_8, from_be_by
 use Rattle.druid_segfile.specs.declared.fault.FileFault.{FileFault}
 use Rattle.druid_segfile.specs.declared.fault.FileFault.TheVariants.{Field, TooLong}
 use Rattle.druid_segfile.specs.Spelling.{number, short_text}
-use Rattle.druid_segfile.specs.Reading.{◌>>=◌, bytes_at, byte_at, number_at, signed_at, at_most, accepted, short_text_at, text_at, each_at}
+use Rattle.druid_time.specs.Results.{◌>>=◌}
+use Rattle.druid_segfile.specs.Reading.{bytes_at, byte_at, number_at, signed_at, at_most, accepted, short_text_at, text_at, each_at}
 
 -- ---- steps
 

@@ -6,12 +6,13 @@ use Rattle.std.specs.Int.{w32, w64, to_be_bytes}
 use Rattle.std.proofs.lemmas.Bool.{and_parts, ltb-true, lt-ltb, leb-true, le-leb}
 use Rattle.druid_time.specs.Extent.{Extent, Has}
 use Rattle.druid_time.specs.Instant.{unix_ms, IsInstant}
-use Rattle.druid_rows.specs.Rows.{Values}
+use Rattle.druid_rows.specs.Rows.{Row}
 use Rattle.druid_rows.specs.Segment.{max_rows}
 use Rattle.druid_segfile.specs.declared.fault.FileFault.{FileFault}
 use Rattle.druid_segfile.specs.declared.fault.FileFault.TheVariants.{RowOutside}
 use Rattle.druid_segfile.specs.Spelling.{number, instant, text_value, number_value, row, rows}
-use Rattle.druid_segfile.specs.Reading.{◌>>=◌, at_most, each_at, instant_of, instant_in, row_time_at, text_value_at, number_value_at, Shape, values_at, rows_at}
+use Rattle.druid_time.specs.Results.{◌>>=◌}
+use Rattle.druid_segfile.specs.Reading.{at_most, each_at, instant_of, instant_in, row_time_at, text_value_at, number_value_at, Shape, values_at, rows_at}
 use Rattle.druid_segfile.proofs.MomentLemmas.{instant_of-unix_ms, of_instant, FitsSigned-unix_ms}
 use Rattle.druid_segfile.proofs.PartLemmas.{bind_ok, ok_is, at_most_ok, at_most_within, IsBytes, IsBytes-rest, Takes, Takes-then, Reads, step_takes, step_again, wide32, number_read, signed_read, IsText, text_read, AreEach, each_read}
 use Rattle.druid_segfile.proofs.HeadLemmas.{ok_or_ok}
@@ -103,12 +104,12 @@ number_value_read short = record { takes = number_value_takes short; again = num
 -- ---- rows
 
 -- a row that has this shape, and whose values have a spelling
-pub record IsRow (shape : Shape) (values : Values) : Type 0 where
+pub record IsRow (shape : Shape) (values : Row) : Type 0 where
   pub time : IsRowTime shape.interval values.time
   pub texts : AreEach IsTextValue shape.dimensions values.dimensions
   pub numbers : AreEach IsNumberValue shape.metrics values.metrics
 
-abbrev values_of : ℕ → List (Option (List ℕ)) → List (Option ℤ) → Values
+abbrev values_of : ℕ → List (Option (List ℕ)) → List (Option ℤ) → Row
 values_of time dimensions metrics = record { time = time; dimensions = dimensions; metrics = metrics }
 
 texts_read : (short : FileFault) (n : ℕ) → Reads (List (Option (List ℕ))) (each_at (text_value_at short) n) (flat_map text_value) (AreEach IsTextValue n)
@@ -122,22 +123,22 @@ row_joins : (a b c d : List ℕ) (time : ℕ) (dimensions : List (Option (List �
 row_joins a b c d time dimensions metrics t1 t2 t3 =
     Takes-then a (instant time ++ flat_map text_value dimensions) c (flat_map number_value metrics) d (Takes-then a (instant time) b (flat_map text_value dimensions) c t1 t2) t3
 
-values_takes : (short : FileFault) (shape : Shape) (bytes : List ℕ) (x : Values × List ℕ) → IsBytes bytes → values_at short shape bytes ≡ Ok x → Takes bytes (row x.0) x.1 × IsRow shape x.0
+values_takes : (short : FileFault) (shape : Shape) (bytes : List ℕ) (x : Row × List ℕ) → IsBytes bytes → values_at short shape bytes ≡ Ok x → Takes bytes (row x.0) x.1 × IsRow shape x.0
 unfolding values_at
 values_takes short shape bytes x fits e =
     let s1 = step_takes (row_time_read short shape.interval) _ bytes x fits e in
     let s2 = step_takes (texts_read short shape.dimensions) _ s1.0.1 x s1.1.rest_fits s1.3 in
     let s3 = step_takes (numbers_read short shape.metrics) _ s2.0.1 x s2.1.rest_fits s2.3 in
     let joined = row_joins bytes s1.0.1 s2.0.1 s3.0.1 s1.0.0 s2.0.0 s3.0.0 s1.1 s2.1 s3.1 in
-    subst (λ (p : Values × List ℕ). Takes bytes (row p.0) p.1 × IsRow shape p.0) (ok_is (values_of s1.0.0 s2.0.0 s3.0.0, s3.0.1) x s3.3)
+    subst (λ (p : Row × List ℕ). Takes bytes (row p.0) p.1 × IsRow shape p.0) (ok_is (values_of s1.0.0 s2.0.0 s3.0.0, s3.0.1) x s3.3)
     (joined, record { time = s1.2; texts = s2.2; numbers = s3.2 })
 
-row_regroups : (v : Values) (rest : List ℕ) → row v ++ rest ≡ instant v.time ++ (flat_map text_value v.dimensions ++ (flat_map number_value v.metrics ++ rest))
+row_regroups : (v : Row) (rest : List ℕ) → row v ++ rest ≡ instant v.time ++ (flat_map text_value v.dimensions ++ (flat_map number_value v.metrics ++ rest))
 row_regroups v rest =
     append_assoc (instant v.time ++ flat_map text_value v.dimensions) (flat_map number_value v.metrics) rest
     ∙ append_assoc (instant v.time) (flat_map text_value v.dimensions) (flat_map number_value v.metrics ++ rest)
 
-values_again : (short : FileFault) (shape : Shape) (v : Values) (rest : List ℕ) → IsRow shape v → values_at short shape (row v ++ rest) ≡ Ok (v, rest)
+values_again : (short : FileFault) (shape : Shape) (v : Row) (rest : List ℕ) → IsRow shape v → values_at short shape (row v ++ rest) ≡ Ok (v, rest)
 unfolding values_at
 values_again short shape v rest h =
     ap (values_at short shape) (row_regroups v rest)
@@ -145,16 +146,16 @@ values_again short shape v rest h =
     ∙ step_again (texts_read short shape.dimensions) _ v.dimensions (flat_map number_value v.metrics ++ rest) h.texts
     ∙ step_again (numbers_read short shape.metrics) _ v.metrics rest h.numbers
 
-pub values_read : (short : FileFault) (shape : Shape) → Reads Values (values_at short shape) row (IsRow shape)
+pub values_read : (short : FileFault) (shape : Shape) → Reads Row (values_at short shape) row (IsRow shape)
 values_read short shape = record {
   takes = λ bytes x fits e. values_takes short shape bytes x fits e;
   again = λ v rest h. values_again short shape v rest h;
 }
 
-abbrev pub AreRows : Shape → List Values → Type 0
+abbrev pub AreRows : Shape → List Row → Type 0
 AreRows shape all = (length all ≤ max_rows) × All (IsRow shape) all
 
-pub rows_read : (short : FileFault) (shape : Shape) → Reads (List Values) (rows_at short shape) rows (AreRows shape)
+pub rows_read : (short : FileFault) (shape : Shape) → Reads (List Row) (rows_at short shape) rows (AreRows shape)
 unfolding rows_at
 rows_read short shape = record {
   takes = λ bytes x fits e.

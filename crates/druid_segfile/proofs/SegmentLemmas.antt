@@ -8,12 +8,13 @@ use Rattle.std.proofs.lemmas.List.Elements.{All-weaker}
 use Rattle.std.proofs.Math.Seq.{take-append-add}
 use Rattle.druid_time.specs.Extent.{Extent, IsExtent}
 use Rattle.druid_shard.specs.Described.{Described, IsDescribed}
-use Rattle.druid_rows.specs.Rows.{Fields, Values, HasShape, IsInside, HasShortValues, max_value}
-use Rattle.druid_rows.specs.Segment.{Content, IsSegment, segment_of, max_text, text_length}
+use Rattle.druid_rows.specs.Rows.{Schema, Row, HasShape, IsInside, HasShortValues, max_value}
+use Rattle.druid_rows.specs.Segment.{Segment, IsSegment, segment_of, max_text, text_length}
 use Rattle.druid_segfile.specs.declared.fault.FileFault.{FileFault}
 use Rattle.druid_segfile.specs.declared.fault.FileFault.TheVariants.{Magic, Cut, Field, RowOutside, TooLong, Trailing, Read, Write, Memory}
 use Rattle.druid_segfile.specs.Spelling.{magic, descriptor, names, rows, spelling, AreValues, Fits}
-use Rattle.druid_segfile.specs.Reading.{◌>>=◌, GivesInMemory, GivesOfReader, Cursor, magic_at, descriptor_at, fields_at, rows_at, shape_of, content_at, short_of, segment_within, segment_at}
+use Rattle.druid_time.specs.Results.{◌>>=◌}
+use Rattle.druid_segfile.specs.Reading.{GivesInMemory, GivesOfReader, Cursor, magic_at, descriptor_at, fields_at, rows_at, shape_of, content_at, short_of, segment_within, segment_at}
 use Rattle.druid_segfile.proofs.PartLemmas.{bind_ok, passed_ok, ok_is, IsBytes, IsBytes-take, Takes, Takes-then, step_takes, step_again}
 use Rattle.druid_segfile.proofs.HeadLemmas.{descriptor_read, magic_takes, magic_again}
 use Rattle.druid_segfile.proofs.FieldLemmas.{fields_text, AreFields, fields_read}
@@ -22,12 +23,12 @@ use Rattle.druid_segfile.proofs.LengthLemmas.{length_spelling}
 use Rattle.druid_segfile.proofs.FrontLemmas.{front_short, IsOfBytes, within_own}
 
 -- what has a spelling, but for its length
-pub record IsContent (content : Content) : Type 0 where
+pub record IsContent (content : Segment) : Type 0 where
   pub descriptor : IsDescribed content.descriptor
   pub fields : AreFields content.fields
   pub rows : AreRows (shape_of content.descriptor content.fields) content.rows
 
-content_joins : (a b c e g : List ℕ) (d : Described) (fields : Fields) (all : List Values) → Takes a magic b → Takes b (descriptor d) c → Takes c (fields_text fields) e → Takes e (rows all) g → Takes a (spelling (segment_of d fields all)) g
+content_joins : (a b c e g : List ℕ) (d : Described) (fields : Schema) (all : List Row) → Takes a magic b → Takes b (descriptor d) c → Takes c (fields_text fields) e → Takes e (rows all) g → Takes a (spelling (segment_of d fields all)) g
 content_joins a b c e g d fields all t1 t2 t3 t4 =
     let s2 = magic ++ descriptor d in
     let j2 = Takes-then a magic b (descriptor d) c t1 t2 in
@@ -35,7 +36,7 @@ content_joins a b c e g d fields all t1 t2 t3 t4 =
     let j4 = subst (λ (t : List ℕ). Takes a t e) (sym (append_assoc s2 (names fields.dimensions) (names fields.metrics))) j3 in
     Takes-then a ((s2 ++ names fields.dimensions) ++ names fields.metrics) e (rows all) g j4 t4
 
-content_takes : (short : FileFault) (bytes : List ℕ) (x : Content × List ℕ) → IsBytes bytes → content_at short bytes ≡ Ok x → Takes bytes (spelling x.0) x.1 × IsContent x.0
+content_takes : (short : FileFault) (bytes : List ℕ) (x : Segment × List ℕ) → IsBytes bytes → content_at short bytes ≡ Ok x → Takes bytes (spelling x.0) x.1 × IsContent x.0
 unfolding content_at
 content_takes short bytes x fits e =
     let m = bind_ok (magic_at short bytes) _ x e in
@@ -44,10 +45,10 @@ content_takes short bytes x fits e =
     let s3 = step_takes (fields_read short) _ s2.0.1 x s2.1.rest_fits s2.3 in
     let s4 = step_takes (rows_read short (shape_of s2.0.0 s3.0.0)) _ s3.0.1 x s3.1.rest_fits s3.3 in
     let joined = content_joins bytes m.0 s2.0.1 s3.0.1 s4.0.1 s2.0.0 s3.0.0 s4.0.0 t1 s2.1 s3.1 s4.1 in
-    subst (λ (p : Content × List ℕ). Takes bytes (spelling p.0) p.1 × IsContent p.0) (ok_is (segment_of s2.0.0 s3.0.0 s4.0.0, s4.0.1) x s4.3)
+    subst (λ (p : Segment × List ℕ). Takes bytes (spelling p.0) p.1 × IsContent p.0) (ok_is (segment_of s2.0.0 s3.0.0 s4.0.0, s4.0.1) x s4.3)
     (joined, record { descriptor = s2.2; fields = s3.2; rows = s4.2 })
 
-content_regroups : (s : Content) (rest : List ℕ) → spelling s ++ rest ≡ magic ++ (descriptor s.descriptor ++ (fields_text s.fields ++ (rows s.rows ++ rest)))
+content_regroups : (s : Segment) (rest : List ℕ) → spelling s ++ rest ≡ magic ++ (descriptor s.descriptor ++ (fields_text s.fields ++ (rows s.rows ++ rest)))
 content_regroups s rest =
     let s2 = magic ++ descriptor s.descriptor in
     let r4 = rows s.rows ++ rest in
@@ -56,7 +57,7 @@ content_regroups s rest =
     ∙ append_assoc s2 (fields_text s.fields) r4
     ∙ append_assoc magic (descriptor s.descriptor) (fields_text s.fields ++ r4)
 
-content_again : (short : FileFault) (s : Content) (rest : List ℕ) → IsContent s → content_at short (spelling s ++ rest) ≡ Ok (s, rest)
+content_again : (short : FileFault) (s : Segment) (rest : List ℕ) → IsContent s → content_at short (spelling s ++ rest) ≡ Ok (s, rest)
 unfolding content_at
 content_again short s rest h =
     ap (content_at short) (content_regroups s rest)
@@ -67,7 +68,7 @@ content_again short s rest h =
 
 -- ---- all of the bytes
 
-within_takes : (limit : ℕ) (bytes : List ℕ) (s : Content) → IsBytes bytes → segment_within limit bytes ≡ Ok s → (bytes ≡ spelling s) × IsContent s × (length bytes ≤ limit)
+within_takes : (limit : ℕ) (bytes : List ℕ) (s : Segment) → IsBytes bytes → segment_within limit bytes ≡ Ok s → (bytes ≡ spelling s) × IsContent s × (length bytes ≤ limit)
 unfolding segment_within
 within_takes limit bytes s fits e =
     let b = bind_ok (content_at (short_of limit bytes) (take limit bytes)) _ s e in
@@ -77,9 +78,9 @@ within_takes limit bytes s fits e =
     let t = content_takes (short_of limit bytes) (take limit bytes) b.0 (IsBytes-take limit bytes fits) b.1 in
     let nothing : b.0.1 ≡ [] = nil_from_length b.0.1 (eqb-true (length b.0.1) 0 tests.0) in
     let whole : bytes ≡ spelling b.0.0 = sym (take_all limit bytes short) ∙ t.0.parts ∙ ap (λ (r : List ℕ). spelling b.0.0 ++ r) nothing ∙ append-nil (spelling b.0.0) in
-    subst (λ (c : Content). (bytes ≡ spelling c) × IsContent c × (length bytes ≤ limit)) g.1 (whole, t.1, short)
+    subst (λ (c : Segment). (bytes ≡ spelling c) × IsContent c × (length bytes ≤ limit)) g.1 (whole, t.1, short)
 
-within_again : (limit : ℕ) (s : Content) → IsContent s → length (spelling s) ≤ limit → segment_within limit (spelling s) ≡ Ok s
+within_again : (limit : ℕ) (s : Segment) → IsContent s → length (spelling s) ≤ limit → segment_within limit (spelling s) ≡ Ok s
 unfolding segment_within
 within_again limit s h short =
     let front : take limit (spelling s) ≡ spelling s ++ [] = take_all limit (spelling s) short ∙ sym (append-nil (spelling s)) in
@@ -100,7 +101,7 @@ text_value_from : (value : Option (List ℕ)) → IfSome value (λ text. length 
 text_value_from None short utf8 = tt
 text_value_from (Some text) short utf8 = (short, utf8)
 
-content_segment : (s : Content) → IsContent s → text_length s ≤ max_text → IsSegment s
+content_segment : (s : Segment) → IsContent s → text_length s ≤ max_text → IsSegment s
 content_segment s h short = record {
   schema = h.fields.schema;
   within = record {
@@ -114,7 +115,7 @@ content_segment s h short = record {
   inside = All-weaker (IsRow (shape_of s.descriptor s.fields)) (IsInside s.descriptor.id.interval) (λ row is. is.time.0) s.rows h.rows.1;
 }
 
-content_fits : (s : Content) → IsContent s → Fits s
+content_fits : (s : Segment) → IsContent s → Fits s
 content_fits s h = record {
   descriptor = h.descriptor;
   rows = All-weaker (IsRow (shape_of s.descriptor s.fields)) AreValues (λ row is. record {
@@ -123,14 +124,14 @@ content_fits s h = record {
   }) s.rows h.rows.1;
 }
 
-is_row : (extent : Extent) (fields : Fields) (row : Values) → IsExtent extent → HasShape fields row → IsInside extent row → HasShortValues row → AreValues row → IsRow (record { interval = extent; dimensions = length fields.dimensions; metrics = length fields.metrics }) row
+is_row : (extent : Extent) (fields : Schema) (row : Row) → IsExtent extent → HasShape fields row → IsInside extent row → HasShortValues row → AreValues row → IsRow (record { interval = extent; dimensions = length fields.dimensions; metrics = length fields.metrics }) row
 is_row extent fields row valid shape inside short values = record {
   time = (inside, omega (arith, inside.1, valid.1));
   texts = (shape.dimensions, λ k d lt. text_value_from _ (short k d lt) (values.texts k d lt));
   numbers = (shape.metrics, values.numbers);
 }
 
-segment_content : (s : Content) → IsSegment s → Fits s → IsContent s
+segment_content : (s : Segment) → IsSegment s → Fits s → IsContent s
 segment_content s h fits = record {
   descriptor = fits.descriptor;
   fields = record { schema = h.schema; dimensions = h.within.dimensions; metrics = h.within.metrics };
@@ -139,12 +140,12 @@ segment_content s h fits = record {
 
 -- ---- laws
 
-pub segment_takes : (bytes : List ℕ) (s : Content) → IsBytes bytes → segment_at bytes ≡ Ok s → (bytes ≡ spelling s) × IsSegment s × Fits s
+pub segment_takes : (bytes : List ℕ) (s : Segment) → IsBytes bytes → segment_at bytes ≡ Ok s → (bytes ≡ spelling s) × IsSegment s × Fits s
 segment_takes bytes s fits e =
     let t = within_takes max_text bytes s fits e in
     (t.0, content_segment s t.1 (omega (arith, t.2, length_spelling s, ap length t.0)), content_fits s t.1)
 
-pub segment_again : (s : Content) → IsSegment s → Fits s → segment_at (spelling s) ≡ Ok s
+pub segment_again : (s : Segment) → IsSegment s → Fits s → segment_at (spelling s) ≡ Ok s
 segment_again s h fits = within_again max_text s (segment_content s h fits) (omega (arith, length_spelling s, h.within.text))
 
 -- ---- what a reader has, of which one byte more was read than a file may have
@@ -178,14 +179,14 @@ short_front limit front bytes e short =
 abbrev pub IsFront : List ℕ → Option (List ℕ) → Type 0
 IsFront front known = IfSome known (λ bytes. front ≡ take (max_text + 1) bytes)
 
-pub known_found : (known : Option (List ℕ)) (front : List ℕ) (result : Result Content FileFault) → IfOk result (λ s. front ≡ spelling s) → IfOk result IsSegment → IsFront front known → IfOk result (λ s. IfSome known (λ bytes. bytes ≡ spelling s))
+pub known_found : (known : Option (List ℕ)) (front : List ℕ) (result : Result Segment FileFault) → IfOk result (λ s. front ≡ spelling s) → IfOk result IsSegment → IsFront front known → IfOk result (λ s. IfSome known (λ bytes. bytes ≡ spelling s))
 known_found None front (Ok s) found valid is = tt
 known_found (Some bytes) front (Ok s) found valid is =
     let short : length front ≤ max_text = omega (arith, ap length found, length_spelling s, valid.within.text) in
     sym (short_front max_text front bytes is short) ∙ found
 known_found known front (Err fault) found valid is = tt
 
-front_again : (front : List ℕ) (s : Content) → IsSegment s → Fits s → front ≡ take (max_text + 1) (spelling s) → segment_at front ≡ Ok s
+front_again : (front : List ℕ) (s : Segment) → IsSegment s → Fits s → front ≡ take (max_text + 1) (spelling s) → segment_at front ≡ Ok s
 front_again front s h fits is =
     ap segment_at (is ∙ take_all (max_text + 1) (spelling s) (omega (arith, length_spelling s, h.within.text))) ∙ segment_again s h fits
 
@@ -201,12 +202,12 @@ of_reader (Err Read) read h = tt
 of_reader (Err Write) read h = h
 of_reader (Err Memory) read h = tt
 
-pub known_only : (known : Option (List ℕ)) (front : List ℕ) (result : Result Content FileFault) → IsFront front known → GivesInMemory result (segment_at front) → (s : Content) → IsSegment s → Fits s → known ≡ Some (spelling s) → GivesOfReader result (Ok s)
+pub known_only : (known : Option (List ℕ)) (front : List ℕ) (result : Result Segment FileFault) → IsFront front known → GivesInMemory result (segment_at front) → (s : Segment) → IsSegment s → Fits s → known ≡ Some (spelling s) → GivesOfReader result (Ok s)
 known_only known front result is gives s h fits e =
     let one : IsFront front (Some (spelling s)) = subst (IsFront front) e is in
     of_reader result (Ok s) (subst (GivesInMemory result) (front_again front s h fits one) gives)
 
-pub known_exact : (known : Option (List ℕ)) (front : List ℕ) (result : Result Content FileFault) → IsFront front known → GivesInMemory result (segment_at front) → IfSome known (λ bytes. GivesOfReader result (segment_at bytes))
+pub known_exact : (known : Option (List ℕ)) (front : List ℕ) (result : Result Segment FileFault) → IsFront front known → GivesInMemory result (segment_at front) → IfSome known (λ bytes. GivesOfReader result (segment_at bytes))
 known_exact None front result is gives = tt
 known_exact (Some bytes) front result is gives =
     of_reader result (segment_at bytes) (subst (GivesInMemory result) (ap segment_at is ∙ within_front max_text bytes) gives)
@@ -228,22 +229,22 @@ content_fails limit n bytes short fault s e is =
     let one : content_at (short_of limit bytes) (take limit bytes) ≡ Err fault = same_content limit n bytes short s e ∙ is in
     rw one refl
 
-content_judged : (limit n : ℕ) (bytes : List ℕ) (short : FileFault) (x : Content × List ℕ) → short ≡ short_of limit bytes → n ≡ min (length bytes) limit → content_at short (take n bytes) ≡ Ok x
+content_judged : (limit n : ℕ) (bytes : List ℕ) (short : FileFault) (x : Segment × List ℕ) → short ≡ short_of limit bytes → n ≡ min (length bytes) limit → content_at short (take n bytes) ≡ Ok x
     → segment_within limit bytes ≡ cond (eqb (length x.1) 0 && leb (length bytes) limit) (Ok x.0) (Err Trailing)
 unfolding segment_within
 content_judged limit n bytes short x s e is =
     let one : content_at (short_of limit bytes) (take limit bytes) ≡ Ok x = same_content limit n bytes short s e ∙ is in
     rw one refl
 
-pub trails : (limit n : ℕ) (bytes : List ℕ) (short : FileFault) (x : Content × List ℕ) → short ≡ short_of limit bytes → n ≡ min (length bytes) limit → content_at short (take n bytes) ≡ Ok x → eqb (length x.1) 0 ≡ false → segment_within limit bytes ≡ Err Trailing
+pub trails : (limit n : ℕ) (bytes : List ℕ) (short : FileFault) (x : Segment × List ℕ) → short ≡ short_of limit bytes → n ≡ min (length bytes) limit → content_at short (take n bytes) ≡ Ok x → eqb (length x.1) 0 ≡ false → segment_within limit bytes ≡ Err Trailing
 trails limit n bytes short x s e is more =
     content_judged limit n bytes short x s e is ∙ cond-false _ (Ok x.0) (Err Trailing) (and_left (eqb (length x.1) 0) (leb (length bytes) limit) more)
 
-pub passes_limit : (limit n : ℕ) (bytes : List ℕ) (short : FileFault) (x : Content × List ℕ) → short ≡ short_of limit bytes → n ≡ min (length bytes) limit → content_at short (take n bytes) ≡ Ok x → limit < length bytes → segment_within limit bytes ≡ Err Trailing
+pub passes_limit : (limit n : ℕ) (bytes : List ℕ) (short : FileFault) (x : Segment × List ℕ) → short ≡ short_of limit bytes → n ≡ min (length bytes) limit → content_at short (take n bytes) ≡ Ok x → limit < length bytes → segment_within limit bytes ≡ Err Trailing
 passes_limit limit n bytes short x s e is long =
     content_judged limit n bytes short x s e is ∙ cond-false _ (Ok x.0) (Err Trailing) (and_right (eqb (length x.1) 0) (leb (length bytes) limit) (lt-leb (length bytes) limit long))
 
-pub is_all : (limit n : ℕ) (bytes : List ℕ) (short : FileFault) (x : Content × List ℕ) → short ≡ short_of limit bytes → n ≡ min (length bytes) limit → content_at short (take n bytes) ≡ Ok x → eqb (length x.1) 0 ≡ true → length bytes ≤ limit → segment_within limit bytes ≡ Ok x.0
+pub is_all : (limit n : ℕ) (bytes : List ℕ) (short : FileFault) (x : Segment × List ℕ) → short ≡ short_of limit bytes → n ≡ min (length bytes) limit → content_at short (take n bytes) ≡ Ok x → eqb (length x.1) 0 ≡ true → length bytes ≤ limit → segment_within limit bytes ≡ Ok x.0
 is_all limit n bytes short x s e is none fits =
     content_judged limit n bytes short x s e is ∙ cond-true _ (Ok x.0) (Err Trailing) (and_from (eqb (length x.1) 0) (leb (length bytes) limit) none (le-leb (length bytes) limit fits))
 
@@ -265,15 +266,15 @@ judged_err limit n bytes short fault cursor s e at h =
     told_err fault (segment_within limit bytes) (within_own limit bytes fault fails) fails
 
 -- the bytes are all read
-pub judged_ok : (limit n : ℕ) (bytes : List ℕ) (short : FileFault) (cursor : Cursor) (s : Content) (after : List ℕ) → short ≡ short_of limit bytes → n ≡ min (length bytes) limit → cursor ≡ record { rest = take n bytes; short = short } → content_at cursor.short cursor.rest ≡ Ok (s, after) → eqb (length after) 0 ≡ true → length bytes ≤ limit → segment_within limit bytes ≡ Ok s
+pub judged_ok : (limit n : ℕ) (bytes : List ℕ) (short : FileFault) (cursor : Cursor) (s : Segment) (after : List ℕ) → short ≡ short_of limit bytes → n ≡ min (length bytes) limit → cursor ≡ record { rest = take n bytes; short = short } → content_at cursor.short cursor.rest ≡ Ok (s, after) → eqb (length after) 0 ≡ true → length bytes ≤ limit → segment_within limit bytes ≡ Ok s
 judged_ok limit n bytes short cursor s after is e at h none fits =
     is_all limit n bytes short (s, after) is e (subst (λ (c : Cursor). content_at c.short c.rest ≡ Ok (s, after)) at h) none fits
 
-pub judged_trails : (limit n : ℕ) (bytes : List ℕ) (short : FileFault) (cursor : Cursor) (s : Content) (after : List ℕ) → short ≡ short_of limit bytes → n ≡ min (length bytes) limit → cursor ≡ record { rest = take n bytes; short = short } → content_at cursor.short cursor.rest ≡ Ok (s, after) → eqb (length after) 0 ≡ false → segment_within limit bytes ≡ Err Trailing
+pub judged_trails : (limit n : ℕ) (bytes : List ℕ) (short : FileFault) (cursor : Cursor) (s : Segment) (after : List ℕ) → short ≡ short_of limit bytes → n ≡ min (length bytes) limit → cursor ≡ record { rest = take n bytes; short = short } → content_at cursor.short cursor.rest ≡ Ok (s, after) → eqb (length after) 0 ≡ false → segment_within limit bytes ≡ Err Trailing
 judged_trails limit n bytes short cursor s after is e at h more =
     trails limit n bytes short (s, after) is e (subst (λ (c : Cursor). content_at c.short c.rest ≡ Ok (s, after)) at h) more
 
-pub judged_passes : (limit n : ℕ) (bytes : List ℕ) (short : FileFault) (cursor : Cursor) (s : Content) (after : List ℕ) → short ≡ short_of limit bytes → n ≡ min (length bytes) limit → cursor ≡ record { rest = take n bytes; short = short } → content_at cursor.short cursor.rest ≡ Ok (s, after) → limit < length bytes → segment_within limit bytes ≡ Err Trailing
+pub judged_passes : (limit n : ℕ) (bytes : List ℕ) (short : FileFault) (cursor : Cursor) (s : Segment) (after : List ℕ) → short ≡ short_of limit bytes → n ≡ min (length bytes) limit → cursor ≡ record { rest = take n bytes; short = short } → content_at cursor.short cursor.rest ≡ Ok (s, after) → limit < length bytes → segment_within limit bytes ≡ Err Trailing
 judged_passes limit n bytes short cursor s after is e at h long =
     passes_limit limit n bytes short (s, after) is e (subst (λ (c : Cursor). content_at c.short c.rest ≡ Ok (s, after)) at h) long
 
@@ -282,7 +283,7 @@ may_lack_memory read x told e is = rw (is, e) (search rules)
 
 -- ---- cut files and long ones
 
-within_cut : (limit : ℕ) (s : Content) (k : ℕ) → IsContent s → length (spelling s) ≤ limit → k < length (spelling s) → segment_within limit (take k (spelling s)) ≡ Err Cut
+within_cut : (limit : ℕ) (s : Segment) (k : ℕ) → IsContent s → length (spelling s) ≤ limit → k < length (spelling s) → segment_within limit (take k (spelling s)) ≡ Err Cut
 unfolding segment_within
 within_cut limit s k h fits lt =
     let front = take k (spelling s) in
@@ -290,10 +291,10 @@ within_cut limit s k h fits lt =
     let whole : content_at Cut (spelling s) ≡ Ok (s, []) = ap (content_at Cut) (sym (append-nil (spelling s))) ∙ content_again Cut s [] h in
     rw (le-ltb limit (length front) len, take_all limit front len, front_short Cut (spelling s) s k whole lt) refl
 
-pub segment_cut : (s : Content) (k : ℕ) → IsSegment s → Fits s → k < length (spelling s) → segment_at (take k (spelling s)) ≡ Err Cut
+pub segment_cut : (s : Segment) (k : ℕ) → IsSegment s → Fits s → k < length (spelling s) → segment_at (take k (spelling s)) ≡ Err Cut
 segment_cut s k h fits lt = within_cut max_text s k (segment_content s h fits) (omega (arith, length_spelling s, h.within.text)) lt
 
-within_trails : (limit : ℕ) (s : Content) (more : List ℕ) → IsContent s → length (spelling s) ≤ limit → 0 < length more → segment_within limit (spelling s ++ more) ≡ Err Trailing
+within_trails : (limit : ℕ) (s : Segment) (more : List ℕ) → IsContent s → length (spelling s) ≤ limit → 0 < length more → segment_within limit (spelling s ++ more) ≡ Err Trailing
 within_trails limit s more h fits some =
     let bytes = spelling s ++ more in
     let len = length-append (spelling s) more in
@@ -307,7 +308,7 @@ within_trails limit s more h fits some =
       | inr le ↦ trails limit window_end bytes (short_of limit bytes) (s, take room more) refl refl read (ne_eqb (length (take room more)) 0 (λ e. omega (arith, e, length-take room more, len, le, some)))
     ]
 
-pub segment_trails : (s : Content) (more : List ℕ) → IsSegment s → Fits s → 0 < length more → segment_at (spelling s ++ more) ≡ Err Trailing
+pub segment_trails : (s : Segment) (more : List ℕ) → IsSegment s → Fits s → 0 < length more → segment_at (spelling s ++ more) ≡ Err Trailing
 segment_trails s more h fits some = within_trails max_text s more (segment_content s h fits) (omega (arith, length_spelling s, h.within.text)) some
 
 -- what was read to the end of a reader of which so many bytes are taken
@@ -315,5 +316,5 @@ pub front_known : (known : Option (List ℕ)) (limit n : ℕ) (old new : List �
 front_known None limit n old new l o h = tt
 front_known (Some bytes) limit n old new l o h = h ∙ ap (λ (t : List ℕ). t ++ take limit bytes) o ∙ ap (λ k. take k bytes) l
 
-pub is_spelling : (bytes : List ℕ) (s : Content) → IsBytes bytes → segment_at bytes ≡ Ok s → bytes ≡ spelling s
+pub is_spelling : (bytes : List ℕ) (s : Segment) → IsBytes bytes → segment_at bytes ≡ Ok s → bytes ≡ spelling s
 is_spelling bytes s fits e = (segment_takes bytes s fits e).0

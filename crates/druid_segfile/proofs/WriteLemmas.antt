@@ -10,8 +10,8 @@ use Rattle.druid_shard.specs.Described.{Described}
 use Rattle.druid_segfile.proofs.HeadLemmas.{described}
 use Rattle.std.proofs.lemmas.List.{append-nil, take-append-drop, take_all, take_more, flat_map_more, get_or-map, length-map}
 use Rattle.std.proofs.lemmas.List.Concat.{flat_map-append}
-use Rattle.druid_rows.specs.Rows.{Values, no_row, texts_of}
-use Rattle.druid_rows.specs.Segment.{Content, row_at}
+use Rattle.druid_rows.specs.Rows.{Row, no_row, texts_of}
+use Rattle.druid_rows.specs.Segment.{Segment, row_at}
 use Rattle.druid_segfile.specs.Spelling.{magic, instant, interval, short_text, descriptor, names, row, spelling}
 use Rattle.druid_segfile.specs.Heading.{heading}
 use Rattle.druid_segfile.specs.Written.{AppendsFront, AppendsUpTo}
@@ -67,29 +67,29 @@ wrote_rest a b c text rest p q = subst (λ (t : List ℕ). Appends a c t) (sym p
 
 -- ---- the spelling of a segment, row by row
 
-pub heading_rows : (s : Content) → heading s ++ flat_map row s.rows ≡ spelling s
+pub heading_rows : (s : Segment) → heading s ++ flat_map row s.rows ≡ spelling s
 heading_rows s =
     append_assoc (((magic ++ descriptor s.descriptor) ++ names s.fields.dimensions) ++ names s.fields.metrics) (to_be_bytes w32 (length s.rows)) (flat_map row s.rows)
 
-pub rows_behind : (s : Content) (i : ℕ) → (heading s ++ flat_map row (take i s.rows)) ++ flat_map row (drop i s.rows) ≡ spelling s
+pub rows_behind : (s : Segment) (i : ℕ) → (heading s ++ flat_map row (take i s.rows)) ++ flat_map row (drop i s.rows) ≡ spelling s
 rows_behind s i =
     append_assoc (heading s) (flat_map row (take i s.rows)) (flat_map row (drop i s.rows))
-    ∙ ap (λ (t : List ℕ). heading s ++ t) (sym (flat_map-append row (take i s.rows) (drop i s.rows)) ∙ ap (λ (all : List Values). flat_map row all) (take-append-drop i s.rows))
+    ∙ ap (λ (t : List ℕ). heading s ++ t) (sym (flat_map-append row (take i s.rows) (drop i s.rows)) ∙ ap (λ (all : List Row). flat_map row all) (take-append-drop i s.rows))
     ∙ heading_rows s
 
-pub one_row_more : (s : Content) (i : ℕ) → i < length s.rows → (heading s ++ flat_map row (take i s.rows)) ++ row (row_at s i) ≡ heading s ++ flat_map row (take (i + 1) s.rows)
+pub one_row_more : (s : Segment) (i : ℕ) → i < length s.rows → (heading s ++ flat_map row (take i s.rows)) ++ row (row_at s i) ≡ heading s ++ flat_map row (take (i + 1) s.rows)
 one_row_more s i lt =
     flat_map_more row (heading s) (take i s.rows) (row_at s i)
-    ∙ ap (λ (all : List Values). heading s ++ flat_map row all) (sym (take_more s.rows i no_row lt))
+    ∙ ap (λ (all : List Row). heading s ++ flat_map row all) (sym (take_more s.rows i no_row lt))
 
-pub rows_done : (s : Content) (i : ℕ) → length s.rows ≤ i → heading s ++ flat_map row (take i s.rows) ≡ spelling s
-rows_done s i le = ap (λ (all : List Values). heading s ++ flat_map row all) (take_all i s.rows le) ∙ heading_rows s
+pub rows_done : (s : Segment) (i : ℕ) → length s.rows ≤ i → heading s ++ flat_map row (take i s.rows) ≡ spelling s
+rows_done s i le = ap (λ (all : List Row). heading s ++ flat_map row all) (take_all i s.rows le) ∙ heading_rows s
 
-pub no_rows_yet : (s : Content) → heading s ≡ heading s ++ flat_map row (take 0 s.rows)
+pub no_rows_yet : (s : Segment) → heading s ≡ heading s ++ flat_map row (take 0 s.rows)
 no_rows_yet s = sym (append-nil (heading s))
 
 -- a front of the spelling that was written before a row was
-pub spelled_front : (s : Content) (i : ℕ) (a b c : Option (List ℕ)) (rest : List ℕ) → AppendsUpTo a b (heading s ++ flat_map row (take i s.rows)) rest → AppendsFront b c rest → AppendsFront a c (spelling s)
+pub spelled_front : (s : Segment) (i : ℕ) (a b c : Option (List ℕ)) (rest : List ℕ) → AppendsUpTo a b (heading s ++ flat_map row (take i s.rows)) rest → AppendsFront b c rest → AppendsFront a c (spelling s)
 spelled_front s i a b c rest p q =
     subst (AppendsFront a c) (rows_behind s i) (front_then a b c (heading s ++ flat_map row (take i s.rows)) rest (flat_map row (drop i s.rows)) p q)
 
@@ -101,12 +101,12 @@ on_err (Ok x) P p = tt
 on_err (Err e) P p = p
 
 -- one row more waits to be written
-pub row_waits : (s : Content) (i : ℕ) (a b : Option (List ℕ)) (rest more : List ℕ) → i < length s.rows → more ≡ rest ++ row (row_at s i) → AppendsUpTo a b (heading s ++ flat_map row (take i s.rows)) rest → AppendsUpTo a b (heading s ++ flat_map row (take (i + 1) s.rows)) more
+pub row_waits : (s : Segment) (i : ℕ) (a b : Option (List ℕ)) (rest more : List ℕ) → i < length s.rows → more ≡ rest ++ row (row_at s i) → AppendsUpTo a b (heading s ++ flat_map row (take i s.rows)) rest → AppendsUpTo a b (heading s ++ flat_map row (take (i + 1) s.rows)) more
 row_waits s i a b rest more lt e p =
     subst (λ (t : List ℕ). AppendsUpTo a b t more) (one_row_more s i lt)
     (subst (AppendsUpTo a b ((heading s ++ flat_map row (take i s.rows)) ++ row (row_at s i))) (sym e) (up_to_more a b (heading s ++ flat_map row (take i s.rows)) rest (row (row_at s i)) p))
 
-pub spelled_out : (s : Content) (i : ℕ) (a b c : Option (List ℕ)) (rest : List ℕ) → length s.rows ≤ i → AppendsUpTo a b (heading s ++ flat_map row (take i s.rows)) rest → Appends b c rest → Appends a c (spelling s)
+pub spelled_out : (s : Segment) (i : ℕ) (a b c : Option (List ℕ)) (rest : List ℕ) → length s.rows ≤ i → AppendsUpTo a b (heading s ++ flat_map row (take i s.rows)) rest → Appends b c rest → Appends a c (spelling s)
 spelled_out s i a b c rest le p q =
     subst (Appends a c) (rows_done s i le) (wrote_rest a b c (heading s ++ flat_map row (take i s.rows)) rest p q)
 

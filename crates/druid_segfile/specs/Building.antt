@@ -2,10 +2,11 @@
 use Rattle.std.specs.Prelude.{◌≡◌, ℕ, ◌+◌, ◌≤◌, List, ◌++◌, length, Result, Ok, Err}
 use Rattle.std.specs.Int.{w32}
 use Rattle.druid_shard.specs.Described.{Described}
-use Rattle.druid_rows.specs.Rows.{Fields, Values}
-use Rattle.druid_rows.specs.Segment.{Content, IsSegment, segment_of, text_length, max_rows, max_text}
+use Rattle.druid_rows.specs.Rows.{Schema, Row}
+use Rattle.druid_rows.specs.Segment.{Segment, IsSegment, segment_of, text_length, max_rows, max_text}
 use Rattle.druid_segfile.specs.declared.fault.FileFault.{FileFault}
-use Rattle.druid_segfile.specs.Reading.{◌>>=◌, Cursor, Shape, shape_of, magic_at, descriptor_at, fields_at, number_at, at_most, each_at, values_at, content_at}
+use Rattle.druid_time.specs.Results.{◌>>=◌}
+use Rattle.druid_segfile.specs.Reading.{Cursor, Shape, shape_of, magic_at, descriptor_at, fields_at, number_at, at_most, each_at, values_at, content_at}
 
 -- the bytes behind the part are left, and nothing is kept of it; or the fault is the one of reading
 abbrev pub Passes : {X : Type 0} → Cursor → Cursor → Result X FileFault → Result (List ℕ) FileFault → Type 0
@@ -25,7 +26,7 @@ row_count_at short bytes = do
   Ok (count, part.1)
 
 -- what stands before the rows was read, and the number of the rows
-pub record IsHead (short : FileFault) (bytes : List ℕ) (d : Described) (fields : Fields) (count : ℕ) (rest : List ℕ) : Type 0 where
+pub record IsHead (short : FileFault) (bytes : List ℕ) (d : Described) (fields : Schema) (count : ℕ) (rest : List ℕ) : Type 0 where
   pub behind : List ℕ
   pub after_descriptor : List ℕ
   pub after_fields : List ℕ
@@ -35,18 +36,18 @@ pub record IsHead (short : FileFault) (bytes : List ℕ) (d : Described) (fields
   pub counted : row_count_at short after_fields ≡ Ok (count, rest)
 
 -- and the rows after it
-pub record IsWhole (short : FileFault) (bytes : List ℕ) (d : Described) (fields : Fields) (count : ℕ) (rest after : List ℕ) : Type 0 where
+pub record IsWhole (short : FileFault) (bytes : List ℕ) (d : Described) (fields : Schema) (count : ℕ) (rest after : List ℕ) : Type 0 where
   pub head : IsHead short bytes d fields count rest
-  pub rows : List Values
+  pub rows : List Row
   pub read : each_at (values_at short (shape_of d fields)) count rest ≡ Ok (rows, after)
 
 -- a segment whose rows have this shape, and that takes so many more, spelled in so many bytes
-pub record HasRoom (segment : Content) (shape : Shape) (count len : ℕ) : Type 0 where
+pub record HasRoom (segment : Segment) (shape : Shape) (count len : ℕ) : Type 0 where
   pub valid : IsSegment segment
   pub shaped : shape ≡ shape_of segment.descriptor segment.fields
   pub rows : length segment.rows + count ≤ max_rows
   pub text : text_length segment + len ≤ max_text
 
 -- the segment with the rows that are read behind its own
-abbrev pub with_read : Content → Result (List Values × List ℕ) FileFault → Result (Content × List ℕ) FileFault
+abbrev pub with_read : Segment → Result (List Row × List ℕ) FileFault → Result (Segment × List ℕ) FileFault
 with_read segment read = read >>= λ x. Ok (segment_of segment.descriptor segment.fields (segment.rows ++ x.0), x.1)

@@ -5,19 +5,15 @@ use Rattle.std.specs.Int.{Width, w16, w32, w64, byte_len, from_be_bytes, cast_si
 use Rattle.std.specs.Str.{is_utf8}
 use Rattle.druid_time.specs.Extent.{Extent}
 use Rattle.druid_time.specs.Instant.{instant_count, unix_epoch}
-use Rattle.druid_segid.specs.Names.{is_name, is_version}
+use Rattle.druid_segid.specs.Names.{max_name, is_name, max_version, is_version}
 use Rattle.druid_shard.specs.Described.{Described, max_core}
 use Rattle.druid_rows.specs.Names.{is_field_name}
-use Rattle.druid_rows.specs.Rows.{Fields, Values, max_value}
-use Rattle.druid_rows.specs.Segment.{Content, segment_of, max_fields, max_rows, max_text}
+use Rattle.druid_rows.specs.Rows.{Schema, Row, max_value}
+use Rattle.druid_rows.specs.Segment.{Segment, segment_of, max_fields, max_rows, max_text}
+use Rattle.druid_time.specs.Results.{◌>>=◌}
 use Rattle.druid_segfile.specs.declared.fault.FileFault.{FileFault}
 use Rattle.druid_segfile.specs.declared.fault.FileFault.TheVariants.{Magic, Cut, Field, RowOutside, TooLong, Trailing, Read, Memory}
 use Rattle.druid_segfile.specs.Spelling.{magic}
-
-infixl 10 ◌>>=◌
-abbrev pub ◌>>=◌ : {A B : Type 0} → Result A FileFault → (A → Result B FileFault) → Result B FileFault
-(Ok x) >>= f = f x
-(Err e) >>= f = Err e
 
 -- what a call returned is what reading gives
 abbrev pub Gives : {X : Type 0} → Result X FileFault → Result X FileFault → Type 0
@@ -128,13 +124,13 @@ interval_at short bytes = do
 
 unfoldable pub name_at : FileFault → List ℕ → Result (List ℕ × List ℕ) FileFault
 name_at short bytes = do
-  text ← short_text_at short 100 bytes
+  text ← short_text_at short max_name bytes
   name ← accepted is_name text.0
   Ok (name, text.1)
 
 unfoldable pub version_at : FileFault → List ℕ → Result (List ℕ × List ℕ) FileFault
 version_at short bytes = do
-  text ← short_text_at short 64 bytes
+  text ← short_text_at short max_version bytes
   version ← accepted is_version text.0
   Ok (version, text.1)
 
@@ -189,7 +185,7 @@ names_at short before bytes = do
   count ← at_most max_fields part.0
   field_names_at short count before part.1
 
-unfoldable pub fields_at : FileFault → List ℕ → Result (Fields × List ℕ) FileFault
+unfoldable pub fields_at : FileFault → List ℕ → Result (Schema × List ℕ) FileFault
 fields_at short bytes = do
   dimensions ← names_at short [] bytes
   metrics ← names_at short dimensions.0 dimensions.1
@@ -232,7 +228,7 @@ pub record Shape : Type 0 where
   pub dimensions : ℕ
   pub metrics : ℕ
 
-unfoldable pub values_at : FileFault → Shape → List ℕ → Result (Values × List ℕ) FileFault
+unfoldable pub values_at : FileFault → Shape → List ℕ → Result (Row × List ℕ) FileFault
 values_at short shape bytes = do
   time ← row_time_at short shape.interval bytes
   dimensions ← each_at (text_value_at short) shape.dimensions time.1
@@ -240,7 +236,7 @@ values_at short shape bytes = do
   Ok (record { time = time.0; dimensions = dimensions.0; metrics = metrics.0 }, metrics.1)
 
 -- the rows behind their number
-unfoldable pub rows_at : FileFault → Shape → List ℕ → Result (List Values × List ℕ) FileFault
+unfoldable pub rows_at : FileFault → Shape → List ℕ → Result (List Row × List ℕ) FileFault
 rows_at short shape bytes = do
   part ← number_at short w32 bytes
   count ← at_most max_rows part.0
@@ -255,14 +251,14 @@ magic_at short bytes = do
   if bytes_eq part.0 magic then Ok part.1 else Err Magic
 
 -- how the rows of a segment are read
-abbrev pub shape_of : Described → Fields → Shape
+abbrev pub shape_of : Described → Schema → Shape
 shape_of descriptor fields = record {
   interval = descriptor.id.interval;
   dimensions = length fields.dimensions;
   metrics = length fields.metrics;
 }
 
-unfoldable pub content_at : FileFault → List ℕ → Result (Content × List ℕ) FileFault
+unfoldable pub content_at : FileFault → List ℕ → Result (Segment × List ℕ) FileFault
 content_at short bytes = do
   behind ← magic_at short bytes
   descriptor ← descriptor_at short behind
@@ -275,11 +271,11 @@ abbrev pub short_of : ℕ → List ℕ → FileFault
 short_of limit bytes = if nat_lt limit (length bytes) then TooLong else Cut
 
 -- all of the bytes, where a file has `limit` of them at most
-unfoldable pub segment_within : ℕ → List ℕ → Result Content FileFault
+unfoldable pub segment_within : ℕ → List ℕ → Result Segment FileFault
 segment_within limit bytes = do
   content ← content_at (short_of limit bytes) (take limit bytes)
   if length content.1 == 0 && nat_le (length bytes) limit then Ok content.0 else Err Trailing
 
 -- all of the bytes of a file
-abbrev pub segment_at : List ℕ → Result Content FileFault
+abbrev pub segment_at : List ℕ → Result Segment FileFault
 segment_at bytes = segment_within max_text bytes

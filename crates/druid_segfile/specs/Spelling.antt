@@ -6,8 +6,8 @@ use Rattle.std.specs.Str.{IsUtf8}
 use Rattle.druid_time.specs.Extent.{Extent}
 use Rattle.druid_time.specs.Instant.{unix_ms}
 use Rattle.druid_shard.specs.Described.{Described, IsDescribed}
-use Rattle.druid_rows.specs.Rows.{Values}
-use Rattle.druid_rows.specs.Segment.{Content}
+use Rattle.druid_rows.specs.Rows.{Row}
+use Rattle.druid_rows.specs.Segment.{Segment}
 
 -- what a file begins with
 abbrev pub magic : List ℕ
@@ -47,25 +47,25 @@ number_value None = 0 ∷ []
 number_value (Some n) = 1 ∷ number n
 
 -- a row: its instant, and its values
-abbrev pub row : Values → List ℕ
+abbrev pub row : Row → List ℕ
 row values = instant values.time ++ flat_map text_value values.dimensions ++ flat_map number_value values.metrics
 
 -- how many rows there are, in four bytes, and the rows
-abbrev pub rows : List Values → List ℕ
+abbrev pub rows : List Row → List ℕ
 rows all = to_be_bytes w32 (length all) ++ flat_map row all
 
 -- the one spelling of a segment
-abbrev pub spelling : Content → List ℕ
+abbrev pub spelling : Segment → List ℕ
 spelling segment =
     magic ++ descriptor segment.descriptor ++ names segment.fields.dimensions ++ names segment.fields.metrics
     ++ rows segment.rows
 
 -- its texts are UTF-8 and its numbers fit 64 bits, as those of each value of the types of rows
-pub record AreValues (values : Values) : Type 0 where
+pub record AreValues (values : Row) : Type 0 where
   pub texts : All (λ value. IfSome value IsUtf8) values.dimensions
   pub numbers : All (λ value. IfSome value (FitsSigned w64)) values.metrics
 
 -- what is announced is well formed, and so is each value
-pub record Fits (segment : Content) : Type 0 where
+pub record Fits (segment : Segment) : Type 0 where
   pub descriptor : IsDescribed segment.descriptor
   pub rows : All AreValues segment.rows

@@ -25,10 +25,10 @@ pub(crate) struct FieldNames<'a> {
 }
 
 impl<'a> Model for FieldNames<'a> {
-    ghost use Rattle.druid_rows.specs.Rows.{Fields};
+    ghost use Rattle.druid_rows.specs.Rows.{Schema};
     ghost use Rattle.druid_segfile.specs.Lent.{texts_lent};
 
-    ghost Value = { Fields };
+    ghost Value = { Schema };
 
     ghost view = { λ a. record {
       dimensions = texts_lent a.dimensions.items;

@@ -6,21 +6,12 @@ ghost use Rattle.druid_segfile.specs.Reading.{Gives, GivesAs, TakesAs, accepted,
 
 use crate::FileFault;
 use crate::cursor::Cursor;
-use druid_segid::{Name, SegmentId, Version};
-use druid_shard::Descriptor;
+use druid_segid::{MAX_NAME, MAX_VERSION, Name, SegmentId, Version};
+use druid_shard::{Descriptor, MAX_CORE};
 use druid_time::{Instant, Interval};
 use std::alloc::{AllocError, Global};
 use std::marker::Model;
 use std::str;
-
-// The most bytes of the name of a data source.
-const MAX_NAME: usize = 100;
-
-// The most bytes of a version.
-const MAX_VERSION: usize = 64;
-
-// The most core partitions that a descriptor names.
-const MAX_CORE: u16 = 32_768;
 
 // What is announced of a segment, with texts that lie in its bytes.
 #[derive(Debug, Drop)]

@@ -1,5 +1,5 @@
 ghost use Rattle.std.specs.Prelude.{◌≡◌, ◌≢◌, ◌⊎◌, ◌+◌, ◌≤◌, ℕ, List, [], length, take, Some, Ok, Err, IsOk, IfOk, IfErr, IfSome};
-ghost use Rattle.druid_rows.specs.Segment.{Content, IsSegment, segment_of, max_text};
+ghost use Rattle.druid_rows.specs.Segment.{Segment, IsSegment, segment_of, max_text};
 ghost use Rattle.druid_segfile.specs.Spelling.{spelling, Fits};
 ghost use Rattle.druid_segfile.specs.Reading.{Gives, GivesInMemory, GivesOfReader, TakesAs, each_at, values_at, shape_of, magic_at, content_at, short_of, segment_at};
 ghost use Rattle.druid_segfile.specs.Building.{Passes, row_count_at, IsWhole, HasRoom, with_read};
@@ -151,7 +151,7 @@ pub fn read_segment<R: Read>(alloc: Global, reader: &mut R) -> Result<Segment, F
     ensures found { IfOk result (λ segment. IfSome (R.remaining reader.old) (λ bytes. bytes ≡ spelling segment)) }
     ensures valid { IfOk result IsSegment }
     // What is spelled so is read, unless the reader fails or memory is refused.
-    ensures only { (s : Content) → IsSegment s → Fits s → R.remaining reader.old ≡ Some (spelling s) → GivesOfReader result (Ok s) }
+    ensures only { (s : Segment) → IsSegment s → Fits s → R.remaining reader.old ≡ Some (spelling s) → GivesOfReader result (Ok s) }
     // Which fault it is.
     ensures exact { IfSome (R.remaining reader.old) (λ bytes. GivesOfReader result (segment_at bytes)) }
     ensures no_write { result ≢ Err FileFault.Write }

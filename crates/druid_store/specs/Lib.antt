@@ -11,3 +11,4 @@ pub mod Noted
 pub mod Record
 pub mod RecordLaws
 pub mod System
+pub mod Unknown

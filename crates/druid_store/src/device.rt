@@ -1,7 +1,8 @@
-ghost use Rattle.std.specs.Prelude.{◌≡◌, ℕ, List};
+ghost use Rattle.std.specs.Prelude.{ℕ, List};
 ghost use Rattle.druid_store.specs.Event.{Event};
-ghost use Rattle.druid_store.specs.Folder.{Content, nothing};
+ghost use Rattle.druid_store.specs.Folder.{Content};
 ghost use Rattle.druid_store.specs.Model.{AreRight, IsHonestModel};
+ghost use Rattle.druid_store.specs.Unknown.{unknown_content, unknown_left, unknown_during};
 
 use std::marker::Brand;
 
@@ -18,14 +19,13 @@ pub trait Device {
     ghost during: { ℕ → Content → Type 0 };
 }
 
-/// The device of a program that states nothing of it: where a proof picks no other, one that stays
-/// empty.
+/// The device of a program, of which nothing is known.
 impl Device for Brand {
-    ghost content = { λ n. nothing };
+    ghost content = { unknown_content };
 
-    ghost left = { λ n c. c ≡ nothing };
+    ghost left = { unknown_left };
 
-    ghost during = { λ n c. c ≡ nothing };
+    ghost during = { unknown_during };
 }
 
 /// A device can be honest: one that does what it is told is, in all calls whose answers are right.

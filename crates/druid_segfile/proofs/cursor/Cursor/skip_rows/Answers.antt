@@ -1,11 +1,11 @@
 use Rattle.std.proofs.Common.{◌≡◌, ◌-◌, ◌++◌, ◌∷◌, ◌∙◌, [], List, Ok, Err, subst, ap, arith, refl}
-use Rattle.druid_rows.specs.Rows.{Values, row_of}
+use Rattle.druid_rows.specs.Rows.{Row, row_of}
 use Rattle.druid_segfile.specs.Reading.{each_at, values_at}
 use Rattle.druid_segfile.specs.Lent.{values_lent}
 use Rattle.druid_segfile.proofs.LoopLemmas.{with_front, with_none, goes_on, ends, is_done}
 use Rattle.druid_segfile.proofs.cursor.Cursor.skip_rows.Goals as goal
 
-abbrev all : List Values → List Values
+abbrev all : List Row → List Row
 all values = values
 
 pub loop-init : goal.loop-init
@@ -22,7 +22,7 @@ loop-preserved c =
     let short = c.args.self.now.short in
     let after = c.row.new.self in
     let values = c.row.new.values in
-    let row : Values = row_of c.in_default.field-0 (values_lent values.texts.items) values.numbers.items in
+    let row : Row = row_of c.in_default.field-0 (values_lent values.texts.items) values.numbers.items in
     let read = subst (λ s. values_at s c.args.shape c.loop.self.rest ≡ Ok (row, after.rest)) c.loop.invariant.short c.in_default.ensures.0 in
     record {
       front = c.loop.invariant.front ++ row ∷ [];
