@@ -9,3 +9,11 @@ pub mod LookLemmas
 pub mod NameLemmas
 pub mod StepLemmas
 pub mod ProgramLemmas
+pub mod OrderOnce
+pub mod HoldingOnce
+pub mod AnswerOnce
+pub mod RunOnce
+pub mod Decided
+pub mod FoundSome
+pub mod AnswerSome
+pub mod RunSome

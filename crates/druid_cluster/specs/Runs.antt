@@ -15,6 +15,10 @@ pub data End : Type 0 where
   bad_at : (number : ℕ) → End
   broken_at : (number : ℕ) → End
 
+-- no device failed
+abbrev pub NoDeviceFails : End → Type 0
+NoDeviceFails end = (number : ℕ) → end ≡ broken_at number → ⊥
+
 -- nothing, or a front of what the line is answered, which is not the whole
 abbrev pub IsFront : Option (List Entry) → List ℕ → List ℕ → Type 0
 IsFront state line out =

@@ -1,11 +1,28 @@
-//! Facts that hold of all lines.
-ghost use Rattle.std.specs.Prelude.{List, ℕ, Option};
+//! Facts that hold of all lines and of all runs.
+ghost use Rattle.std.specs.Prelude.{◌≡◌, ◌⊎◌, List, ℕ, Option, None};
 ghost use Rattle.druid_inventory.specs.Entry.{Entry};
 ghost use Rattle.druid_cluster.specs.Serving.{IsAnswered, IsBad};
+ghost use Rattle.druid_cluster.specs.Runs.{End, Runs, NoDeviceFails};
 ghost use Rattle.druid_cluster.specs.declared.answer.Answer.{Answer};
 
 /// No line that is answered is bad.
 pub fn no_answered_line_is_bad()
     ensures { (state next : Option (List Entry)) (line : List ℕ) (answer : Answer)
         → IsAnswered state line answer next → IsBad state line → ⊥ }
+{}
+
+/// Each input has one run in which no device fails: there is one, and two such runs write the same and end the same.
+pub fn one_run()
+    ensures some { (lines : List (List ℕ))
+        → (out : List ℕ) × (end : End) × Runs None 1 lines out end × NoDeviceFails end }
+    ensures same { (lines : List (List ℕ)) (out other : List ℕ) (end last : End)
+        → Runs None 1 lines out end → Runs None 1 lines other last → NoDeviceFails end → NoDeviceFails last
+        → (out ≡ other) × (end ≡ last) }
+{}
+
+/// Each line is bad or has an answer, whatever stands before it.
+pub fn each_line_is_bad_or_answered()
+    ensures { (state : Option (List Entry)) (line : List ℕ)
+        → IsBad state line
+        ⊎ ((answer : Answer) × (next : Option (List Entry)) × IsAnswered state line answer next) }
 {}
