@@ -1,7 +1,9 @@
-//! What no contract says of the folders that keep segments: worked examples, printed texts, calls of the system that fail,
+//! What no contract says of segment files and of the folders that keep them: worked examples, printed texts, calls of the system that fail,
 //! and that calls succeed with ample memory. A module has the name of the crate that it tests.
 #![tactic(auto)]
 
+#[cfg(test)]
+mod segfile;
 #[cfg(test)]
 mod store;
 #[cfg(test)]
