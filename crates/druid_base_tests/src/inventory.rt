@@ -1,5 +1,6 @@
 ghost use Rattle.std.specs.Prelude.{◌≤◌};
 
+use crate::printing::printed;
 use druid_inventory::{ApplyFault, Inventory, InventoryFault, Outcome};
 use druid_segid::{Name, SegmentId, Version};
 use druid_shard::{Descriptor, Mark, Reply};
@@ -63,14 +64,14 @@ fn faults_have_these_texts(rt: HostRuntime) -> Result<(), Fail> {
         (InventoryFault::DoubledNode, "V1: a doubled node"),
         (InventoryFault::Memory, "V9: out of memory"),
     ] {
-        assert_eq!(rt; fault.to_string(rt.alloc())?.as_str(), wanted);
+        assert_eq!(rt; printed(rt.alloc(), &fault)?.as_str(), wanted);
     }
     for (fault, wanted) in [
         (ApplyFault::UnknownNode, "A1: an unknown node"),
         (ApplyFault::Conflict, "A5: a conflict"),
         (ApplyFault::Memory, "A9: out of memory"),
     ] {
-        assert_eq!(rt; fault.to_string(rt.alloc())?.as_str(), wanted);
+        assert_eq!(rt; printed(rt.alloc(), &fault)?.as_str(), wanted);
     }
     Ok(())
 }

@@ -5,6 +5,8 @@
 #[cfg(test)]
 mod inventory;
 #[cfg(test)]
+mod printing;
+#[cfg(test)]
 mod segid;
 #[cfg(test)]
 mod shard;

@@ -1,3 +1,4 @@
+use crate::printing::printed;
 use druid_segid::{IdFault, Name, SegmentId, Version};
 use druid_time::Interval;
 use std::alloc::Global;
@@ -50,7 +51,7 @@ fn name_told(alloc: Global, text: &str) -> Result<String, Fail> {
     match Name::new(alloc, spelled.as_str()) {
         Ok(name) if spelled.len() < 64 => Ok(name.clone()?.text(alloc)?),
         Ok(_) => Ok(String::from_str(alloc, "long")?),
-        Err(fault) => Ok(fault.to_string(alloc)?),
+        Err(fault) => printed(alloc, &fault),
     }
 }
 
@@ -59,7 +60,7 @@ fn version_told(alloc: Global, text: &str) -> Result<String, Fail> {
     match Version::new(alloc, spelled.as_str()) {
         Ok(version) if version.len() < 64 => Ok(version.clone()?.text(alloc)?),
         Ok(_) => Ok(String::from_str(alloc, "long")?),
-        Err(fault) => Ok(fault.to_string(alloc)?),
+        Err(fault) => printed(alloc, &fault),
     }
 }
 
@@ -131,7 +132,7 @@ fn faults_print_as_these_texts(rt: HostRuntime) -> Result<(), Fail> {
         (IdFault::BadPartition, "I6: not a partition number"),
         (IdFault::Memory, "I9: out of memory"),
     ] {
-        assert_eq!(rt; fault.to_string(rt.alloc())?.as_str(), want);
+        assert_eq!(rt; printed(rt.alloc(), &fault)?.as_str(), want);
     }
     Ok(())
 }

@@ -1,3 +1,4 @@
+use crate::printing::printed;
 use druid_segid::{Name, SegmentId, Version};
 use druid_shard::{
     Descriptor, Mark, Members, Reply, ReplyFault, ShardFault, descriptor_value, read_descriptor,
@@ -35,7 +36,7 @@ fn refusal(alloc: Global, text: &str) -> Result<String, Fail> {
     let value = Value::from_str(alloc, text)?;
     match read_descriptor(alloc, &value) {
         Ok(_) => Ok(String::from_str(alloc, "none")?),
-        Err(fault) => Ok(fault.to_string(alloc)?),
+        Err(fault) => printed(alloc, &fault),
     }
 }
 
@@ -90,14 +91,14 @@ fn the_limit_of_a_snapshot(rt: HostRuntime) -> Result<(), Fail> {
 #[test]
 fn texts_of_faults(rt: HostRuntime) -> Result<(), Fail> {
     let alloc = rt.alloc();
-    let shard = ShardFault::Memory.to_string(alloc)?;
+    let shard = printed(alloc, &ShardFault::Memory)?;
     assert_eq!(rt; shard.as_str(), "S9: out of memory");
     for (fault, wanted) in [
         (ReplyFault::TooMany, "Y5: too many segments"),
         (ReplyFault::DoubledSegment, "Y4: a doubled segment"),
         (ReplyFault::Memory, "Y9: out of memory"),
     ] {
-        assert_eq!(rt; fault.to_string(alloc)?.as_str(), wanted);
+        assert_eq!(rt; printed(alloc, &fault)?.as_str(), wanted);
     }
     Ok(())
 }

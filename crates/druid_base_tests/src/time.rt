@@ -1,3 +1,4 @@
+use crate::printing::printed;
 use druid_time::{Instant, Interval, IntervalSet};
 use std::alloc::Global;
 use std::test::Fail;
@@ -76,11 +77,11 @@ const SETS: &str = " =\u{20}
 fn instant_told(alloc: Global, text: &str) -> Result<String, Fail> {
     match Instant::parse(text) {
         Ok(instant) => Ok(format!(in alloc; "{}", instant.ms())?),
-        Err(fault) => Ok(fault.to_string(alloc)?),
+        Err(fault) => printed(alloc, &fault),
     }
 }
 
-fn printed(alloc: Global, ms: &str) -> Result<String, Fail> {
+fn printed_form(alloc: Global, ms: &str) -> Result<String, Fail> {
     match Instant::new(ms.parse()?) {
         Some(instant) => {
             let mut text = [0; 24];
@@ -94,7 +95,7 @@ fn printed(alloc: Global, ms: &str) -> Result<String, Fail> {
 fn interval_told(alloc: Global, text: &str) -> Result<String, Fail> {
     match Interval::parse(text) {
         Ok(interval) => Ok(interval.text(alloc)?),
-        Err(fault) => Ok(fault.to_string(alloc)?),
+        Err(fault) => printed(alloc, &fault),
     }
 }
 
@@ -126,7 +127,7 @@ fn instants(rt: HostRuntime) -> Result<(), Fail> {
 fn printed_instants(rt: HostRuntime) -> Result<(), Fail> {
     for row in PRINTED.lines() {
         let (ms, wanted) = row.split_once(" = ").ok_or("no row")?;
-        let told = printed(rt.alloc(), ms)?;
+        let told = printed_form(rt.alloc(), ms)?;
         assert_eq!(rt; told.as_str(), wanted, "at {ms}");
     }
     Ok(())

@@ -1,3 +1,4 @@
+use crate::printing::printed;
 use druid_segid::{Meter, Name, SegmentId, Version};
 use druid_shard::Descriptor;
 use druid_time::{Interval, IntervalSet};
@@ -89,7 +90,7 @@ fn faults_print_these_texts(rt: HostRuntime) -> Result<(), Fail> {
         (TimelineFault::AlreadyThere, "L1: already there"),
         (TimelineFault::Memory, "L9: out of memory"),
     ] {
-        assert_eq!(rt; fault.to_string(rt.alloc())?.as_str(), wanted);
+        assert_eq!(rt; printed(rt.alloc(), &fault)?.as_str(), wanted);
     }
     Ok(())
 }

@@ -1,12 +1,12 @@
 //! The program: what it does with its arguments, its input and its two outputs.
-ghost use Rattle.std.specs.Prelude.{◌≡◌, ◌↔◌, ◌∷◌, ◌++◌, [], ⊤, Result, map, codes, string_bytes, IsTrue, OnOk};
+ghost use Rattle.std.specs.Prelude.{◌≡◌, ◌↔◌, ◌∷◌, ◌++◌, ℕ, List, [], ⊤, Option, Result, map, codes, string_bytes, IsTrue, IfOk, OnOk, OnErr};
 ghost use Rattle.std.specs.Io.KnownBytes.{Appends, Keeps};
 ghost use Rattle.druid_cluster.specs.Program.{AsksForReplay, usage_line, Replays, exit_status, fault_line};
 ghost use Rattle.druid_cluster.specs.Status.{status_of, fault_text};
 ghost use Rattle.druid_cluster.specs.declared.fault.ReplayFault.{ReplayFault};
 
 use crate::fault::ReplayFault;
-use crate::replay::replay;
+use crate::run::replay;
 use std::alloc::Global;
 use std::io;
 use std::io::{BufRead, BufReader, BufWriter, Read, Write};
@@ -105,30 +105,55 @@ pub fn obey<R: BufRead, W: Write, E: Write>(
     tell_usage(errors)
 }
 
-// Tells that nothing could be read.
+// Tells that a device failed, or memory was refused, before a line was read.
 fn fail<E: Write>(errors: &mut E) -> u8
-    ensures { result ≡ 3 }
+    ensures { result ≡ status_of (ReplayFault.Device 1) }
 {
     tell_fault(errors, ReplayFault::Device(1)).status
 }
 
-/// The whole program, over its handles: the words behind its name, standard input, standard output and standard error. It
-/// answers the exit status.
-pub fn run<R: Read + Drop, W: Write + Drop, E: Write>(
+// Answers the commands of the input through buffers, and gives the exit status.
+#[tactic(auto, using(crate::proofs::ProgramLemmas::buffered))]
+fn replay_buffered<R: Read + Drop, W: Write + Drop, E: Write>(
     alloc: Global,
-    words: io::Result<Vec<String>>,
     input: R,
     output: W,
     errors: &mut E,
-) -> u8 {
-    let Ok(words) = words else {
-        return fail(errors);
-    };
+) -> u8
+    ensures { (written : Option (List ℕ)) × (end : Result ⊤ ReplayFault)
+        × Replays (R.remaining input) (W.contents output) written end × (result ≡ exit_status end) }
+{
     let Ok(mut reader) = BufReader::new(alloc, input) else {
         return fail(errors);
     };
     let Ok(mut writer) = BufWriter::new(alloc, output) else {
         return fail(errors);
     };
-    obey(alloc, &words, &mut reader, &mut writer, errors).status
+    replay_all(alloc, &mut reader, &mut writer, errors).status
+}
+
+/// The whole program, over its handles: the words behind its name, standard input, standard output and standard error. It
+/// answers the exit status: 3 where the words could not be read, 2 where they ask for nothing, and else the status of a
+/// replay of the input.
+pub fn run_program<R: Read + Drop, W: Write + Drop, E: Write>(
+    alloc: Global,
+    words: io::Result<Vec<String>>,
+    input: R,
+    output: W,
+    errors: &mut E,
+) -> u8
+    ensures unread { OnErr words (result ≡ 3) }
+    ensures usage { IfOk words (λ list. (AsksForReplay (map string_bytes list.items) → ⊥) → result ≡ 2) }
+    ensures replayed { IfOk words (λ list. AsksForReplay (map string_bytes list.items)
+        → (written : Option (List ℕ)) × (end : Result ⊤ ReplayFault)
+        × Replays (R.remaining input) (W.contents output) written end × (result ≡ exit_status end)) }
+{
+    let Ok(words) = words else {
+        return fail(errors);
+    };
+    if asks_for_replay(&words) {
+        replay_buffered(alloc, input, output, errors)
+    } else {
+        tell_usage(errors).status
+    }
 }

@@ -3,6 +3,10 @@
 #![tactic(auto)]
 
 #[cfg(test)]
+mod printing;
+#[cfg(test)]
+mod rows;
+#[cfg(test)]
 mod segfile;
 #[cfg(test)]
 mod store;

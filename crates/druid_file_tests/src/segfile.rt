@@ -1,6 +1,8 @@
+use crate::printing::printed;
 use druid_rows::Segment;
 use druid_segfile::{FileFault, read_segment, write_segment};
 use std::alloc::Global;
+use std::io::{Error, ErrorKind, Read, Result as IoResult, Write};
 use std::process::Abort;
 use std::test::Fail;
 
@@ -47,21 +49,400 @@ fn read(alloc: Global, mut bytes: &[u8]) -> Result<Segment, FileFault> {
     read_segment(alloc, &mut bytes)
 }
 
+fn code(fault: FileFault) -> &'static str {
+    match fault {
+        FileFault::Magic => "F1",
+        FileFault::Cut => "F2",
+        FileFault::Field => "F3",
+        FileFault::RowOutside => "F4",
+        FileFault::TooLong => "F5",
+        FileFault::Trailing => "F6",
+        FileFault::Read => "F7",
+        FileFault::Write => "F8",
+        FileFault::Memory => "F9",
+    }
+}
+
+fn answer<T: Drop>(answered: Result<T, FileFault>) -> &'static str {
+    match answered {
+        Ok(_) => "ok",
+        Err(fault) => code(fault),
+    }
+}
+
+// The letters of the fault of these bytes, or `ok`.
+fn told(alloc: Global, bytes: &[u8]) -> &'static str {
+    answer(read(alloc, bytes))
+}
+
+// Puts the patch in the place of the bytes there.
+fn put(bytes: &mut Vec<u8>, place: usize, patch: &[u8]) {
+    for (n, byte) in patch.iter().enumerate() {
+        if let Some(old) = bytes.get_mut(place.wrapping_add(n)) {
+            *old = *byte;
+        }
+    }
+}
+
+// Whether the vector is told so once the hexadecimal bytes stand at that place: `4 00 F3`.
+fn is_told(alloc: Global, line: &str) -> Result<bool, Fail> {
+    let mut words = line.split(' ');
+    let place = words.next().ok_or("no place")?;
+    let patch = bytes_of(alloc, words.next().ok_or("no bytes")?)?;
+    let wanted = words.next().ok_or("no fault")?;
+    let mut bytes = bytes_of(alloc, vector())?;
+    put(&mut bytes, place.parse::<usize>()?, &patch);
+    Ok(told(alloc, &bytes) == wanted)
+}
+
+// The first line that is not told so.
+fn first_wrong<'a>(alloc: Global, table: &'a str) -> Result<Option<&'a str>, Fail> {
+    for line in table.lines() {
+        if !is_told(alloc, line)? {
+            return Ok(Some(line));
+        }
+    }
+    Ok(None)
+}
+
+// F1, F4, and what is not refused.
+fn few_changes() -> &'static str {
+    "0 45 F1
+0 44 ok
+3 32 F1
+46 0000000005265c00 F4
+46 0000000005265bff ok
+46 0000000000000000 ok
+46 ffffffffffffffff F4
+46 7fffffffffffffff F4"
+}
+
+// A name of no bytes, of a byte that is none of a name's, and of bytes that are no text; then the instants, the
+// version, the core, the fields and the marks.
+fn broken_rules() -> &'static str {
+    "4 00 F3
+5 20 F3
+5 ff F3
+6 7fffffffffffffff F3
+6 0000000005265c00 F3
+14 0000000000000000 F3
+14 7fffffffffffffff F3
+22 00 F3
+23 5f F3
+23 2f F3
+23 22 F3
+23 5c F3
+23 20 F3
+23 7f F3
+23 ff F3
+26 8000 ok
+26 8001 F3
+37 00 F3
+38 2d F3
+38 ff F3
+40 00 F3
+41 2e F3
+41 64 F3
+54 02 F3
+54 ff F3
+57 ff F3
+58 02 F3"
+}
+
+// Each count and each length, at its limit and above it.
+fn passed_limits() -> &'static str {
+    "4 64 F2
+4 65 F5
+22 40 F2
+22 41 F5
+36 40 F3
+36 41 F5
+37 64 F2
+37 65 F5
+39 40 F3
+39 41 F5
+40 64 F2
+40 65 F5
+42 000186a0 F2
+42 000186a1 F5
+55 0400 F2
+55 0401 F5"
+}
+
+#[test]
+fn changed_bytes(rt: HostRuntime) -> Result<(), Fail> {
+    let alloc = rt.alloc();
+    assert_eq!(rt; first_wrong(alloc, few_changes())?, None);
+    assert_eq!(rt; first_wrong(alloc, broken_rules())?, None);
+    assert_eq!(rt; first_wrong(alloc, passed_limits())?, None);
+    Ok(())
+}
+
+// The first length at which the front of the bytes is not told as cut.
+fn first_uncut(alloc: Global, bytes: &[u8]) -> usize {
+    for len in 0..bytes.len() {
+        if told(alloc, &bytes[..len]) != "F2" {
+            return len;
+        }
+    }
+    bytes.len()
+}
+
+// Whether each front is cut, all of it is read, and one byte more is one too many.
+fn ends_there(alloc: Global, digits: &str) -> Result<bool, Fail> {
+    let mut bytes = bytes_of(alloc, digits)?;
+    let is_cut = first_uncut(alloc, &bytes) == bytes.len();
+    let whole = told(alloc, &bytes);
+    bytes.push(0)?;
+    Ok(is_cut && whole == "ok" && told(alloc, &bytes) == "F6")
+}
+
+#[test]
+fn cut_or_long_files(rt: HostRuntime) -> Result<(), Fail> {
+    let alloc = rt.alloc();
+    assert!(rt; ends_there(alloc, vector())?);
+    assert!(rt; ends_there(alloc, three_rows())?);
+    Ok(())
+}
+
+// A row at 1,000 with a text of that many bytes, its length spelled, and a null.
+fn push_long_row(bytes: &mut Vec<u8>, length: [u8; 2], text: &str) -> Result<(), Fail> {
+    bytes.extend_from_slice(&[0, 0, 0, 0, 0, 0, 3, 232, 1])?;
+    bytes.extend_from_slice(&length)?;
+    bytes.extend_from_slice(text.as_bytes())?;
+    bytes.push(0)?;
+    Ok(())
+}
+
+// A file of 46 bytes, 16,194 rows of 1,036 bytes each, and one row of 12 bytes and a text of that many.
+fn large(alloc: Global, last: u8) -> Result<Vec<u8>, Fail> {
+    let mut bytes = bytes_of(
+        alloc,
+        "44534731017700000000000000000000000005265c00017600000001000000000000000001016401016d00003f43",
+    )?;
+    let text = "a".repeat(alloc, 1_024)?;
+    for _ in 0..16_194u32 {
+        push_long_row(&mut bytes, [4, 0], text.as_str())?;
+    }
+    let short = "a".repeat(alloc, usize::from(last))?;
+    push_long_row(&mut bytes, [0, last], short.as_str())?;
+    Ok(bytes)
+}
+
+// What is told of such a file, once it has that many bytes more.
+fn told_of_large(alloc: Global, last: u8, more: usize) -> Result<(usize, &'static str), Fail> {
+    let mut bytes = large(alloc, last)?;
+    for _ in 0..more {
+        bytes.push(0)?;
+    }
+    Ok((bytes.len(), told(alloc, &bytes)))
+}
+
+#[test]
+fn files_of_16_mib(rt: HostRuntime) -> Result<(), Fail> {
+    let alloc = rt.alloc();
+    assert_eq!(rt; told_of_large(alloc, 173, 0)?, (16_777_215, "ok"));
+    assert_eq!(rt; told_of_large(alloc, 174, 0)?, (16_777_216, "ok"));
+    assert_eq!(rt; told_of_large(alloc, 175, 0)?, (16_777_217, "F5"));
+    assert_eq!(rt; told_of_large(alloc, 173, 1)?, (16_777_216, "F6"));
+    assert_eq!(rt; told_of_large(alloc, 174, 1)?, (16_777_217, "F6"));
+    Ok(())
+}
+
 fn written(alloc: Global, segment: &Segment) -> Result<Vec<u8>, Fail> {
     let mut bytes = Vec::new(alloc);
     write_segment(alloc, segment, &mut bytes)?;
     Ok(bytes)
 }
 
-// What is read of these digits, and written again, is the same bytes.
-fn is_written_again(alloc: Global, digits: &str) -> Result<bool, Fail> {
-    let bytes = bytes_of(alloc, digits)?;
-    Ok(written(alloc, &read(alloc, &bytes)?)? == bytes)
+// What is read of these bytes, and written again, is the same bytes.
+fn is_written_again(alloc: Global, bytes: &[u8]) -> Result<bool, Fail> {
+    Ok(written(alloc, &read(alloc, bytes)?)?.as_slice() == bytes)
+}
+
+// A file of 300 rows, each of a null, a text of 300 letters, an empty text, a number, a null and the least number.
+fn many_rows(alloc: Global) -> Result<Vec<u8>, Fail> {
+    let mut bytes = bytes_of(
+        alloc,
+        "44534731017700000000000000000000000005265c0001760000000100000000000000000301610162016303016401650166",
+    )?;
+    bytes.extend_from_slice(&300u32.to_be_bytes())?;
+    let text = "a".repeat(alloc, 300)?;
+    for number in 0..300u64 {
+        push_many(&mut bytes, number, text.as_bytes())?;
+    }
+    Ok(bytes)
+}
+
+fn push_many(bytes: &mut Vec<u8>, number: u64, text: &[u8]) -> Result<(), Fail> {
+    bytes.extend_from_slice(&number.to_be_bytes())?;
+    bytes.extend_from_slice(&[0, 1, 1, 44])?;
+    bytes.extend_from_slice(text)?;
+    bytes.extend_from_slice(&[1, 0, 0, 1])?;
+    bytes.extend_from_slice(&number.to_be_bytes())?;
+    bytes.extend_from_slice(&[0, 1, 128, 0, 0, 0, 0, 0, 0, 0])?;
+    Ok(())
 }
 
 #[test]
 fn ample_memory(rt: HostRuntime) -> Result<(), Fail> {
-    assert!(rt; is_written_again(rt.alloc(), vector())?);
-    assert!(rt; is_written_again(rt.alloc(), three_rows())?);
+    let alloc = rt.alloc();
+    assert!(rt; is_written_again(alloc, &bytes_of(alloc, vector())?)?);
+    assert!(rt; is_written_again(alloc, &bytes_of(alloc, three_rows())?)?);
+    let many = many_rows(alloc)?;
+    assert!(rt; many.len() > 99_000);
+    assert!(rt; is_written_again(alloc, &many)?);
+    Ok(())
+}
+
+// Gives its bytes, a few at a time, and counts them. Then it fails, if it has a fault, gives zeros for ever, or ends.
+#[derive(Drop)]
+struct Source<'a> {
+    bytes: &'a [u8],
+    step: usize,
+    fault: Option<ErrorKind>,
+    is_endless: bool,
+    is_interrupted: bool,
+    given: usize,
+}
+
+impl Read for Source<'_> {
+    fn read(&mut self, buf: &mut [u8]) -> IoResult<usize> {
+        self.is_interrupted = !self.is_interrupted;
+        if self.is_interrupted {
+            return Err(Error::new(ErrorKind::Interrupted, "interrupted"));
+        }
+        if self.bytes.is_empty() && self.is_endless {
+            buf.fill(0);
+            self.given = self.given.wrapping_add(buf.len());
+            return Ok(buf.len());
+        }
+        match self.fault {
+            Some(kind) if self.bytes.is_empty() => Err(Error::new(kind, "broken")),
+            _ => {
+                let room = self.step.min(buf.len());
+                let count = self.bytes.read(&mut buf[..room])?;
+                self.given = self.given.wrapping_add(count);
+                Ok(count)
+            }
+        }
+    }
+}
+
+fn reader_of(bytes: &[u8], step: usize, fault: Option<ErrorKind>) -> Source<'_> {
+    Source {
+        bytes,
+        step,
+        fault,
+        is_endless: false,
+        is_interrupted: false,
+        given: 0,
+    }
+}
+
+// What is told of a reader of the vector's first bytes that then fails.
+fn told_of_broken(
+    alloc: Global,
+    len: usize,
+    fault: Option<ErrorKind>,
+) -> Result<&'static str, Fail> {
+    let bytes = bytes_of(alloc, vector())?;
+    let mut reader = reader_of(&bytes[..len.min(bytes.len())], 1, fault);
+    Ok(answer(read_segment(alloc, &mut reader)))
+}
+
+#[test]
+fn readers_fail(rt: HostRuntime) -> Result<(), Fail> {
+    let alloc = rt.alloc();
+    let (broken, lack) = (Some(ErrorKind::BrokenPipe), Some(ErrorKind::OutOfMemory));
+    assert_eq!(rt; told_of_broken(alloc, 67, None)?, "ok");
+    assert_eq!(rt; told_of_broken(alloc, 66, None)?, "F2");
+    assert_eq!(rt; told_of_broken(alloc, 66, broken)?, "F7");
+    assert_eq!(rt; told_of_broken(alloc, 0, broken)?, "F7");
+    assert_eq!(rt; told_of_broken(alloc, 66, lack)?, "F9");
+    Ok(())
+}
+
+#[test]
+fn no_more_is_asked(rt: HostRuntime) -> Result<(), Fail> {
+    let bytes = bytes_of(rt.alloc(), vector())?;
+    let mut reader = reader_of(&bytes, 100, None);
+    reader.is_endless = true;
+    assert_eq!(rt; answer(read_segment(rt.alloc(), &mut reader)), "F6");
+    assert!(rt; reader.given <= 16_777_217);
+    Ok(())
+}
+
+// Takes one byte at each second call, up to so many, and then fails. The calls between are interrupted.
+#[derive(Drop)]
+struct Narrow {
+    room: usize,
+    is_interrupted: bool,
+    fault: Option<ErrorKind>,
+}
+
+impl Write for Narrow {
+    fn write(&mut self, buf: &[u8]) -> IoResult<usize> {
+        self.is_interrupted = !self.is_interrupted;
+        if self.is_interrupted {
+            return Err(Error::new(ErrorKind::Interrupted, "interrupted"));
+        }
+        if self.room == 0 || buf.is_empty() {
+            return match self.fault {
+                Some(kind) => Err(Error::new(kind, "full")),
+                None => Ok(0),
+            };
+        }
+        self.room -= 1;
+        Ok(1)
+    }
+
+    fn flush(&mut self) -> IoResult<()> {
+        Ok(())
+    }
+}
+
+fn told_of_narrow(
+    alloc: Global,
+    room: usize,
+    fault: Option<ErrorKind>,
+) -> Result<&'static str, Fail> {
+    let segment = read(alloc, &bytes_of(alloc, vector())?)?;
+    let mut writer = Narrow {
+        room,
+        is_interrupted: false,
+        fault,
+    };
+    Ok(answer(write_segment(alloc, &segment, &mut writer)))
+}
+
+#[test]
+fn writers_fail(rt: HostRuntime) -> Result<(), Fail> {
+    let alloc = rt.alloc();
+    let (broken, lack) = (Some(ErrorKind::BrokenPipe), Some(ErrorKind::OutOfMemory));
+    assert_eq!(rt; told_of_narrow(alloc, 67, None)?, "ok");
+    assert_eq!(rt; told_of_narrow(alloc, 66, None)?, "F8");
+    assert_eq!(rt; told_of_narrow(alloc, 66, broken)?, "F8");
+    assert_eq!(rt; told_of_narrow(alloc, 0, broken)?, "F8");
+    assert_eq!(rt; told_of_narrow(alloc, 30, lack)?, "F9");
+    Ok(())
+}
+
+#[test]
+fn printed_faults(rt: HostRuntime) -> Result<(), Fail> {
+    let alloc = rt.alloc();
+    for (fault, text) in [
+        (FileFault::Magic, "F1: not a segment file"),
+        (FileFault::Cut, "F2: a cut file"),
+        (FileFault::Field, "F3: a bad field"),
+        (FileFault::RowOutside, "F4: a row outside the interval"),
+        (FileFault::TooLong, "F5: too long"),
+        (FileFault::Trailing, "F6: bytes behind the last row"),
+        (FileFault::Read, "F7: a read failed"),
+        (FileFault::Write, "F8: a write failed"),
+        (FileFault::Memory, "F9: out of memory"),
+    ] {
+        assert_eq!(rt; printed(alloc, &fault)?.as_str(), text);
+    }
     Ok(())
 }

@@ -1,3 +1,4 @@
+use crate::printing::printed;
 use druid_store::{
     DiskFolder, Folder, MAX_FILE, MemoryFolder, StoreFault, is_file_name, next_incarnation,
 };
@@ -19,7 +20,7 @@ fn has<F: Folder>(alloc: Global, folder: &mut F, name: &str, bytes: &[u8]) -> Re
 fn next_of<F: Folder>(alloc: Global, folder: &mut F) -> Result<String, Fail> {
     match next_incarnation(alloc, folder) {
         Ok(number) => Ok(format!(in alloc; "{number}\n")?),
-        Err(fault) => Ok(format!(in alloc; "{fault}")?),
+        Err(fault) => printed(alloc, &fault),
     }
 }
 
@@ -123,7 +124,7 @@ fn texts_of_faults() -> [(StoreFault, &'static str); 5] {
 #[test]
 fn printed_faults(rt: HostRuntime) -> Result<(), Fail> {
     for (fault, text) in texts_of_faults() {
-        assert_eq!(rt; format!(in rt.alloc(); "{fault}")?.as_str(), text);
+        assert_eq!(rt; printed(rt.alloc(), &fault)?.as_str(), text);
     }
     Ok(())
 }

@@ -1,9 +1,5 @@
-use crate::answer::{Answer, Pieces, Refusal, answer_line};
-use crate::fault::ReplayFault;
-use crate::reading::read_reply;
-use crate::replay::replay;
-use crate::serving::serve_line;
-use crate::sync_fault::SyncFault;
+use crate::printing::printed;
+use druid_cluster::{ReplayFault, SyncFault, read_reply, replay};
 use druid_shard::Body;
 use std::alloc::Global;
 use std::test::Fail;
@@ -188,7 +184,7 @@ fn too_many_segments(rt: HostRuntime) -> Result<(), Fail> {
 fn read_end(alloc: Global, bytes: &[u8]) -> Result<String, Fail> {
     match read_reply(alloc, bytes) {
         Ok(_) => Ok(String::from_str(alloc, "read")?),
-        Err(fault) => Ok(format!(in alloc; "{fault}")?),
+        Err(fault) => printed(alloc, &fault),
     }
 }
 
@@ -215,16 +211,5 @@ fn ample_memory(rt: HostRuntime) -> Result<(), Fail> {
     let reply = read_reply(alloc, one.as_bytes()).ok().ok_or("no reply")?;
     let Body::Snapshot { at, segments } = reply.body();
     assert!(rt; at.count() == 1 && segments.as_slice().is_empty());
-    let text = answer_line(alloc, &Answer::Refused(Refusal::Conflict))?;
-    assert!(rt; text.as_str() == "{\"refused\":\"A5\"}\n");
-    let found = answer_line(alloc, &Answer::Found(Pieces::new(Vec::new(alloc))))?;
-    assert!(rt; found.as_str() == "{\"pieces\":[]}\n");
-    let served = serve_line(
-        alloc,
-        None,
-        b"{\"count\":1,\"do\":\"brokers\",\"nodes\":[\"n\"]}",
-    )?;
-    let (answer, inventory) = served.ok_or("no answer")?;
-    assert!(rt; matches!(&answer, Answer::Taken) && inventory.is_some());
     Ok(())
 }

@@ -1,22 +1,5 @@
-//! A cluster of brokers, as a program: `druid_cluster replay` answers the commands on standard input.
+//! The program `druid_cluster`: `druid_cluster replay` answers the commands on standard input.
 #![tactic(auto)]
-
-mod answer;
-mod command;
-#[cfg(test)]
-mod device_tests;
-mod fault;
-mod interrupted;
-mod laws;
-mod lines;
-mod program;
-mod reading;
-mod replay;
-mod serving;
-mod sync_fault;
-#[cfg(test)]
-mod tests;
-mod writing;
 
 use std::process::ExitCode;
 use std::{env, io};
@@ -34,7 +17,7 @@ fn words(rt: &HostRuntime) -> io::Result<Vec<String>> {
 
 fn main(rt: HostRuntime) -> ExitCode {
     let mut errors = rt.stderr();
-    let status = program::run(
+    let status = druid_cluster::run_program(
         rt.alloc(),
         words(&rt),
         rt.reader(),

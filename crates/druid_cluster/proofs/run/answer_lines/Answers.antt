@@ -2,7 +2,7 @@ use Rattle.std.proofs.Common.{ℕ, ◌+◌, List, subst, arith}
 use Rattle.druid_cluster.specs.Serving.{IsAnswered}
 use Rattle.druid_cluster.specs.Runs.{TellsLine}
 use Rattle.druid_cluster.proofs.RunLemmas.{goes_on, told_of, found_line}
-use Rattle.druid_cluster.proofs.replay.answer_lines.Goals as goal
+use Rattle.druid_cluster.proofs.run.answer_lines.Goals as goal
 
 pub loop-count-preserved : goal.loop-count-preserved
 loop-count-preserved g c =

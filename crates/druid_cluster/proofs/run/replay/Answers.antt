@@ -1,6 +1,6 @@
 use Rattle.std.proofs.Common.{arith}
 use Rattle.druid_cluster.proofs.RunLemmas.{not_flushed}
-use Rattle.druid_cluster.proofs.replay.replay.Goals as goal
+use Rattle.druid_cluster.proofs.run.replay.Goals as goal
 
 pub returns-in-Err-clause-err : goal.returns-in-Err-clause-err
 returns-in-Err-clause-err g c =

@@ -1,6 +1,5 @@
 //! Readers and writers that fail, that are interrupted, and that take a byte at a time.
-use crate::program::obey;
-use crate::replay::replay;
+use druid_cluster::{obey, replay};
 use std::alloc::Global;
 use std::io;
 use std::io::{BufReader, ErrorKind, Read, Write};
