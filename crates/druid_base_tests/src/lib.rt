@@ -3,6 +3,8 @@
 #![tactic(auto)]
 
 #[cfg(test)]
+mod changes;
+#[cfg(test)]
 mod inventory;
 #[cfg(test)]
 mod printing;
@@ -10,6 +12,8 @@ mod printing;
 mod segid;
 #[cfg(test)]
 mod shard;
+#[cfg(test)]
+mod sync;
 #[cfg(test)]
 mod time;
 #[cfg(test)]

@@ -33,6 +33,30 @@ v\u{7f} = I2: not a version
 const IDENTIFIERS: &str = "wiki v1 0 = wiki_2024-01-01T00:00:00.000Z_2024-01-02T00:00:00.000Z_v1
 wiki v1 3 = wiki_2024-01-01T00:00:00.000Z_2024-01-02T00:00:00.000Z_v1_3";
 
+// A source and a text, and the version and the partition that are read there, or the fault.
+const READ: &str = "wiki wiki_2024-01-01T00:00:00.000Z_2024-01-02T00:00:00.000Z_v1 = v1 0
+wiki wiki_2024-01-01T00:00:00.000Z_2024-01-02T00:00:00.000Z_v1_3 = v1 3
+wiki wiki_2024-01-01T00:00:00.000Z_2024-01-02T00:00:00.000Z_v1_65535 = v1 65535
+wiki wiki_2024-01-01T00:00:00.000Z_2024-01-02T00:00:00.000Z_v1_0 = I6: not a partition number
+wiki wiki_2024-01-01T00:00:00.000Z_2024-01-02T00:00:00.000Z_v1_03 = I6: not a partition number
+wiki wiki_2024-01-01T00:00:00.000Z_2024-01-02T00:00:00.000Z_v1_+3 = I6: not a partition number
+wiki wiki_2024-01-01T00:00:00.000Z_2024-01-02T00:00:00.000Z_v1_3_4 = I6: not a partition number
+wiki wiki_2024-01-01T00:00:00.000Z_2024-01-02T00:00:00.000Z_v1_ = I6: not a partition number
+wiki wiki_2024-01-01T00:00:00.000Z_2024-01-02T00:00:00.000Z_v1_é = I6: not a partition number
+wiki wiki_2024-01-01T00:00:00.000Z_2024-01-02T00:00:00.000Z_v1_65536 = I6: not a partition number
+wiki wiki_2024-01-01T00:00:00.000Z_2024-01-02T00:00:00.000Z__3 = I2: not a version
+wiki wiki_2024-01-01T00:00:00.000Z_2024-01-02T00:00:00.000Z_é = I2: not a version
+wiki wiki_2024-01-01T00:00:00.000Z_2024-01-02T00:00:00.000Z_ = I4: not the parts of an identifier
+wiki wiki_2024-01-02T00:00:00.000Z_2024-01-01T00:00:00.000Z_v1 = I5: not an interval
+wiki wiki_2024-02-30T00:00:00.000Z_2024-03-02T00:00:00.000Z_v1 = I5: not an interval
+wiki wiki_2024-01-01T00:00:00.000é_2024-01-02T00:00:00.000Z_v1 = I4: not the parts of an identifier
+wiki wiki_2024-01-01_2024-01-02_v1 = I4: not the parts of an identifier
+wiki wiki2024-01-01T00:00:00.000Z_2024-01-02T00:00:00.000Z_v1 = I3: another source
+wiki wiki = I3: another source
+a_b a_b_2024-01-01T00:00:00.000Z_2024-01-02T00:00:00.000Z_v1 = v1 0
+a a_b_2024-01-01T00:00:00.000Z_2024-01-02T00:00:00.000Z_v1 = I4: not the parts of an identifier
+b a_b_2024-01-01T00:00:00.000Z_2024-01-02T00:00:00.000Z_v1 = I3: another source";
+
 // The text itself, or so many letters where it begins with a star.
 fn spelled(alloc: Global, text: &str) -> Result<String, Fail> {
     let Some(count) = text.strip_prefix('*') else {
@@ -81,6 +105,15 @@ fn text_of(alloc: Global, parts: &str) -> Result<String, Fail> {
     Ok(segment(alloc, parts)?.clone()?.text(alloc)?)
 }
 
+fn read_told(alloc: Global, row: &str) -> Result<String, Fail> {
+    let (source, text) = row.split_once(' ').ok_or("no source")?;
+    let source = Name::new(alloc, source)?;
+    match SegmentId::parse(alloc, &source, text) {
+        Ok(id) => Ok(format!(in alloc; "{} {}", id.version().text(alloc)?, id.partition())?),
+        Err(fault) => printed(alloc, &fault),
+    }
+}
+
 fn version_of_group(alloc: Global, parts: &str) -> Result<String, Fail> {
     Ok(
         segment(alloc, parts)?
@@ -117,6 +150,11 @@ fn ample_memory(rt: HostRuntime) -> Result<(), Fail> {
         let (parts, wanted) = row.split_once(" = ").ok_or("no row")?;
         let told = text_of(rt.alloc(), parts)?;
         assert_eq!(rt; told.as_str(), wanted, "at {parts}");
+    }
+    for row in READ.lines() {
+        let (text, wanted) = row.split_once(" = ").ok_or("no row")?;
+        let told = read_told(rt.alloc(), text)?;
+        assert_eq!(rt; told.as_str(), wanted, "at {text}");
     }
     let version = version_of_group(rt.alloc(), "wiki v1 3")?;
     assert_eq!(rt; version.as_str(), "v1");

@@ -73,6 +73,26 @@ fn ample_memory_of_members(rt: HostRuntime) -> Result<(), Fail> {
     Ok(())
 }
 
+// Whether members stay once a node serves a partition no more, and a copy from before keeps it.
+fn is_taken_out(alloc: Global) -> Result<bool, Fail> {
+    let mut members = Members::new(alloc);
+    for (partition, core, node) in [(0, 1, 2), (3, 4, 2), (3, 4, 5), (7, 9, 2)] {
+        members.add(&descriptor(alloc, "v1", partition, core)?, node)?;
+    }
+    let copy = members.clone()?;
+    if !members.remove(7, 2) || members.remove(7, 2) {
+        return Ok(false);
+    }
+    let (left, all) = (members.partitions()?, copy.partitions()?);
+    Ok(left.len() == 2 && members.core() == 4 && all.len() == 3 && copy.core() == 9)
+}
+
+#[test]
+fn members_taken_out(rt: HostRuntime) -> Result<(), Fail> {
+    assert!(rt; is_taken_out(rt.alloc())?);
+    Ok(())
+}
+
 fn snapshot_fault(alloc: Global, count: u16) -> Result<Option<ReplyFault>, Fail> {
     let mut segments = Vec::new(alloc);
     for partition in 0..count {
@@ -94,7 +114,8 @@ fn texts_of_faults(rt: HostRuntime) -> Result<(), Fail> {
     let shard = printed(alloc, &ShardFault::Memory)?;
     assert_eq!(rt; shard.as_str(), "S9: out of memory");
     for (fault, wanted) in [
-        (ReplyFault::TooMany, "Y5: too many segments"),
+        (ReplyFault::TooMany, "Y5: too many segments or changes"),
+        (ReplyFault::LengthOfDelta, "Y3: a delta of another length"),
         (ReplyFault::DoubledSegment, "Y4: a doubled segment"),
         (ReplyFault::Memory, "Y9: out of memory"),
     ] {

@@ -1,33 +1,30 @@
 -- A line is answered in one way.
-use Rattle.std.proofs.Common.{◌≡◌, ℕ, ◌<◌, ◌≤◌, List, All, length, map, Option, None, Some, Result, Ok, Err, ◌⊎◌, inl, inr, slice_get, slice_set, refl, sym, ap, subst, ◌∙◌, arith}
+use Rattle.std.proofs.Common.{◌≡◌, ℕ, List, All, map, Option, None, Some, Result, Ok, Err, ◌⊎◌, inl, inr, slice_get, slice_set, refl, sym, ap, subst, ◌∙◌, arith}
 use Rattle.std.proofs.lemmas.Option.{same_Some}
-use Rattle.std.proofs.lemmas.List.Sorted.{length_permutation, IsPermutation-sym}
 use Rattle.serde_json.specs.Data.{Data}
 use Rattle.druid_time.specs.Extent.{Extent}
 use Rattle.druid_time.specs.Texts.{extent_at}
 use Rattle.druid_time.specs.declared.fault.TimeFault.{TimeFault}
 use Rattle.druid_time.specs.declared.fault.TimeFault.TheVariants as times
 use Rattle.druid_segid.specs.Names.{IsName}
-use Rattle.druid_shard.specs.Described.{Described}
-use Rattle.druid_shard.specs.Mark.{Point}
-use Rattle.druid_shard.specs.Reply.{max_segments, HaveOwnIdentifiers}
-use Rattle.druid_shard.specs.ReplyBody.{IsSnapshotOf}
 use Rattle.druid_shard.specs.declared.reply.Body.{Body}
-use Rattle.druid_shard.specs.declared.reply.Body.TheVariants.{Snapshot}
-use Rattle.druid_shard.proofs.SortedLemmas.{AreSorted-own, own-permutation}
 use Rattle.druid_timeline.specs.Pieces.{Told}
 use Rattle.druid_inventory.specs.Entry.{Entry, fresh, HaveOwnNames}
-use Rattle.druid_inventory.specs.Step.{Steps, Conflicts}
+use Rattle.druid_inventory.specs.Step.{Steps, Refuses, Tells}
+use Rattle.druid_inventory.specs.declared.fault.ApplyFault.{ApplyFault}
+use Rattle.druid_inventory.specs.declared.fault.ApplyFault.TheVariants as steps
 use Rattle.druid_inventory.specs.declared.fault.Outcome.{Outcome}
-use Rattle.druid_inventory.proofs.StepLemmas.{Steps-one, Steps-no_conflict}
-use Rattle.druid_cluster.specs.Reply.{IsRead, snapshot_at}
+use Rattle.druid_inventory.proofs.StepLemmas.{Steps-one, Refuses-one, Steps-not_refused}
+use Rattle.druid_sync.specs.Read.{IsRead, form_at}
+use Rattle.druid_sync.specs.declared.fault.SyncFault.{SyncFault}
+use Rattle.druid_sync.specs.declared.fault.SyncFault.TheVariants as replies
 use Rattle.druid_cluster.specs.Commands.{Command, reply, lookup}
-use Rattle.druid_cluster.specs.Serving.{TakesBrokers, TakesReply, IsFound, LooksUp, Does, Answers, IsNoCommand, IsAnswered, IsBad}
+use Rattle.druid_cluster.specs.Serving.{TakesBrokers, unread, not_applied, RefusesReply, TakesReply, IsFound, LooksUp, Does, Answers, IsNoCommand, IsAnswered, IsBad}
 use Rattle.druid_cluster.specs.declared.answer.Refusal.{Refusal}
 use Rattle.druid_cluster.specs.declared.answer.Refusal.TheVariants as refusals
 use Rattle.druid_cluster.specs.declared.answer.Answer.{Answer}
 use Rattle.druid_cluster.specs.declared.answer.Answer.TheVariants.{Refused, Taken, Stepped, Found}
-use Rattle.druid_cluster.proofs.OrderOnce.{sorted_once}
+use Rattle.druid_cluster.proofs.ReadOnce.{IsKnown, read_once}
 use Rattle.druid_cluster.proofs.HoldingOnce.{found_once}
 
 -- one answer, and one state after it
@@ -56,9 +53,14 @@ brokers_tree names (Refused refusals.Empty) next h = absurd h
 brokers_tree names (Refused refusals.BadName) next h = inl (h.0, refl, h.1)
 brokers_tree names (Refused refusals.DoubledNode) next h = inr (h.0, inl (h.1, refl, h.2))
 brokers_tree names (Refused refusals.Shape) next h = absurd h
-brokers_tree names (Refused refusals.DoubledSegment) next h = absurd h
 brokers_tree names (Refused refusals.TooMany) next h = absurd h
+brokers_tree names (Refused refusals.LengthOfDelta) next h = absurd h
+brokers_tree names (Refused refusals.DoubledSegment) next h = absurd h
 brokers_tree names (Refused refusals.UnknownNode) next h = absurd h
+brokers_tree names (Refused refusals.OtherIncarnation) next h = absurd h
+brokers_tree names (Refused refusals.Gap) next h = absurd h
+brokers_tree names (Refused refusals.NotStrict) next h = absurd h
+brokers_tree names (Refused refusals.TooManySegments) next h = absurd h
 brokers_tree names (Refused refusals.Conflict) next h = absurd h
 brokers_tree names Taken next h = inr (h.0.0, inr (h.0.1, refl, h.1))
 brokers_tree names (Stepped mark outcome) next h = absurd h
@@ -80,7 +82,8 @@ brokers_once names a b next other (inr x) (inr y) = names_once names a b next ot
 
 abbrev pub OfEntry : List Entry → ℕ → Body → Entry → Answer → List Entry → Type 0
 OfEntry inventory node body e answer next =
-    (Conflicts e body × (answer ≡ Refused refusals.Conflict) × (next ≡ inventory))
+    ((fault : ApplyFault) × (refusal : Refusal) × Refuses e body fault × (not_applied fault ≡ Some refusal)
+    × (answer ≡ Refused refusal) × (next ≡ inventory))
     ⊎ ((outcome : Outcome) × (new : Entry) × Steps e body outcome new × (answer ≡ Stepped new.mark outcome) × (next ≡ slice_set inventory node new))
 
 abbrev pub OfBody : List Entry → ℕ → Body → Answer → List Entry → Type 0
@@ -88,61 +91,46 @@ OfBody inventory node body answer next =
     ((slice_get inventory node ≡ None) × (answer ≡ Refused refusals.UnknownNode) × (next ≡ inventory))
     ⊎ ((e : Entry) × (slice_get inventory node ≡ Some e) × OfEntry inventory node body e answer next)
 
-abbrev pub OfShort : List Entry → ℕ → (Point × List Described) → Answer → List Entry → Type 0
-OfShort inventory node s answer next =
-    ((HaveOwnIdentifiers s.1 → ⊥) × (answer ≡ Refused refusals.DoubledSegment) × (next ≡ inventory))
-    ⊎ ((body : Body) × IsSnapshotOf s.0 s.1 body × OfBody inventory node body answer next)
-
-abbrev pub OfSnapshot : List Entry → ℕ → (Point × List Described) → Answer → List Entry → Type 0
-OfSnapshot inventory node s answer next =
-    ((max_segments < length s.1) × (answer ≡ Refused refusals.TooMany) × (next ≡ inventory))
-    ⊎ ((length s.1 ≤ max_segments) × OfShort inventory node s answer next)
+abbrev pub OfRead : List Entry → ℕ → Result Body SyncFault → Answer → List Entry → Type 0
+OfRead inventory node (Ok body) answer next = OfBody inventory node body answer next
+OfRead inventory node (Err fault) answer next =
+    (refusal : Refusal) × (unread fault ≡ Some refusal) × (answer ≡ Refused refusal) × (next ≡ inventory)
 
 abbrev pub OfReply : List Entry → ℕ → Data → Answer → List Entry → Type 0
 OfReply inventory node d answer next =
-    ((snapshot_at d ≡ None) × (answer ≡ Refused refusals.Shape) × (next ≡ inventory))
-    ⊎ ((s : Point × List Described) × (snapshot_at d ≡ Some s) × OfSnapshot inventory node s answer next)
+    (r : Result Body SyncFault) × IsRead d r × OfRead inventory node r answer next
 
-few : (s : Point × List Described) (body : Body) → IsSnapshotOf s.0 s.1 body → length s.1 ≤ max_segments
-few s (Snapshot at set) h =
-    let same = length_permutation s.1 set h.1 in
-    let short = h.2.few in
-    omega (arith, same, short)
+told_tree : (inventory : List Entry) (node : ℕ) (body : Body) (fault : ApplyFault) (refusal : Refusal)
+    → Tells inventory node body fault → not_applied fault ≡ Some refusal → OfBody inventory node body (Refused refusal) inventory
+told_tree inventory node body steps.UnknownNode refusal h is =
+    inl (h, ap Refused (sym (same_Some refusals.UnknownNode refusal is)), refl)
+told_tree inventory node body steps.OtherIncarnation refusal h is = inr (h.0, h.1, inl (_, refusal, h.2, is, refl, refl))
+told_tree inventory node body steps.Gap refusal h is = inr (h.0, h.1, inl (_, refusal, h.2, is, refl, refl))
+told_tree inventory node body (steps.NotStrict index) refusal h is = inr (h.0, h.1, inl (_, refusal, h.2, is, refl, refl))
+told_tree inventory node body steps.TooMany refusal h is = inr (h.0, h.1, inl (_, refusal, h.2, is, refl, refl))
+told_tree inventory node body steps.Conflict refusal h is = inr (h.0, h.1, inl (_, refusal, h.2, is, refl, refl))
+told_tree inventory node body steps.Memory refusal h is = absurd cc
 
-own : (s : Point × List Described) (body : Body) → IsSnapshotOf s.0 s.1 body → HaveOwnIdentifiers s.1
-own s (Snapshot at set) h = own-permutation set s.1 (IsPermutation-sym s.1 set h.1) (AreSorted-own set h.2.sorted)
-
-read_tree : (inventory : List Entry) (node : ℕ) (d : Data) (answer : Answer) (next : List Entry) (body : Body)
-    → IsRead d (Ok body) → OfBody inventory node body answer next → OfReply inventory node d answer next
-read_tree inventory node d answer next body read rest =
-    inr (read.0, read.1, inr (few read.0 body read.2, inr (body, read.2, rest)))
+refused_tree : (inventory : List Entry) (node : ℕ) (d : Data) (refusal : Refusal)
+    → RefusesReply inventory node d refusal → OfReply inventory node d (Refused refusal) inventory
+refused_tree inventory node d refusal (inl x) = (Err x.0, x.1, (refusal, x.2, refl, refl))
+refused_tree inventory node d refusal (inr x) = (Ok x.0, x.1, told_tree inventory node x.0 x.2 refusal x.3 x.4)
 
 reply_tree : (inventory : List Entry) (node : ℕ) (d : Data) (answer : Answer) (next : List Entry) → TakesReply inventory node d answer next → OfReply inventory node d answer next
-reply_tree inventory node d (Refused refusals.NotATime) next h = absurd h
-reply_tree inventory node d (Refused refusals.OutOfRange) next h = absurd h
-reply_tree inventory node d (Refused refusals.Empty) next h = absurd h
-reply_tree inventory node d (Refused refusals.BadName) next h = absurd h
-reply_tree inventory node d (Refused refusals.DoubledNode) next h = absurd h
-reply_tree inventory node d (Refused refusals.Shape) next h = inl (h.0, refl, h.1)
-reply_tree inventory node d (Refused refusals.DoubledSegment) next h = inr (h.0.0, h.0.1, inr (h.0.2, inl (h.0.3, refl, h.1)))
-reply_tree inventory node d (Refused refusals.TooMany) next h = inr (h.0.0, h.0.1, inl (h.0.2, refl, h.1))
-reply_tree inventory node d (Refused refusals.UnknownNode) next h = read_tree inventory node d _ next h.0 h.1 (inl (h.2, refl, h.3))
-reply_tree inventory node d (Refused refusals.Conflict) next h = read_tree inventory node d _ next h.0 h.1 (inr (h.2, h.3, inl (h.4, refl, h.5)))
+reply_tree inventory node d (Refused refusal) next h =
+    subst (λ (s : List Entry). OfReply inventory node d (Refused refusal) s) (sym h.1) (refused_tree inventory node d refusal h.0)
 reply_tree inventory node d Taken next h = absurd h
-reply_tree inventory node d (Stepped mark outcome) next h = read_tree inventory node d _ next h.0 h.1
-    (inr (h.2, h.4, inr (outcome, h.3, h.5, (λ i. Stepped (h.7 i) outcome), h.6)))
+reply_tree inventory node d (Stepped mark outcome) next h =
+    (Ok h.0, h.1, inr (h.3.0, h.3.1, inr (outcome, h.2, h.3.2, (λ i. Stepped (h.5 i) outcome), h.4)))
 reply_tree inventory node d (Found pieces) next h = absurd h
 
-body_once : (mark : Point) (given : List Described) (a b : Body) → IsSnapshotOf mark given a → IsSnapshotOf mark given b → a ≡ b
-body_once mark given (Snapshot at set) (Snapshot to other) h k =
-    let marks : at ≡ to = h.0 ∙ sym k.0 in
-    let sets : set ≡ other = sorted_once given set other h.1 k.1 h.2.sorted k.2.sorted in
-    (λ i. Snapshot (marks i) (sets i))
-
 entry_once : (inventory : List Entry) (node : ℕ) (body : Body) (e : Entry) (a b : Answer) (next other : List Entry) → OfEntry inventory node body e a next → OfEntry inventory node body e b other → IsOne a b next other
-entry_once inventory node body e a b next other (inl x) (inl y) = both _ _ a b next other x.1 y.1 x.2 y.2
-entry_once inventory node body e a b next other (inl x) (inr y) = absurd (Steps-no_conflict e body y.0 y.1 y.2 x.0)
-entry_once inventory node body e a b next other (inr x) (inl y) = absurd (Steps-no_conflict e body x.0 x.1 x.2 y.0)
+entry_once inventory node body e a b next other (inl x) (inl y) =
+    let same : x.0 ≡ y.0 = Refuses-one e body x.0 y.0 x.2 y.2 in
+    let one : x.1 ≡ y.1 = same_Some x.1 y.1 (sym x.3 ∙ ap (λ (f : ApplyFault). not_applied f) same ∙ y.3) in
+    (x.4 ∙ ap Refused one ∙ sym y.4, x.5 ∙ sym y.5)
+entry_once inventory node body e a b next other (inl x) (inr y) = absurd (Steps-not_refused e body y.0 y.1 x.0 y.2 x.2)
+entry_once inventory node body e a b next other (inr x) (inl y) = absurd (Steps-not_refused e body x.0 x.1 y.0 x.2 y.2)
 entry_once inventory node body e a b next other (inr x) (inr y) =
     let one = Steps-one e body x.0 y.0 x.1 y.1 x.2 y.2 in
     let same : Stepped x.1.mark x.0 ≡ Stepped y.1.mark y.0 = (λ i. Stepped (one.1 i).mark (one.0 i)) in
@@ -156,27 +144,26 @@ found_entry inventory node body a b next other (inr x) (inr y) =
     let same : y.0 ≡ x.0 = same_Some y.0 x.0 (sym y.1 ∙ x.1) in
     entry_once inventory node body x.0 a b next other x.2 (subst (λ (e : Entry). OfEntry inventory node body e b other) same y.2)
 
-short_once : (inventory : List Entry) (node : ℕ) (s : Point × List Described) (a b : Answer) (next other : List Entry) → OfShort inventory node s a next → OfShort inventory node s b other → IsOne a b next other
-short_once inventory node s a b next other (inl x) (inl y) = both _ _ a b next other x.1 y.1 x.2 y.2
-short_once inventory node s a b next other (inl x) (inr y) = absurd (x.0 (own s y.0 y.1))
-short_once inventory node s a b next other (inr x) (inl y) = absurd (y.0 (own s x.0 x.1))
-short_once inventory node s a b next other (inr x) (inr y) =
-    let same : y.0 ≡ x.0 = body_once s.0 s.1 y.0 x.0 y.1 x.1 in
-    found_entry inventory node x.0 a b next other x.2 (subst (λ (body : Body). OfBody inventory node body b other) same y.2)
+-- what is answered wants no memory
+known : (inventory : List Entry) (node : ℕ) (r : Result Body SyncFault) (answer : Answer) (next : List Entry) → OfRead inventory node r answer next → IsKnown r
+known inventory node (Ok body) answer next h e = cc
+known inventory node (Err replies.NotJson) answer next h e = cc
+known inventory node (Err replies.Shape) answer next h e = cc
+known inventory node (Err replies.TooMany) answer next h e = cc
+known inventory node (Err replies.LengthOfDelta) answer next h e = cc
+known inventory node (Err replies.DoubledSegment) answer next h e = cc
+known inventory node (Err replies.Memory) answer next h e = let told = h.1 in cc
 
-snapshot_once : (inventory : List Entry) (node : ℕ) (s : Point × List Described) (a b : Answer) (next other : List Entry) → OfSnapshot inventory node s a next → OfSnapshot inventory node s b other → IsOne a b next other
-snapshot_once inventory node s a b next other (inl x) (inl y) = both _ _ a b next other x.1 y.1 x.2 y.2
-snapshot_once inventory node s a b next other (inl x) (inr y) = absurd (omega (arith, x.0, y.0))
-snapshot_once inventory node s a b next other (inr x) (inl y) = absurd (omega (arith, x.0, y.0))
-snapshot_once inventory node s a b next other (inr x) (inr y) = short_once inventory node s a b next other x.1 y.1
+judged_once : (inventory : List Entry) (node : ℕ) (r : Result Body SyncFault) (a b : Answer) (next other : List Entry) → OfRead inventory node r a next → OfRead inventory node r b other → IsOne a b next other
+judged_once inventory node (Ok body) a b next other x y = found_entry inventory node body a b next other x y
+judged_once inventory node (Err fault) a b next other x y =
+    let one : x.0 ≡ y.0 = same_Some x.0 y.0 (sym x.1 ∙ y.1) in
+    (x.2 ∙ ap Refused one ∙ sym y.2, x.3 ∙ sym y.3)
 
 reply_once : (inventory : List Entry) (node : ℕ) (d : Data) (a b : Answer) (next other : List Entry) → OfReply inventory node d a next → OfReply inventory node d b other → IsOne a b next other
-reply_once inventory node d a b next other (inl x) (inl y) = both _ _ a b next other x.1 y.1 x.2 y.2
-reply_once inventory node d a b next other (inl x) (inr y) = let none = x.0 in let some = y.1 in absurd cc
-reply_once inventory node d a b next other (inr x) (inl y) = let none = y.0 in let some = x.1 in absurd cc
-reply_once inventory node d a b next other (inr x) (inr y) =
-    let same : y.0 ≡ x.0 = same_Some y.0 x.0 (sym y.1 ∙ x.1) in
-    snapshot_once inventory node x.0 a b next other x.2 (subst (λ (s : Point × List Described). OfSnapshot inventory node s b other) same y.2)
+reply_once inventory node d a b next other x y =
+    let same : y.0 ≡ x.0 = read_once (form_at d) y.0 x.0 y.1 x.1 (known inventory node y.0 b other y.2) (known inventory node x.0 a next x.2) in
+    judged_once inventory node x.0 a b next other x.2 (subst (λ (r : Result Body SyncFault). OfRead inventory node r b other) same y.2)
 
 -- ---- a lookup: what is judged, in order
 
@@ -202,9 +189,14 @@ lookup_tree inventory interval source (Refused refusals.Empty) h = inl (times.Em
 lookup_tree inventory interval source (Refused refusals.BadName) h = inr (h.0, h.1, inl (h.2, refl))
 lookup_tree inventory interval source (Refused refusals.DoubledNode) h = absurd h
 lookup_tree inventory interval source (Refused refusals.Shape) h = absurd h
-lookup_tree inventory interval source (Refused refusals.DoubledSegment) h = absurd h
 lookup_tree inventory interval source (Refused refusals.TooMany) h = absurd h
+lookup_tree inventory interval source (Refused refusals.LengthOfDelta) h = absurd h
+lookup_tree inventory interval source (Refused refusals.DoubledSegment) h = absurd h
 lookup_tree inventory interval source (Refused refusals.UnknownNode) h = absurd h
+lookup_tree inventory interval source (Refused refusals.OtherIncarnation) h = absurd h
+lookup_tree inventory interval source (Refused refusals.Gap) h = absurd h
+lookup_tree inventory interval source (Refused refusals.NotStrict) h = absurd h
+lookup_tree inventory interval source (Refused refusals.TooManySegments) h = absurd h
 lookup_tree inventory interval source (Refused refusals.Conflict) h = absurd h
 lookup_tree inventory interval source Taken h = absurd h
 lookup_tree inventory interval source (Stepped mark outcome) h = absurd h

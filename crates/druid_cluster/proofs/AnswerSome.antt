@@ -1,42 +1,33 @@
 -- Each line is bad or has an answer.
-use Rattle.std.proofs.Common.{◌≡◌, ℕ, ◌<◌, ◌≤◌, Bool, true, false, cond, nat_le, List, All, codes, length, map, Option, None, Some, option_and_then, Result, Ok, Err, ◌⊎◌, inl, inr, slice_get, slice_set, refl, sym, ap, subst, ◌∙◌, arith}
+use Rattle.std.proofs.Common.{◌≡◌, ℕ, ◌<◌, ◌≤◌, Bool, List, All, length, map, Option, None, Some, Result, Ok, Err, ◌⊎◌, inl, inr, slice_get, slice_set, refl, sym, subst, ◌∙◌, arith}
 use Rattle.std.specs.Str.{IsUtf8, is_utf8}
 use Rattle.std.specs.Bool.{IsTrue}
-use Rattle.std.specs.declared.cmp.Ordering.{Ordering}
-use Rattle.std.specs.declared.cmp.Ordering.TheVariants.{Less, Equal, Greater}
 use Rattle.std.proofs.lemmas.Bool.{cases_lt}
-use Rattle.std.proofs.lemmas.Bool.Decides.{nat_tests}
 use Rattle.std.proofs.lemmas.Option.{same_Some}
 use Rattle.std.proofs.lemmas.Str.{IsUtf8-from_is_utf8, is_utf8-from_IsUtf8}
-use Rattle.std.proofs.lemmas.List.Sorted.{length_permutation}
-use Rattle.serde_json.specs.Data.{Data, Items}
+use Rattle.serde_json.specs.Data.{Data}
 use Rattle.serde_json.specs.Read.{read}
-use Rattle.serde_json.specs.Find.{get, as_array}
 use Rattle.druid_time.specs.Extent.{Extent}
-use Rattle.druid_time.specs.Options.{◌>>=◌}
 use Rattle.druid_time.specs.Texts.{extent_at}
 use Rattle.druid_time.specs.declared.fault.TimeFault.{TimeFault}
 use Rattle.druid_time.specs.declared.fault.TimeFault.TheVariants as times
 use Rattle.druid_segid.specs.Names.{IsName, max_name, is_name_byte}
-use Rattle.druid_shard.specs.Described.{Described}
-use Rattle.druid_shard.specs.Json.{number_at}
-use Rattle.druid_shard.specs.Mark.{Point, mark_cmp}
-use Rattle.druid_shard.specs.Reply.{max_segments, HaveOwnIdentifiers}
-use Rattle.druid_segid.specs.Identifier.{identifier_text}
 use Rattle.druid_shard.specs.declared.reply.Body.{Body}
-use Rattle.druid_shard.specs.declared.reply.Body.TheVariants.{Snapshot}
+use Rattle.druid_shard.specs.declared.reply.Body.TheVariants.{Delta, Snapshot, Reset}
 use Rattle.druid_inventory.specs.Entry.{Entry, fresh, HaveOwnNames}
-use Rattle.druid_inventory.specs.Step.{Steps, Conflicts, moved_to}
+use Rattle.druid_inventory.specs.Step.{Steps, Refuses}
 use Rattle.druid_inventory.specs.declared.fault.Outcome.{Outcome}
-use Rattle.druid_inventory.specs.declared.fault.Outcome.TheVariants.{Moved, AlreadyHave}
-use Rattle.druid_cluster.specs.Fields.{each_of}
-use Rattle.druid_cluster.specs.Reply.{IsRead, mark_at, load_at, has_snapshot_fields, snapshot_at}
+use Rattle.druid_inventory.specs.declared.fault.ApplyFault.{ApplyFault}
+use Rattle.druid_inventory.specs.declared.fault.ApplyFault.TheVariants as steps
+use Rattle.druid_inventory.proofs.StepLemmas.{Steps-some}
+use Rattle.druid_sync.specs.Read.{IsRead, form_at}
 use Rattle.druid_cluster.specs.Commands.{Command, reply, lookup, opening_at, command_at}
 use Rattle.druid_cluster.specs.Serving.{TakesBrokers, TakesReply, LooksUp, Does, Answers, IsNoCommand, IsAnswered, IsBad, max_line}
 use Rattle.druid_cluster.specs.declared.answer.Refusal.TheVariants as refusals
 use Rattle.druid_cluster.specs.declared.answer.Answer.{Answer}
 use Rattle.druid_cluster.specs.declared.answer.Answer.TheVariants.{Refused, Taken, Stepped, Found}
-use Rattle.druid_cluster.proofs.Decided.{Decided, by_test, all_decided, own_decided, in_order, same_list}
+use Rattle.druid_cluster.proofs.Decided.{Decided, by_test, all_decided, own_decided}
+use Rattle.druid_cluster.proofs.ReadSome.{IsReadSo, read_some}
 use Rattle.druid_cluster.proofs.FoundSome.{found_some}
 
 -- ---- names
@@ -63,122 +54,54 @@ brokers_some names = by (all_decided IsName name_decided names) (own_decided (λ
   by (inl all) (inr twice) = (Refused refusals.DoubledNode, None, (all, twice, refl))
   by (inl all) (inl own) = (Taken, Some (map fresh names), ((all, own), refl))
 
--- ---- the mark of a snapshot
-
--- what holds of each outcome of the step on the value holds of the step
-each_next : {A B : Type 0} (P : B → Type 0) (o : Option A) (f : A → Option B) → ((x : A) → o ≡ Some x → (y : B) → f x ≡ Some y → P y) → (y : B) → (o >>= f) ≡ Some y → P y
-each_next P None f each y e = absurd cc
-each_next P (Some x) f each y e = each x refl y e
-
-abbrev IsMarked : Point → Type 0
-IsMarked m = 1 ≤ m.incarnation
-
-abbrev point_if : ℕ → ℕ → Option Point
-point_if count incarnation =
-    cond (nat_le 1 incarnation) (Some (record { incarnation = incarnation; count = count })) None
-
-point_marked : (count incarnation : ℕ) (m : Point) → point_if count incarnation ≡ Some m → IsMarked m
-point_marked count incarnation m e = by (nat_le 1 incarnation) refl e where
-  by : (b : Bool) → nat_le 1 incarnation ≡ b → cond b (Some (record { incarnation = incarnation; count = count })) None ≡ Some m → IsMarked m
-  by true small is =
-      let low : 1 ≤ incarnation = grind (arith, nat_tests, small) in
-      let same : incarnation ≡ m.incarnation = ap (λ (x : Point). x.incarnation) (same_Some _ m is) in
-      omega (arith, low, same)
-  by false small is = absurd cc
-
-mark_marked : (d : Data) (m : Point) → mark_at d ≡ Some m → IsMarked m
-unfolding mark_at
-mark_marked d =
-    each_next IsMarked (number_at (codes "counter") d) (λ count. number_at (codes "hash") d >>= λ incarnation. point_if count incarnation)
-    (λ count _. each_next IsMarked (number_at (codes "hash") d) (λ incarnation. point_if count incarnation)
-    (λ incarnation _. point_marked count incarnation))
-
-abbrev IsMarkedSnapshot : (Point × List Described) → Type 0
-IsMarkedSnapshot s = IsMarked s.0
-
-abbrev segments_at : Point → Items → Option (Point × List Described)
-segments_at at requests = each_of load_at requests >>= λ segments. Some (at, segments)
-
-abbrev requests_at : Data → Point → Option (Point × List Described)
-requests_at d at = option_and_then as_array (get (codes "requests") d) >>= λ requests. segments_at at requests
-
-abbrev fields_at : Data → Point → Option (Point × List Described)
-fields_at d at = has_snapshot_fields d >>= λ _. requests_at d at
-
-same_mark : (at : Point) (segments : List Described) (s : Point × List Described) → IsMarked at → Some (at, segments) ≡ Some s → IsMarkedSnapshot s
-same_mark at segments s marked e =
-    subst IsMarked (ap (λ (x : Point × List Described). x.0) (same_Some (at, segments) s e)) marked
-
-fields_marked : (d : Data) (at : Point) → IsMarked at → (s : Point × List Described) → fields_at d at ≡ Some s → IsMarkedSnapshot s
-fields_marked d at marked =
-    each_next IsMarkedSnapshot (has_snapshot_fields d) (λ _. requests_at d at)
-    (λ _ _. each_next IsMarkedSnapshot (option_and_then as_array (get (codes "requests") d)) (segments_at at)
-    (λ requests _. each_next IsMarkedSnapshot (each_of load_at requests) (λ segments. Some (at, segments))
-    (λ segments _ s e. same_mark at segments s marked e)))
-
-snapshot_marked : (d : Data) (s : Point × List Described) → snapshot_at d ≡ Some s → IsMarkedSnapshot s
-unfolding snapshot_at
-snapshot_marked d =
-    each_next IsMarkedSnapshot (get (codes "counter") d) (λ counter. mark_at counter >>= λ at. fields_at d at)
-    (λ counter _. each_next IsMarkedSnapshot (mark_at counter) (λ at. fields_at d at)
-    (λ at read. fields_marked d at (mark_marked counter at read)))
-
 -- ---- replies
-
-steps_some : (e : Entry) (body : Body) → Conflicts e body ⊎ ((outcome : Outcome) × (new : Entry) × Steps e body outcome new)
-steps_some e (Snapshot at set) = by (mark_cmp e.mark at) refl (same_list set e.set) where
-  by : (o : Ordering) → mark_cmp e.mark at ≡ o → Decided (set ≡ e.set) → Conflicts e (Snapshot at set) ⊎ ((outcome : Outcome) × (new : Entry) × Steps e (Snapshot at set) outcome new)
-  by Less is same = inr (Moved, moved_to e at set, (is, refl))
-  by Greater is same = inr (AlreadyHave, e, (inl is, refl))
-  by Equal is (inl same) = inr (AlreadyHave, e, (inr (is, same), refl))
-  by Equal is (inr other) = inl (is, other)
 
 abbrev ReplyAnswer : List Entry → ℕ → Data → Type 0
 ReplyAnswer inventory node d = (answer : Answer) × (next : List Entry) × TakesReply inventory node d answer next
 
+-- a reply that an entry refuses; no entry refuses one for an unknown node or for want of memory
+refused_some : (inventory : List Entry) (node : ℕ) (d : Data) (body : Body) → IsRead d (Ok body) → (e : Entry) → slice_get inventory node ≡ Some e
+    → (fault : ApplyFault) → Refuses e body fault → ReplyAnswer inventory node d
+refused_some inventory node d body read e got steps.UnknownNode h = absurd (unsaid body h) where
+  unsaid : (b : Body) → Refuses e b steps.UnknownNode → ⊥
+  unsaid (Delta from to changes) h = h
+  unsaid (Snapshot at set) h = h
+  unsaid (Reset cause at) h = h
+refused_some inventory node d body read e got steps.OtherIncarnation h =
+    (Refused refusals.OtherIncarnation, inventory, (inr (body, read, steps.OtherIncarnation, (e, got, h), refl), refl))
+refused_some inventory node d body read e got steps.Gap h =
+    (Refused refusals.Gap, inventory, (inr (body, read, steps.Gap, (e, got, h), refl), refl))
+refused_some inventory node d body read e got (steps.NotStrict index) h =
+    (Refused refusals.NotStrict, inventory, (inr (body, read, steps.NotStrict index, (e, got, h), refl), refl))
+refused_some inventory node d body read e got steps.TooMany h =
+    (Refused refusals.TooManySegments, inventory, (inr (body, read, steps.TooMany, (e, got, h), refl), refl))
+refused_some inventory node d body read e got steps.Conflict h =
+    (Refused refusals.Conflict, inventory, (inr (body, read, steps.Conflict, (e, got, h), refl), refl))
+refused_some inventory node d body read e got steps.Memory h = absurd (unsaid body h) where
+  unsaid : (b : Body) → Refuses e b steps.Memory → ⊥
+  unsaid (Delta from to changes) h = h
+  unsaid (Snapshot at set) h = h
+  unsaid (Reset cause at) h = h
+
 entry_some : (inventory : List Entry) (node : ℕ) (d : Data) (body : Body) → IsRead d (Ok body) → (e : Entry) → slice_get inventory node ≡ Some e
-    → Conflicts e body ⊎ ((outcome : Outcome) × (new : Entry) × Steps e body outcome new) → ReplyAnswer inventory node d
-entry_some inventory node d body read e got (inl conflicts) =
-    (Refused refusals.Conflict, inventory, (body, read, e, got, conflicts, refl))
-entry_some inventory node d body read e got (inr (outcome, new, steps)) =
-    (Stepped new.mark outcome, slice_set inventory node new, (body, read, e, new, got, steps, refl, refl))
+    → ((outcome : Outcome) × (new : Entry) × Steps e body outcome new) ⊎ ((fault : ApplyFault) × Refuses e body fault) → ReplyAnswer inventory node d
+entry_some inventory node d body read e got (inl (outcome, new, steps)) =
+    (Stepped new.mark outcome, slice_set inventory node new, (body, read, new, (e, got, steps), refl, refl))
+entry_some inventory node d body read e got (inr (fault, refuses)) =
+    refused_some inventory node d body read e got fault refuses
 
 body_some : (inventory : List Entry) (node : ℕ) (d : Data) (body : Body) → IsRead d (Ok body) → ReplyAnswer inventory node d
 body_some inventory node d body read = by (slice_get inventory node) refl where
   by : (o : Option Entry) → slice_get inventory node ≡ o → ReplyAnswer inventory node d
-  by None none = (Refused refusals.UnknownNode, inventory, (body, read, none, refl))
-  by (Some e) some = entry_some inventory node d body read e some (steps_some e body)
-
-own_some : (inventory : List Entry) (node : ℕ) (d : Data) (s : Point × List Described) → snapshot_at d ≡ Some s → length s.1 ≤ max_segments → Decided (HaveOwnIdentifiers s.1) → ReplyAnswer inventory node d
-own_some inventory node d s is short (inr twice) =
-    (Refused refusals.DoubledSegment, inventory, ((s, is, short, twice), refl))
-own_some inventory node d s is short (inl own) =
-    let sorted = in_order s.1 own in
-    let same = length_permutation s.1 sorted.0 sorted.1 in
-    body_some inventory node d (Snapshot s.0 sorted.0) (
-      s,
-      is,
-      (
-        refl,
-        sorted.1,
-        record {
-          incarnation = snapshot_marked d s is;
-          few = omega (arith, same, short);
-          sorted = sorted.2;
-        },
-      ),
-    )
+  by None none =
+      (Refused refusals.UnknownNode, inventory, (inr (body, read, steps.UnknownNode, none, refl), refl))
+  by (Some e) some = entry_some inventory node d body read e some (Steps-some e body)
 
 reply_some : (inventory : List Entry) (node : ℕ) (d : Data) → ReplyAnswer inventory node d
-reply_some inventory node d = by (snapshot_at d) refl where
-  short : (s : Point × List Described) → snapshot_at d ≡ Some s → (max_segments < length s.1) ⊎ (length s.1 ≤ max_segments) → ReplyAnswer inventory node d
-  short s is (inl long) = (Refused refusals.TooMany, inventory, ((s, is, long), refl))
-  short s is (inr few) =
-      own_some inventory node d s is few (own_decided (λ (x : Described). identifier_text x.id) s.1)
-
-  by : (o : Option (Point × List Described)) → snapshot_at d ≡ o → ReplyAnswer inventory node d
-  by None none = (Refused refusals.Shape, inventory, (none, refl))
-  by (Some s) some = short s some (cases_lt max_segments (length s.1))
+reply_some inventory node d = by (read_some d) where
+  by : IsReadSo (form_at d) → ReplyAnswer inventory node d
+  by (inl (body, read)) = body_some inventory node d body read
+  by (inr (fault, refusal, refuses, told)) = (Refused refusal, inventory, (inl (fault, refuses, told), refl))
 
 -- ---- lookups
 

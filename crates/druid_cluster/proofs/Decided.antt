@@ -14,8 +14,7 @@ use Rattle.std.proofs.lemmas.List.Elements.{All-nil, All-cons, All-head, All-tai
 use Rattle.std.proofs.lemmas.List.Sorted.{Contains-permutation, IsPermutation-refl, IsPermutation-sym, IsPermutation-trans, IsPermutation-cons, IsPermutation-middle}
 use Rattle.druid_segid.specs.Identifier.{identifier_text}
 use Rattle.druid_segid.proofs.OrderLemmas.{slice_cmp-Equal}
-use Rattle.druid_shard.specs.Described.{Described, same_described}
-use Rattle.druid_shard.specs.Orders.{same_described-true, same_described-equiv}
+use Rattle.druid_shard.specs.Described.{Described}
 use Rattle.druid_shard.specs.Reply.{IsBefore, AreSorted, HaveOwnIdentifiers}
 use Rattle.druid_shard.proofs.MemberLemmas.{Contains-cons, Contains-later, Contains-nil}
 use Rattle.druid_cluster.proofs.OrderOnce.{by_identifier}
@@ -136,28 +135,3 @@ in_order (x ∷ xs) own =
     let one = placed x rest.0 rest.2 (λ d there same. own_first (λ (y : Described). identifier_text y.id) x xs own
     (d, Contains-permutation rest.0 xs d (IsPermutation-sym xs rest.0 rest.1) there, same)) in
     (one.0, IsPermutation-trans (x ∷ xs) (x ∷ rest.0) one.0 (IsPermutation-cons x xs rest.0 rest.1) one.1, one.2)
-
--- ---- equal lists
-
-same_described_decided : (a b : Described) → Decided (a ≡ b)
-same_described_decided a b =
-    by_test (a ≡ b) (same_described a b) (same_described-true a b)
-    (λ e. subst (λ (z : Described). same_described a z ≡ true) e (same_described-equiv.refl a))
-
-abbrev first_or : Described → List Described → Described
-first_or d [] = d
-first_or d (x ∷ xs) = x
-
-abbrev behind_first : List Described → List Described
-behind_first [] = []
-behind_first (x ∷ xs) = xs
-
-pub same_list : (xs ys : List Described) → Decided (xs ≡ ys)
-same_list [] [] = inl refl
-same_list [] (y ∷ ys) = inr (λ e. cc)
-same_list (x ∷ xs) [] = inr (λ e. cc)
-same_list (x ∷ xs) (y ∷ ys) = by (same_described_decided x y) (same_list xs ys) where
-  by : Decided (x ≡ y) → Decided (xs ≡ ys) → Decided (x ∷ xs ≡ y ∷ ys)
-  by (inl here) (inl rest) = inl (λ i. here i ∷ rest i)
-  by (inl here) (inr none) = inr (λ e. none (ap behind_first e))
-  by (inr other) rest = inr (λ e. other (ap (first_or x) e))

@@ -1,4 +1,4 @@
-pub mod EachLemmas
+pub mod EachTexts
 pub mod PlainLemmas
 pub mod JsonLemmas
 pub mod LineLemmas
@@ -7,13 +7,14 @@ pub mod WriteLemmas
 pub mod RunLemmas
 pub mod LookLemmas
 pub mod NameLemmas
-pub mod StepLemmas
 pub mod ProgramLemmas
 pub mod OrderOnce
 pub mod HoldingOnce
+pub mod ReadOnce
 pub mod AnswerOnce
 pub mod RunOnce
 pub mod Decided
 pub mod FoundSome
+pub mod ReadSome
 pub mod AnswerSome
 pub mod RunSome

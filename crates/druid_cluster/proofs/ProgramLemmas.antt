@@ -1,5 +1,5 @@
 -- The words behind the program's name, and a run over buffers that were just made.
-use Rattle.std.proofs.Common.{◌≡◌, ℕ, List, [], ◌∷◌, ◌++◌, append-nil, length, get_or, map, string_bytes, Global, String, Option, Some, None, Err, Result, arith, refl, sym, ap, subst}
+use Rattle.std.proofs.Common.{◌≡◌, ℕ, List, [], ◌∷◌, append-nil, length, get_or, map, string_bytes, Global, String, Option, Some, None, Err, Result, arith, refl, sym, ap, subst}
 use Rattle.std.specs.declared.io.buffered.BufReader.{BufReader}
 use Rattle.std.specs.declared.io.buffered.BufWriter.{BufWriter}
 use Rattle.std.specs.Io.Buffered.{reader_remaining, reader_capacity, reader_buffer, reader_inner, writer_contents, writer_buffer, writer_inner}

@@ -4,7 +4,7 @@ use Rattle.serde_json.specs.Data.{Data, object, member, no_members, array, numbe
 use Rattle.serde_json.specs.View.{items_of}
 use Rattle.serde_json.specs.Written.{compact_text}
 use Rattle.druid_time.specs.Texts.{extent_text}
-use Rattle.druid_shard.specs.Mark.{Point}
+use Rattle.druid_sync.specs.Written.{mark_data}
 use Rattle.druid_timeline.specs.Pieces.{Told}
 use Rattle.druid_inventory.specs.declared.fault.Outcome.{Outcome}
 use Rattle.druid_inventory.specs.declared.fault.Outcome.TheVariants.{Moved, AlreadyHave, AskWhole}
@@ -21,9 +21,14 @@ code_of refusals.Empty = codes "C3"
 code_of refusals.BadName = codes "I1"
 code_of refusals.DoubledNode = codes "V1"
 code_of refusals.Shape = codes "Y2"
-code_of refusals.DoubledSegment = codes "Y4"
 code_of refusals.TooMany = codes "Y5"
+code_of refusals.LengthOfDelta = codes "Y3"
+code_of refusals.DoubledSegment = codes "Y4"
 code_of refusals.UnknownNode = codes "A1"
+code_of refusals.OtherIncarnation = codes "A3"
+code_of refusals.Gap = codes "A2"
+code_of refusals.NotStrict = codes "A4"
+code_of refusals.TooManySegments = codes "A6"
 code_of refusals.Conflict = codes "A5"
 
 abbrev pub outcome_text : Outcome → List ℕ
@@ -34,11 +39,6 @@ outcome_text AskWhole = codes "AskWhole"
 -- an object of one member
 abbrev pub lone : List ℕ → Data → Data
 lone key d = object (member key d no_members)
-
-unfoldable pub mark_data : Point → Data
-mark_data m =
-    object (member (codes "counter") (number (unsigned m.count))
-    (member (codes "hash") (number (unsigned m.incarnation)) no_members))
 
 unfoldable pub parts_data : List ℕ → Data
 parts_data parts = array (items_of (map (λ p. number (unsigned p)) parts))

@@ -6,7 +6,7 @@ use Rattle.serde_json.specs.Find.{get, as_array, as_str}
 use Rattle.druid_shard.specs.Json.{text_at, number_at, limited_at}
 use Rattle.druid_inventory.specs.Entry.{max_nodes}
 use Rattle.druid_time.specs.Options.{◌>>=◌}
-use Rattle.druid_cluster.specs.Fields.{each_of}
+use Rattle.druid_sync.specs.Fields.{each_of}
 
 -- what a line asks for once brokers stand: that the broker takes a reply of a node, or the visible pieces of a source in
 -- an interval

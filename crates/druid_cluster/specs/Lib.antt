@@ -1,5 +1,3 @@
-pub mod Fields
-pub mod Reply
 pub mod Commands
 pub mod Seen
 pub mod Answers

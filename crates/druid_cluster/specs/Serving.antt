@@ -1,5 +1,5 @@
 -- What each line is answered, and what stands after it.
-use Rattle.std.specs.Prelude.{◌≡◌, ◌≤◌, ◌<◌, ◌⊎◌, ℕ, List, [], All, length, map, Option, Some, None, Ok, Err, slice_get, slice_set}
+use Rattle.std.specs.Prelude.{◌≡◌, ◌≤◌, ◌<◌, ◌⊎◌, ℕ, List, [], All, length, map, Option, Some, None, Ok, Err, slice_set}
 use Rattle.serde_json.specs.Data.{Data}
 use Rattle.druid_time.specs.Extent.{Extent, Has}
 use Rattle.druid_time.specs.Texts.{extent_at}
@@ -9,11 +9,15 @@ use Rattle.druid_shard.specs.declared.reply.Body.{Body}
 use Rattle.druid_timeline.specs.Holding.{Held, members_of}
 use Rattle.druid_timeline.specs.Pieces.{Told, shown_of, ArePiecesIn, ArePartitions}
 use Rattle.druid_inventory.specs.Entry.{Entry, fresh, HaveOwnNames}
-use Rattle.druid_inventory.specs.Step.{Steps, Conflicts}
+use Rattle.druid_inventory.specs.Step.{StepsAt, Tells}
+use Rattle.druid_inventory.specs.declared.fault.ApplyFault.{ApplyFault}
+use Rattle.druid_inventory.specs.declared.fault.ApplyFault.TheVariants as steps
 use Rattle.druid_inventory.specs.Sources.{HasSource, IsHoldingOf}
-use Rattle.druid_cluster.specs.Reply.{ReadsAs, IsRead}
+use Rattle.druid_sync.specs.Read.{ReadsAs, IsRead}
+use Rattle.druid_sync.specs.declared.fault.SyncFault.{SyncFault}
+use Rattle.druid_sync.specs.declared.fault.SyncFault.TheVariants as replies
 use Rattle.druid_cluster.specs.Commands.{Command, reply, lookup, opening_at, command_at}
-use Rattle.druid_cluster.specs.declared.sync_fault.SyncFault.TheVariants as replies
+use Rattle.druid_cluster.specs.declared.answer.Refusal.{Refusal}
 use Rattle.druid_cluster.specs.declared.answer.Refusal.TheVariants as refusals
 use Rattle.druid_cluster.specs.declared.answer.Answer.{Answer}
 use Rattle.druid_cluster.specs.declared.answer.Answer.TheVariants.{Refused, Taken, Stepped, Found}
@@ -30,21 +34,40 @@ TakesBrokers names (Refused refusals.DoubledNode) next =
 TakesBrokers names Taken next = AreNodes names × (next ≡ Some (map fresh names))
 TakesBrokers names answer next = ⊥
 
--- the broker takes a reply of a node: it is read first, then the node is looked for, and then comes the step
+-- what tells that a reply was not read; the value of a line is JSON, and want of memory is not told
+abbrev pub unread : SyncFault → Option Refusal
+unread replies.NotJson = None
+unread replies.Shape = Some refusals.Shape
+unread replies.TooMany = Some refusals.TooMany
+unread replies.LengthOfDelta = Some refusals.LengthOfDelta
+unread replies.DoubledSegment = Some refusals.DoubledSegment
+unread replies.Memory = None
+
+-- what tells that a reply was not applied
+abbrev pub not_applied : ApplyFault → Option Refusal
+not_applied steps.UnknownNode = Some refusals.UnknownNode
+not_applied steps.OtherIncarnation = Some refusals.OtherIncarnation
+not_applied steps.Gap = Some refusals.Gap
+not_applied (steps.NotStrict index) = Some refusals.NotStrict
+not_applied steps.TooMany = Some refusals.TooManySegments
+not_applied steps.Conflict = Some refusals.Conflict
+not_applied steps.Memory = None
+
+-- a reply of a node is refused: it is read first, then the node is looked for, and then comes the step
+abbrev pub RefusesReply : List Entry → ℕ → Data → Refusal → Type 0
+RefusesReply inventory node d refusal =
+    ((fault : SyncFault) × IsRead d (Err fault) × (unread fault ≡ Some refusal))
+    ⊎ ((body : Body) × IsRead d (Ok body)
+    × (fault : ApplyFault) × Tells inventory node body fault × (not_applied fault ≡ Some refusal))
+
+-- the broker takes a reply of a node; a refusal changes nothing
 abbrev pub TakesReply : List Entry → ℕ → Data → Answer → List Entry → Type 0
-TakesReply inventory node d (Refused refusals.Shape) next = IsRead d (Err replies.Shape) × (next ≡ inventory)
-TakesReply inventory node d (Refused refusals.TooMany) next = IsRead d (Err replies.TooMany) × (next ≡ inventory)
-TakesReply inventory node d (Refused refusals.DoubledSegment) next =
-    IsRead d (Err replies.DoubledSegment) × (next ≡ inventory)
-TakesReply inventory node d (Refused refusals.UnknownNode) next =
-    (body : Body) × IsRead d (Ok body) × (slice_get inventory node ≡ None) × (next ≡ inventory)
-TakesReply inventory node d (Refused refusals.Conflict) next =
-    (body : Body) × IsRead d (Ok body) × (e : Entry) × (slice_get inventory node ≡ Some e) × Conflicts e body
-    × (next ≡ inventory)
+TakesReply inventory node d (Refused refusal) next = RefusesReply inventory node d refusal × (next ≡ inventory)
 TakesReply inventory node d (Stepped mark outcome) next =
-    (body : Body) × IsRead d (Ok body) × (e new : Entry) × (slice_get inventory node ≡ Some e)
-    × Steps e body outcome new × (next ≡ slice_set inventory node new) × (mark ≡ new.mark)
-TakesReply inventory node d answer next = ⊥
+    (body : Body) × IsRead d (Ok body) × (new : Entry) × StepsAt inventory node body outcome new
+    × (next ≡ slice_set inventory node new) × (mark ≡ new.mark)
+TakesReply inventory node d Taken next = ⊥
+TakesReply inventory node d (Found pieces) next = ⊥
 
 -- these are the visible pieces in an interval of what is held, each with all partitions of its chunk
 pub record AreFoundIn (asked : Extent) (held : List Held) (pieces : List Told) : Type 0 where
@@ -88,12 +111,10 @@ IsNoCommand (Some inventory) d = command_at d ≡ None
 
 -- ---- want of memory: no refusal that is seen without memory holds
 
--- a reply is a snapshot that is not too long, or is read whole and of a node that there is, and has no conflict
+-- reading a reply wants it, or the step of one that was read
 abbrev pub ReplyWants : List Entry → ℕ → Data → Type 0
 ReplyWants inventory node d =
-    IsRead d (Err replies.Memory)
-    ⊎ ((body : Body) × IsRead d (Ok body)
-    × (e : Entry) × (slice_get inventory node ≡ Some e) × (Conflicts e body → ⊥))
+    IsRead d (Err replies.Memory) ⊎ ((body : Body) × IsRead d (Ok body) × Tells inventory node body steps.Memory)
 
 -- a lookup is of an interval and of a name
 abbrev pub LookupWants : List ℕ → List ℕ → Type 0

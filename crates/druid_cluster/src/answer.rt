@@ -2,10 +2,11 @@
 ghost use Rattle.std.specs.Prelude.{◌≡◌, IfOk, string_bytes, false};
 ghost use Rattle.serde_json.specs.View.{view};
 ghost use Rattle.serde_json.specs.Written.{has_float};
-ghost use Rattle.druid_cluster.specs.Answers.{code_of, outcome_text, mark_data, parts_data, piece_data, pieces_data, answer_data, line_text};
+ghost use Rattle.druid_cluster.specs.Answers.{code_of, outcome_text, parts_data, piece_data, pieces_data, answer_data, line_text};
 
 use druid_inventory::Outcome;
 use druid_shard::Mark;
+use druid_sync::mark_value;
 use druid_timeline::Piece;
 use serde_json::{Value, json};
 use std::alloc::{AllocError, Global};
@@ -26,12 +27,22 @@ pub enum Refusal {
     DoubledNode,
     /// Y2: not a reply.
     Shape,
+    /// Y5: a snapshot of more than 20,000 segments, or a delta of more than 1,000 changes.
+    TooMany,
+    /// Y3: a delta whose marks are not as far apart as it has changes.
+    LengthOfDelta,
     /// Y4: an identifier stands twice in a snapshot.
     DoubledSegment,
-    /// Y5: a snapshot of more than 20,000 segments.
-    TooMany,
     /// A1: no such node.
     UnknownNode,
+    /// A3: the delta is of another incarnation of the node.
+    OtherIncarnation,
+    /// A2: the delta begins behind the mark that is held.
+    Gap,
+    /// A4: a load of a segment whose identifier is held, or a drop of one that is not held as it is.
+    NotStrict,
+    /// A6: a load onto 20,000 segments.
+    TooManySegments,
     /// A5: the mark is the one held, and the set is another.
     Conflict,
 }
@@ -48,9 +59,14 @@ impl Refusal {
             Refusal::BadName => "I1",
             Refusal::DoubledNode => "V1",
             Refusal::Shape => "Y2",
-            Refusal::DoubledSegment => "Y4",
             Refusal::TooMany => "Y5",
+            Refusal::LengthOfDelta => "Y3",
+            Refusal::DoubledSegment => "Y4",
             Refusal::UnknownNode => "A1",
+            Refusal::OtherIncarnation => "A3",
+            Refusal::Gap => "A2",
+            Refusal::NotStrict => "A4",
+            Refusal::TooManySegments => "A6",
             Refusal::Conflict => "A5",
         }
     }
@@ -113,16 +129,6 @@ fn outcome_text(outcome: Outcome) -> &'static str
         Outcome::AlreadyHave => "AlreadyHave",
         Outcome::AskWhole => "AskWhole",
     }
-}
-
-#[tactic(auto, unfolding(crate::specs::Answers::mark_data))]
-fn mark_value(alloc: Global, mark: Mark) -> Result<Value, AllocError>
-    ensures { IfOk result (λ v. view v ≡ mark_data mark) }
-{
-    json!(in alloc; {
-        "counter": mark.count(),
-        "hash": mark.incarnation(),
-    })
 }
 
 #[tactic(auto, using(crate::proofs::JsonLemmas::json_lists), unfolding(crate::specs::Answers::parts_data))]

@@ -4,7 +4,7 @@ ghost use Rattle.std.specs.List.{list_all};
 ghost use Rattle.serde_json.specs.Find.{as_str};
 ghost use Rattle.serde_json.specs.View.{view, items_view};
 ghost use Rattle.druid_inventory.specs.Entry.{max_nodes};
-ghost use Rattle.druid_cluster.specs.Fields.{each_of};
+ghost use Rattle.druid_sync.specs.Fields.{each_of};
 ghost use Rattle.druid_cluster.specs.Commands.{brokers_at, opening_at, reply_at, lookup_at, command_at};
 ghost use Rattle.druid_cluster.specs.Seen.{text_in, texts_in, command_seen};
 
@@ -46,7 +46,7 @@ fn are_texts(values: &[Value]) -> bool
 }
 
 // The same values, where each is a text.
-#[tactic(auto, using(crate::proofs::EachLemmas::texts_read, crate::proofs::EachLemmas::texts_unread))]
+#[tactic(auto, using(crate::proofs::EachTexts::texts_read, crate::proofs::EachTexts::texts_unread))]
 fn texts_of(values: &[Value]) -> Option<&[Value]>
     ensures { option_map (λ texts. texts_in texts.now) result
         ≡ each_of as_str (items_view values.now) }

@@ -8,15 +8,11 @@ mod interrupted;
 mod laws;
 mod lines;
 mod program;
-mod reading;
 mod run;
 mod serving;
-mod sync_fault;
 mod writing;
 
 pub use fault::ReplayFault;
 pub use laws::{each_line_is_bad_or_answered, no_answered_line_is_bad, one_run};
 pub use program::{Ending, obey, run_program};
-pub use reading::read_reply;
 pub use run::replay;
-pub use sync_fault::SyncFault;

@@ -4,14 +4,13 @@ ghost use Rattle.druid_segid.specs.Names.{IsName};
 ghost use Rattle.druid_inventory.specs.Entry.{HaveOwnNames, max_nodes};
 ghost use Rattle.serde_json.specs.View.{view};
 ghost use Rattle.druid_cluster.specs.Seen.{texts_in};
-ghost use Rattle.druid_cluster.specs.Serving.{TakesBrokers, TakesReply, AreFoundIn, LooksUp, Answers, IsNoCommand, IsAnswered, IsBad, AreNodes, ReplyWants, LookupWants, WantsMemory, max_line};
+ghost use Rattle.druid_cluster.specs.Serving.{TakesBrokers, unread, not_applied, TakesReply, AreFoundIn, LooksUp, Answers, IsNoCommand, IsAnswered, IsBad, AreNodes, ReplyWants, LookupWants, WantsMemory, max_line};
 
 use crate::answer::{Answer, Pieces, Refusal};
 use crate::command::{Command, command_of, opening_of, text_of};
-use crate::reading::reply_of;
-use crate::sync_fault::SyncFault;
 use druid_inventory::{ApplyFault, Inventory, InventoryFault};
 use druid_segid::Name;
+use druid_sync::{SyncFault, reply_of};
 use druid_time::{Interval, IntervalSet, TimeFault};
 use druid_timeline::Timeline;
 use serde_json::Value;
@@ -88,6 +87,35 @@ fn take_brokers(alloc: Global, nodes: &[Value]) -> Result<(Answer, Option<Invent
     }
 }
 
+// What tells that a reply was not read; want of memory is not told.
+fn unread(fault: SyncFault) -> Option<Refusal>
+    ensures { result ≡ unread fault }
+{
+    match fault {
+        SyncFault::NotJson => None,
+        SyncFault::Shape => Some(Refusal::Shape),
+        SyncFault::TooMany => Some(Refusal::TooMany),
+        SyncFault::LengthOfDelta => Some(Refusal::LengthOfDelta),
+        SyncFault::DoubledSegment => Some(Refusal::DoubledSegment),
+        SyncFault::Memory => None,
+    }
+}
+
+// What tells that a reply was not applied; want of memory is not told.
+fn not_applied(fault: ApplyFault) -> Option<Refusal>
+    ensures { result ≡ not_applied fault }
+{
+    match fault {
+        ApplyFault::UnknownNode => Some(Refusal::UnknownNode),
+        ApplyFault::OtherIncarnation => Some(Refusal::OtherIncarnation),
+        ApplyFault::Gap => Some(Refusal::Gap),
+        ApplyFault::NotStrict { .. } => Some(Refusal::NotStrict),
+        ApplyFault::TooMany => Some(Refusal::TooManySegments),
+        ApplyFault::Conflict => Some(Refusal::Conflict),
+        ApplyFault::Memory => None,
+    }
+}
+
 // The broker takes a reply of a node: what it is answered, and the inventory after it.
 fn take_reply(
     alloc: Global,
@@ -100,21 +128,20 @@ fn take_reply(
 {
     let reply = match reply_of(alloc, value) {
         Ok(reply) => reply,
-        Err(SyncFault::Shape) => return Ok((Answer::Refused(Refusal::Shape), inventory)),
-        Err(SyncFault::TooMany) => return Ok((Answer::Refused(Refusal::TooMany), inventory)),
-        Err(SyncFault::DoubledSegment) => {
-            return Ok((Answer::Refused(Refusal::DoubledSegment), inventory));
-        }
-        Err(SyncFault::NotJson | SyncFault::Memory) => return Err(AllocError),
+        Err(fault) => match unread(fault) {
+            Some(refusal) => return Ok((Answer::Refused(refusal), inventory)),
+            None => return Err(AllocError),
+        },
     };
     match inventory.apply(node, &reply) {
         Ok((next, outcome)) => {
             let mark = next.mark(node).unwrap();
             Ok((Answer::Stepped { mark, outcome }, next))
         }
-        Err(ApplyFault::UnknownNode) => Ok((Answer::Refused(Refusal::UnknownNode), inventory)),
-        Err(ApplyFault::Conflict) => Ok((Answer::Refused(Refusal::Conflict), inventory)),
-        Err(ApplyFault::Memory) => Err(AllocError),
+        Err(fault) => match not_applied(fault) {
+            Some(refusal) => Ok((Answer::Refused(refusal), inventory)),
+            None => Err(AllocError),
+        },
     }
 }
 

@@ -2,8 +2,12 @@
 #![tactic(auto)]
 
 #[cfg(test)]
+mod cluster;
+#[cfg(test)]
 mod devices;
+#[cfg(test)]
+mod following;
 #[cfg(test)]
 mod printing;
 #[cfg(test)]
-mod replay;
+mod script;

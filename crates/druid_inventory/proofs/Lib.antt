@@ -1,3 +1,5 @@
+pub mod EditLemmas
 pub mod EntryLemmas
+pub mod ReplayedLemmas
 pub mod StepLemmas
 pub mod TimelineLemmas

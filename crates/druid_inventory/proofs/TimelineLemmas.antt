@@ -4,7 +4,10 @@ use Rattle.std.specs.Prelude.{◌↔◌, Contains, ⊤}
 use Rattle.std.specs.Bool.{Decides}
 use Rattle.std.specs.Option.{option_copied}
 use Rattle.std.specs.List.{slice_get}
-use Rattle.std.specs.BTreeMap.{BTreeMap, UpdatesBy, is_at}
+use Rattle.std.specs.BTreeMap.{BTreeMap, UpdatesBy, is_at, keys}
+use Rattle.std.proofs.lemmas.Cmp.{nat_list_cmp_total}
+use Rattle.std.proofs.lemmas.Map.Lookups.{exact_bytes}
+use Rattle.std.proofs.lemmas.Map.Views.{btree_map_contains_key_iff}
 use Rattle.std.specs.Map.{lookup}
 use Rattle.std.specs.Ordering.{nat_cmp, is_eq}
 use Rattle.std.specs.declared.cmp.Ordering.{Ordering}
@@ -35,7 +38,7 @@ nothing_held : (x : Held) → Contains [] x → ⊥
 nothing_held x h = absurd (omega (arith, h.1))
 
 -- a source's holding, kept or empty
-held_of_kept : (served : ℕ → Described → Type 0) (source : List ℕ) (o : Option Serving) → IsKept served source o → (x : Held)
+pub held_of_kept : (served : ℕ → Described → Type 0) (source : List ℕ) (o : Option Serving) → IsKept served source o → (x : Held)
     → Contains (held_by o) x ↔ ((i : ℕ) × (y : Described) × served i y × (y.id.source ≡ source) × (x ≡ held_of i y))
 held_of_kept served source None h x = (λ c. absurd (nothing_held x c), λ e. absurd (h e.0 e.1 e.2 e.3))
 held_of_kept served source (Some t) h x = h.held x
@@ -86,7 +89,7 @@ decided true P d = inl (d.0 refl)
 decided false P d = inr (λ p. false≢true (d.1 p))
 
 -- a text is another, or not
-same_or_not : (s t : List ℕ) → (s ≡ t) ⊎ (s ≡ t → ⊥)
+pub same_or_not : (s t : List ℕ) → (s ≡ t) ⊎ (s ≡ t → ⊥)
 same_or_not s t = decided (bytes_eq s t) (s ≡ t) (bytes_decides s t)
 
 -- with the segment added, the timelines are those of all and the segment
@@ -119,7 +122,7 @@ pub AreTimelines-alike : (P Q : ℕ → Described → Type 0) (m : BTreeMap (Lis
     → ((i : ℕ) (y : Described) → P i y ↔ Q i y) → AreTimelines P m → AreTimelines Q m
 AreTimelines-alike P Q m alike old = record { each = λ source. kept_alike P Q source (kept m source) alike (old.each source) }
 
-identifier_same : (a b : Identifier) → a.source ≡ b.source → group_of a ≡ group_of b → a.partition ≡ b.partition → a ≡ b
+pub identifier_same : (a b : Identifier) → a.source ≡ b.source → group_of a ≡ group_of b → a.partition ≡ b.partition → a ≡ b
 identifier_same a b source group partition i =
     record { source = source i; interval = (group i).interval; version = (group i).version; partition = partition i }
 
@@ -142,7 +145,7 @@ pub takes_segment : (served : ℕ → Described → Type 0) (m : BTreeMap (List 
     → IfSome (kept m d.id.source) (TakesSegment d.id.source node d)
 takes_segment served m node d h fresh = takes_kept served (kept m d.id.source) node d (h.each d.id.source) fresh
 
-not_tied : (o : Ordering) → (o ≡ Equal → ⊥) → is_eq o ≡ false
+pub not_tied : (o : Ordering) → (o ≡ Equal → ⊥) → is_eq o ≡ false
 not_tied Less h = refl
 not_tied Equal h = absurd (h refl)
 not_tied Greater h = refl
@@ -272,7 +275,7 @@ AreTimelinesOf-none m e = record { each = λ source. let none : kept m source �
 pub IsInventory-same : (entries others : List Entry) (m n : BTreeMap (List ℕ) Serving) → others ≡ entries → n ≡ m → IsInventory entries m → IsInventory others n
 IsInventory-same entries others m n e f h = subst (λ (es : List Entry). IsInventory es n) (sym e) (subst (IsInventory entries) (sym f) h)
 
-kept_some : (entries : List Entry) (source : List ℕ) (o : Option Serving) → IsKept (Serves entries) source o → IsSome o ↔ HasSource entries source
+pub kept_some : (entries : List Entry) (source : List ℕ) (o : Option Serving) → IsKept (Serves entries) source o → IsSome o ↔ HasSource entries source
 kept_some entries source None h = (λ e. absurd (false≢true e), λ has. absurd (h has.0 has.1 has.2 has.3))
 kept_some entries source (Some t) h = (λ _. h.some, λ _. refl)
 
@@ -289,3 +292,10 @@ found_held entries source m None e h = tt
 found_held entries source m (Some x) e h =
     let is : IsTimelineOf (Serves entries) source x.now = subst (IsKept (Serves entries) source) (sym e) (h.each source) in
     is.held
+
+-- the keys of the timelines are the sources of which a segment is served
+pub key_served : (entries : List Entry) (m : BTreeMap (List ℕ) Serving) → AreTimelinesOf entries m → (source : List ℕ) → Contains (keys m) source ↔ HasSource entries source
+key_served entries m over source =
+    let found = btree_map_contains_key_iff nat_list_cmp_total exact_bytes m source in
+    let served = kept_some entries source (kept m source) (over.each source) in
+    (λ there. served.0 (found.1 there), λ has. found.0 (served.1 has))

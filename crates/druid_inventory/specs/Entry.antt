@@ -1,7 +1,9 @@
 -- What a broker knows of the data nodes.
-use Rattle.std.specs.Prelude.{◌≡◌, ℕ, List, [], length, slice_index_or, ◌<◌}
+use Rattle.std.specs.Prelude.{◌≡◌, ℕ, List, [], length, slice_index_or, ◌<◌, if◌then◌else◌}
 use Rattle.druid_shard.specs.Described.{Described}
-use Rattle.druid_shard.specs.Mark.{Point, never}
+use Rattle.druid_shard.specs.Mark.{Point, never, same_mark}
+use Rattle.druid_shard.specs.declared.change.Ask.{Ask}
+use Rattle.druid_shard.specs.declared.change.Ask.TheVariants.{Whole, Since}
 
 -- the most nodes of a list
 abbrev pub max_nodes : ℕ
@@ -22,3 +24,7 @@ abbrev pub HaveOwnNames : List (List ℕ) → Type 0
 HaveOwnNames names =
     (i j : ℕ) (d : List ℕ) → i < length names → j < length names
     → slice_index_or names i d ≡ slice_index_or names j d → i ≡ j
+
+-- what to ask a node for that is known up to a mark: all, where it was never synced, and else what comes behind
+abbrev pub ask_of : Point → Ask
+ask_of mark = if same_mark mark never then Whole else Since mark

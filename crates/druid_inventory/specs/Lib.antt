@@ -1,4 +1,5 @@
 pub mod Entry
 pub mod Step
+pub mod Judged
 pub mod Sources
 pub mod Timelines

@@ -1,10 +1,12 @@
 -- The timelines over what nodes serve, as an inventory keeps them: only proofs use this.
-use Rattle.std.specs.Prelude.{◌≡◌, ℕ, ◌≤◌, List, [], length, ◌↔◌, Option, None, Some, Contains}
+use Rattle.std.specs.Prelude.{◌≡◌, ℕ, ◌≤◌, ◌⊎◌, Bool, IsTrue, IfSome, List, [], length, ◌↔◌, Option, None, Some, Contains}
 use Rattle.std.specs.BTreeMap.{BTreeMap, get}
 use Rattle.std.specs.Ordering.{nat_cmp}
 use Rattle.std.specs.Cmp.Lexicographic.{slice_cmp}
 use Rattle.druid_shard.specs.Described.{Described}
-use Rattle.druid_timeline.specs.Holding.{Held, Serving, held_of, IsHeld, AddsHeld}
+use Rattle.druid_shard.specs.declared.change.Change.{Change}
+use Rattle.druid_shard.specs.declared.change.Change.TheVariants.{Load, Drop}
+use Rattle.druid_timeline.specs.Holding.{Held, Serving, held_of, HoldsNothing, IsHeld, IsServed, AddsHeld, RemovesHeld}
 use Rattle.druid_inventory.specs.Entry.{Entry, max_nodes}
 use Rattle.druid_inventory.specs.Sources.{Serves}
 
@@ -52,3 +54,34 @@ pub record AddsSegment (old new : BTreeMap (List ℕ) Serving) (node : ℕ) (d :
   pub here : (t : Serving) × (kept new d.id.source ≡ Some t) × (t.source ≡ d.id.source)
       × AddsHeld (held_by (kept old d.id.source)) t.held (held_of node d)
   pub others : (source : List ℕ) → (source ≡ d.id.source → ⊥) → kept new source ≡ kept old source
+
+-- the timeline of its source is without the segment, and the others stay
+pub record EditsOut (old new : BTreeMap (List ℕ) Serving) (node : ℕ) (d : Described) (is_empty : Bool) : Type 0 where
+  pub here : (t : Serving) × (kept new d.id.source ≡ Some t) × (t.source ≡ d.id.source)
+      × RemovesHeld (held_by (kept old d.id.source)) t.held node d.id × (IsTrue is_empty ↔ HoldsNothing t.held)
+  pub others : (source : List ℕ) → (source ≡ d.id.source → ⊥) → kept new source ≡ kept old source
+
+-- a timeline of what is left of a source, or none where nothing is
+abbrev pub IsLeftOver : List ℕ → List Held → Option Serving → Type 0
+IsLeftOver source held None = HoldsNothing held
+IsLeftOver source held (Some t) = (t.source ≡ source) × (t.held ≡ held) × (HoldsNothing held → ⊥)
+
+-- of the source of the segment all is left but the segment, and the other timelines stay
+pub record RemovesSegment (old new : BTreeMap (List ℕ) Serving) (node : ℕ) (d : Described) : Type 0 where
+  pub here : (held : List Held) × RemovesHeld (held_by (kept old d.id.source)) held node d.id
+      × IsLeftOver d.id.source held (kept new d.id.source)
+  pub others : (source : List ℕ) → (source ≡ d.id.source → ⊥) → kept new source ≡ kept old source
+
+-- the timelines take the change
+abbrev pub TakesChange : BTreeMap (List ℕ) Serving → ℕ → Change → Type 0
+TakesChange timelines node (Load d) = IfSome (kept timelines d.id.source) (TakesSegment d.id.source node d)
+TakesChange timelines node (Drop d) = (t : Serving) × (kept timelines d.id.source ≡ Some t) × IsServed t node d.id
+
+-- the change is made
+abbrev pub MakesChange : BTreeMap (List ℕ) Serving → BTreeMap (List ℕ) Serving → ℕ → Change → Type 0
+MakesChange old new node (Load d) = AddsSegment old new node d
+MakesChange old new node (Drop d) = RemovesSegment old new node d
+
+-- a node has this set, and the others have theirs
+abbrev pub ServesWith : List Entry → ℕ → List Described → ℕ → Described → Type 0
+ServesWith entries node set i d = ((i ≡ node) × Contains set d) ⊎ ((i ≡ node → ⊥) × Serves entries i d)

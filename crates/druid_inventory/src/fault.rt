@@ -30,6 +30,21 @@ pub enum ApplyFault {
     /// A1: the list has no such node.
     #[error("A1: an unknown node")]
     UnknownNode,
+    /// A3: the delta is of another incarnation of the node.
+    #[error("A3: another incarnation")]
+    OtherIncarnation,
+    /// A2: the delta begins behind the mark that is held.
+    #[error("A2: a gap")]
+    Gap,
+    /// A4: a load of a segment whose identifier is held, or a drop of one that is not held as it is.
+    #[error("A4: not a strict change: {index}")]
+    NotStrict {
+        /// The place of the change in the delta, from 0.
+        index: usize,
+    },
+    /// A6: a load onto 20,000 segments.
+    #[error("A6: too many segments")]
+    TooMany,
     /// A5: the mark is the one held, and the set is another.
     #[error("A5: a conflict")]
     Conflict,

@@ -1,19 +1,27 @@
-ghost use Rattle.std.specs.Prelude.{◌≡◌, ◌≢◌, ◌↔◌, ◌≤◌, ◌<◌, ℕ, IsTrue, IfOk, IfErr, IfSome, OnOk, IsErrOf, IsSome, Err, None, Some, length, map, option_map, slice_get, slice_index_or, slice_set, vec_len};
+ghost use Rattle.std.specs.Prelude.{◌≡◌, ◌≢◌, ◌↔◌, ◌≤◌, ◌<◌, ℕ, List, IsTrue, IfOk, IfErr, IfSome, OnOk, IsErrOf, IsSome, Err, None, Some, Contains, length, map, option_copied, option_map, slice_get, slice_index_or, slice_set, vec_len};
 ghost use Rattle.std.specs.Arc.{arc_value};
-ghost use Rattle.druid_shard.specs.Reply.{AreSorted};
-ghost use Rattle.druid_shard.specs.declared.reply.Body.TheVariants.{Snapshot};
-ghost use Rattle.druid_inventory.specs.Entry.{Entry, max_nodes, fresh, HaveOwnNames};
-ghost use Rattle.druid_inventory.specs.Step.{Steps, Conflicts};
+ghost use Rattle.std.specs.Ordering.{nat_cmp};
+ghost use Rattle.std.specs.Cmp.Lexicographic.{slice_cmp};
+ghost use Rattle.std.specs.List.Sorted.{IsStrictlySortedBy};
+ghost use Rattle.druid_shard.specs.Reply.{max_segments, AreSorted};
+ghost use Rattle.druid_shard.specs.Described.{Described};
+ghost use Rattle.druid_shard.specs.Replay.{replay_from};
+ghost use Rattle.druid_shard.specs.ReplyBody.{IsReply};
+ghost use Rattle.druid_inventory.specs.Entry.{Entry, max_nodes, fresh, ask_of, HaveOwnNames};
+ghost use Rattle.druid_inventory.specs.Step.{Steps, StepsAt, RefusedAt, Tells, moved_to};
+ghost use Rattle.druid_inventory.specs.declared.fault.ApplyFault.{ApplyFault};
+ghost use Rattle.druid_inventory.specs.declared.fault.Outcome.TheVariants.{Moved};
 ghost use Rattle.druid_inventory.specs.Sources.{HasSource, IsHoldingOf};
+ghost use Rattle.druid_inventory.specs.Timelines.{AreTimelinesOf};
 
-use crate::known::{Known, are_same};
-use crate::timelines::{Timelines, timelines_over};
+use crate::judge::judge;
+use crate::known::{Known, copy_of};
+use crate::timelines::{Timelines, names_of, replay_changes, timelines_over};
 use crate::{ApplyFault, InventoryFault, Outcome};
 use druid_segid::Name;
-use druid_shard::{Body, Descriptor, Mark, NodeNo, Reply};
+use druid_shard::{Ask, Body, Change, Descriptor, Mark, NodeNo, Reply};
 use druid_timeline::Timeline;
 use std::alloc::{AllocError, Global};
-use std::cmp::Ordering;
 use std::marker::Model;
 use std::sync::Arc;
 
@@ -27,7 +35,7 @@ pub const MAX_NODES: usize = 64;
 #[derive(Debug, Drop)]
 pub struct Inventory {
     alloc: Global,
-    entries: Vec<Arc<Known, Global>>,
+    entries: Arc<Vec<Arc<Known, Global>>, Global>,
     timelines: Arc<Timelines, Global>,
 }
 
@@ -39,9 +47,9 @@ impl Model for Inventory {
 
     ghost Value = { List Entry };
 
-    ghost view = { λ a. map arc_value a.entries.items };
+    ghost view = { λ a. map arc_value (arc_value a.entries).items };
 
-    ghost invariant = { λ a. IsInventory (map arc_value a.entries.items) (arc_value a.timelines) };
+    ghost invariant = { λ a. IsInventory (map arc_value (arc_value a.entries).items) (arc_value a.timelines) };
 }
 
 // Whether no name stands at two places.
@@ -90,21 +98,34 @@ impl Inventory {
         requires { vec_len entries ≤ max_nodes }
         ensures { IfOk result (λ inventory. inventory ≡ map arc_value entries.items) }
     {
-        let timelines = Arc::new(alloc, timelines_over(alloc, &entries)?)?;
+        let timelines = timelines_over(alloc, &entries)?;
+        Inventory::of(alloc, entries, timelines)
+    }
+
+    // The inventory of these entries and the timelines over them.
+    fn of(
+        alloc: Global,
+        entries: Vec<Arc<Known, Global>>,
+        timelines: Timelines,
+    ) -> Result<Inventory, AllocError>
+        requires few { vec_len entries ≤ max_nodes }
+        requires over { AreTimelinesOf (map arc_value entries.items) timelines }
+        ensures { IfOk result (λ inventory. inventory ≡ map arc_value entries.items) }
+    {
         Ok(Inventory {
             alloc,
-            entries,
-            timelines,
+            entries: Arc::new(alloc, entries)?,
+            timelines: Arc::new(alloc, timelines)?,
         })
     }
 
-    // The same inventory, which shares all with this one.
+    // The same inventory, which shares all with this one. It takes no memory, but an owner more.
     fn shared(&self) -> Result<Inventory, AllocError>
         ensures { IfOk result (λ inventory. inventory ≡ self.now) }
     {
         Ok(Inventory {
             alloc: self.alloc,
-            entries: self.entries.clone()?,
+            entries: Arc::try_clone(&self.entries)?,
             timelines: Arc::try_clone(&self.timelines)?,
         })
     }
@@ -114,16 +135,30 @@ impl Inventory {
         requires { node < length self.now }
         ensures { IfOk result (λ inventory. inventory ≡ slice_set self.now node entry) }
     {
-        let mut entries = self.entries.clone()?;
-        entries[node as usize] = Arc::new(self.alloc, entry)?;
+        let entries = self.entries_with(node, entry)?;
         Inventory::over(self.alloc, entries)
+    }
+
+    // The entries with another one for a node, the others shared.
+    fn entries_with(
+        &self,
+        node: NodeNo,
+        entry: Known,
+    ) -> Result<Vec<Arc<Known, Global>>, AllocError>
+        requires { node < length self.now }
+        ensures entries { IfOk result (λ entries. map arc_value entries.items ≡ slice_set self.now node entry) }
+        ensures few { IfOk result (λ entries. vec_len entries ≤ max_nodes) }
+    {
+        let mut entries = Vec::clone(&self.entries)?;
+        entries[node as usize] = Arc::new(self.alloc, entry)?;
+        Ok(entries)
     }
 
     /// How far a node's history has been followed; None where the list has no such node. It takes no memory.
     pub fn mark(&self, node: NodeNo) -> Option<Mark>
         ensures { result ≡ option_map (λ e. e.mark) (slice_get self.now node) }
     {
-        let known = self.entries.get(node as usize)?;
+        let known = self.known(node)?;
         Some(known.mark())
     }
 
@@ -131,8 +166,9 @@ impl Inventory {
     pub fn segments(&self, node: NodeNo) -> Option<&[Descriptor]>
         ensures value { option_map (λ set. set.now) result ≡ option_map (λ e. e.set) (slice_get self.now node) }
         ensures sorted { IfSome result (λ set. AreSorted set.now) }
+        ensures few { IfSome result (λ set. length set.now ≤ max_segments) }
     {
-        let known = self.entries.get(node as usize)?;
+        let known = self.known(node)?;
         Some(known.set())
     }
 
@@ -142,56 +178,134 @@ impl Inventory {
         ensures source { IfSome result (λ timeline. timeline.now.source ≡ source.now) }
         ensures held { IfSome result (λ timeline. IsHoldingOf self.now source.now timeline.now.held) }
     {
-        self.timelines.get(source)
+        let timeline = self.timelines.get(source)?;
+        Some(timeline.lent())
     }
 
-    /// What a reply of a node makes of the inventory, and its outcome. A1 where the list has no such node, A5 where a
-    /// snapshot is of the held mark and has another set, and A9 last. The inventory itself stays.
-    pub fn apply(&self, node: NodeNo, reply: &Reply) -> Result<(Inventory, Outcome), ApplyFault>
-        ensures unknown { IsErrOf result ApplyFault.UnknownNode ↔ (slice_get self.now node ≡ None) }
-        ensures conflict { IsErrOf result ApplyFault.Conflict
-            ↔ ((e : Entry) × (slice_get self.now node ≡ Some e) × Conflicts e reply.now) }
-        ensures ok { IfOk result (λ r. (e new : Entry) × (slice_get self.now node ≡ Some e)
-            × Steps e reply.now r.1 new × (r.0 ≡ slice_set self.now node new)) }
+    /// The data sources of which some node serves a segment, rising, each once.
+    pub fn sources(&self) -> Result<Vec<Name>, AllocError>
+        ensures all { IfOk result (λ sources. (source : List ℕ)
+            → Contains sources.items source ↔ HasSource self.now source) }
+        ensures rising { IfOk result (λ sources. IsStrictlySortedBy (slice_cmp nat_cmp) sources.items) }
     {
-        let Some(known) = self.entries.get(node as usize) else {
+        names_of(self.alloc, &self.timelines)
+    }
+
+    /// What a reply of a node makes of the inventory, and its outcome. A1 where the list has no such node; then for a
+    /// delta A3, A2, and A4 or A6 by the first change that offends; A5 where a snapshot is of the held mark and has
+    /// another set; and A9 last. The inventory itself stays.
+    pub fn apply(&self, node: NodeNo, reply: &Reply) -> Result<(Inventory, Outcome), ApplyFault>
+        ensures ok { IfOk result (λ r. (new : Entry) × StepsAt self.now node reply.now r.1 new
+            × (r.0 ≡ slice_set self.now node new)) }
+        ensures unknown { IsErrOf result ApplyFault.UnknownNode ↔ (slice_get self.now node ≡ None) }
+        ensures refused { (fault : ApplyFault) → fault ≢ ApplyFault.UnknownNode → fault ≢ ApplyFault.Memory
+            → IsErrOf result fault ↔ RefusedAt self.now node reply.now fault }
+        ensures told { IfErr result (Tells self.now node reply.now) }
+    {
+        self.stepped(node, reply.body())
+    }
+
+    // What a reply of a node makes of the inventory, and its outcome.
+    fn stepped(&self, node: NodeNo, body: &Body) -> Result<(Inventory, Outcome), ApplyFault>
+        requires { IsReply body.now }
+        ensures ok { IfOk result (λ r. (new : Entry) × StepsAt self.now node body.now r.1 new
+            × (r.0 ≡ slice_set self.now node new)) }
+        ensures told { IfErr result (Tells self.now node body.now) }
+    {
+        let Some(known) = self.known(node) else {
             return Err(ApplyFault::UnknownNode);
         };
-        match reply.body() {
-            Body::Snapshot { at, segments } => {
-                self.apply_snapshot(node, known, *at, segments.as_slice())
-            }
+        let outcome = match judge(known, body) {
+            Ok(outcome) => outcome,
+            Err(fault) => return Err(fault),
+        };
+        match self.after(node, known, body, outcome) {
+            Ok(inventory) => Ok((inventory, outcome)),
+            Err(_) => Err(ApplyFault::Memory),
         }
     }
 
-    // What a snapshot of a node makes of the inventory, where the node's entry is known.
-    fn apply_snapshot(
+    // What is known of a node.
+    fn known(&self, node: NodeNo) -> Option<&Known>
+        ensures { option_copied result ≡ slice_get self.now node }
+    {
+        let known = self.entries.get(node as usize)?;
+        Some(known)
+    }
+
+    // The inventory after a reply of a node that has this outcome.
+    fn after(
         &self,
         node: NodeNo,
         known: &Known,
-        at: Mark,
-        segments: &[Descriptor],
-    ) -> Result<(Inventory, Outcome), ApplyFault>
+        body: &Body,
+        outcome: Outcome,
+    ) -> Result<Inventory, AllocError>
         requires known { slice_get self.now node ≡ Some known.now }
-        requires sorted { AreSorted segments.now }
-        ensures unknown { result ≢ Err ApplyFault.UnknownNode }
-        ensures conflict { IsErrOf result ApplyFault.Conflict
-            ↔ Conflicts known.now (Snapshot at segments.now) }
-        ensures ok { IfOk result (λ r. (new : Entry) × Steps known.now (Snapshot at segments.now) r.1 new
-            × (r.0 ≡ slice_set self.now node new)) }
+        requires valid { IsReply body.now }
+        requires steps { (new : Entry) × Steps known.now body.now outcome new }
+        ensures { IfOk result (λ inventory. (new : Entry) × Steps known.now body.now outcome new
+            × (inventory ≡ slice_set self.now node new)) }
     {
-        match known.mark().cmp(&at) {
-            Ordering::Less => {
-                let moved = known.moved_to(self.alloc, at, segments)?;
-                Ok((self.with_entry(node, moved)?, Outcome::Moved))
+        match outcome {
+            Outcome::Moved => self.moved(node, known, body),
+            Outcome::AlreadyHave => self.shared(),
+            Outcome::AskWhole => self.shared(),
+        }
+    }
+
+    // The inventory after a reply that moves the entry of a node.
+    fn moved(&self, node: NodeNo, known: &Known, body: &Body) -> Result<Inventory, AllocError>
+        requires known { slice_get self.now node ≡ Some known.now }
+        requires valid { IsReply body.now }
+        requires moves { (new : Entry) × Steps known.now body.now Moved new }
+        ensures { IfOk result (λ inventory. (new : Entry) × Steps known.now body.now Moved new
+            × (inventory ≡ slice_set self.now node new)) }
+    {
+        match body {
+            Body::Delta { from, to, changes } => {
+                let skipped = (known.mark().count() - from.count()) as usize;
+                self.replayed(node, known, *to, &changes.as_slice()[skipped..])
             }
-            Ordering::Equal => {
-                if !are_same(segments, known.set()) {
-                    return Err(ApplyFault::Conflict);
-                }
-                Ok((self.shared()?, Outcome::AlreadyHave))
+            Body::Snapshot { at, segments } => {
+                let set = copy_of(self.alloc, segments.as_slice())?;
+                self.with_entry(node, known.with_set(*at, set)?)
             }
-            Ordering::Greater => Ok((self.shared()?, Outcome::AlreadyHave)),
+            Body::Reset { .. } => unreachable!(),
+        }
+    }
+
+    // The inventory with an entry at another mark, after changes of its set. It shares the other entries with this one,
+    // and the timelines of the sources that no change is of.
+    fn replayed(
+        &self,
+        node: NodeNo,
+        known: &Known,
+        to: Mark,
+        changes: &[Change],
+    ) -> Result<Inventory, AllocError>
+        requires known { slice_get self.now node ≡ Some known.now }
+        requires made { (t : List Described) × (replay_from known.now.set changes.now ≡ Some t) }
+        ensures { IfOk result (λ inventory. (t : List Described) × (replay_from known.now.set changes.now ≡ Some t)
+            × (inventory ≡ slice_set self.now node (moved_to known.now to t))) }
+    {
+        let mut set = copy_of(self.alloc, known.set())?;
+        let mut timelines = Timelines::clone(&self.timelines)?;
+        replay_changes(&mut timelines, self.alloc, node, &mut set, changes)?;
+        let entries = self.entries_with(node, known.with_set(to, set)?)?;
+        Inventory::of(self.alloc, entries, timelines)
+    }
+
+    /// What to ask a node for: all that it serves where it was never synced, and else the changes behind its mark; None
+    /// where the list has no such node. It takes no memory.
+    pub fn next_ask(&self, node: NodeNo) -> Option<Ask>
+        ensures { result ≡ option_map (λ e. ask_of e.mark) (slice_get self.now node) }
+    {
+        let mark = self.mark(node)?;
+        if mark == Mark::never() {
+            Some(Ask::Whole)
+        } else {
+            Some(Ask::Since(mark))
         }
     }
 }

@@ -1,6 +1,6 @@
 //! What is known of one node.
 ghost use Rattle.std.specs.Prelude.{◌≡◌, ◌↔◌, IsTrue, IfOk};
-ghost use Rattle.druid_shard.specs.Reply.{AreSorted};
+ghost use Rattle.druid_shard.specs.Replay.{IsSegmentSet};
 ghost use Rattle.druid_inventory.specs.Entry.{fresh};
 ghost use Rattle.druid_inventory.specs.Step.{moved_to};
 
@@ -19,13 +19,13 @@ pub(crate) struct Known {
 
 impl Model for Known {
     ghost use Rattle.druid_inventory.specs.Entry.{Entry};
-    ghost use Rattle.druid_shard.specs.Reply.{AreSorted};
+    ghost use Rattle.druid_shard.specs.Replay.{IsSegmentSet};
 
     ghost Value = { Entry };
 
     ghost view = { λ a. record { name = a.name; mark = a.mark; set = a.set.items } };
 
-    ghost invariant = { λ a. AreSorted a.set.items };
+    ghost invariant = { λ a. IsSegmentSet a.set.items };
 }
 
 impl Known {
@@ -40,20 +40,15 @@ impl Known {
         }
     }
 
-    // The node at another mark, with a copy of another set.
-    pub(crate) fn moved_to(
-        &self,
-        alloc: Global,
-        at: Mark,
-        set: &[Descriptor],
-    ) -> Result<Known, AllocError>
-        requires { AreSorted set.now }
-        ensures { IfOk result (λ known. known ≡ moved_to self.now at set.now) }
+    // The node at another mark, with another set.
+    pub(crate) fn with_set(&self, at: Mark, set: Vec<Descriptor>) -> Result<Known, AllocError>
+        requires { IsSegmentSet set.items }
+        ensures { IfOk result (λ known. known ≡ moved_to self.now at set.items) }
     {
         Ok(Known {
             name: self.name.clone()?,
             mark: at,
-            set: copy_of(alloc, set)?,
+            set,
         })
     }
 
@@ -67,14 +62,14 @@ impl Known {
     // What the node serves at its mark.
     pub(crate) fn set(&self) -> &[Descriptor]
         ensures value { result.now ≡ self.now.set }
-        ensures sorted { AreSorted self.now.set }
+        ensures valid { IsSegmentSet self.now.set }
     {
         self.set.as_slice()
     }
 }
 
 // A copy of a set.
-fn copy_of(alloc: Global, set: &[Descriptor]) -> Result<Vec<Descriptor>, AllocError>
+pub(crate) fn copy_of(alloc: Global, set: &[Descriptor]) -> Result<Vec<Descriptor>, AllocError>
     ensures { IfOk result (λ copy. copy.items ≡ set.now) }
 {
     let mut copy = Vec::with_capacity(alloc, set.len())?;

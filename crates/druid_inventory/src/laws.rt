@@ -1,18 +1,23 @@
 //! Facts that hold of all entries and all replies.
-ghost use Rattle.std.specs.Prelude.{◌≡◌, ◌≢◌};
+ghost use Rattle.std.specs.Prelude.{◌≡◌, ◌≢◌, ◌⊎◌};
 ghost use Rattle.std.specs.declared.cmp.Ordering.TheVariants.{Less, Greater};
 ghost use Rattle.druid_shard.specs.Mark.{mark_cmp};
 ghost use Rattle.druid_shard.specs.declared.reply.Body.{Body};
 ghost use Rattle.druid_inventory.specs.Entry.{Entry};
-ghost use Rattle.druid_inventory.specs.Step.{Steps, Conflicts};
+ghost use Rattle.druid_inventory.specs.Step.{Steps, Refuses};
+ghost use Rattle.druid_inventory.specs.declared.fault.ApplyFault.{ApplyFault};
 ghost use Rattle.druid_inventory.specs.declared.fault.Outcome.{Outcome};
 ghost use Rattle.druid_inventory.specs.declared.fault.Outcome.TheVariants.{Moved};
 
-/// From an entry, a reply has at most one outcome and leaves one entry, and a reply that conflicts with it has none.
+/// For an entry, a reply has one outcome and leaves one entry, or it is refused for one reason.
 pub fn one_step()
     ensures same { (e : Entry) (b : Body) (o p : Outcome) (new other : Entry)
         → Steps e b o new → Steps e b p other → (o ≡ p) × (new ≡ other) }
-    ensures apart { (e : Entry) (b : Body) (o : Outcome) (new : Entry) → Steps e b o new → Conflicts e b → ⊥ }
+    ensures refusal { (e : Entry) (b : Body) (f g : ApplyFault) → Refuses e b f → Refuses e b g → f ≡ g }
+    ensures apart { (e : Entry) (b : Body) (o : Outcome) (new : Entry) (f : ApplyFault)
+        → Steps e b o new → Refuses e b f → ⊥ }
+    ensures some { (e : Entry) (b : Body) → ((o : Outcome) × (new : Entry) × Steps e b o new)
+        ⊎ ((f : ApplyFault) × Refuses e b f) }
 {}
 
 /// No reply takes an entry to an earlier mark, and one that moves it takes it to a later one.

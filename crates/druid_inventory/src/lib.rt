@@ -3,8 +3,10 @@
 
 mod fault;
 mod inventory;
+mod judge;
 mod known;
 mod laws;
+mod shared;
 mod timelines;
 
 pub use fault::{ApplyFault, InventoryFault, Outcome};

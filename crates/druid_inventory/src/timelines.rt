@@ -1,39 +1,38 @@
-//! The timelines of the data sources, built from what nodes serve.
-ghost use Rattle.std.specs.Prelude.{◌≡◌, ◌+◌, ◌<◌, ◌≤◌, ◌^◌, IfOk, IfSome, OnOk, OnErr, length, map, take};
+//! The timelines of the data sources: built from what nodes serve, and edited where that changes.
+ghost use Rattle.std.specs.Prelude.{◌≡◌, ◌+◌, ◌<◌, ◌^◌, List, IfOk, IfSome, OnOk, Some, length, map, take};
 ghost use Rattle.std.specs.Arc.{arc_value};
-ghost use Rattle.druid_timeline.specs.Holding.{held_of, IsHeld, AddsHeld};
-ghost use Rattle.druid_inventory.specs.Timelines.{kept, AreTimelinesOf, TakesSegment, AddsSegment};
+ghost use Rattle.std.specs.BTreeMap as tree;
+ghost use Rattle.std.specs.Ordering.{nat_cmp};
+ghost use Rattle.std.specs.Cmp.Lexicographic.{slice_cmp};
+ghost use Rattle.druid_shard.specs.Described.{Described};
+ghost use Rattle.druid_shard.specs.Replay.{IsSegmentSet, replay_from};
+ghost use Rattle.druid_shard.specs.declared.change.Change.TheVariants.{Drop};
+ghost use Rattle.druid_inventory.specs.Entry.{Entry};
+ghost use Rattle.druid_inventory.specs.Timelines.{kept, AreTimelines, AreTimelinesOf, TakesSegment, TakesChange, AddsSegment, EditsOut, RemovesSegment, MakesChange, ServesWith};
 
 use crate::known::Known;
-use druid_segid::{Meter, Name};
-use druid_shard::{Descriptor, NodeNo};
-use druid_timeline::{Timeline, TimelineFault};
+use crate::shared::SharedTimeline;
+use druid_segid::Name;
+use druid_shard::{Change, Descriptor, NodeNo, apply_change};
+use druid_timeline::Timeline;
 use std::alloc::{AllocError, Global};
 use std::collections::BTreeMap;
 use std::sync::Arc;
 
 // The timeline of each data source of which a node serves a segment.
-pub(crate) type Timelines = BTreeMap<Name, Timeline>;
+pub(crate) type Timelines = BTreeMap<Name, SharedTimeline>;
 
-// Adds a segment, which the node does not serve yet, to the timeline of its source.
-fn add_to_timeline(
-    timeline: &mut Timeline,
-    node: NodeNo,
-    descriptor: &Descriptor,
-) -> Result<(), AllocError>
-    requires source { descriptor.now.id.source ≡ timeline.old.source }
-    requires new { IsHeld timeline.old.held node descriptor.now.id → ⊥ }
-    ensures added { OnOk result
-        (AddsHeld timeline.old.held timeline.new.held (held_of node descriptor.now)) }
-    ensures source { timeline.new.source ≡ timeline.old.source }
+// The names of the sources, in order.
+pub(crate) fn names_of(alloc: Global, timelines: &Timelines) -> Result<Vec<Name>, AllocError>
+    ensures names { IfOk result (λ names. names.items ≡ tree.keys timelines.now) }
+    ensures ordered { tree.IsOrdered (slice_cmp nat_cmp) timelines.now }
 {
-    let mut meter = Meter::new();
-    match timeline.add(descriptor, node, &mut meter) {
-        Ok(()) => Ok(()),
-        Err(TimelineFault::Memory) => Err(AllocError),
-        Err(TimelineFault::OtherSource) => unreachable!(),
-        Err(TimelineFault::AlreadyThere) => unreachable!(),
+    let sources = timelines.keys();
+    let mut names = Vec::with_capacity(alloc, timelines.len())?;
+    for name in sources {
+        names.push(name.clone()?)?;
     }
+    Ok(names)
 }
 
 // Adds a segment, which the node does not serve yet; the first one of a source begins its timeline.
@@ -49,14 +48,52 @@ fn add_segment(
 {
     let source = descriptor.id().source();
     match timelines.get_mut(source) {
-        Some(timeline) => add_to_timeline(timeline, node, descriptor),
+        Some(timeline) => timeline.add(node, descriptor),
         None => {
-            let mut timeline = Timeline::new(alloc, source.clone()?);
-            add_to_timeline(&mut timeline, node, descriptor)?;
+            let timeline = Timeline::new(alloc, source.clone()?);
+            let mut timeline = SharedTimeline::new(alloc, timeline)?;
+            timeline.add(node, descriptor)?;
             timelines.insert(source.clone()?, timeline)?;
             Ok(())
         }
     }
+}
+
+// Removes a segment that the node serves from the timeline of its source; the answer is whether nothing is left of it.
+fn edit_out(
+    timelines: &mut Timelines,
+    node: NodeNo,
+    descriptor: &Descriptor,
+) -> Result<bool, AllocError>
+    requires { TakesChange timelines.old node (Drop descriptor.now) }
+    ensures { IfOk result (EditsOut timelines.old timelines.new node descriptor.now) }
+{
+    let source = descriptor.id().source();
+    match timelines.get_mut(source) {
+        Some(timeline) => {
+            timeline.remove(node, descriptor.id())?;
+            Ok(timeline.lent().is_empty())
+        }
+        None => unreachable!(),
+    }
+}
+
+// Removes a segment that the node serves; with the last one of a source goes its timeline.
+fn remove_segment(
+    timelines: &mut Timelines,
+    node: NodeNo,
+    descriptor: &Descriptor,
+) -> Result<(), AllocError>
+    requires { TakesChange timelines.old node (Drop descriptor.now) }
+    ensures { OnOk result (RemovesSegment timelines.old timelines.new node descriptor.now) }
+{
+    let is_empty = edit_out(timelines, node, descriptor)?;
+    if !is_empty {
+        return Ok(());
+    }
+    let source = descriptor.id().source();
+    timelines.remove(source);
+    Ok(())
 }
 
 // Adds the set of a node to the timelines over the nodes before it.
@@ -90,4 +127,42 @@ pub(crate) fn timelines_over(
         add_set(&mut timelines, alloc, entries, node as NodeNo)?;
     }
     Ok(timelines)
+}
+
+// Edits the timeline of the source of a segment that the node begins or ceases to serve.
+fn change_timeline(
+    timelines: &mut Timelines,
+    alloc: Global,
+    node: NodeNo,
+    change: &Change,
+) -> Result<(), AllocError>
+    requires { TakesChange timelines.old node change.now }
+    ensures { OnOk result (MakesChange timelines.old timelines.new node change.now) }
+{
+    match change {
+        Change::Load(descriptor) => add_segment(timelines, alloc, node, descriptor),
+        Change::Drop(descriptor) => remove_segment(timelines, node, descriptor),
+    }
+}
+
+// Makes changes of the set of a node, in place, and edits the timelines of their sources.
+pub(crate) fn replay_changes(
+    timelines: &mut Timelines,
+    alloc: Global,
+    node: NodeNo,
+    set: &mut Vec<Descriptor>,
+    changes: &[Change],
+) -> Result<(), AllocError>
+    requires set { IsSegmentSet set.old.items }
+    requires made { (t : List Described) × (replay_from set.old.items changes.now ≡ Some t) }
+    requires over { (entries : List Entry) × AreTimelines (ServesWith entries node set.old.items) timelines.old }
+    ensures made { OnOk result (replay_from set.old.items changes.now ≡ Some set.new.items) }
+    ensures over { OnOk result ((entries : List Entry) → AreTimelines (ServesWith entries node set.old.items) timelines.old
+        → AreTimelines (ServesWith entries node set.new.items) timelines.new) }
+{
+    for change in changes {
+        change_timeline(timelines, alloc, node, change)?;
+        apply_change(set, change)?;
+    }
+    Ok(())
 }

@@ -1,10 +1,10 @@
 -- The texts of identifiers: their bytes, that no two identifiers share one, and their order.
-use Rattle.std.proofs.Common.{◌≡◌, Decides, ℕ, ◌<◌, ◌≤◌, ◌≢◌, List, [], ◌∷◌, ◌++◌, length, take, drop, min, refl, sym, ap, ◌∙◌, arith, inl, inr, append_assoc, length-append, lit<, codes, decimal, IsTrue, All}
-use Rattle.std.specs.Str.{IsAscii, IsUtf8, bytes_eq}
+use Rattle.std.proofs.Common.{◌≡◌, ℕ, ◌<◌, ◌≤◌, ◌≢◌, List, [], ◌∷◌, ◌++◌, length, take, drop, min, refl, sym, ap, ◌∙◌, arith, inl, inr, append_assoc, length-append, lit<, codes, decimal, IsTrue, All}
+use Rattle.std.specs.Str.{IsAscii, IsUtf8}
 use Rattle.std.specs.Ordering.{nat_cmp, ordering_then}
 use Rattle.std.specs.declared.cmp.Ordering.{Ordering}
 use Rattle.std.specs.declared.cmp.Ordering.TheVariants.{Less, Equal, Greater}
-use Rattle.std.specs.Cmp.Lexicographic.{slice_cmp, bytes_decides}
+use Rattle.std.specs.Cmp.Lexicographic.{slice_cmp}
 use Rattle.std.proofs.lemmas.Bool.{cases_eq, eq-eqb, ne_eqb}
 use Rattle.std.proofs.lemmas.Bool.Decides.{nat_tests}
 use Rattle.std.proofs.lemmas.Fmt.{length-decimal-le, IsAscii-decimal, decimal_injective}
@@ -43,13 +43,13 @@ length-identifier_text id h =
     simp length-append
     (omega (arith, h.source.short, h.version.short, length-partition_suffix id.partition h.partition, length-instant_text id.interval.start, length-instant_text id.interval.end))
 
-IsAscii-name : (text : List ℕ) → IsName text → IsAscii text
+pub IsAscii-name : (text : List ℕ) → IsName text → IsAscii text
 IsAscii-name text h = IsAscii-from_all text (λ k d l. let byte = h.bytes k d l in grind (arith, nat_tests))
 
-IsAscii-version : (text : List ℕ) → IsVersion text → IsAscii text
+pub IsAscii-version : (text : List ℕ) → IsVersion text → IsAscii text
 IsAscii-version text h = IsAscii-from_all text (λ k d l. let byte = h.bytes k d l in grind (arith, nat_tests))
 
-IsAscii-line : IsAscii (codes "_")
+pub IsAscii-line : IsAscii (codes "_")
 IsAscii-line = IsAscii-cons 95 [] (lit< tt) IsAscii-nil
 
 IsAscii-partition_suffix : (p : ℕ) → p < 65536 → IsAscii (partition_suffix p)

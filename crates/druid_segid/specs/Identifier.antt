@@ -1,5 +1,5 @@
 -- Identifiers of segments, and their texts.
-use Rattle.std.specs.Prelude.{ℕ, ◌<◌, Bool, ◌==◌, ◌&&◌, List, [], ◌++◌, codes, decimal, bytes_eq, if◌then◌else◌}
+use Rattle.std.specs.Prelude.{◌≡◌, ℕ, ◌<◌, Bool, ◌==◌, ◌&&◌, List, [], ◌++◌, codes, decimal, bytes_eq, if◌then◌else◌}
 use Rattle.std.specs.Ordering.{nat_cmp, ordering_then}
 use Rattle.std.specs.Cmp.Lexicographic.{slice_cmp}
 use Rattle.std.specs.declared.cmp.Ordering.{Ordering}
@@ -30,6 +30,12 @@ unfoldable pub identifier_text : Identifier → List ℕ
 identifier_text id =
     id.source ++ codes "_" ++ instant_text id.interval.start ++ codes "_" ++ instant_text id.interval.end
     ++ codes "_" ++ id.version ++ partition_suffix id.partition
+
+-- the text spells the identifier of that source
+pub record Spells (source text : List ℕ) (id : Identifier) : Type 0 where
+  pub valid : IsIdentifier id
+  pub of_source : id.source ≡ source
+  pub spelled : identifier_text id ≡ text
 
 -- the test of equal identifiers
 abbrev pub same_identifier : Identifier → Identifier → Bool

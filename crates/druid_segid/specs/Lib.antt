@@ -1,4 +1,5 @@
 pub mod Names
 pub mod Identifier
+pub mod Parsed
 pub mod Group
 pub mod IdentifierLaws

@@ -9,6 +9,7 @@ mod laws;
 mod meter;
 mod name;
 mod order;
+mod parsing;
 mod spelling;
 mod text;
 mod version;
@@ -16,7 +17,9 @@ mod version;
 pub use fault::IdFault;
 pub use group::{GroupKey, Rank};
 pub use identifier::SegmentId;
-pub use laws::{identifiers_go_by_their_texts, one_text, ranks_are_total};
+pub use laws::{
+    identifiers_are_read_back, identifiers_go_by_their_texts, one_text, ranks_are_total,
+};
 pub use meter::Meter;
 pub use name::{MAX_NAME, Name};
 pub use version::{MAX_VERSION, Version};

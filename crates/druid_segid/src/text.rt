@@ -10,21 +10,23 @@ use std::alloc::{AllocError, Global};
 use std::cmp::Ordering;
 use std::hash::{Hash, Hasher};
 use std::marker::Model;
+use std::sync::Arc;
 
-// The text of a name or of a version. Texts are in the order of their bytes.
+// The text of a name or of a version. Texts are in the order of their bytes. Copies share one text.
 //
 // A contract sees its bytes.
 #[derive(Debug, Drop)]
 pub(crate) struct Text {
-    text: String,
+    text: Arc<String, Global>,
 }
 
 impl Model for Text {
     ghost use Rattle.std.specs.Prelude.{ℕ, List, string_bytes};
+    ghost use Rattle.std.specs.Arc.{arc_value};
 
     ghost Value = { List ℕ };
 
-    ghost view = { λ a. string_bytes a.text };
+    ghost view = { λ a. string_bytes (arc_value a.text) };
 }
 
 impl Text {
@@ -33,7 +35,7 @@ impl Text {
         ensures { IfOk result (λ copy. copy ≡ text.now) }
     {
         Ok(Text {
-            text: String::from_str(alloc, text)?,
+            text: Arc::new(alloc, String::from_str(alloc, text)?)?,
         })
     }
 
@@ -50,7 +52,7 @@ impl Clone for Text {
 
     fn clone(&self) -> Result<Text, AllocError> {
         Ok(Text {
-            text: self.text.clone()?,
+            text: Arc::try_clone(&self.text)?,
         })
     }
 }
@@ -64,7 +66,7 @@ impl PartialEq for Text {
         ensures value { result ≡ bytes_eq self.now other.now }
         ensures same { IsTrue result ↔ (self.now ≡ other.now) }
     {
-        self.text == other.text
+        self.as_str() == other.as_str()
     }
 }
 
@@ -92,7 +94,7 @@ impl Ord for Text {
     ghost matches_eq = { texts_ties };
 
     fn cmp(&self, other: &Text) -> Ordering {
-        self.text.cmp(&other.text)
+        self.as_str().cmp(other.as_str())
     }
 }
 
@@ -102,6 +104,6 @@ impl Hash for Text {
     ghost respects_eq = { Prim.search (hashing, rules) };
 
     fn hash<H: Hasher>(&self, state: &mut H) {
-        self.text.hash(state);
+        self.as_str().hash(state);
     }
 }

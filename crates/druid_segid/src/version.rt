@@ -69,6 +69,14 @@ impl Version {
         if !Version::accepts(text) {
             return Err(IdFault::BadVersion);
         }
+        Ok(Version::copied(alloc, text)?)
+    }
+
+    // The version of a text that is one.
+    pub(crate) fn copied(alloc: Global, text: &str) -> Result<Version, AllocError>
+        requires { IsVersion text.now }
+        ensures { IfOk result (λ version. version ≡ text.now) }
+    {
         Ok(Version {
             text: Text::new(alloc, text)?,
         })

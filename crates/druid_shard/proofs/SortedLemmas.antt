@@ -1,10 +1,10 @@
 -- Segments in the order of their identifiers' texts.
-use Rattle.std.proofs.Common.{◌≡◌, ◌+◌, ◌-◌, ◌⊎◌, ◌<◌, ◌≤◌, ◌≢◌, ℕ, zero, suc, List, length, get_or, true, false, cond, eqb, refl, sym, ap, ◌∙◌, subst, inl, inr, arith}
+use Rattle.std.proofs.Common.{◌≡◌, ◌+◌, ◌-◌, ◌⊎◌, ◌<◌, ℕ, zero, suc, List, length, get_or, true, refl, sym, ap, ◌∙◌, inl, inr, arith}
 use Rattle.std.specs.Ordering.{nat_cmp, is_lt, ordering_reverse, ordering_then}
 use Rattle.std.specs.declared.cmp.Ordering.{Ordering}
 use Rattle.std.specs.declared.cmp.Ordering.TheVariants.{Less, Equal, Greater}
 use Rattle.std.specs.Cmp.Lexicographic.{slice_cmp}
-use Rattle.std.specs.List.{AllAdjacentBelow, swap}
+use Rattle.std.specs.List.{swap}
 use Rattle.std.specs.List.Sorted.{IsPermutation, IsSorted}
 use Rattle.std.proofs.lemmas.Bool.{cases_order, cases_eq, false≢true}
 use Rattle.std.proofs.lemmas.Cmp.{nat_list_cmp_total, tied_itself}
@@ -16,7 +16,7 @@ use Rattle.druid_shard.specs.Described.{Described, described_cmp}
 use Rattle.druid_shard.specs.Reply.{IsBefore, AreSorted, HaveOwnIdentifiers}
 
 -- no identifier comes before itself
-not_before_itself : (a b : Described) → IsBefore a b → identifier_text a.id ≡ identifier_text b.id → ⊥
+pub not_before_itself : (a b : Described) → IsBefore a b → identifier_text a.id ≡ identifier_text b.id → ⊥
 not_before_itself a b before same =
     let tied = tied_itself nat_list_cmp_total (identifier_text a.id) in
     let e : slice_cmp nat_cmp (identifier_text a.id) (identifier_text a.id) ≡ Less = rw (← same) at before in

@@ -4,5 +4,6 @@ pub mod Members
 pub mod Mark
 pub mod Reply
 pub mod ReplyBody
+pub mod Replay
 pub mod Slots
 pub mod Orders

@@ -29,13 +29,34 @@ pub record IsComplete (ms : List Member) : Type 0 where
   pub some : HasMember ms
   pub cores : (p : ℕ) → p < core_count ms → HasPartition ms p
 
+-- the member is of the partition, and the node serves it
+abbrev pub IsAt : ℕ → ℕ → Member → Type 0
+IsAt partition node m = (m.partition ≡ partition) × (m.node ≡ node)
+
 -- the node serves the partition
 abbrev pub HoldsPlace : List Member → ℕ → ℕ → Type 0
 HoldsPlace ms partition node = (m : Member) × Contains ms m × (m.partition ≡ partition) × (m.node ≡ node)
 
+-- a node serves a partition as one member
+abbrev pub ServedOnce : List Member → ℕ → Type 0
+ServedOnce ms partition =
+    (x y : Member) → Contains ms x → Contains ms y → x.partition ≡ partition → y.partition ≡ partition → x.node ≡ y.node → x ≡ y
+
 -- the set new is old with one member more
 abbrev pub Adds : List Member → List Member → Member → Type 0
 Adds old new m = (x : Member) → Contains new x ↔ ((x ≡ m) ⊎ Contains old x)
+
+-- the set new is old without the members of the partition that the node serves
+abbrev pub RemovesPlace : List Member → List Member → ℕ → ℕ → Type 0
+RemovesPlace old new partition node = (x : Member) → Contains new x ↔ (Contains old x × (IsAt partition node x → ⊥))
+
+-- the set old is new with one member more, of the partition that the node serves
+abbrev pub RemovesOne : List Member → List Member → ℕ → ℕ → Type 0
+RemovesOne old new partition node = (m : Member) × IsAt partition node m × Adds new old m
+
+-- all members are of the partition, and served by the node
+abbrev pub AllAt : List Member → ℕ → ℕ → Type 0
+AllAt ms partition node = (x : Member) → Contains ms x → IsAt partition node x
 
 -- as sets they are one
 abbrev pub SameMembers : List Member → List Member → Type 0

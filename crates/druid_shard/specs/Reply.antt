@@ -1,5 +1,5 @@
 -- What a node answers to a broker that follows it.
-use Rattle.std.specs.Prelude.{◌≡◌, ℕ, ◌<◌, ◌≤◌, List, length, slice_index_or}
+use Rattle.std.specs.Prelude.{◌≡◌, ℕ, ◌+◌, ◌<◌, ◌≤◌, List, length, slice_index_or}
 use Rattle.std.specs.List.{AllAdjacentBelow}
 use Rattle.std.specs.declared.cmp.Ordering.TheVariants.{Less}
 use Rattle.std.specs.Ordering.{nat_cmp}
@@ -7,10 +7,15 @@ use Rattle.std.specs.Cmp.Lexicographic.{slice_cmp}
 use Rattle.druid_segid.specs.Identifier.{identifier_text}
 use Rattle.druid_shard.specs.Described.{Described}
 use Rattle.druid_shard.specs.Mark.{Point}
+use Rattle.druid_shard.specs.declared.change.Change.{Change}
 
 -- the most segments that a node serves
 abbrev pub max_segments : ℕ
 max_segments = 20_000
+
+-- the most changes that a delta has, and that a node keeps
+abbrev pub max_changes : ℕ
+max_changes = 1_000
 
 -- a comes before b by the bytes of their identifiers' texts
 abbrev pub IsBefore : Described → Described → Type 0
@@ -31,3 +36,14 @@ pub record IsSnapshot (at : Point) (segments : List Described) : Type 0 where
   pub incarnation : 1 ≤ at.incarnation
   pub few : length segments ≤ max_segments
   pub sorted : AreSorted segments
+
+-- the mark to is that many changes behind from, in its incarnation
+pub record IsAsFar (from to : Point) (changes : ℕ) : Type 0 where
+  pub incarnation : to.incarnation ≡ from.incarnation
+  pub count : to.count ≡ from.count + changes
+
+-- what a type of replies keeps of a delta
+pub record IsDelta (from to : Point) (changes : List Change) : Type 0 where
+  pub incarnation : 1 ≤ from.incarnation
+  pub few : length changes ≤ max_changes
+  pub far : IsAsFar from to (length changes)

@@ -1,24 +1,30 @@
 //! Shard specs, descriptors of segments, and the values that brokers learn them by.
 #![tactic(auto)]
 
+mod change;
 mod descriptor;
 mod fault;
+mod items;
 mod json;
 mod laws;
 mod mark;
 mod members;
 mod reply;
+mod sets;
 mod slot;
 
+pub use change::{Ask, Cause, Change};
 pub use descriptor::{Descriptor, MAX_CORE, Shard};
 pub use fault::ShardFault;
+pub use items::Items;
 pub use json::{
     check_descriptor, descriptor_value, limited_field, number_field, read_descriptor, text_field,
 };
-pub use laws::descriptors_are_read_back;
+pub use laws::{changes_change_one_segment, descriptors_are_read_back, replays_go_on};
 pub use mark::Mark;
 pub use members::Members;
-pub use reply::{Body, Descriptors, MAX_SEGMENTS, Reply, ReplyFault};
+pub use reply::{Body, Changes, Descriptors, MAX_CHANGES, MAX_SEGMENTS, Reply, ReplyFault};
+pub use sets::{apply_change, find_segment};
 
 /// The place of a data node in the list of nodes, from 0.
 pub type NodeNo = u16;

@@ -1,7 +1,7 @@
 ghost use Rattle.std.specs.Prelude.{◌≡◌, ◌≢◌, ◌↔◌, ◌<◌, ◌≤◌, ◌⊎◌, IfOk, IsErrOf, IsTrue, length};
-ghost use Rattle.druid_shard.specs.Reply.{max_segments, HaveOwnIdentifiers, AreSorted};
+ghost use Rattle.druid_shard.specs.Reply.{max_segments, max_changes, HaveOwnIdentifiers, AreSorted, IsAsFar};
 
-use crate::{Descriptor, Mark};
+use crate::{Cause, Change, Descriptor, Items, Mark};
 use std::cmp::Ordering;
 use std::marker::Model;
 use thiserror::Error;
@@ -9,12 +9,18 @@ use thiserror::Error;
 /// The most segments that a node serves.
 pub const MAX_SEGMENTS: usize = 20_000;
 
+/// The most changes that a delta has, and that a node keeps of its history.
+pub const MAX_CHANGES: usize = 1_000;
+
 /// Why values make no reply.
 #[derive(Clone, Copy, Debug, PartialEq, Eq, Drop, Error)]
 pub enum ReplyFault {
-    /// Y5: a snapshot of more than 20,000 segments.
-    #[error("Y5: too many segments")]
+    /// Y5: a snapshot of more than 20,000 segments, or a delta of more than 1,000 changes.
+    #[error("Y5: too many segments or changes")]
     TooMany,
+    /// Y3: the marks of a delta are of two incarnations, or are not as far apart as it has changes.
+    #[error("Y3: a delta of another length")]
+    LengthOfDelta,
     /// Y4: an identifier stands twice in a snapshot.
     #[error("Y4: a doubled segment")]
     DoubledSegment,
@@ -23,54 +29,37 @@ pub enum ReplyFault {
     Memory,
 }
 
-/// Descriptors, one after another. A contract sees a list.
-#[derive(Debug, Drop)]
-pub struct Descriptors {
-    items: Vec<Descriptor>,
-}
+/// The descriptors of a snapshot.
+pub type Descriptors = Items<Descriptor>;
 
-impl Model for Descriptors {
-    ghost use Rattle.std.specs.Prelude.{List};
-    ghost use Rattle.druid_shard.specs.Described.{Described};
-
-    ghost Value = { List Described };
-
-    ghost view = { λ a. a.items.items };
-}
-
-impl Descriptors {
-    /// These descriptors, in this order.
-    pub fn new(items: Vec<Descriptor>) -> Descriptors
-        ensures { result ≡ items.items }
-    {
-        Descriptors { items }
-    }
-
-    /// The descriptors, lent.
-    pub fn as_slice(&self) -> &[Descriptor]
-        ensures { result.now ≡ self.now }
-    {
-        self.items.as_slice()
-    }
-
-    /// The descriptors, given back.
-    pub fn into_vec(self) -> Vec<Descriptor>
-        ensures { result.items ≡ self }
-    {
-        let Descriptors { items } = self;
-        items
-    }
-}
+/// The changes of a delta.
+pub type Changes = Items<Change>;
 
 /// What a reply says.
 #[derive(Debug, Drop)]
 pub enum Body {
+    /// The changes of one incarnation of the node from one mark to another, in order.
+    Delta {
+        /// The mark before the first change.
+        from: Mark,
+        /// The mark behind the last change.
+        to: Mark,
+        /// The changes.
+        changes: Changes,
+    },
     /// All that the node serves at a mark, by identifier.
     Snapshot {
         /// The mark.
         at: Mark,
         /// The segments.
         segments: Descriptors,
+    },
+    /// The changes asked for are not to be had: the broker has to ask for all that the node serves.
+    Reset {
+        /// Why.
+        cause: Cause,
+        /// The mark of the node.
+        at: Mark,
     },
 }
 
@@ -103,8 +92,50 @@ fn are_sorted(segments: &[Descriptor]) -> bool
     true
 }
 
+// Whether the second mark is that many changes behind the first, in its incarnation.
+fn is_as_far(from: Mark, to: Mark, changes: u64) -> bool
+    ensures { IsTrue result ↔ IsAsFar from to changes }
+{
+    from.incarnation() == to.incarnation() && from.count().checked_add(changes) == Some(to.count())
+}
+
 impl Reply {
     ghost use Rattle.druid_shard.specs.ReplyBody.{IsReply, IsSnapshotOf};
+    ghost use Rattle.druid_shard.specs.declared.reply.Body.TheVariants.{Delta, Reset};
+
+    /// The changes of one incarnation of a node between two marks, in order. Y5 where there are more than 1,000, and
+    /// then Y3 where the marks are of two incarnations or are not as far apart as there are changes. It takes no memory.
+    pub fn delta(from: Mark, to: Mark, changes: Vec<Change>) -> Result<Reply, ReplyFault>
+        requires from { 1 ≤ from.incarnation }
+        requires to { 1 ≤ to.incarnation }
+        ensures ok { IfOk result (λ reply. reply ≡ Delta from to changes.items) }
+        ensures too_many { IsErrOf result ReplyFault.TooMany ↔ (max_changes < length changes.items) }
+        ensures length { IsErrOf result ReplyFault.LengthOfDelta
+            ↔ ((length changes.items ≤ max_changes) × (IsAsFar from to (length changes.items) → ⊥)) }
+        ensures doubled { result ≢ Err ReplyFault.DoubledSegment }
+        ensures memory { result ≢ Err ReplyFault.Memory }
+    {
+        if changes.len() > MAX_CHANGES {
+            return Err(ReplyFault::TooMany);
+        }
+        if !is_as_far(from, to, changes.len() as u64) {
+            return Err(ReplyFault::LengthOfDelta);
+        }
+        let changes = Items::new(changes);
+        Ok(Reply {
+            body: Body::Delta { from, to, changes },
+        })
+    }
+
+    /// That a node has not the changes that it was asked for, and its mark. It takes no memory.
+    pub fn reset(cause: Cause, at: Mark) -> Reply
+        requires { 1 ≤ at.incarnation }
+        ensures { result ≡ Reset cause at }
+    {
+        Reply {
+            body: Body::Reset { cause, at },
+        }
+    }
 
     /// All that a node serves at a mark; the segments may stand in any order, and the reply has them by identifier.
     /// Y5 where there are more than 20,000, and then Y4 where an identifier stands twice. It takes no memory.
@@ -114,6 +145,7 @@ impl Reply {
         ensures too_many { IsErrOf result ReplyFault.TooMany ↔ (max_segments < length segments.items) }
         ensures doubled { IsErrOf result ReplyFault.DoubledSegment
             ↔ ((length segments.items ≤ max_segments) × (HaveOwnIdentifiers segments.items → ⊥)) }
+        ensures length { result ≢ Err ReplyFault.LengthOfDelta }
         ensures memory { result ≢ Err ReplyFault.Memory }
     {
         if segments.len() > MAX_SEGMENTS {
@@ -123,7 +155,7 @@ impl Reply {
         if !are_sorted(&segments) {
             return Err(ReplyFault::DoubledSegment);
         }
-        let segments = Descriptors::new(segments);
+        let segments = Items::new(segments);
         Ok(Reply {
             body: Body::Snapshot { at, segments },
         })

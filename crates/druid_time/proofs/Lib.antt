@@ -1,5 +1,6 @@
 pub mod CivilLemmas
 pub mod TextLemmas
+pub mod PrintedLemmas
 mod ReadLemmas
 pub mod ExtentLemmas
 mod MergeLemmas

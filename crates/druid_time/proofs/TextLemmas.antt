@@ -266,7 +266,7 @@ slice_cmp-instant_text s t h k =
 
 -- ---- what a text names, case by case
 
-is_civil_to : (c : Civil) → is_civil c ≡ true → IsCivil c
+pub is_civil_to : (c : Civil) → is_civil c ≡ true → IsCivil c
 unfolding is_civil
 is_civil_to c h =
     let milli = and_parts _ _ h in

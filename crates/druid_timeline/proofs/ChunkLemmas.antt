@@ -1,17 +1,18 @@
 -- What is held, kept by chunk in a map.
-use Rattle.std.proofs.Common.{◌≡◌, ◌<◌, ◌≤◌, ◌⊎◌, ◌↔◌, ◌&&◌, ◌++◌, ℕ, Bool, true, false, List, [], ◌∷◌, length, map, Option, Some, None, unwrap_or, MatchOption, refl, sym, ap, ◌∙◌, subst, inl, inr, arith}
+use Rattle.std.proofs.Common.{◌≡◌, ◌⊎◌, ◌↔◌, ◌&&◌, ◌++◌, ℕ, Bool, true, false, List, [], ◌∷◌, map, Option, Some, None, Result, Ok, Err, unwrap_or, MatchOption, refl, sym, ap, ◌∙◌, subst, inl, inr, arith}
 use Rattle.std.specs.Bool.{IsTrue}
 use Rattle.std.specs.Cmp.{IsEquivalence}
 use Rattle.std.specs.HashMap as hash
 use Rattle.std.specs.HashMap.{HashMap}
-use Rattle.std.specs.List.{Contains, flat_map, filter, list_any, IsDistinct, AllByRecursion}
+use Rattle.std.specs.List.{Contains, filter, list_any, IsDistinct, AllByRecursion}
 use Rattle.std.specs.Map.{keys_of, lookup}
+use Rattle.std.specs.Result.{IsOk, OnOk, OnErr}
 use Rattle.std.specs.Str.{bytes_eq}
 use borrow.Author.Tests.{eqb-true}
 use Rattle.std.proofs.Common.{eq-eqb, eqb}
 use Rattle.std.proofs.lemmas.Bool.{cases_eq, false≢true}
 use Rattle.std.proofs.lemmas.Slice.Eq.{bytes_eq-Decides}
-use Rattle.std.proofs.lemmas.List.Elements.{filter-append}
+use Rattle.std.proofs.lemmas.List.Elements.{filter-append, Contains-append_cases}
 use Rattle.std.proofs.lemmas.Map.Entries.{lookup_head, lookup_tail}
 use Rattle.std.proofs.lemmas.Map.Keys.{IsDistinct-head, IsDistinct-tail}
 use Rattle.std.proofs.lemmas.Map.Views.{hash_map_get_iff}
@@ -19,11 +20,11 @@ use Rattle.druid_time.specs.Extent.{Has}
 use Rattle.druid_segid.specs.Identifier.{Identifier}
 use Rattle.druid_segid.specs.Group.{Group, group_of, same_group, Outranks}
 use Rattle.druid_segid.proofs.GroupLemmas.{group_same, Outranks-cases, Outranks-onward}
-use Rattle.druid_shard.specs.Members.{Member, IsComplete, HoldsPlace, Adds, SameMembers}
+use Rattle.druid_shard.specs.Members.{Member, IsComplete, HasMember, HoldsPlace, AllAt, Adds, RemovesPlace, RemovesOne, SameMembers, ServedOnce}
 use Rattle.druid_shard.proofs.MemberLemmas.{Contains-nil, Contains-cons, Contains-later, Contains-map, Contains-map_back, Contains-flat_map, Contains-flat_map_back}
-use Rattle.druid_timeline.specs.Holding.{Held, held_of, members_of, IsHeld, AddsHeld, SameHeld, IsCompleteIn}
-use Rattle.druid_timeline.specs.Visible.{IsCandidate, IsVisible, NothingVisible}
-use Rattle.druid_timeline.specs.Chunks.{Chunk, held_at, held_in, chunk_of, IsCandidateOf, NoneOf, IsBestOf, IsBest}
+use Rattle.druid_timeline.specs.Holding.{Held, members_of, HoldsNothing, IsHeld, IsPlaceOf, AddsHeld, RemovesHeld, RemovesOneHeld, SameHeld}
+use Rattle.druid_timeline.specs.Visible.{IsCandidate, IsVisible}
+use Rattle.druid_timeline.specs.Chunks.{Chunk, held_at, held_in, chunk_of, IsCandidateOf, IsBestOf, IsBest}
 
 -- ---- the test of equal groups
 
@@ -111,7 +112,7 @@ KeepsChunks m n g = (q : Group) → (q ≡ g → ⊥) → hash.get same_group n 
 kept_chunk : {S T : Type 0} (m : Chunks S) (n : Chunks T) (g q : Group) → KeepsChunks m n g → (q ≡ g → ⊥) → chunk_of n q ≡ chunk_of m q
 kept_chunk m n g q kept other = ap (λ (o : Option (List Member)). unwrap_or o []) (kept q other)
 
-cases_group : (g h : Group) → (g ≡ h) ⊎ (g ≡ h → ⊥)
+pub cases_group : (g h : Group) → (g ≡ h) ⊎ (g ≡ h → ⊥)
 cases_group g h = by_test (same_group g h) refl where
   by_test : (b : Bool) → same_group g h ≡ b → (g ≡ h) ⊎ (g ≡ h → ⊥)
   by_test true e = inl (same_group-exact g h e)
@@ -160,6 +161,79 @@ SameHeld-chunk m n g um un kept same x = (
   λ there. of_chunk m um x (one_way m n g um un kept same x (in_chunk n un x there)),
   λ there. of_chunk n un x (one_way n m g un um (λ q other. sym (kept q other)) (λ y. ((same y).1, (same y).0)) x (in_chunk m um x there)),
 )
+
+-- what a node serves of an identifier is taken out where its place is taken out of its chunk
+pub RemovesHeld-chunk : {S T : Type 0} (m : Chunks S) (n : Chunks T) (g : Group) (node : ℕ) (id : Identifier) → hash.IsUnique same_group m → hash.IsUnique same_group n → KeepsChunks m n g → g ≡ group_of id
+    → RemovesPlace (chunk_of m g) (chunk_of n g) id.partition node → RemovesHeld (held_in m.entries) (held_in n.entries) node id
+RemovesHeld-chunk m n g node id um un kept at removes x = (λ there. forth (in_chunk n un x there), λ both. of_chunk n un x (back both)) where
+  member : List Member → Type 0
+  member ms = Contains ms x.member
+
+  forth : Contains (chunk_of n x.group) x.member → Contains (held_in m.entries) x × (IsPlaceOf node id x → ⊥)
+  forth there = elim (cases_group x.group g) [
+    | inl here ↦
+        let was = (removes x.member).0 (subst (λ (q : Group). member (chunk_of n q)) here there) in
+        (of_chunk m um x (subst (λ (q : Group). member (chunk_of m q)) (sym here) was.0), λ place. was.1 (place.1, place.2))
+    | inr other ↦
+        (of_chunk m um x (subst member (kept_chunk m n g x.group kept other) there), λ place. other (place.0 ∙ sym at))
+  ]
+
+  back : Contains (held_in m.entries) x × (IsPlaceOf node id x → ⊥) → Contains (chunk_of n x.group) x.member
+  back (there, not) = elim (cases_group x.group g) [
+    | inl here ↦
+        subst (λ (q : Group). member (chunk_of n q)) (sym here)
+        ((removes x.member).1 (subst (λ (q : Group). member (chunk_of m q)) here (in_chunk m um x there), λ place. not (here ∙ at, place.0, place.1)))
+    | inr other ↦ subst member (sym (kept_chunk m n g x.group kept other)) (in_chunk m um x there)
+  ]
+
+-- where all members are at the place, none is left
+pub RemovesPlace-all : (ms : List Member) (p node : ℕ) → AllAt ms p node → RemovesPlace ms [] p node
+RemovesPlace-all ms p node all x = (λ there. absurd (Contains-nil x there), λ both. absurd (both.1 (all x both.0)))
+
+-- where a node serves a partition as one member, that one goes
+pub RemovesOne-once : (old new : List Member) (p node : ℕ) → RemovesPlace old new p node → HoldsPlace old p node → ServedOnce old p → RemovesOne old new p node
+RemovesOne-once old new p node removes (m, there, partition, at) once = (m, (partition, at), λ x. (λ h. forth x h (cases_eq x.partition p) (cases_eq x.node node), back x)) where
+  forth : (x : Member) → Contains old x → (x.partition ≡ p) ⊎ (x.partition ≡ p → ⊥) → (x.node ≡ node) ⊎ (x.node ≡ node → ⊥) → (x ≡ m) ⊎ Contains new x
+  forth x h (inl e) (inl f) = inl (once x m h there e partition (f ∙ sym at))
+  forth x h (inl e) (inr f) = inr ((removes x).1 (h, λ place. f place.1))
+  forth x h (inr e) f = inr ((removes x).1 (h, λ place. e place.0))
+
+  back : (x : Member) → (x ≡ m) ⊎ Contains new x → Contains old x
+  back x (inl same) = subst (Contains old) (sym same) there
+  back x (inr h) = ((removes x).0 h).0
+
+pub RemovesOneHeld-chunk : {S T : Type 0} (m : Chunks S) (n : Chunks T) (g : Group) (node : ℕ) (id : Identifier) → hash.IsUnique same_group m → hash.IsUnique same_group n → KeepsChunks m n g → g ≡ group_of id
+    → RemovesOne (chunk_of m g) (chunk_of n g) id.partition node → RemovesOneHeld (held_in m.entries) (held_in n.entries) node id
+RemovesOneHeld-chunk m n g node id um un kept at (one, place, adds) =
+    (held_at g one, (at, place.0, place.1), AddsHeld-chunk n m g one un um (λ q other. sym (kept q other)) adds)
+
+-- ---- what a change of one chunk tells
+
+-- what holds of two lists of members holds of them where a map has them
+pub at_chunks : (R : List Member → List Member → Type 0) (old new : Option (List Member)) (s t : List Member) → Some s ≡ old → new ≡ Some t → R s t → R (unwrap_or old []) (unwrap_or new [])
+at_chunks R old new s t e f h =
+    subst (λ (o : Option (List Member)). R (unwrap_or old []) (unwrap_or o [])) (sym f)
+    (subst (λ (o : Option (List Member)). R (unwrap_or o []) t) e h)
+
+-- members that are lent for an edit are those that were shared
+pub lent_members : (lent inside now : List Member) → (lent ≡ inside) ⊎ (lent ≡ inside) → inside ≡ now → lent ≡ now
+lent_members lent inside now (inl e) f = e ∙ f
+lent_members lent inside now (inr e) f = e ∙ f
+
+pub was_ok : {T E : Type 0} {r : Result T E} {x : T} → r ≡ Ok x → IsOk r
+was_ok {T} {E} {r} {x} e = subst (λ (s : Result T E). IsOk s) (sym e) refl
+
+pub always_err : {T E : Type 0} (r : Result T E) (P : Type 0) → P → OnErr r P
+always_err (Ok x) P p = tt
+always_err (Err e) P p = p
+
+pub on_ok : {T E : Type 0} (r : Result T E) (P Q : Type 0) → (P → Q) → OnOk r P → OnOk r Q
+on_ok (Ok x) P Q f p = f p
+on_ok (Err e) P Q f p = tt
+
+pub on_err : {T E : Type 0} (r : Result T E) (P Q : Type 0) → (P → Q) → OnErr r P → OnErr r Q
+on_err (Ok x) P Q f p = tt
+on_err (Err e) P Q f p = f p
 
 -- ---- the members of a chunk
 
@@ -370,3 +444,30 @@ any-Contains (x ∷ ns) n = by_test (eqb x n) refl (any-Contains ns n) where
       | inr later ↦ rw e (rest.1 later)
     ],
   )
+
+-- ---- a walk that looks for what is held
+
+-- the chunks that are passed have no member: those that are left are rest
+pub record AreBare (chunks rest : List Chunk) : Type 0 where
+  pub among : (e : Chunk) → Contains rest e → Contains chunks e
+  pub passed : (x : Held) → Contains (held_in chunks) x → Contains (held_in rest) x
+
+pub AreBare-start : (chunks : List Chunk) → AreBare chunks chunks
+AreBare-start chunks = record { among = λ e there. there; passed = λ x there. there }
+
+pub AreBare-next : (chunks rest : List Chunk) (e : Chunk) → AreBare chunks (e ∷ rest) → (HasMember e.1 → ⊥) → AreBare chunks rest
+AreBare-next chunks rest e h bare = record {
+  among = λ x there. h.among x (Contains-later e rest x there);
+  passed = λ x there. elim (Contains-append_cases (map (held_at e.0) e.1) (held_in rest) x (h.passed x there)) [
+    | inl here ↦ let one = Contains-map (held_at e.0) e.1 x here in absurd (bare (one.0, one.1))
+    | inr later ↦ later
+  ];
+}
+
+pub AreBare-end : (chunks : List Chunk) → AreBare chunks [] → HoldsNothing (held_in chunks)
+AreBare-end chunks h x there = Contains-nil x (h.passed x there)
+
+-- a chunk that has a member holds something
+pub HoldsNothing-bare : (chunks rest : List Chunk) (e : Chunk) → AreBare chunks (e ∷ rest) → HoldsNothing (held_in chunks) → HasMember e.1 → ⊥
+HoldsNothing-bare chunks rest e h none (m, there) =
+    none (held_at e.0 m) (Contains-flat_map_back (λ (c : Chunk). map (held_at c.0) c.1) chunks e (held_at e.0 m) (h.among e (0, omega arith, refl)) (Contains-map_back (held_at e.0) e.1 m there))

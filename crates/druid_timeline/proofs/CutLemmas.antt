@@ -1,6 +1,6 @@
 -- Pieces, cut by the parts of a set.
-use Rattle.std.proofs.Common.{◌≡◌, ◌≢◌, ◌-◌, ◌<◌, ◌≤◌, ◌⊎◌, ◌↔◌, ◌++◌, ℕ, suc, max, min, List, [], ◌∷◌, length, Option, Some, None, refl, sym, ap, ◌∙◌, subst, inl, inr, arith}
-use Rattle.std.specs.List.{All, filter_map, flat_map}
+use Rattle.std.proofs.Common.{◌≡◌, ◌≢◌, ◌-◌, ◌<◌, ◌≤◌, ◌⊎◌, ◌↔◌, ◌++◌, ℕ, suc, max, min, List, [], ◌∷◌, Some, None, refl, sym, subst, inl, inr, arith}
+use Rattle.std.specs.List.{All, filter_map}
 use Rattle.std.proofs.lemmas.Bool.{cases_lt, lt-ltb, le-ltb}
 use Rattle.druid_time.specs.Extent.{Extent, IsExtent, Has, AnyHas, AreApart, AreParts}
 use Rattle.druid_segid.specs.Group.{Group}

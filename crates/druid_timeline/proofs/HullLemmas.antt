@@ -1,11 +1,11 @@
 -- The hull of the parts of a set.
-use Rattle.std.proofs.Common.{◌≡◌, ◌+◌, ◌-◌, ◌<◌, ◌≤◌, ℕ, zero, suc, List, length, get_or, Option, Some, None, MatchOption, inl, inr, sym, ap, ◌∙◌, subst, arith}
+use Rattle.std.proofs.Common.{◌≡◌, ◌-◌, ◌<◌, ◌≤◌, ℕ, zero, suc, List, length, get_or, Option, Some, None, MatchOption, inl, inr, ap, ◌∙◌, subst, arith}
 use Rattle.std.specs.List.{Contains}
 use Rattle.std.specs.Option.{SomeIff}
 use Rattle.std.proofs.lemmas.Bool.{cases_order}
 use Rattle.std.proofs.lemmas.List.{get_or_default}
 use Rattle.std.proofs.lemmas.List.Elements.{All-get_or}
-use Rattle.druid_time.specs.Extent.{Extent, IsExtent, Has, Share, AreParts}
+use Rattle.druid_time.specs.Extent.{Extent, IsExtent, AreParts}
 use Rattle.druid_time.proofs.ExtentLemmas.{AreParts-order}
 use Rattle.druid_timeline.specs.Chunks.{Chunk}
 use Rattle.druid_timeline.specs.Stretches.{AreCandidatesIn, IsWithin}

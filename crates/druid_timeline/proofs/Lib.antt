@@ -4,3 +4,7 @@ pub mod SweepLemmas
 pub mod LookupLemmas
 pub mod CutLemmas
 pub mod HullLemmas
+pub mod PlaceLemmas
+pub mod UnseenLemmas
+pub mod EditLemmas
+pub mod HoldingLemmas

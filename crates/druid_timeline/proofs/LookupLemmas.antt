@@ -1,19 +1,26 @@
 -- The sweep over the parts of a set, and the pieces that it gives.
-use Rattle.std.proofs.Common.{◌≡◌, ◌+◌, ◌<◌, ◌≤◌, ◌⊎◌, ◌↔◌, ◌++◌, ℕ, zero, suc, List, [], ◌∷◌, length, get_or, take, map, refl, sym, ap, ◌∙◌, subst, inl, inr, arith}
+use Rattle.std.proofs.Common.{◌≡◌, ◌+◌, ◌<◌, ◌≤◌, ◌⊎◌, ◌↔◌, ◌++◌, ℕ, zero, suc, List, [], ◌∷◌, length, get_or, take, map, Result, Ok, Err, sym, ap, ◌∙◌, subst, inl, inr, arith}
 use Rattle.std.specs.HashMap as hash
 use Rattle.std.specs.List.{Contains, All}
+use Rattle.std.specs.Result.{IfOk}
 use Rattle.std.proofs.lemmas.List.{take_more}
 use Rattle.std.proofs.lemmas.List.Elements.{Contains-get_or}
 use Rattle.druid_time.specs.Extent.{Extent, IsExtent, Has, AnyHas, AreApart, AreParts}
 use Rattle.druid_segid.specs.Group.{Group, same_group}
 use Rattle.druid_shard.specs.Members.{Member}
 use Rattle.druid_shard.proofs.MemberLemmas.{Contains-nil}
-use Rattle.druid_timeline.specs.Holding.{Held, members_of}
-use Rattle.druid_timeline.specs.Pieces.{Shown, AreRuns, Shows, Told, shown_of, ArePartitions, ArePiecesIn}
-use Rattle.druid_timeline.specs.Chunks.{Chunk, held_in, chunk_of, IsBestOf}
-use Rattle.druid_timeline.specs.Stretches.{Stretch, shown_by, chunk_by, AreOf, EndBy, AreCandidatesIn, AreRunsIn}
+use Rattle.druid_timeline.specs.Holding.{members_of}
+use Rattle.druid_timeline.specs.Pieces.{AreRuns, Shows, Told, ArePartitions, ArePiecesIn}
+use Rattle.druid_timeline.specs.Chunks.{Chunk, held_in, IsBestOf}
+use Rattle.druid_timeline.specs.Stretches.{Stretch, shown_by, AreOf, EndBy, AreCandidatesIn, AreRunsIn}
 use Rattle.druid_timeline.proofs.ChunkLemmas.{Chunks, IsVisible-chunk, entry_found, members_of-held_in}
 use Rattle.druid_timeline.proofs.SweepLemmas.{IsBestOf-within}
+
+-- ---- results
+
+pub if_ok : {T E : Type 0} (r : Result T E) (P Q : T → Type 0) → IfOk r P → ((x : T) → P x → Q x) → IfOk r Q
+if_ok (Ok x) P Q p f = f x p
+if_ok (Err e) P Q p f = tt
 
 -- ---- the parts so far
 

@@ -1,7 +1,6 @@
 -- Lists of runs: what they show says which list it is.
-use Rattle.std.proofs.Common.{◌≡◌, ◌≢◌, ℕ, ◌<◌, ◌≤◌, List, [], ◌∷◌, ◌↔◌, ◌⊎◌, refl, sym, ap, ◌∙◌, subst, inl, inr, arith}
+use Rattle.std.proofs.Common.{◌≡◌, ◌≢◌, ℕ, ◌<◌, ◌≤◌, List, [], ◌∷◌, refl, sym, ◌∙◌, inl, inr, arith}
 use Rattle.std.proofs.lemmas.Bool.{cases_order}
-use Rattle.druid_time.specs.Extent.{Extent, Has}
 use Rattle.druid_segid.specs.Group.{Group}
 use Rattle.druid_timeline.specs.Pieces.{Shown, IsStretch, AreRuns, Shows, ArePiecesIn}
 use Rattle.druid_timeline.specs.Holding.{Held}

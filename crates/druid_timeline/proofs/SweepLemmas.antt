@@ -1,6 +1,6 @@
 -- The sweep over the bounds of a part, and runs that grow at their end.
-use Rattle.std.proofs.Common.{◌≡◌, ◌≢◌, ◌+◌, ◌-◌, ◌<◌, ◌≤◌, ◌⊎◌, ◌↔◌, ◌++◌, ℕ, zero, suc, List, [], ◌∷◌, length, get_or, take, map, Option, Some, None, MatchOption, refl, sym, ap, ◌∙◌, subst, inl, inr, arith}
-use Rattle.std.specs.List.{Contains, All}
+use Rattle.std.proofs.Common.{◌≡◌, ◌≢◌, ◌+◌, ◌-◌, ◌<◌, ◌≤◌, ◌⊎◌, ◌↔◌, ◌++◌, ℕ, suc, List, [], ◌∷◌, length, get_or, map, refl, sym, ap, ◌∙◌, subst, inl, inr, arith}
+use Rattle.std.specs.List.{Contains}
 use Rattle.std.specs.List.Sorted.{IsNonDecreasing}
 use Rattle.std.proofs.Common.{drop, add-one}
 use Rattle.std.proofs.Math.Seq.{drop-cons}
@@ -8,10 +8,10 @@ use Rattle.druid_timeline.proofs.RunsLemmas.{AreRuns-first, AreRuns-rest}
 use Rattle.std.proofs.lemmas.Bool.{cases_order}
 use Rattle.std.proofs.lemmas.List.{map-append, get_or_default}
 use Rattle.std.proofs.lemmas.List.Elements.{Contains-push, Contains-push_cases, Contains-append_left}
-use Rattle.druid_time.specs.Extent.{Extent, IsExtent, Has, Share, AnyHas, AreApart, AreParts}
-use Rattle.druid_segid.specs.Group.{Group, Outranks}
+use Rattle.druid_time.specs.Extent.{Extent, IsExtent, Has, Share}
+use Rattle.druid_segid.specs.Group.{Group}
 use Rattle.druid_segid.proofs.GroupLemmas.{Outranks-one_way}
-use Rattle.druid_shard.specs.Members.{Member, IsComplete}
+use Rattle.druid_shard.specs.Members.{IsComplete}
 use Rattle.druid_shard.proofs.MemberLemmas.{Contains-nil, Contains-cons, Contains-later}
 use Rattle.druid_timeline.specs.Pieces.{Shown, IsStretch, AreRuns, Shows}
 use Rattle.druid_timeline.specs.Chunks.{Chunk, IsCandidateOf, NoneOf, IsBestOf}

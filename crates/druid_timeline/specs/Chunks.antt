@@ -40,3 +40,11 @@ pub record IsBestOf (chunks : List Chunk) (t : ℕ) (g : Group) : Type 0 where
 -- the best of the chunks, if there is one
 abbrev pub IsBest : List Chunk → ℕ → Option Group → Type 0
 IsBest chunks t best = MatchOption best (NoneOf chunks t) (IsBestOf chunks t)
+
+-- one of the chunks is g, and is complete
+abbrev pub IsCompleteOf : List Chunk → Group → Type 0
+IsCompleteOf chunks g = (ms : List Member) × Contains chunks (g, ms) × IsComplete ms
+
+-- at some instant g is the best of the chunks
+abbrev pub IsSeen : List Chunk → Group → Type 0
+IsSeen chunks g = (t : ℕ) × IsBestOf chunks t g

@@ -30,14 +30,39 @@ pub record Serving : Type 0 where
   pub source : List ℕ
   pub held : List Held
 
+-- no node serves a segment
+abbrev pub HoldsNothing : List Held → Type 0
+HoldsNothing held = (h : Held) → Contains held h → ⊥
+
 -- the node serves the segment of this identifier
 abbrev pub IsHeld : List Held → ℕ → Identifier → Type 0
 IsHeld held node id =
     (h : Held) × Contains held h × (h.group ≡ group_of id) × (h.member.partition ≡ id.partition) × (h.member.node ≡ node)
 
+-- the segment of this identifier, where the node serves it
+abbrev pub IsPlaceOf : ℕ → Identifier → Held → Type 0
+IsPlaceOf node id h = (h.group ≡ group_of id) × (h.member.partition ≡ id.partition) × (h.member.node ≡ node)
+
+-- the segment of this identifier is of the source, and the node serves it
+abbrev pub IsServed : Serving → ℕ → Identifier → Type 0
+IsServed s node id = (id.source ≡ s.source) × IsHeld s.held node id
+
+-- at most one stands for a node and an identifier
+abbrev pub OnePerPlace : List Held → Type 0
+OnePerPlace held =
+    (node : ℕ) (id : Identifier) (x y : Held) → Contains held x → Contains held y → IsPlaceOf node id x → IsPlaceOf node id y → x ≡ y
+
 -- the set new is old with one more
 abbrev pub AddsHeld : List Held → List Held → Held → Type 0
 AddsHeld old new h = (x : Held) → Contains new x ↔ ((x ≡ h) ⊎ Contains old x)
+
+-- the set new is old without what the node serves of this identifier
+abbrev pub RemovesHeld : List Held → List Held → ℕ → Identifier → Type 0
+RemovesHeld old new node id = (x : Held) → Contains new x ↔ (Contains old x × (IsPlaceOf node id x → ⊥))
+
+-- the set old is new with one more, which the node serves of this identifier
+abbrev pub RemovesOneHeld : List Held → List Held → ℕ → Identifier → Type 0
+RemovesOneHeld old new node id = (h : Held) × IsPlaceOf node id h × AddsHeld new old h
 
 -- as sets they are one
 abbrev pub SameHeld : List Held → List Held → Type 0

@@ -3,3 +3,4 @@ pub mod Visible
 pub mod Pieces
 pub mod Chunks
 pub mod Stretches
+pub mod Overshadowed

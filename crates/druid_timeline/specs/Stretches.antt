@@ -1,5 +1,5 @@
 -- What a sweep over the chunks of a part finds: only proofs use this.
-use Rattle.std.specs.Prelude.{◌≡◌, ℕ, ◌<◌, ◌≤◌, List, map, ◌⊎◌, ◌↔◌, Contains}
+use Rattle.std.specs.Prelude.{ℕ, ◌<◌, ◌≤◌, List, map, ◌⊎◌, ◌↔◌, Contains}
 use Rattle.druid_time.specs.Extent.{Extent, Share, AnyHas}
 use Rattle.druid_segid.specs.Group.{Group}
 use Rattle.druid_shard.specs.Members.{Member, IsComplete}

@@ -1,23 +1,30 @@
 //! Work on the chunks of one data source, kept by their keys.
-ghost use Rattle.std.specs.Prelude.{◌≡◌, ◌↔◌, IsTrue, OnOk, OnErr, IsErrOf, MatchOption, option_copied};
+ghost use Rattle.std.specs.Prelude.{◌≡◌, ◌↔◌, ◌⊎◌, ℕ, Contains, IsTrue, IfOk, IfErr, OnOk, OnErr, IsErrOf, MatchOption, option_copied};
 ghost use Rattle.std.specs.HashMap as hash;
+ghost use Rattle.std.specs.List.Sorted.{IsStrictlyIncreasing};
 ghost use Rattle.druid_segid.specs.Group.{Group, group_of, same_group, Outranks};
-ghost use Rattle.druid_shard.specs.Members.{member_of, HoldsPlace, IsComplete, Adds, SameMembers};
+ghost use Rattle.druid_shard.specs.Members.{member_of, HoldsPlace, IsComplete, Adds, RemovesPlace, RemovesOne, SameMembers, ServedOnce};
 ghost use Rattle.druid_time.specs.Extent.{Has};
-ghost use Rattle.druid_timeline.specs.Holding.{IsHeld};
+ghost use Rattle.druid_timeline.specs.Holding.{IsHeld, HoldsNothing};
 ghost use Rattle.druid_timeline.specs.Chunks.{chunk_of, held_in, IsBest};
 
 use crate::TimelineFault;
+use crate::shared::SharedMembers;
 use druid_segid::{GroupKey, Meter, SegmentId};
 use druid_shard::{Descriptor, Members, NodeNo};
 use druid_time::Instant;
-use std::alloc::Global;
+use std::alloc::{AllocError, Global};
 use std::collections::HashMap;
 
+// The chunks of a data source of which something is held, each with its members.
+pub(crate) type Chunks = HashMap<GroupKey, SharedMembers>;
+
 // Whether a node serves a partition of a chunk.
-fn holds(members: &Members, partition: u16, node: NodeNo) -> bool
-    ensures { IsTrue result ↔ HoldsPlace members.now partition node }
+fn holds(shared: &SharedMembers, partition: u16, node: NodeNo) -> bool
+    ensures held { IsTrue result ↔ HoldsPlace shared.now partition node }
+    ensures once { ServedOnce shared.now partition }
 {
+    let members = shared.lent();
     members.replicas(partition).contains(&node)
 }
 
@@ -29,7 +36,7 @@ fn is_chunk_of(key: &GroupKey, id: &SegmentId) -> bool
 }
 
 // Whether a node serves a segment. It takes no memory, and passes over all chunks.
-pub(crate) fn serves(chunks: &HashMap<GroupKey, Members>, id: &SegmentId, node: NodeNo) -> bool
+pub(crate) fn serves(chunks: &Chunks, id: &SegmentId, node: NodeNo) -> bool
     ensures { IsTrue result ↔ IsHeld (held_in chunks.now.entries) node id.now }
 {
     for (key, members) in chunks.iter() {
@@ -40,15 +47,29 @@ pub(crate) fn serves(chunks: &HashMap<GroupKey, Members>, id: &SegmentId, node: 
     false
 }
 
+// Whether nothing is held. No chunk is kept without members, so one chunk is looked at.
+pub(crate) fn hold_nothing(chunks: &Chunks) -> bool
+    ensures { IsTrue result ↔ HoldsNothing (held_in chunks.now.entries) }
+{
+    for (_, shared) in chunks.iter() {
+        let members = shared.lent();
+        if !members.is_empty() {
+            return false;
+        }
+    }
+    true
+}
+
 // Adds a segment that a node serves to its chunk.
 pub(crate) fn add_to_chunk(
     alloc: Global,
-    chunks: &mut HashMap<GroupKey, Members>,
+    chunks: &mut Chunks,
     key: GroupKey,
     descriptor: &Descriptor,
     node: NodeNo,
 ) -> Result<(), TimelineFault>
     ensures other_source { IsErrOf result TimelineFault.OtherSource → ⊥ }
+    ensures not_there { IsErrOf result TimelineFault.NotThere → ⊥ }
     ensures there { IsErrOf result TimelineFault.AlreadyThere
         ↔ HoldsPlace (chunk_of chunks.old key) descriptor.now.id.partition node }
     ensures added { OnOk result (Adds (chunk_of chunks.old key) (chunk_of chunks.new key) (member_of node descriptor.now)) }
@@ -68,8 +89,66 @@ pub(crate) fn add_to_chunk(
     }
     let mut members = Members::new(alloc);
     members.add(descriptor, node)?;
-    chunks.insert(key, members)?;
+    let shared = SharedMembers::new(alloc, members)?;
+    chunks.insert(key, shared)?;
     Ok(())
+}
+
+// Takes a segment that a node serves from its chunk. A chunk that would be left without members goes whole, and is not
+// copied before that.
+pub(crate) fn remove_from_chunk(
+    chunks: &mut Chunks,
+    key: &GroupKey,
+    partition: u16,
+    node: NodeNo,
+) -> Result<(), TimelineFault>
+    ensures not_there { IsErrOf result TimelineFault.NotThere
+        ↔ (HoldsPlace (chunk_of chunks.old key.now) partition node → ⊥) }
+    ensures fault { IfErr result (λ fault. (fault ≡ TimelineFault.NotThere) ⊎ (fault ≡ TimelineFault.Memory)) }
+    ensures removed { OnOk result
+        (RemovesPlace (chunk_of chunks.old key.now) (chunk_of chunks.new key.now) partition node) }
+    ensures one { OnOk result
+        (RemovesOne (chunk_of chunks.old key.now) (chunk_of chunks.new key.now) partition node) }
+    ensures err { OnErr result (SameMembers (chunk_of chunks.old key.now) (chunk_of chunks.new key.now)) }
+    ensures others { (q : Group) → (q ≡ key.now → ⊥)
+        → hash.get same_group chunks.new q ≡ hash.get same_group chunks.old q }
+    ensures unique { hash.IsUnique same_group chunks.new }
+    ensures was_unique { hash.IsUnique same_group chunks.old }
+{
+    // Read for the proof: the reader tells what its type keeps.
+    let _ = chunks.len();
+    let Some(members) = chunks.get_mut(key) else {
+        return Err(TimelineFault::NotThere);
+    };
+    if !holds(members, partition, node) {
+        return Err(TimelineFault::NotThere);
+    }
+    if members.lent().is_only(partition, node) {
+        chunks.remove(key);
+        return Ok(());
+    }
+    members.remove(partition, node)?;
+    Ok(())
+}
+
+// The nodes that serve a partition of a chunk, rising.
+pub(crate) fn replicas_in(
+    alloc: Global,
+    chunks: &Chunks,
+    key: &GroupKey,
+    partition: u16,
+) -> Result<Vec<NodeNo>, AllocError>
+    ensures rising { IfOk result (λ v. IsStrictlyIncreasing v.items) }
+    ensures nodes { IfOk result (λ v. (n : ℕ) → Contains v.items n
+        ↔ HoldsPlace (chunk_of chunks.now key.now) partition n) }
+    ensures unique { hash.IsUnique same_group chunks.now }
+{
+    // Read for the proof: the reader tells what its type keeps.
+    let _ = chunks.len();
+    match chunks.get(key) {
+        Some(shared) => Vec::from_slice(alloc, shared.lent().replicas(partition)),
+        None => Ok(Vec::new(alloc)),
+    }
 }
 
 // Whether a chunk outranks the best one so far, if there is one.
@@ -85,20 +164,21 @@ pub(crate) fn beats(key: &GroupKey, best: Option<&GroupKey>, meter: &mut Meter) 
 // Whether a chunk is complete, has the instant and outranks the best one so far.
 fn is_better(
     key: &GroupKey,
-    members: &Members,
+    shared: &SharedMembers,
     instant: Instant,
     best: Option<&GroupKey>,
     meter: &mut Meter,
 ) -> bool
     ensures { IsTrue result
-        ↔ (Has key.now.interval instant × IsComplete members.now
+        ↔ (Has key.now.interval instant × IsComplete shared.now
         × MatchOption (option_copied best.entry) (Unit {0}) (Outranks key.now)) }
 {
+    let members = shared.lent();
     key.interval().contains(instant) && members.is_complete() && beats(key, best, meter)
 }
 
 // The best of the complete chunks that have the instant.
-pub(crate) fn best_of(chunks: &HashMap<GroupKey, Members>, instant: Instant) -> Option<&GroupKey>
+pub(crate) fn best_of(chunks: &Chunks, instant: Instant) -> Option<&GroupKey>
     ensures best { IsBest chunks.now.entries instant (option_copied result) }
     ensures unique { hash.IsUnique same_group chunks.now }
 {

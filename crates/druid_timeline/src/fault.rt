@@ -1,7 +1,7 @@
 use std::alloc::{AllocError, AllocFailed};
 use thiserror::Error;
 
-/// Why a timeline does not take a segment.
+/// Why a timeline does not take a segment, or does not give one up.
 #[derive(Clone, Copy, Debug, PartialEq, Eq, Drop, Error)]
 pub enum TimelineFault {
     /// L2: the segment is of another data source.
@@ -10,6 +10,9 @@ pub enum TimelineFault {
     /// L1: the node serves that segment already.
     #[error("L1: already there")]
     AlreadyThere,
+    /// L3: the node does not serve that segment.
+    #[error("L3: not there")]
+    NotThere,
     /// L9: memory was refused.
     #[error("L9: out of memory")]
     Memory,

@@ -9,13 +9,12 @@ ghost use Rattle.druid_timeline.specs.Chunks.{Chunk, IsBest, IsBestOf};
 ghost use Rattle.druid_timeline.specs.Pieces.{AreRuns, Shows, IsStretch, ArePartitions, shown_of, Told};
 ghost use Rattle.druid_timeline.specs.Stretches.{Stretch, shown_by, chunk_by, AreOf, EndBy, AreCandidatesIn, IsWithin, HaveBounds, NoBoundWithin, AreRunsIn};
 
-use crate::chunks::beats;
+use crate::chunks::{Chunks, beats};
 use crate::{Partitions, Piece};
 use druid_segid::{GroupKey, Meter};
 use druid_shard::Members;
 use druid_time::{Instant, Interval};
 use std::alloc::{AllocError, Global};
-use std::collections::HashMap;
 use std::marker::Model;
 
 // A complete chunk, with its interval and the list of its partitions at hand.
@@ -138,6 +137,13 @@ impl<'a> Model for Run<'a> {
 }
 
 impl<'a> Run<'a> {
+    // The chunk.
+    pub(crate) fn key(&self) -> &GroupKey
+        ensures { result.now ≡ self.now.shown.group }
+    {
+        self.key
+    }
+
     // Whether the other goes on where this one ends, with the same chunk.
     fn goes_on_as(&self, other: &Run) -> bool
         ensures { IsTrue result
@@ -192,13 +198,14 @@ fn hull_of(parts: &[Interval]) -> Option<Interval>
 // The complete chunks that have an instant of the part.
 fn candidates_in<'a>(
     alloc: Global,
-    chunks: &'a HashMap<GroupKey, Members>,
+    chunks: &'a Chunks,
     part: Interval,
 ) -> Result<Vec<Candidate<'a>>, AllocError>
     ensures { IfOk result (λ found. AreCandidatesIn part chunks.now.entries found.items) }
 {
     let mut found = Vec::new(alloc);
-    for (key, members) in chunks.iter() {
+    for (key, shared) in chunks.iter() {
+        let members = shared.lent();
         if part.overlaps(&key.interval()) && members.is_complete() {
             let candidate = Candidate::new(alloc, key, members)?;
             found.push(candidate)?;
@@ -211,7 +218,7 @@ fn candidates_in<'a>(
 // once, however many parts there are.
 fn candidates_of<'a>(
     alloc: Global,
-    chunks: &'a HashMap<GroupKey, Members>,
+    chunks: &'a Chunks,
     parts: &[Interval],
 ) -> Result<Vec<Candidate<'a>>, AllocError>
     requires { AreParts parts.now }
@@ -367,7 +374,7 @@ fn add_part<'a>(
 // The runs that show what is visible in the parts of a set.
 pub(crate) fn runs_in<'a>(
     alloc: Global,
-    chunks: &'a HashMap<GroupKey, Members>,
+    chunks: &'a Chunks,
     parts: &[Interval],
 ) -> Result<Vec<Run<'a>>, AllocError>
     requires { AreParts parts.now }

@@ -23,7 +23,7 @@ add_segment-requires c =
     let set = c.set-set.result.now in
     let k = c.loop-descriptor.descriptor-index in
     let item = c.descriptor-item.result in
-    let sorted : AreSorted set = subst AreSorted (sym c.set-set.ensures.value) c.set-set.ensures.sorted in
+    let sorted : AreSorted set = subst AreSorted (sym c.set-set.ensures.value) c.set-set.ensures.valid.sorted in
     let within : k < length set = omega arith in
     subst (λ (d : Described). IfSome (kept c.loop-descriptor.timelines d.id.source) (TakesSegment d.id.source c.args.node d)) (sym c.descriptor-item.is)
     (takes_segment (WithSome (take c.args.node entries) c.args.node (take k set)) c.loop-descriptor.timelines c.args.node (get_or set k item)

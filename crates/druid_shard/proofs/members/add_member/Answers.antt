@@ -1,4 +1,4 @@
-use Rattle.std.proofs.Common.{◌∙◌, ◌≡◌, ◌↔◌, ◌⊎◌, ◌<◌, ℕ, List, [], sym, ap, refl, subst, map, Some, None, Option, unwrap_or, true, IsSome, inl, inr, arith}
+use Rattle.std.proofs.Common.{◌≡◌, ◌↔◌, ◌⊎◌, ◌<◌, ℕ, List, [], sym, ap, refl, subst, map, Some, Option, unwrap_or, IsSome, inl, arith}
 use Rattle.std.specs.Ordering.{nat_cmp}
 use Rattle.std.specs.BTreeMap as tree
 use Rattle.std.specs.List.{Contains}

@@ -1,9 +1,8 @@
-use Rattle.std.proofs.Common.{ℕ, List, sym, ◌∙◌, subst, refl, ap, arith, ◌≡◌, ◌↔◌}
+use Rattle.std.proofs.Common.{ℕ, List, sym, ◌∙◌, subst, refl, arith, ◌≡◌, ◌↔◌}
 use Rattle.std.specs.Bool.{IsTrue}
 use Rattle.std.specs.Map.Iter.{deref_pair}
 use Rattle.std.proofs.lemmas.Bool.{false≢true}
 use Rattle.std.proofs.lemmas.Map.Iter.{rest_more, rest_all}
-use Rattle.druid_segid.specs.Identifier.{Identifier}
 use Rattle.druid_segid.specs.Group.{group_of}
 use Rattle.druid_shard.specs.Members.{HoldsPlace}
 use Rattle.druid_timeline.specs.Chunks.{Chunk}
@@ -16,7 +15,7 @@ returns-then-is_chunk_of c =
     let left = subst (λ (rest : List Chunk). IsSought c.args.chunks.now.entries rest (group_of c.args.id.now)) e c.loop-key.invariant in
     let held = IsHeld-entry c.args.chunks.now c.args.node c.args.id.now c.in-Some.key.now c.in-Some.members.now c.iter-key-items.ensures.unique (left.among _ (0, omega arith, refl)) (c.is_chunk_of.ensures.0 c.if-is_chunk_of.true) in
     let at : c.partition.result ≡ c.args.id.now.partition = c.partition.ensures.value in
-    let told = subst (λ (p : ℕ). IsTrue c.holds.result ↔ HoldsPlace c.in-Some.members.now p c.args.node) at c.holds.ensures in
+    let told = subst (λ (p : ℕ). IsTrue c.holds.result ↔ HoldsPlace c.in-Some.members.now p c.args.node) at c.holds.ensures.held in
     (λ yes. held.0 (told.0 yes), λ h. told.1 (held.1 h))
 
 pub loop-key-preserved : goal.loop-key-preserved

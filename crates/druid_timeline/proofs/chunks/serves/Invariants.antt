@@ -1,7 +1,4 @@
-use Rattle.std.proofs.Common.{◌≡◌}
-use Rattle.std.specs.List.{Contains}
 use Rattle.druid_segid.specs.Group.{group_of}
-use Rattle.druid_timeline.specs.Chunks.{Chunk}
 use Rattle.druid_timeline.proofs.ChunkLemmas.{IsSought}
 use Rattle.druid_timeline.proofs.chunks.serves.Given as goal
 

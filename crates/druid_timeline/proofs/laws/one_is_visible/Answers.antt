@@ -1,5 +1,4 @@
-use Rattle.std.proofs.Common.{◌⊎◌, inl, inr, sym}
-use Rattle.druid_segid.specs.Group.{Group, Outranks}
+use Rattle.std.proofs.Common.{inl, inr, sym}
 use Rattle.druid_segid.proofs.GroupLemmas.{Outranks-one_way}
 use Rattle.druid_timeline.proofs.laws.one_is_visible.Goals as goal
 

@@ -1,4 +1,4 @@
-use Rattle.std.proofs.Common.{◌+◌, List, Option, Some, MatchOption, drop, sym, ◌∙◌, subst, Bor}
+use Rattle.std.proofs.Common.{◌+◌, List, Option, MatchOption, drop, sym, ◌∙◌, subst, Bor}
 use Rattle.std.specs.List.{Contains}
 use Rattle.std.specs.Option.{option_map}
 use Rattle.std.proofs.lemmas.Bool.{false≢true}

@@ -1,7 +1,7 @@
 use Rattle.std.proofs.Common.{List, [], ◌∷◌, ◌++◌, sym, ◌∙◌, ap}
 use Rattle.std.proofs.lemmas.Bool.{false≢true}
 use Rattle.druid_timeline.specs.Stretches.{Stretch}
-use Rattle.druid_timeline.proofs.SweepLemmas.{IsPushed, IsPushed-joined, IsPushed-behind}
+use Rattle.druid_timeline.proofs.SweepLemmas.{IsPushed-joined, IsPushed-behind}
 use Rattle.druid_timeline.proofs.sweep.push_run.Goals as goal
 
 pub returns-then-goes_on_as-clause-runs : goal.returns-then-goes_on_as-clause-runs

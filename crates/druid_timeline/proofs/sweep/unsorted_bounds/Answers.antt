@@ -1,4 +1,4 @@
-use Rattle.std.proofs.Common.{◌+◌, ℕ, List, drop, sym, ap, subst}
+use Rattle.std.proofs.Common.{◌+◌, ℕ, List, drop, subst}
 use Rattle.std.proofs.lemmas.List.{drop_all}
 use Rattle.druid_timeline.specs.Chunks.{Chunk}
 use Rattle.druid_timeline.specs.Stretches.{IsBoundIf}

@@ -1,11 +1,10 @@
-use Rattle.std.proofs.Common.{◌∙◌, ◌≡◌, ◌↔◌, ◌⊎◌, ℕ, Bool, false, Result, Ok, Err, List, max, sym, ap, refl, subst, inl, inr, arith}
+use Rattle.std.proofs.Common.{◌∙◌, ◌≡◌, ◌↔◌, ◌⊎◌, ℕ, Bool, false, Result, Ok, Err, List, max, sym, ap, refl, subst, inl, inr}
 use Rattle.std.specs.Bool.{IsTrue}
 use Rattle.std.specs.List.{Contains}
 use Rattle.std.specs.Result.{OnErr}
 use Rattle.druid_segid.specs.Identifier.{Identifier}
 use Rattle.std.proofs.lemmas.Bool.{false≢true}
-use Rattle.std.specs.BTreeMap.{BTreeMap}
-use Rattle.druid_shard.specs.Members.{Member, HoldsPlace, Adds, SameMembers, core_count, member_of}
+use Rattle.druid_shard.specs.Members.{Member, HoldsPlace, Adds, SameMembers, member_of}
 use Rattle.druid_shard.specs.Slots.{members_in}
 use Rattle.druid_shard.proofs.SlotLemmas.{Adds-slot, SameMembers-slot, HoldsPlace-slot, core_count-adds, core_count-same, HasMember-same}
 use Rattle.druid_shard.proofs.members.Members.add.Goals as goal

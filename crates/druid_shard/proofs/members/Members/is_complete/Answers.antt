@@ -1,10 +1,10 @@
-use Rattle.std.proofs.Common.{◌≡◌, ◌<◌, ◌+◌, ◌↔◌, ℕ, List, [], ◌∷◌, length, eqb, true, sym, ◌∙◌, ap, subst, refl, inl, inr, arith}
+use Rattle.std.proofs.Common.{◌≡◌, ◌<◌, ◌↔◌, ℕ, List, [], ◌∷◌, length, sym, ◌∙◌, ap, subst, refl, arith}
 use Rattle.std.specs.List.{Contains}
 use Rattle.std.proofs.lemmas.Bool.{false≢true}
 use Rattle.std.proofs.Common.{below_more, eq-eqb}
 use borrow.Author.Tests.{eqb-true}
 use Rattle.std.specs.Bool.{IsTrue}
-use Rattle.druid_shard.specs.Members.{Member, HasPartition, HoldsPlace, IsComplete, HasMember, core_count}
+use Rattle.druid_shard.specs.Members.{Member, HasPartition, HoldsPlace, HasMember, core_count}
 use Rattle.druid_shard.proofs.members.Members.is_complete.Goals as goal
 
 -- nothing is lent for a partition only where no member has it

@@ -1,4 +1,4 @@
-use Rattle.std.proofs.Common.{◌∙◌, ◌↔◌, ◌⊎◌, ◌≡◌, ◌≤◌, sym, ap, refl, subst, map, ℕ, List, length, arith}
+use Rattle.std.proofs.Common.{◌∙◌, ◌↔◌, ◌⊎◌, ◌≡◌, ◌≤◌, sym, ap, refl, subst, map, ℕ, List, length}
 use Rattle.std.specs.List.{Contains, zip, insert, remove}
 use Rattle.std.specs.List.Sorted.{IsStrictlyIncreasing}
 use Rattle.std.proofs.lemmas.Bool.{false≢true}

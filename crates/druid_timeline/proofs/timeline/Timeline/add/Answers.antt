@@ -1,19 +1,11 @@
-use Rattle.std.proofs.Common.{◌∙◌, ◌≡◌, ◌↔◌, List, Result, Ok, Err, sym, ap, subst, rules}
-use Rattle.std.specs.Result.{OnOk, OnErr, IsErrOf}
+use Rattle.std.proofs.Common.{◌∙◌, ◌≡◌, ◌↔◌, List, sym, ap, subst, rules}
+use Rattle.std.specs.Result.{IsErrOf}
 use Rattle.druid_segid.specs.Group.{Group, group_of}
 use Rattle.druid_shard.specs.Members.{HoldsPlace, Adds, SameMembers, member_of}
 use Rattle.druid_timeline.specs.Holding.{Held, Serving, held_of, IsHeld, AddsHeld, SameHeld}
 use Rattle.druid_timeline.specs.Chunks.{held_in, chunk_of}
-use Rattle.druid_timeline.proofs.ChunkLemmas.{IsHeld-chunk, AddsHeld-chunk, SameHeld-chunk}
+use Rattle.druid_timeline.proofs.ChunkLemmas.{IsHeld-chunk, AddsHeld-chunk, SameHeld-chunk, on_ok, on_err}
 use Rattle.druid_timeline.proofs.timeline.Timeline.add.Goals as goal
-
-on_ok : {T E : Type 0} (r : Result T E) (P Q : Type 0) → (P → Q) → OnOk r P → OnOk r Q
-on_ok (Ok x) P Q f p = f p
-on_ok (Err e) P Q f p = tt
-
-on_err : {T E : Type 0} (r : Result T E) (P Q : Type 0) → (P → Q) → OnErr r P → OnErr r Q
-on_err (Ok x) P Q f p = tt
-on_err (Err e) P Q f p = f p
 
 pub returns-clause-there : goal.returns-clause-there
 returns-clause-there c =

@@ -1,17 +1,12 @@
-use Rattle.std.proofs.Common.{List, Result, Ok, Err, map, ap, sym, subst, ◌∙◌}
-use Rattle.std.specs.List.{Contains, All}
-use Rattle.std.specs.Result.{IfOk}
+use Rattle.std.proofs.Common.{List, map, ap, sym, subst, ◌∙◌}
+use Rattle.std.specs.List.{All}
 use Rattle.druid_time.specs.Extent.{Extent, AnyHas}
 use Rattle.druid_timeline.specs.Chunks.{held_in}
 use Rattle.druid_timeline.specs.Holding.{Held, Serving, members_of}
 use Rattle.druid_timeline.specs.Pieces.{Shown, Told, ArePiecesIn, ArePartitions}
 use Rattle.druid_timeline.specs.Stretches.{Stretch, shown_by, AreOf}
-use Rattle.druid_timeline.proofs.LookupLemmas.{ArePiecesIn-runs, parts_of_chunk}
+use Rattle.druid_timeline.proofs.LookupLemmas.{if_ok, ArePiecesIn-runs, parts_of_chunk}
 use Rattle.druid_timeline.proofs.timeline.Timeline.lookup.Goals as goal
-
-if_ok : {T E : Type 0} (r : Result T E) (P Q : T → Type 0) → IfOk r P → ((x : T) → P x → Q x) → IfOk r Q
-if_ok (Ok x) P Q p f = f x p
-if_ok (Err e) P Q p f = tt
 
 pub returns-clause-pieces : goal.returns-clause-pieces
 returns-clause-pieces c =

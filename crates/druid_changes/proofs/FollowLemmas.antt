@@ -1,0 +1,32 @@
+-- Where a broker is after the delta that a node answers.
+use Rattle.std.proofs.Common.{◌≡◌, ℕ, List, [], length, take, drop, Option, Some, None, sym, ap, ◌∙◌}
+use Rattle.std.specs.Option.{option_and_then}
+use Rattle.std.proofs.lemmas.List.{take-append-drop}
+use Rattle.druid_shard.specs.Described.{Described}
+use Rattle.druid_shard.specs.Mark.{Point}
+use Rattle.druid_shard.specs.Replay.{replay, replay_from}
+use Rattle.druid_shard.specs.declared.change.Ask.TheVariants.{Since}
+use Rattle.druid_shard.specs.declared.change.Cause.{Cause}
+use Rattle.druid_shard.specs.declared.change.Change.{Change}
+use Rattle.druid_shard.specs.declared.reply.Body.TheVariants.{Delta}
+use Rattle.druid_shard.proofs.ReplayLemmas.{replay_from-append}
+use Rattle.druid_changes.specs.Answer.{answer, cause_of, reset_or_delta, mark_behind}
+
+-- the changes behind a mark lead from the set there to the whole history's
+behind_mark : (history : List Change) (n : ℕ) (held set : List Described) → replay history ≡ Some set → replay (take n history) ≡ Some held → replay_from held (drop n history) ≡ Some set
+behind_mark history n held set whole front =
+    ap (λ o. option_and_then (λ t. replay_from t (drop n history)) o) (sym front)
+    ∙ sym (replay_from-append [] (take n history) (drop n history))
+    ∙ ap replay (take-append-drop n history) ∙ whole
+
+delta_only : (o : Option Cause) (incarnation : ℕ) (history changes : List Change) (mark from to : Point) → Some (reset_or_delta incarnation history mark o) ≡ Some (Delta from to changes)
+    → (mark ≡ from) × (mark_behind incarnation history ≡ to) × (drop mark.count history ≡ changes)
+delta_only None incarnation history changes mark from to h = (cc, cc, cc)
+delta_only (Some cause) incarnation history changes mark from to h = absurd (cc)
+
+pub delta_reaches : (incarnation limit : ℕ) (history changes : List Change) (mark from to : Point) (held set : List Described) → replay history ≡ Some set
+    → replay (take mark.count history) ≡ Some held → answer incarnation history limit (Since mark) ≡ Some (Delta from to changes)
+    → (from ≡ mark) × (to ≡ mark_behind incarnation history) × (replay_from held changes ≡ Some set)
+delta_reaches incarnation limit history changes mark from to held set whole front h =
+    let told = delta_only (cause_of incarnation (length history) limit mark) incarnation history changes mark from to h in
+    (sym told.0, sym told.1, ap (replay_from held) (sym told.2) ∙ behind_mark history mark.count held set whole front)

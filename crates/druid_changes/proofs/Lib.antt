@@ -1,0 +1,3 @@
+pub mod SetLemmas
+pub mod HistoryLemmas
+pub mod FollowLemmas

@@ -1,0 +1,160 @@
+//! Identifiers read from texts.
+ghost use Rattle.std.specs.Prelude.{◌≡◌, ◌≤◌, length, IfSome, IfOk, option_map};
+ghost use Rattle.std.specs.List.{position_or_len};
+ghost use Rattle.druid_time.specs.Extent.{IsExtent};
+ghost use Rattle.druid_segid.specs.Identifier.{IsIdentifier};
+ghost use Rattle.druid_segid.specs.Names.{IsVersion};
+ghost use Rattle.druid_segid.specs.Parsed.{is_underscore, rest_at, tail_at, printed_at, interval_at, version_at, number_at, partition_at, identifier_at, Gives};
+
+use crate::{IdFault, Name, SegmentId, Version};
+use druid_time::{Instant, Interval};
+use std::alloc::Global;
+use std::str;
+
+// The bytes of a printed instant.
+const INSTANT: usize = 24;
+
+// Where the version begins, behind two instants and two `_`.
+const VERSION: usize = 50;
+
+// What stands behind the source and `_`.
+#[tactic(auto, unfolding(crate::specs::Parsed::rest_at))]
+fn rest_of<'a>(source: &str, text: &'a [u8]) -> Option<&'a [u8]>
+    ensures { option_map (λ rest. rest.now) result ≡ rest_at source.now text.now }
+{
+    let behind = text.strip_prefix(source.as_bytes())?;
+    behind.strip_prefix(b"_")
+}
+
+// What stands behind the interval.
+#[tactic(auto, using(crate::proofs::ParsedLemmas::tail_facts), unfolding(crate::specs::Parsed::tail_at))]
+fn tail_of(rest: &[u8]) -> Option<&[u8]>
+    ensures value { option_map (λ tail. tail.now) result ≡ tail_at rest.now }
+    ensures long { IfSome result (λ tail. 51 ≤ length rest.now) }
+{
+    if rest.len() <= VERSION {
+        return None;
+    }
+    if rest[INSTANT] != b'_' || rest[VERSION - 1] != b'_' {
+        return None;
+    }
+    Some(&rest[VERSION..])
+}
+
+// The instant whose printed form this is.
+#[tactic(auto, using(crate::proofs::ParsedLemmas::instant_facts))]
+fn instant_of(printed: &[u8]) -> Option<Instant>
+    requires { length printed.now ≡ 24 }
+    ensures { result ≡ printed_at printed.now }
+{
+    let Ok(text) = str::from_utf8(printed) else {
+        return None;
+    };
+    Instant::parse(text).ok()
+}
+
+// The interval between the two instants.
+#[tactic(auto, unfolding(crate::specs::Parsed::interval_at))]
+fn interval_of(rest: &[u8]) -> Option<Interval>
+    requires { 51 ≤ length rest.now }
+    ensures value { result ≡ interval_at rest.now }
+    ensures valid { IfSome result IsExtent }
+{
+    let start = instant_of(&rest[..INSTANT])?;
+    let end = instant_of(&rest[INSTANT + 1..VERSION - 1])?;
+    Interval::new(start, end)
+}
+
+// Where the first `_` stands, or else how long the text is.
+#[tactic(auto, using(crate::proofs::ParsedLemmas::place_facts))]
+fn underscore_place(text: &[u8]) -> usize
+    ensures within { result ≤ length text.now }
+    ensures place { result ≡ position_or_len is_underscore text.now }
+{
+    for (place, byte) in text.iter().enumerate() {
+        if *byte == b'_' {
+            return place;
+        }
+    }
+    text.len()
+}
+
+// The version ends before the next `_`.
+#[tactic(auto, using(crate::proofs::ParsedLemmas::version_facts), unfolding(crate::specs::Parsed::version_at))]
+fn version_of(tail: &[u8]) -> Option<&str>
+    ensures value { option_map (λ version. version.now) result ≡ version_at tail.now }
+    ensures valid { IfSome result (λ version. IsVersion version.now) }
+{
+    let Ok(version) = str::from_utf8(&tail[..underscore_place(tail)]) else {
+        return None;
+    };
+    if Version::accepts(version) {
+        Some(version)
+    } else {
+        None
+    }
+}
+
+// The number from 1 to 65,535 that prints as these digits.
+#[tactic(auto, using(crate::proofs::ParsedLemmas::number_facts))]
+fn number_of(digits: &str) -> Option<u16>
+    ensures { result ≡ number_at digits.now }
+{
+    let Ok(number) = digits.parse::<u16>() else {
+        return None;
+    };
+    if number == 0 {
+        return None;
+    }
+    let mut printed = itoa::Buffer::new();
+    if printed.format(number) != digits {
+        return None;
+    }
+    Some(number)
+}
+
+// The partition stands behind the version and `_`. Without these it is 0.
+#[tactic(auto, using(crate::proofs::ParsedLemmas::partition_facts))]
+fn partition_of(tail: &[u8]) -> Option<u16>
+    ensures { result ≡ partition_at tail.now }
+{
+    let place = underscore_place(tail);
+    if place == tail.len() {
+        return Some(0);
+    }
+    let Ok(digits) = str::from_utf8(&tail[place + 1..]) else {
+        return None;
+    };
+    number_of(digits)
+}
+
+impl SegmentId {
+    /// The identifier of that source that the text spells.
+    ///
+    /// I3 where the text does not begin with the source and `_`, then I4 where what follows has not the
+    /// parts of an identifier, I5 where it has no interval in the printed form, I2 where it has no version and
+    /// I6 where it has no partition; I9 where memory ran out.
+    #[tactic(auto, unfolding(crate::specs::Parsed::identifier_at))]
+    pub fn parse(alloc: Global, source: &Name, text: &str) -> Result<SegmentId, IdFault>
+        ensures value { Gives result (identifier_at source.now text.now) }
+        ensures valid { IfOk result IsIdentifier }
+    {
+        let Some(rest) = rest_of(source.as_str(), text.as_bytes()) else {
+            return Err(IdFault::OtherSource);
+        };
+        let Some(tail) = tail_of(rest) else {
+            return Err(IdFault::BadParts);
+        };
+        let Some(interval) = interval_of(rest) else {
+            return Err(IdFault::BadInterval);
+        };
+        let Some(version) = version_of(tail) else {
+            return Err(IdFault::BadVersion);
+        };
+        let Some(partition) = partition_of(tail) else {
+            return Err(IdFault::BadPartition);
+        };
+        let version = Version::copied(alloc, version)?;
+        Ok(SegmentId::new(source.clone()?, interval, version, partition))
+    }
+}

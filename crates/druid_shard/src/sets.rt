@@ -1,0 +1,54 @@
+//! Sets of segments, as the lists of their descriptors by identifier.
+ghost use Rattle.std.specs.Prelude.{◌≡◌, IsTrue, IfOk, IfErr, OnOk, OnErr};
+ghost use Rattle.druid_shard.specs.Reply.{AreSorted};
+ghost use Rattle.druid_shard.specs.Replay.{StandsAt, BelongsAt, is_strict, after};
+
+use crate::{Change, Descriptor};
+use druid_segid::SegmentId;
+use std::alloc::AllocError;
+use std::cmp::Ordering;
+
+/// The place at which the segment of an identifier stands in a set, or else the place at which it would. It takes no
+/// memory.
+pub fn find_segment(segments: &[Descriptor], id: &SegmentId) -> Result<usize, usize>
+    requires { AreSorted segments.now }
+    ensures found { IfOk result (StandsAt segments.now id.now) }
+    ensures absent { IfErr result (BelongsAt segments.now id.now) }
+{
+    let mut low = 0;
+    let mut high = segments.len();
+    while low < high {
+        let middle = low + (high - low) / 2;
+        let other = segments[middle].id();
+        match other.cmp(id) {
+            Ordering::Less => low = middle + 1,
+            Ordering::Equal => return Ok(middle),
+            Ordering::Greater => high = middle,
+        }
+    }
+    Err(low)
+}
+
+/// Makes a strict change of a set, in place. Where memory is refused, the set stays.
+pub fn apply_change(segments: &mut Vec<Descriptor>, change: &Change) -> Result<(), AllocError>
+    requires sorted { AreSorted segments.old.items }
+    requires strict { IsTrue (is_strict segments.old.items change.now) }
+    ensures ok { OnOk result (segments.new.items ≡ after segments.old.items change.now) }
+    ensures err { OnErr result (segments.new.items ≡ segments.old.items) }
+{
+    match change {
+        Change::Load(descriptor) => {
+            let Err(place) = find_segment(segments, descriptor.id()) else {
+                unreachable!()
+            };
+            segments.insert(place, descriptor.clone()?)?;
+        }
+        Change::Drop(descriptor) => {
+            let Ok(place) = find_segment(segments, descriptor.id()) else {
+                unreachable!()
+            };
+            segments.remove(place);
+        }
+    }
+    Ok(())
+}

@@ -1,0 +1,104 @@
+-- Replies as JSON: what is written is read back.
+use Rattle.std.proofs.Common.{◌≡◌, ◌≤◌, ◌<◌, ℕ, List, [], ◌∷◌, map, codes, Contains, Option, Some, None, Ok, refl, sym, ap, ◌∙◌, subst, arith, le-leb, true, is_some}
+use Rattle.serde_json.specs.Data.{Data, Items}
+use Rattle.serde_json.specs.View.{items_of}
+use Rattle.druid_time.specs.Options.{◌>>=◌}
+use Rattle.druid_time.proofs.TextLemmas.{extent_at-extent_text}
+use Rattle.druid_segid.proofs.NameLemmas.{is_name-true, is_version-true}
+use Rattle.druid_shard.specs.Mark.{Point}
+use Rattle.druid_shard.proofs.MemberLemmas.{Contains-later}
+use Rattle.druid_shard.specs.Described.{Described, IsDescribed}
+use Rattle.druid_shard.specs.Json.{descriptor_at, place_at, result_ok}
+use Rattle.druid_shard.specs.declared.change.Change.{Change}
+use Rattle.druid_shard.specs.declared.change.Change.TheVariants.{Load, Drop}
+use Rattle.druid_shard.specs.declared.change.Cause.{Cause}
+use Rattle.druid_shard.specs.declared.change.Cause.TheVariants.{OtherIncarnation, Ahead, TooOld}
+use Rattle.druid_shard.specs.declared.reply.Body.{Body}
+use Rattle.druid_sync.specs.Fields.{each_of}
+use Rattle.serde_json.specs.Find.{as_null}
+use Rattle.druid_shard.specs.declared.reply.Body.TheVariants.{Delta, Snapshot, Reset}
+use Rattle.druid_sync.specs.Written.{mark_data, from_data, request_data, change_data, load_data, segment_of, cause_data, five_fields, reply_data}
+use Rattle.druid_sync.specs.Read.{Five, mark_at, change_at, load_at, cause_at, five_at, followed, whole, begun_again, reset_at, snapshot_at, delta_at, changes_at, form_at}
+
+-- ---- marks
+
+pub mark_at-data : (m : Point) → 1 ≤ m.incarnation → mark_at (mark_data m) ≡ Some m
+unfolding mark_at mark_data
+mark_at-data m h = let first = le-leb 1 m.incarnation h in rw first refl
+
+-- ---- changes
+
+place_at-request : (action : List ℕ) (d : Described) → IsDescribed d → place_at (request_data action d) ≡ Ok (record { partition = d.id.partition; core = d.core })
+unfolding place_at request_data
+place_at-request action d h =
+    let low = le-leb d.id.partition 65_535 (omega (arith, h.id.partition)) in
+    let high = le-leb d.core 32_768 h.core in
+    rw (low, high) refl
+
+descriptor_at-request : (action : List ℕ) (d : Described) → IsDescribed d → descriptor_at (request_data action d) ≡ Ok d
+unfolding descriptor_at request_data
+descriptor_at-request action d h =
+    let source = is_name-true d.id.source h.id.source in
+    let version = is_version-true d.id.version h.id.version in
+    let interval = extent_at-extent_text d.id.interval h.id.interval in
+    let place = place_at-request action d h in
+    rw (source, interval, version) (rw place refl)
+
+pub change_at-data : (c : Change) → IsDescribed (segment_of c) → change_at (change_data c) ≡ Some c
+unfolding change_at request_data
+change_at-data (Load d) h = let read = descriptor_at-request (codes "load") d h in rw read refl
+change_at-data (Drop d) h = let read = descriptor_at-request (codes "drop") d h in rw read refl
+
+pub load_at-data : (d : Described) → IsDescribed d → load_at (load_data d) ≡ Some d
+load_at-data d h = let read = change_at-data (Load d) h in rw read refl
+
+-- each reads as what it was written for
+pub each_back : {A : Type 0} (f : A → Data) (g : Data → Option A) (xs : List A) → ((x : A) → Contains xs x → g (f x) ≡ Some x) → each_of g (items_of (map f xs)) ≡ Some xs
+each_back f g [] all = refl
+each_back f g (x ∷ xs) all =
+    ap (λ o. o >>= λ y. each_of g (items_of (map f xs)) >>= λ ys. Some (y ∷ ys)) (all x (0, omega arith, refl))
+    ∙ ap (λ o. o >>= λ ys. Some (x ∷ ys)) (each_back f g xs (λ y in_it. all y (Contains-later x xs y in_it)))
+
+-- ---- causes
+
+cause_at-data : (cause : Cause) → cause_at (cause_data (Some cause)) ≡ Some cause
+unfolding cause_at
+cause_at-data OtherIncarnation = refl
+cause_at-data Ahead = refl
+cause_at-data TooOld = refl
+
+-- ---- replies
+
+five_at-data : (counter : Point) (from : Option Point) (requests : List Data) (cause : Option Cause) → 1 ≤ counter.incarnation
+    → five_at (five_fields counter from requests cause)
+    ≡ Some (record { at = counter; from = from_data from; requests = items_of requests; cause = cause_data cause; reset = is_some cause })
+unfolding five_at
+five_at-data counter from requests cause h = let read = mark_at-data counter h in rw read refl
+
+mark_is_no_null : (m : Point) → as_null (mark_data m) ≡ None
+unfolding mark_data
+mark_is_no_null m = refl
+
+pub delta_back : (from to : Point) (changes : List Change) → 1 ≤ from.incarnation → 1 ≤ to.incarnation → ((c : Change) → Contains changes c → IsDescribed (segment_of c))
+    → form_at (reply_data (Delta from to changes)) ≡ Some (followed from to changes)
+unfolding reply_data form_at changes_at delta_at
+delta_back from to changes h k valid =
+    let five = five_at-data to (Some from) (map change_data changes) None k in
+    let mark = mark_at-data from h in
+    let each = each_back change_data change_at changes (λ c in_it. change_at-data c (valid c in_it)) in
+    rw five (rw (mark_is_no_null from) (rw mark (rw each refl)))
+
+pub snapshot_back : (at : Point) (segments : List Described) → 1 ≤ at.incarnation → ((d : Described) → Contains segments d → IsDescribed d)
+    → form_at (reply_data (Snapshot at segments)) ≡ Some (whole at segments)
+unfolding reply_data form_at changes_at snapshot_at
+snapshot_back at segments h valid =
+    let five = five_at-data at None (map load_data segments) None h in
+    let each = each_back load_data load_at segments (λ d in_it. load_at-data d (valid d in_it)) in
+    rw five (rw each refl)
+
+pub reset_back : (cause : Cause) (at : Point) → 1 ≤ at.incarnation → form_at (reply_data (Reset cause at)) ≡ Some (begun_again cause at)
+unfolding reply_data form_at reset_at
+reset_back cause at h =
+    let five = five_at-data at None [] (Some cause) h in
+    let told = cause_at-data cause in
+    rw five (rw told refl)

@@ -1,0 +1,108 @@
+-- The text of a reply, part by part.
+use Rattle.std.proofs.Common.{◌≡◌, ℕ, ◌+◌, ◌<◌, ◌≤◌, Bool, true, false, nat_lt, List, [], ◌∷◌, ◌++◌, length, get_or, drop, map, codes, append_assoc, drop_of_length-le, Option, Some, None, arith, refl, sym, ap, ◌∙◌}
+use Rattle.std.proofs.lemmas.List.{drop_more}
+use Rattle.std.proofs.lemmas.Bool.Decides.{nat_tests}
+use Rattle.serde_json.proofs.OnLiterals.{serde_json_on_literals}
+use Rattle.serde_json.specs.Data.{Data}
+use Rattle.serde_json.specs.View.{items_of}
+use Rattle.serde_json.specs.Written.{compact_text, items_text, comma_if, has_float}
+use Rattle.druid_shard.specs.Mark.{Point}
+use Rattle.druid_shard.specs.Described.{Described}
+use Rattle.druid_shard.specs.declared.change.Change.{Change}
+use Rattle.druid_shard.specs.declared.change.Cause.{Cause}
+use Rattle.druid_shard.specs.declared.change.Cause.TheVariants.{OtherIncarnation, Ahead, TooOld}
+use Rattle.druid_shard.specs.declared.reply.Body.TheVariants.{Delta, Snapshot, Reset}
+use Rattle.druid_sync.specs.Written.{mark_data, from_data, request_data, change_data, load_data, five_fields, reply_data, front_text, back_text, reply_text}
+
+-- no reply has a float
+pub request_plain : (action : List ℕ) (d : Described) → has_float (request_data action d) ≡ false
+unfolding request_data
+request_plain action d = refl
+
+pub from_plain : (from : Option Point) → has_float (from_data from) ≡ false
+unfolding mark_data
+from_plain None = refl
+from_plain (Some m) = refl
+
+-- ---- changes, one after another
+
+above_none : (i : ℕ) → true ≡ nat_lt 0 (i + 1)
+above_none i = grind (arith, nat_tests)
+
+-- what is written of a list before a place, and what the rest from that place on will be
+pub item_next : {A : Type 0} (f : A → Data) (front : List ℕ) (later : Bool) (xs : List A) (i : ℕ) (x : A) → i < length xs → x ≡ get_or xs i x
+    → (front ++ (comma_if later ++ compact_text (f x))) ++ items_text (nat_lt 0 (i + 1)) (items_of (map f (drop (i + 1) xs)))
+    ≡ front ++ items_text later (items_of (map f (drop i xs)))
+item_next {A} f front later xs i x h is =
+    let rest = drop (i + 1) xs in
+    ap (λ (b : Bool). (front ++ (comma_if later ++ compact_text (f x))) ++ items_text b (items_of (map f rest))) (sym (above_none i))
+    ∙ append_assoc front (comma_if later ++ compact_text (f x)) (items_text true (items_of (map f rest)))
+    ∙ ap (λ (l : List ℕ). front ++ l) (append_assoc (comma_if later) (compact_text (f x)) (items_text true (items_of (map f rest))))
+    ∙ ap (λ (y : A). front ++ (comma_if later ++ (compact_text (f y) ++ items_text true (items_of (map f rest))))) is
+    ∙ sym (ap (λ (ys : List A). front ++ items_text later (items_of (map f ys))) (drop_more xs i x h))
+
+-- behind the last stands the bracket
+pub item_last : {A : Type 0} (f : A → Data) (front : List ℕ) (later : Bool) (xs : List A) (i : ℕ) → length xs ≤ i
+    → front ++ codes "]" ≡ front ++ items_text later (items_of (map f (drop i xs)))
+item_last {A} f front later xs i h = sym (ap (λ (ys : List A). front ++ items_text later (items_of (map f ys))) (drop_of_length-le xs h))
+
+-- ---- the whole
+
+regrouped : (a m b f c i t : List ℕ) → a ++ (m ++ (b ++ (f ++ (c ++ (i ++ t))))) ≡ ((a ++ (m ++ (b ++ (f ++ c)))) ++ i) ++ t
+regrouped a m b f c i t =
+    ap (λ (l : List ℕ). a ++ (m ++ (b ++ l))) (sym (append_assoc f c (i ++ t)))
+    ∙ ap (λ (l : List ℕ). a ++ (m ++ l)) (sym (append_assoc b (f ++ c) (i ++ t)))
+    ∙ ap (λ (l : List ℕ). a ++ l) (sym (append_assoc m (b ++ (f ++ c)) (i ++ t)))
+    ∙ sym (append_assoc a (m ++ (b ++ (f ++ c))) (i ++ t))
+    ∙ sym (append_assoc (a ++ (m ++ (b ++ (f ++ c)))) i t)
+
+whole_text : (counter : Point) (from : Option Point) (requests : List Data) (cause : Option Cause)
+    → compact_text (five_fields counter from requests cause)
+    ≡ ((front_text counter from ++ codes "[") ++ items_text false (items_of requests)) ++ back_text cause
+unfolding front_text back_text serde_json_on_literals
+whole_text counter from requests cause =
+    regrouped (codes "{\"counter\":") (compact_text (mark_data counter)) (codes ",\"from\":") (compact_text (from_data from)) (codes ",\"requests\":[")
+    (items_text false (items_of requests)) (back_text cause)
+    ∙ ap (λ (l : List ℕ). (l ++ items_text false (items_of requests)) ++ back_text cause)
+    (front_and_bracket (codes "{\"counter\":") (compact_text (mark_data counter)) (codes ",\"from\":") (compact_text (from_data from)) (codes ",\"requests\":") (codes "["))
+  where
+    front_and_bracket : (a m b f c d : List ℕ) → a ++ (m ++ (b ++ (f ++ (c ++ d)))) ≡ (a ++ (m ++ (b ++ (f ++ c)))) ++ d
+    front_and_bracket a m b f c d =
+        ap (λ (l : List ℕ). a ++ (m ++ (b ++ l))) (sym (append_assoc f c d))
+        ∙ ap (λ (l : List ℕ). a ++ (m ++ l)) (sym (append_assoc b (f ++ c) d))
+        ∙ ap (λ (l : List ℕ). a ++ l) (sym (append_assoc m (b ++ (f ++ c)) d))
+        ∙ sym (append_assoc a (m ++ (b ++ (f ++ c))) d)
+
+pub delta_text : (from to : Point) (changes : List Change)
+    → reply_text (Delta from to changes) ≡ ((front_text to (Some from) ++ codes "[") ++ items_text false (items_of (map change_data changes))) ++ back_text None
+unfolding reply_data
+delta_text from to changes = whole_text to (Some from) (map change_data changes) None
+
+pub snapshot_text : (at : Point) (segments : List Described)
+    → reply_text (Snapshot at segments) ≡ ((front_text at None ++ codes "[") ++ items_text false (items_of (map load_data segments))) ++ back_text None
+unfolding reply_data
+snapshot_text at segments = whole_text at None (map load_data segments) None
+
+pub reset_text : (cause : Cause) (at : Point)
+    → reply_text (Reset cause at) ≡ ((front_text at None ++ codes "[") ++ codes "]") ++ back_text (Some cause)
+unfolding reply_data
+reset_text cause at = whole_text at None [] (Some cause)
+
+pub back_of_none : back_text None ≡ codes ",\"resetCause\":null,\"resetCounter\":false}"
+unfolding back_text serde_json_on_literals
+back_of_none = refl
+
+pub back_of_other : back_text (Some OtherIncarnation) ≡ codes ",\"resetCause\":\"OtherIncarnation\",\"resetCounter\":true}"
+unfolding back_text serde_json_on_literals
+back_of_other = refl
+
+pub back_of_ahead : back_text (Some Ahead) ≡ codes ",\"resetCause\":\"Ahead\",\"resetCounter\":true}"
+unfolding back_text serde_json_on_literals
+back_of_ahead = refl
+
+pub back_of_old : back_text (Some TooOld) ≡ codes ",\"resetCause\":\"TooOld\",\"resetCounter\":true}"
+unfolding back_text serde_json_on_literals
+back_of_old = refl
+
+pub two_pushed : (old a b once twice : List ℕ) → once ≡ old ++ a → twice ≡ once ++ b → twice ≡ old ++ (a ++ b)
+two_pushed old a b once twice first second = second ∙ ap (λ (l : List ℕ). l ++ b) first ∙ append_assoc old a b

@@ -1,0 +1,52 @@
+-- The texts of asks.
+use Rattle.std.specs.Prelude.{◌≡◌, ℕ, ◌^◌, ◌++◌, List, [], ◌∷◌, map, filter, codes, nat_le, nat_lt, decimal, ◌&&◌, Option, Some, None, if◌then◌else◌}
+use Rattle.std.specs.Str.{bytes_eq}
+use Rattle.std.specs.Str.Parse.{digits_value}
+use Rattle.form_urlencoded.specs.Form.{raw_pairs}
+use Rattle.druid_time.specs.Options.{◌>>=◌}
+use Rattle.druid_shard.specs.Mark.{Point}
+use Rattle.druid_shard.specs.declared.change.Ask.{Ask}
+use Rattle.druid_shard.specs.declared.change.Ask.TheVariants.{Whole, Since}
+
+-- what follows the `?` of an ask for changes
+abbrev pub query_text : Point → List ℕ
+query_text m = codes "counter=" ++ (decimal m.count ++ (codes "&hash=" ++ decimal m.incarnation))
+
+-- the target of an ask
+abbrev pub ask_text : Ask → List ℕ
+ask_text Whole = codes "/druid-internal/v1/segments"
+ask_text (Since m) = codes "/druid-internal/v1/segments?" ++ query_text m
+
+-- the number below 2^64 that prints as these digits
+unfoldable pub number_at : List ℕ → Option ℕ
+number_at digits =
+    if nat_lt (digits_value 10 digits) (2 ^ 64) && bytes_eq digits (decimal (digits_value 10 digits))
+    then Some (digits_value 10 digits)
+    else None
+
+-- the values of the parameters of that name, in order. Parameters stand between `&`, a name before the first `=`, and
+-- its value behind it
+abbrev pub values_at : List ℕ → List (List ℕ × List ℕ) → List (List ℕ)
+values_at name parameters = map (λ p. p.1) (filter (λ p. bytes_eq p.0 name) parameters)
+
+abbrev pub values_of : List ℕ → List ℕ → List (List ℕ)
+values_of name query = values_at name (raw_pairs query)
+
+-- a mark of an incarnation, which is at least 1, by the digits of its count and of its incarnation
+unfoldable pub since_at : List ℕ → List ℕ → Option Ask
+since_at counter hash = do
+  count ← number_at counter
+  incarnation ← number_at hash
+  if nat_le 1 incarnation then Some (Since (record { incarnation = incarnation; count = count })) else None
+
+-- an ask, by all values of `counter` and all of `hash`: each stands once, or neither does. A counter of -1 alone asks
+-- for the whole too
+unfoldable pub ask_of : List (List ℕ) → List (List ℕ) → Option Ask
+ask_of [] [] = Some Whole
+ask_of (counter ∷ []) [] = if bytes_eq counter (codes "-1") then Some Whole else None
+ask_of (counter ∷ []) (hash ∷ []) = since_at counter hash
+ask_of counters hashes = None
+
+-- the ask that a query string tells; other parameters are passed over
+abbrev pub ask_at : List ℕ → Option Ask
+ask_at query = ask_of (values_of (codes "counter") query) (values_of (codes "hash") query)

@@ -1,0 +1,6 @@
+pub mod Fields
+pub mod Written
+pub mod Read
+pub mod Lent
+pub mod Asks
+pub mod Given

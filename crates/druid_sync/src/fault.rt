@@ -1,0 +1,32 @@
+use thiserror::Error;
+
+/// Why bytes are no reply of a data node.
+#[derive(Clone, Copy, Debug, PartialEq, Eq, Drop, Error)]
+pub enum SyncFault {
+    /// Y1: no JSON in UTF-8.
+    #[error("Y1: not JSON")]
+    NotJson,
+    /// Y2: JSON that has not the form of a reply.
+    #[error("Y2: not a reply")]
+    Shape,
+    /// Y5: a snapshot of more than 20,000 segments, or a delta of more than 1,000 changes.
+    #[error("Y5: too many segments or changes")]
+    TooMany,
+    /// Y3: a delta whose marks are not as far apart as it has changes.
+    #[error("Y3: a delta of another length")]
+    LengthOfDelta,
+    /// Y4: an identifier stands twice in a snapshot.
+    #[error("Y4: a doubled segment")]
+    DoubledSegment,
+    /// Y9: memory was refused.
+    #[error("Y9: out of memory")]
+    Memory,
+}
+
+/// Why a query string is no ask.
+#[derive(Clone, Copy, Debug, PartialEq, Eq, Drop, Error)]
+pub enum AskFault {
+    /// Y6: `counter` and `hash` tell no mark.
+    #[error("Y6: not a mark")]
+    BadCounter,
+}

@@ -1,0 +1,14 @@
+//! The texts of sync: what a node answers to a broker that follows it, and what a broker asks.
+#![tactic(auto)]
+
+mod ask;
+mod fault;
+mod laws;
+mod reading;
+mod writing;
+
+pub use ask::{ask_target, read_ask};
+pub use fault::{AskFault, SyncFault};
+pub use laws::replies_are_read_back;
+pub use reading::{read_reply, reply_of};
+pub use writing::{mark_value, reply_text};

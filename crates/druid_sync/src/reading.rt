@@ -1,0 +1,293 @@
+//! Replies, read out of JSON.
+ghost use Rattle.std.specs.Prelude.{◌≡◌, ◌≤◌, ◌↔◌, IsTrue, Some, None, IsSome, is_some, IfOk, IfSome, option_map};
+ghost use Rattle.std.specs.List.{list_all};
+ghost use Rattle.serde_json.specs.View.{view, items_view};
+ghost use Rattle.druid_shard.specs.Reply.{IsAsFar};
+ghost use Rattle.druid_sync.specs.Fields.{each_of};
+ghost use Rattle.druid_sync.specs.Lent.{five_lent};
+ghost use Rattle.druid_sync.specs.Read.{mark_at, change_at, load_at, cause_at, five_at, begun_again, none_in, reset_at, snapshot_at, delta_at, changes_at, form_at, Answers, IsRead, IsReadOf};
+
+use crate::SyncFault;
+use druid_shard::{
+    Cause, Change, Descriptor, MAX_CHANGES, MAX_SEGMENTS, Mark, Reply, ReplyFault,
+    check_descriptor, number_field, read_descriptor, text_field,
+};
+use serde_json::Value;
+use std::alloc::{AllocError, Global};
+
+// A mark of an incarnation.
+#[tactic(auto, unfolding(crate::specs::Read::mark_at))]
+fn mark_of(value: &Value) -> Option<Mark>
+    ensures value { result ≡ mark_at (view value.now) }
+    ensures valid { IfSome result (λ mark. 1 ≤ mark.incarnation) }
+{
+    let count = number_field(value, "counter")?;
+    let incarnation = number_field(value, "hash")?;
+    if 1 <= incarnation {
+        Some(Mark::new(incarnation, count))
+    } else {
+        None
+    }
+}
+
+// Whether a value is a change. It takes no memory.
+#[tactic(auto, unfolding(crate::specs::Read::change_at))]
+fn is_change(value: &Value) -> bool
+    ensures { result ≡ is_some (change_at (view value.now)) }
+{
+    let action = text_field(value, "action");
+    if action != Some("load") && action != Some("drop") {
+        return false;
+    }
+    check_descriptor(value).is_ok()
+}
+
+// Whether a value is a change that loads a segment. It takes no memory.
+#[tactic(auto, unfolding(crate::specs::Read::change_at))]
+fn is_load(value: &Value) -> bool
+    ensures { result ≡ is_some (load_at (view value.now)) }
+{
+    if text_field(value, "action") != Some("load") {
+        return false;
+    }
+    check_descriptor(value).is_ok()
+}
+
+fn are_changes(values: &[Value]) -> bool
+    ensures { result ≡ list_all (λ value. is_some (change_at (view value))) values.now }
+{
+    values.iter().all(|value| is_change(value))
+}
+
+fn are_loads(values: &[Value]) -> bool
+    ensures { result ≡ list_all (λ value. is_some (load_at (view value))) values.now }
+{
+    values.iter().all(|value| is_load(value))
+}
+
+// The change that a value is.
+#[tactic(auto, unfolding(crate::specs::Read::change_at))]
+fn change_of(alloc: Global, value: &Value) -> Result<Change, AllocError>
+    requires { IsSome (change_at (view value.now)) }
+    ensures { IfOk result (λ change. change_at (view value.now) ≡ Some change) }
+{
+    let Ok(segment) = read_descriptor(alloc, value) else {
+        return Err(AllocError);
+    };
+    if text_field(value, "action") == Some("load") {
+        Ok(Change::Load(segment))
+    } else {
+        Ok(Change::Drop(segment))
+    }
+}
+
+// The segments that changes load, in order, where each loads one.
+#[tactic(auto, unfolding(crate::specs::Read::change_at))]
+fn loads_of(alloc: Global, values: &[Value]) -> Result<Vec<Descriptor>, AllocError>
+    requires { IsSome (each_of load_at (items_view values.now)) }
+    ensures { IfOk result (λ loads. each_of load_at (items_view values.now) ≡ Some loads.items) }
+{
+    let mut loads = Vec::with_capacity(alloc, values.len())?;
+    for value in values {
+        let Ok(load) = read_descriptor(alloc, value) else {
+            return Err(AllocError);
+        };
+        loads.push(load)?;
+    }
+    Ok(loads)
+}
+
+// The changes, in order, where each value is one.
+fn changes_of(alloc: Global, values: &[Value]) -> Result<Vec<Change>, AllocError>
+    requires { IsSome (each_of change_at (items_view values.now)) }
+    ensures { IfOk result (λ changes. each_of change_at (items_view values.now) ≡ Some changes.items) }
+{
+    let mut changes = Vec::with_capacity(alloc, values.len())?;
+    for value in values {
+        changes.push(change_of(alloc, value)?)?;
+    }
+    Ok(changes)
+}
+
+// The cause of a reset.
+#[tactic(auto, unfolding(crate::specs::Read::cause_at))]
+fn cause_of(value: &Value) -> Option<Cause>
+    ensures { result ≡ cause_at (view value.now) }
+{
+    let text = value.as_str()?;
+    if text == "OtherIncarnation" {
+        return Some(Cause::OtherIncarnation);
+    }
+    if text == "Ahead" {
+        return Some(Cause::Ahead);
+    }
+    if text == "TooOld" {
+        return Some(Cause::TooOld);
+    }
+    None
+}
+
+// The five fields of a reply, lent.
+#[derive(Drop)]
+struct Lent<'a> {
+    at: Mark,
+    from: &'a Value,
+    requests: &'a [Value],
+    cause: &'a Value,
+    reset: bool,
+}
+
+#[tactic(auto, unfolding(crate::specs::Read::five_at))]
+fn five_of(value: &Value) -> Option<Lent<'_>>
+    ensures value { option_map five_lent result ≡ five_at (view value.now) }
+    ensures valid { IfSome result (λ five. 1 ≤ five.at.incarnation) }
+{
+    let at = mark_of(value.get("counter")?)?;
+    let from = value.get("from")?;
+    let requests = value.get("requests").and_then(Value::as_array)?.as_slice();
+    let cause = value.get("resetCause")?;
+    let reset = value.get("resetCounter").and_then(Value::as_bool)?;
+    Some(Lent {
+        at,
+        from,
+        requests,
+        cause,
+        reset,
+    })
+}
+
+// Whether there are no changes.
+#[tactic(auto, using(crate::proofs::FormLemmas::none_of))]
+fn are_none(values: &[Value]) -> bool
+    ensures { result ≡ is_some (none_in (items_view values.now)) }
+{
+    values.is_empty()
+}
+
+// The cause, where the five fields are those of a reset.
+#[tactic(auto, unfolding(crate::specs::Read::reset_at))]
+fn reset_of(five: &Lent) -> Option<Cause>
+    ensures { option_map (λ cause. begun_again cause five.now.at) result ≡ reset_at (five_lent five.now) }
+{
+    if !five.from.is_null() {
+        return None;
+    }
+    if !are_none(five.requests) {
+        return None;
+    }
+    cause_of(five.cause)
+}
+
+// The snapshot of these loads.
+#[tactic(auto, unfolding(crate::specs::Read::snapshot_at))]
+fn snapshot_of(alloc: Global, at: Mark, loads: &[Value]) -> Result<Reply, SyncFault>
+    requires { 1 ≤ at.incarnation }
+    ensures { Answers (snapshot_at at (items_view loads.now)) result }
+{
+    if !are_loads(loads) {
+        return Err(SyncFault::Shape);
+    }
+    if loads.len() > MAX_SEGMENTS {
+        return Err(SyncFault::TooMany);
+    }
+    let Ok(segments) = loads_of(alloc, loads) else {
+        return Err(SyncFault::Memory);
+    };
+    match Reply::snapshot(at, segments) {
+        Ok(reply) => Ok(reply),
+        Err(ReplyFault::TooMany) => Err(SyncFault::TooMany),
+        Err(ReplyFault::LengthOfDelta) => Err(SyncFault::LengthOfDelta),
+        Err(ReplyFault::DoubledSegment) => Err(SyncFault::DoubledSegment),
+        Err(ReplyFault::Memory) => Err(SyncFault::Memory),
+    }
+}
+
+// The mark that is so many changes behind another one of its incarnation, if there is one.
+fn is_as_far(from: Mark, to: Mark, changes: usize) -> bool
+    ensures { IsTrue result ↔ IsAsFar from to changes }
+{
+    to.incarnation() == from.incarnation()
+        && from.count().checked_add(changes as u64) == Some(to.count())
+}
+
+// The delta of these changes.
+#[tactic(auto, unfolding(crate::specs::Read::delta_at))]
+fn delta_of(alloc: Global, at: Mark, from: &Value, values: &[Value]) -> Result<Reply, SyncFault>
+    requires { 1 ≤ at.incarnation }
+    ensures { Answers (delta_at at (view from.now) (items_view values.now)) result }
+{
+    let Some(from) = mark_of(from) else {
+        return Err(SyncFault::Shape);
+    };
+    if !are_changes(values) {
+        return Err(SyncFault::Shape);
+    }
+    if values.len() > MAX_CHANGES {
+        return Err(SyncFault::TooMany);
+    }
+    if !is_as_far(from, at, values.len()) {
+        return Err(SyncFault::LengthOfDelta);
+    }
+    let Ok(changes) = changes_of(alloc, values) else {
+        return Err(SyncFault::Memory);
+    };
+    match Reply::delta(from, at, changes) {
+        Ok(reply) => Ok(reply),
+        Err(ReplyFault::TooMany) => Err(SyncFault::TooMany),
+        Err(ReplyFault::LengthOfDelta) => Err(SyncFault::LengthOfDelta),
+        Err(ReplyFault::DoubledSegment) => Err(SyncFault::DoubledSegment),
+        Err(ReplyFault::Memory) => Err(SyncFault::Memory),
+    }
+}
+
+// The snapshot or the delta that the five fields are.
+#[tactic(auto, unfolding(crate::specs::Read::changes_at))]
+fn follow(alloc: Global, five: &Lent) -> Result<Reply, SyncFault>
+    requires { 1 ≤ five.now.at.incarnation }
+    ensures { Answers (changes_at (five_lent five.now)) result }
+{
+    if !five.cause.is_null() {
+        return Err(SyncFault::Shape);
+    }
+    if five.from.is_null() {
+        snapshot_of(alloc, five.at, five.requests)
+    } else {
+        delta_of(alloc, five.at, five.from, five.requests)
+    }
+}
+
+/// Reads a reply: Y2 where the value has none of the three forms, then Y5 where a snapshot has more than 20,000 segments or
+/// a delta more than 1,000 changes, then Y3 where the marks of a delta are not as far apart as it has changes, then Y9
+/// where memory is refused, and Y4 where an identifier stands twice in a snapshot. The segments of a snapshot may stand in
+/// any order, and other keys are passed over.
+#[tactic(auto, unfolding(crate::specs::Read::form_at))]
+pub fn reply_of(alloc: Global, value: &Value) -> Result<Reply, SyncFault>
+    ensures { IsRead (view value.now) result }
+{
+    let Some(five) = five_of(value) else {
+        return Err(SyncFault::Shape);
+    };
+    if !five.reset {
+        return follow(alloc, &five);
+    }
+    match reset_of(&five) {
+        Some(cause) => Ok(Reply::reset(cause, five.at)),
+        None => Err(SyncFault::Shape),
+    }
+}
+
+/// Reads a reply of a data node: Y1 where the bytes are no JSON in UTF-8, then the refusals of the value.
+pub fn read_reply(alloc: Global, bytes: &[u8]) -> Result<Reply, SyncFault>
+    ensures { IsReadOf bytes.now result }
+{
+    match Value::from_slice(alloc, bytes) {
+        Ok(value) => reply_of(alloc, &value),
+        Err(error) => {
+            if error.is_memory() {
+                Err(SyncFault::Memory)
+            } else {
+                Err(SyncFault::NotJson)
+            }
+        }
+    }
+}

@@ -1,0 +1,189 @@
+//! Replies, written.
+ghost use Rattle.std.specs.Prelude.{◌≡◌, ◌++◌, false, codes, map, IfOk, OnOk, string_bytes};
+ghost use Rattle.serde_json.specs.View.{view, items_of};
+ghost use Rattle.serde_json.specs.Written.{compact_text, comma_if, items_text};
+ghost use Rattle.druid_shard.specs.Json.{shard_data};
+ghost use Rattle.druid_sync.specs.Written.{mark_data, from_data, request_data, change_data, load_data, front_text, back_text, reply_text};
+
+use druid_shard::{Body, Cause, Change, Descriptor, Mark, Reply};
+use serde_json::{Value, json};
+use std::alloc::{AllocError, Global};
+
+/// The JSON of a mark: its count as `counter`, and its incarnation as `hash`.
+#[tactic(auto, unfolding(crate::specs::Written::mark_data))]
+pub fn mark_value(alloc: Global, mark: Mark) -> Result<Value, AllocError>
+    ensures { IfOk result (λ v. view v ≡ mark_data mark) }
+{
+    json!(in alloc; {
+        "counter": mark.count(),
+        "hash": mark.incarnation(),
+    })
+}
+
+// The JSON of a numbered shard spec.
+fn shard_value(alloc: Global, descriptor: &Descriptor) -> Result<Value, AllocError>
+    ensures { IfOk result (λ v.
+        view v ≡ shard_data descriptor.now.id.partition descriptor.now.core) }
+{
+    json!(in alloc; {
+        "partitionNum": descriptor.id().partition(),
+        "partitions": descriptor.core(),
+        "type": "numbered",
+    })
+}
+
+// The JSON of a change that does this with a segment.
+#[tactic(auto, unfolding(crate::specs::Written::request_data))]
+fn request_value(alloc: Global, action: &str, descriptor: &Descriptor) -> Result<Value, AllocError>
+    ensures { IfOk result (λ v. view v ≡ request_data action.now descriptor.now) }
+{
+    let id = descriptor.id();
+    let interval = id.interval().text(alloc)?;
+    let version = id.version().text(alloc)?;
+    let shard = shard_value(alloc, descriptor)?;
+    json!(in alloc; {
+        "action": action,
+        "dataSource": id.source().as_str(),
+        "interval": interval.as_str(),
+        "shardSpec": shard,
+        "size": descriptor.size(),
+        "version": version.as_str(),
+    })
+}
+
+// What stands before an item of a list.
+fn comma(later: bool) -> &'static str
+    ensures { result.now ≡ comma_if later }
+{
+    if later { "," } else { "" }
+}
+
+// The text of a change that does this with a segment.
+#[tactic(auto, using(crate::proofs::TextLemmas::request_plain))]
+fn request_text(alloc: Global, action: &str, descriptor: &Descriptor) -> Result<String, AllocError>
+    ensures { IfOk result (λ text.
+        string_bytes text ≡ compact_text (request_data action.now descriptor.now)) }
+{
+    request_value(alloc, action, descriptor)?.to_string(alloc)
+}
+
+// Appends the JSON of a change that does this with a segment, behind a comma where another stands before it.
+#[tactic(auto, using(crate::proofs::TextLemmas::two_pushed))]
+fn push_request(
+    alloc: Global,
+    text: &mut String,
+    later: bool,
+    action: &str,
+    descriptor: &Descriptor,
+) -> Result<(), AllocError>
+    ensures { OnOk result (string_bytes text.new
+        ≡ string_bytes text.old ++ (comma_if later ++ compact_text (request_data action.now descriptor.now))) }
+{
+    let request = request_text(alloc, action, descriptor)?;
+    text.push_str(comma(later))?;
+    text.push_str(request.as_str())
+}
+
+fn push_change(
+    alloc: Global,
+    text: &mut String,
+    later: bool,
+    change: &Change,
+) -> Result<(), AllocError>
+    ensures { OnOk result (string_bytes text.new
+        ≡ string_bytes text.old ++ (comma_if later ++ compact_text (change_data change.now))) }
+{
+    match change {
+        Change::Load(descriptor) => push_request(alloc, text, later, "load", descriptor),
+        Change::Drop(descriptor) => push_request(alloc, text, later, "drop", descriptor),
+    }
+}
+
+// Appends the JSON of changes, and the bracket behind them.
+#[tactic(auto, using(crate::proofs::TextLemmas::item_next, crate::proofs::TextLemmas::item_last))]
+fn push_changes(alloc: Global, text: &mut String, changes: &[Change]) -> Result<(), AllocError>
+    ensures { OnOk result (string_bytes text.new
+        ≡ string_bytes text.old ++ items_text false (items_of (map change_data changes.now))) }
+{
+    for i in 0..changes.len() {
+        push_change(alloc, text, 0 < i, &changes[i])?;
+    }
+    text.push_str("]")
+}
+
+// Appends the JSON of loads of these segments, and the bracket behind them.
+#[tactic(auto, using(crate::proofs::TextLemmas::item_next, crate::proofs::TextLemmas::item_last))]
+fn push_loads(alloc: Global, text: &mut String, segments: &[Descriptor]) -> Result<(), AllocError>
+    ensures { OnOk result (string_bytes text.new
+        ≡ string_bytes text.old ++ items_text false (items_of (map load_data segments.now))) }
+{
+    for i in 0..segments.len() {
+        push_request(alloc, text, 0 < i, "load", &segments[i])?;
+    }
+    text.push_str("]")
+}
+
+// The text of a mark, or of none.
+#[tactic(auto, using(crate::proofs::TextLemmas::from_plain))]
+fn from_text(alloc: Global, from: Option<Mark>) -> Result<String, AllocError>
+    ensures { IfOk result (λ text. string_bytes text ≡ compact_text (from_data from)) }
+{
+    match from {
+        Some(mark) => mark_value(alloc, mark)?.to_string(alloc),
+        None => String::from_str(alloc, "null"),
+    }
+}
+
+// The text of a reply up to the bracket before its changes.
+#[tactic(auto, unfolding(crate::specs::Written::front_text))]
+fn front_of(alloc: Global, counter: Mark, from: Option<Mark>) -> Result<String, AllocError>
+    ensures { IfOk result (λ text. string_bytes text ≡ front_text counter from ++ codes "[") }
+{
+    let mut text = String::from_str(alloc, "{\"counter\":")?;
+    text.push_str(from_text(alloc, Some(counter))?.as_str())?;
+    text.push_str(",\"from\":")?;
+    text.push_str(from_text(alloc, from)?.as_str())?;
+    text.push_str(",\"requests\":[")?;
+    Ok(text)
+}
+
+// The text of a reply from behind its changes on.
+#[tactic(auto, using(crate::proofs::TextLemmas::back_of_none, crate::proofs::TextLemmas::back_of_other, crate::proofs::TextLemmas::back_of_ahead, crate::proofs::TextLemmas::back_of_old))]
+fn back_of(cause: Option<Cause>) -> &'static str
+    ensures { result.now ≡ back_text cause }
+{
+    match cause {
+        None => ",\"resetCause\":null,\"resetCounter\":false}",
+        Some(Cause::OtherIncarnation) =>
+            ",\"resetCause\":\"OtherIncarnation\",\"resetCounter\":true}",
+        Some(Cause::Ahead) => ",\"resetCause\":\"Ahead\",\"resetCounter\":true}",
+        Some(Cause::TooOld) => ",\"resetCause\":\"TooOld\",\"resetCounter\":true}",
+    }
+}
+
+/// The text of a reply: its JSON, compact, with the keys in the order of their bytes.
+#[tactic(auto, using(crate::proofs::TextLemmas::delta_text, crate::proofs::TextLemmas::snapshot_text, crate::proofs::TextLemmas::reset_text))]
+pub fn reply_text(alloc: Global, reply: &Reply) -> Result<String, AllocError>
+    ensures { IfOk result (λ text. string_bytes text ≡ reply_text reply.now) }
+{
+    match reply.body() {
+        Body::Delta { from, to, changes } => {
+            let mut text = front_of(alloc, *to, Some(*from))?;
+            push_changes(alloc, &mut text, changes.as_slice())?;
+            text.push_str(back_of(None))?;
+            Ok(text)
+        }
+        Body::Snapshot { at, segments } => {
+            let mut text = front_of(alloc, *at, None)?;
+            push_loads(alloc, &mut text, segments.as_slice())?;
+            text.push_str(back_of(None))?;
+            Ok(text)
+        }
+        Body::Reset { cause, at } => {
+            let mut text = front_of(alloc, *at, None)?;
+            text.push_str("]")?;
+            text.push_str(back_of(Some(*cause)))?;
+            Ok(text)
+        }
+    }
+}
