@@ -4,7 +4,9 @@
 It measures three shapes of a snapshot, each followed by 20 lookups, at 5,000, 10,000 and 20,000 segments: one chunk
 with core 0, one chunk with a core partition for each segment, and one-hour chunks. Then a line of 16 MiB and a stream
 of short lines, for the memory that they take, and one lookup whose answer is long: 2,000 partitions under 2,000
-alternating hours, for which the peak is at most 40 MiB. Nothing else is checked but that the program ends with status 0.
+alternating hours, for which the peak is at most 40 MiB. Last, a snapshot of one-hour chunks, and then 2,000 deltas of 5
+changes each with a lookup of a changed day after each: at most 20 s and 250 MB at 20,000 segments. Nothing else is checked
+but that the program ends with status 0.
 """
 import json, os, subprocess, sys, tempfile, time
 from datetime import datetime, timedelta
@@ -15,6 +17,9 @@ PROGRAM = os.path.join(TOP, 'druid_cluster')
 
 # The most memory, in MiB, for the lookup with a long answer.
 LONG_ANSWER_PEAK = 40
+
+# The most memory, in MiB, and the most seconds for the deltas.
+DELTAS_PEAK, DELTAS_TIME = 238, 20
 
 
 def change(start, end, partition, core, version="v1"):
@@ -50,6 +55,22 @@ def long_answer():
     yield {"broker": 0, "do": "lookup", "interval": "2000-01-01/2025-01-01", "source": "wiki"}
 
 
+def deltas(count):
+    # Each delta drops two hours of a day and loads them anew; a third one it drops, and the next delta loads that.
+    yield from opening(snapshot('one-hour chunks', count))
+    mark = count
+    for n in range(2_000):
+        first = 24 * (n // 2 * 7 % (count // 24))
+        hours = [change(hour(first + k), hour(first + k + 1), 0, 1) for k in range(3)]
+        drops = [dict(it, action="drop") for it in hours]
+        changes = [drops[0], drops[1], hours[0], hours[1], hours[2] if n % 2 else drops[2]]
+        yield {"broker": 0, "do": "reply", "node": 0, "reply": {
+            "counter": {"counter": mark + 5, "hash": 1}, "from": {"counter": mark, "hash": 1}, "requests": changes,
+            "resetCause": None, "resetCounter": False}}
+        mark += 5
+        yield {"broker": 0, "do": "lookup", "interval": f"{hour(first)}/{hour(first + 24)}", "source": "wiki"}
+
+
 def lines(shape, count):
     yield from opening(snapshot(shape, count))
     for n in range(20):
@@ -76,7 +97,7 @@ def run(path):
     return time.time() - start, used.ru_maxrss / 1024, os.waitstatus_to_exitcode(status)
 
 
-def measure(name, texts, most=None):
+def measure(name, texts, most=None, longest=None):
     with tempfile.NamedTemporaryFile('w', suffix='.jsonl') as f:
         write(f.name, texts)
         seconds, mib, status = run(f.name)
@@ -84,6 +105,9 @@ def measure(name, texts, most=None):
     print(f'{name:44} {size:9.2f} MB {seconds:8.2f} s {mib:9.1f} MiB  status {status}', flush=True)
     if most is not None and mib > most:
         print(f'  more than {most} MiB', flush=True)
+        return 1
+    if longest is not None and seconds > longest:
+        print(f'  more than {longest} s', flush=True)
         return 1
     return status
 
@@ -101,6 +125,8 @@ def main():
         brokers, lookup[:-1] + ', "pad": "' + 'x' * (16_777_216 - len(lookup) - 11) + '"}'])
     for count in (1_000, 100_000):
         bad |= measure(f'{count} short lines', lambda: [brokers] + [lookup] * count)
+    for count in (5_000, 10_000, 20_000):
+        bad |= measure(f'{count} segments and 2,000 deltas of 5', lambda: map(json.dumps, deltas(count)), DELTAS_PEAK, DELTAS_TIME)
     sys.exit(1 if bad else 0)
 
 
