@@ -5,8 +5,10 @@ It measures three shapes of a snapshot, each followed by 20 lookups, at 5,000, 1
 with core 0, one chunk with a core partition for each segment, and one-hour chunks. Then a line of 16 MiB and a stream
 of short lines, for the memory that they take, and one lookup whose answer is long: 2,000 partitions under 2,000
 alternating hours, for which the peak is at most 40 MiB. Last, a snapshot of one-hour chunks, and then 2,000 deltas of 5
-changes each with a lookup of a changed day after each: at most 20 s and 250 MB at 20,000 segments. Nothing else is checked
-but that the program ends with status 0.
+changes each with a lookup of a changed day after each: at most 20 s and 250 MB at 20,000 segments. And 64 brokers over 8
+nodes of 2,500 segments each, every segment on two nodes: one broker is told the snapshots, the others join it, and then
+there are 4 rounds of a delta of each node to each broker, with a lookup each: at most 20 s and 1 GB. Nothing else is
+checked but that the program ends with status 0.
 """
 import json, os, subprocess, sys, tempfile, time
 from datetime import datetime, timedelta
@@ -20,6 +22,9 @@ LONG_ANSWER_PEAK = 40
 
 # The most memory, in MiB, and the most seconds for the deltas.
 DELTAS_PEAK, DELTAS_TIME = 238, 20
+
+# The same for many brokers.
+BROKERS_PEAK, BROKERS_TIME = 953, 20
 
 
 def change(start, end, partition, core, version="v1"):
@@ -40,11 +45,23 @@ def snapshot(shape, count):
     return [change(hour(n), hour(n + 1), 0, 1) for n in range(count)]
 
 
+def reply(broker, node, mark, start, changes):
+    counter = lambda count: None if count is None else {"counter": count, "hash": 1}
+    return {"broker": broker, "do": "reply", "node": node, "reply": {
+        "counter": counter(mark), "from": counter(start), "requests": changes,
+        "resetCause": None, "resetCounter": False}}
+
+
 def opening(segments):
     yield {"count": 1, "do": "brokers", "nodes": ["n0"]}
-    yield {"broker": 0, "do": "reply", "node": 0, "reply": {
-        "counter": {"counter": len(segments), "hash": 1}, "from": None, "requests": segments,
-        "resetCause": None, "resetCounter": False}}
+    yield reply(0, 0, len(segments), None, segments)
+
+
+def some_changes(first, is_back):
+    # Two hours are dropped and loaded anew, and a third one is loaded, or else dropped.
+    hours = [change(hour(first + k), hour(first + k + 1), 0, 1) for k in range(3)]
+    drops = [dict(it, action="drop") for it in hours]
+    return [drops[0], drops[1], hours[0], hours[1], hours[2] if is_back else drops[2]]
 
 
 def long_answer():
@@ -61,14 +78,25 @@ def deltas(count):
     mark = count
     for n in range(2_000):
         first = 24 * (n // 2 * 7 % (count // 24))
-        hours = [change(hour(first + k), hour(first + k + 1), 0, 1) for k in range(3)]
-        drops = [dict(it, action="drop") for it in hours]
-        changes = [drops[0], drops[1], hours[0], hours[1], hours[2] if n % 2 else drops[2]]
-        yield {"broker": 0, "do": "reply", "node": 0, "reply": {
-            "counter": {"counter": mark + 5, "hash": 1}, "from": {"counter": mark, "hash": 1}, "requests": changes,
-            "resetCause": None, "resetCounter": False}}
+        yield reply(0, 0, mark + 5, mark, some_changes(first, n % 2))
         mark += 5
         yield {"broker": 0, "do": "lookup", "interval": f"{hour(first)}/{hour(first + 24)}", "source": "wiki"}
+
+
+def many_brokers(count, nodes, size, rounds):
+    # Nodes 0 and 1 serve the same segments, and so do 2 and 3, and so on.
+    yield {"count": count, "do": "brokers", "nodes": [f"n{node}" for node in range(nodes)]}
+    start = lambda node: node // 2 * size
+    for node in range(nodes):
+        yield reply(0, node, size, None, [change(hour(start(node) + k), hour(start(node) + k + 1), 0, 1) for k in range(size)])
+    for broker in range(1, count):
+        yield {"do": "join", "from": 0, "into": broker}
+    for turn in range(rounds):
+        for node in range(nodes):
+            first = start(node) + 24 * (turn // 2)
+            for broker in range(count):
+                yield reply(broker, node, size + 5 * turn + 5, size + 5 * turn, some_changes(first, turn % 2))
+                yield {"broker": broker, "do": "lookup", "interval": f"{hour(first)}/{hour(first + 24)}", "source": "wiki"}
 
 
 def lines(shape, count):
@@ -127,6 +155,8 @@ def main():
         bad |= measure(f'{count} short lines', lambda: [brokers] + [lookup] * count)
     for count in (5_000, 10_000, 20_000):
         bad |= measure(f'{count} segments and 2,000 deltas of 5', lambda: map(json.dumps, deltas(count)), DELTAS_PEAK, DELTAS_TIME)
+    bad |= measure('64 brokers over 8 nodes of 2,500 segments', lambda: map(json.dumps, many_brokers(64, 8, 2_500, 4)),
+                   BROKERS_PEAK, BROKERS_TIME)
     sys.exit(1 if bad else 0)
 
 

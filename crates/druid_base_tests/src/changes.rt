@@ -1,8 +1,7 @@
 use crate::printing::printed;
+use crate::rows::{change, descriptor, mark_told, partitions_told};
 use druid_changes::{History, HistoryFault};
-use druid_segid::{Name, SegmentId, Version};
-use druid_shard::{Ask, Body, Change, Descriptor, MAX_SEGMENTS, Mark, Reply};
-use druid_time::Interval;
+use druid_shard::{Ask, Body, Change, MAX_SEGMENTS, Mark, Reply};
 use std::alloc::Global;
 use std::test::Fail;
 
@@ -26,25 +25,6 @@ const RECORDED: &str = "+1 = H1: served already
 +0 = 0 1 2 3
 -1 = 2 3";
 
-fn descriptor(alloc: Global, partition: u16) -> Result<Descriptor, Fail> {
-    let source = Name::new(alloc, "wiki")?;
-    let day = Interval::parse("2024-01-01/2024-01-02")?;
-    let version = Version::new(alloc, "v1")?;
-    let id = SegmentId::new(source, day, version, partition);
-    Ok(Descriptor::new(id, 0, 7).ok_or("core")?)
-}
-
-// Of `+3` the load of partition 3, and of `-3` the drop.
-fn change(alloc: Global, text: &str) -> Result<Change, Fail> {
-    match text.strip_prefix('+') {
-        Some(partition) => Ok(Change::Load(descriptor(alloc, partition.parse()?)?)),
-        None => {
-            let partition = text.strip_prefix('-').ok_or("no change")?;
-            Ok(Change::Drop(descriptor(alloc, partition.parse()?)?))
-        }
-    }
-}
-
 // A node of incarnation 1 that keeps two changes.
 fn five_changes(alloc: Global) -> Result<History, Fail> {
     let mut history = History::new(alloc, 1, 2)?;
@@ -52,19 +32,6 @@ fn five_changes(alloc: Global) -> Result<History, Fail> {
         history.record(change(alloc, text)?)?;
     }
     Ok(history)
-}
-
-fn mark_told(alloc: Global, mark: Mark) -> Result<String, Fail> {
-    Ok(format!(in alloc; "{} {}", mark.incarnation(), mark.count())?)
-}
-
-fn partitions_told(alloc: Global, segments: &[Descriptor]) -> Result<String, Fail> {
-    let mut told = String::new(alloc);
-    for segment in segments {
-        let partition = format!(in alloc; " {}", segment.id().partition())?;
-        told.push_str(partition.as_str())?;
-    }
-    Ok(told)
 }
 
 fn changes_told(alloc: Global, changes: &[Change]) -> Result<String, Fail> {

@@ -9,6 +9,8 @@ mod inventory;
 #[cfg(test)]
 mod printing;
 #[cfg(test)]
+mod rows;
+#[cfg(test)]
 mod segid;
 #[cfg(test)]
 mod shard;

@@ -1,4 +1,4 @@
-ghost use Rattle.std.specs.Prelude.{◌≡◌, ◌≢◌, ◌↔◌, ◌≤◌, ◌++◌, [], ◌∷◌, List, length, drop, Some, None, IfOk, IfErr, OnOk, OnErr, IsErrOf};
+ghost use Rattle.std.specs.Prelude.{◌≡◌, ◌≢◌, ◌↔◌, ◌≤◌, ◌++◌, [], ◌∷◌, List, length, drop, Some, None, IsTrue, IfOk, IfErr, OnOk, OnErr, IsErrOf};
 ghost use Rattle.druid_shard.specs.Reply.{max_changes};
 ghost use Rattle.druid_shard.specs.Replay.{replay, IsSegmentSet};
 ghost use Rattle.druid_shard.specs.declared.change.Change.{Change as Event};
@@ -88,6 +88,13 @@ impl History {
             return Some(HistoryFault::CountAtEnd);
         }
         of_set
+    }
+
+    /// Whether it would record the change, if memory is had. It takes no memory.
+    pub fn accepts(&self, change: &Change) -> bool
+        ensures { IsTrue result ↔ (refusal self.now change.now ≡ None) }
+    {
+        self.refusal(change).is_none()
     }
 
     /// Records a change. For a load: H1 where a segment of that identifier is served, then H3 where 20,000 segments

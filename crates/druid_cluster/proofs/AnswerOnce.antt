@@ -1,5 +1,6 @@
 -- A line is answered in one way.
-use Rattle.std.proofs.Common.{◌≡◌, ℕ, List, All, map, Option, None, Some, Result, Ok, Err, ◌⊎◌, inl, inr, slice_get, slice_set, refl, sym, ap, subst, ◌∙◌, arith}
+use Rattle.std.proofs.Common.{◌≡◌, ◌↔◌, ℕ, Bool, true, false, IsTrue, List, All, map, replicate, Option, None, Some, Result, Ok, Err, ◌⊎◌, inl, inr, slice_get, slice_set, refl, sym, ap, subst, ◌∙◌, arith}
+use Rattle.std.proofs.lemmas.Bool.{false≢true}
 use Rattle.std.proofs.lemmas.Option.{same_Some}
 use Rattle.serde_json.specs.Data.{Data}
 use Rattle.druid_time.specs.Extent.{Extent}
@@ -18,12 +19,14 @@ use Rattle.druid_inventory.proofs.StepLemmas.{Steps-one, Refuses-one, Steps-not_
 use Rattle.druid_sync.specs.Read.{IsRead, form_at}
 use Rattle.druid_sync.specs.declared.fault.SyncFault.{SyncFault}
 use Rattle.druid_sync.specs.declared.fault.SyncFault.TheVariants as replies
-use Rattle.druid_cluster.specs.Commands.{Command, reply, lookup}
-use Rattle.druid_cluster.specs.Serving.{TakesBrokers, unread, not_applied, RefusesReply, TakesReply, IsFound, LooksUp, Does, Answers, IsNoCommand, IsAnswered, IsBad}
+use Rattle.druid_inventory.specs.declared.fault.JoinFault.{JoinFault}
+use Rattle.druid_inventory.proofs.JoinLemmas.{refused_or_joined, one_refusal}
+use Rattle.druid_cluster.specs.Commands.{Opening, Command, reply, lookup, marks, join, equal}
+use Rattle.druid_cluster.specs.Serving.{TakesBrokers, unread, not_applied, not_joined, RefusesReply, TakesReply, IsFound, LooksUp, Holds, JoinsInto, Does, Answers, IsNoCommand, IsAnswered, IsBad}
 use Rattle.druid_cluster.specs.declared.answer.Refusal.{Refusal}
 use Rattle.druid_cluster.specs.declared.answer.Refusal.TheVariants as refusals
 use Rattle.druid_cluster.specs.declared.answer.Answer.{Answer}
-use Rattle.druid_cluster.specs.declared.answer.Answer.TheVariants.{Refused, Taken, Stepped, Found}
+use Rattle.druid_cluster.specs.declared.answer.Answer.TheVariants.{Refused, Taken, Stepped, Found, Marked, Joined, Compared}
 use Rattle.druid_cluster.proofs.ReadOnce.{IsKnown, read_once}
 use Rattle.druid_cluster.proofs.HoldingOnce.{found_once}
 
@@ -36,47 +39,52 @@ both x at a b next other is too stays same = (is ∙ sym too, stays ∙ sym same
 
 -- ---- brokers: what is judged, in order
 
-abbrev pub OfNames : List (List ℕ) → Answer → Option (List Entry) → Type 0
-OfNames names answer next =
-    ((HaveOwnNames names → ⊥) × (answer ≡ Refused refusals.DoubledNode) × (next ≡ None))
-    ⊎ (HaveOwnNames names × (answer ≡ Taken) × (next ≡ Some (map fresh names)))
+abbrev pub OfNames : Opening → Answer → Option (List (List Entry)) → Type 0
+OfNames o answer next =
+    ((HaveOwnNames o.names → ⊥) × (answer ≡ Refused refusals.DoubledNode) × (next ≡ None))
+    ⊎ (HaveOwnNames o.names × (answer ≡ Taken o.count) × (next ≡ Some (replicate o.count (map fresh o.names))))
 
-abbrev pub OfBrokers : List (List ℕ) → Answer → Option (List Entry) → Type 0
-OfBrokers names answer next =
-    ((All IsName names → ⊥) × (answer ≡ Refused refusals.BadName) × (next ≡ None))
-    ⊎ (All IsName names × OfNames names answer next)
+abbrev pub OfBrokers : Opening → Answer → Option (List (List Entry)) → Type 0
+OfBrokers o answer next =
+    ((All IsName o.names → ⊥) × (answer ≡ Refused refusals.BadName) × (next ≡ None))
+    ⊎ (All IsName o.names × OfNames o answer next)
 
-brokers_tree : (names : List (List ℕ)) (answer : Answer) (next : Option (List Entry)) → TakesBrokers names answer next → OfBrokers names answer next
-brokers_tree names (Refused refusals.NotATime) next h = absurd h
-brokers_tree names (Refused refusals.OutOfRange) next h = absurd h
-brokers_tree names (Refused refusals.Empty) next h = absurd h
-brokers_tree names (Refused refusals.BadName) next h = inl (h.0, refl, h.1)
-brokers_tree names (Refused refusals.DoubledNode) next h = inr (h.0, inl (h.1, refl, h.2))
-brokers_tree names (Refused refusals.Shape) next h = absurd h
-brokers_tree names (Refused refusals.TooMany) next h = absurd h
-brokers_tree names (Refused refusals.LengthOfDelta) next h = absurd h
-brokers_tree names (Refused refusals.DoubledSegment) next h = absurd h
-brokers_tree names (Refused refusals.UnknownNode) next h = absurd h
-brokers_tree names (Refused refusals.OtherIncarnation) next h = absurd h
-brokers_tree names (Refused refusals.Gap) next h = absurd h
-brokers_tree names (Refused refusals.NotStrict) next h = absurd h
-brokers_tree names (Refused refusals.TooManySegments) next h = absurd h
-brokers_tree names (Refused refusals.Conflict) next h = absurd h
-brokers_tree names Taken next h = inr (h.0.0, inr (h.0.1, refl, h.1))
-brokers_tree names (Stepped mark outcome) next h = absurd h
-brokers_tree names (Found pieces) next h = absurd h
+brokers_tree : (o : Opening) (answer : Answer) (next : Option (List (List Entry))) → TakesBrokers o answer next → OfBrokers o answer next
+brokers_tree o (Refused refusals.NotATime) next h = absurd h
+brokers_tree o (Refused refusals.OutOfRange) next h = absurd h
+brokers_tree o (Refused refusals.Empty) next h = absurd h
+brokers_tree o (Refused refusals.BadName) next h = inl (h.0, refl, h.1)
+brokers_tree o (Refused refusals.DoubledNode) next h = inr (h.0, inl (h.1, refl, h.2))
+brokers_tree o (Refused refusals.Shape) next h = absurd h
+brokers_tree o (Refused refusals.TooMany) next h = absurd h
+brokers_tree o (Refused refusals.LengthOfDelta) next h = absurd h
+brokers_tree o (Refused refusals.DoubledSegment) next h = absurd h
+brokers_tree o (Refused refusals.UnknownNode) next h = absurd h
+brokers_tree o (Refused refusals.OtherIncarnation) next h = absurd h
+brokers_tree o (Refused refusals.Gap) next h = absurd h
+brokers_tree o (Refused refusals.NotStrict) next h = absurd h
+brokers_tree o (Refused refusals.TooManySegments) next h = absurd h
+brokers_tree o (Refused refusals.Conflict) next h = absurd h
+brokers_tree o (Refused refusals.OtherNodes) next h = absurd h
+brokers_tree o (Refused refusals.OtherSets) next h = absurd h
+brokers_tree o (Taken count) next h = inr (h.0.0, inr (h.0.1, ap Taken h.1, h.2))
+brokers_tree o (Stepped mark outcome) next h = absurd h
+brokers_tree o (Found pieces) next h = absurd h
+brokers_tree o (Marked told) next h = absurd h
+brokers_tree o (Joined broker) next h = absurd h
+brokers_tree o (Compared same) next h = absurd h
 
-names_once : (names : List (List ℕ)) (a b : Answer) (next other : Option (List Entry)) → OfNames names a next → OfNames names b other → IsOne a b next other
-names_once names a b next other (inl x) (inl y) = both _ _ a b next other x.1 y.1 x.2 y.2
-names_once names a b next other (inl x) (inr y) = absurd (x.0 y.0)
-names_once names a b next other (inr x) (inl y) = absurd (y.0 x.0)
-names_once names a b next other (inr x) (inr y) = both _ _ a b next other x.1 y.1 x.2 y.2
+names_once : (o : Opening) (a b : Answer) (next other : Option (List (List Entry))) → OfNames o a next → OfNames o b other → IsOne a b next other
+names_once o a b next other (inl x) (inl y) = both _ _ a b next other x.1 y.1 x.2 y.2
+names_once o a b next other (inl x) (inr y) = absurd (x.0 y.0)
+names_once o a b next other (inr x) (inl y) = absurd (y.0 x.0)
+names_once o a b next other (inr x) (inr y) = both _ _ a b next other x.1 y.1 x.2 y.2
 
-brokers_once : (names : List (List ℕ)) (a b : Answer) (next other : Option (List Entry)) → OfBrokers names a next → OfBrokers names b other → IsOne a b next other
-brokers_once names a b next other (inl x) (inl y) = both _ _ a b next other x.1 y.1 x.2 y.2
-brokers_once names a b next other (inl x) (inr y) = absurd (x.0 y.0)
-brokers_once names a b next other (inr x) (inl y) = absurd (y.0 x.0)
-brokers_once names a b next other (inr x) (inr y) = names_once names a b next other x.1 y.1
+brokers_once : (o : Opening) (a b : Answer) (next other : Option (List (List Entry))) → OfBrokers o a next → OfBrokers o b other → IsOne a b next other
+brokers_once o a b next other (inl x) (inl y) = both _ _ a b next other x.1 y.1 x.2 y.2
+brokers_once o a b next other (inl x) (inr y) = absurd (x.0 y.0)
+brokers_once o a b next other (inr x) (inl y) = absurd (y.0 x.0)
+brokers_once o a b next other (inr x) (inr y) = names_once o a b next other x.1 y.1
 
 -- ---- a reply: what is judged, in order
 
@@ -119,10 +127,13 @@ refused_tree inventory node d refusal (inr x) = (Ok x.0, x.1, told_tree inventor
 reply_tree : (inventory : List Entry) (node : ℕ) (d : Data) (answer : Answer) (next : List Entry) → TakesReply inventory node d answer next → OfReply inventory node d answer next
 reply_tree inventory node d (Refused refusal) next h =
     subst (λ (s : List Entry). OfReply inventory node d (Refused refusal) s) (sym h.1) (refused_tree inventory node d refusal h.0)
-reply_tree inventory node d Taken next h = absurd h
+reply_tree inventory node d (Taken count) next h = absurd h
 reply_tree inventory node d (Stepped mark outcome) next h =
     (Ok h.0, h.1, inr (h.3.0, h.3.1, inr (outcome, h.2, h.3.2, (λ i. Stepped (h.5 i) outcome), h.4)))
 reply_tree inventory node d (Found pieces) next h = absurd h
+reply_tree inventory node d (Marked told) next h = absurd h
+reply_tree inventory node d (Joined broker) next h = absurd h
+reply_tree inventory node d (Compared same) next h = absurd h
 
 entry_once : (inventory : List Entry) (node : ℕ) (body : Body) (e : Entry) (a b : Answer) (next other : List Entry) → OfEntry inventory node body e a next → OfEntry inventory node body e b other → IsOne a b next other
 entry_once inventory node body e a b next other (inl x) (inl y) =
@@ -198,9 +209,14 @@ lookup_tree inventory interval source (Refused refusals.Gap) h = absurd h
 lookup_tree inventory interval source (Refused refusals.NotStrict) h = absurd h
 lookup_tree inventory interval source (Refused refusals.TooManySegments) h = absurd h
 lookup_tree inventory interval source (Refused refusals.Conflict) h = absurd h
-lookup_tree inventory interval source Taken h = absurd h
+lookup_tree inventory interval source (Refused refusals.OtherNodes) h = absurd h
+lookup_tree inventory interval source (Refused refusals.OtherSets) h = absurd h
+lookup_tree inventory interval source (Taken count) h = absurd h
 lookup_tree inventory interval source (Stepped mark outcome) h = absurd h
 lookup_tree inventory interval source (Found pieces) h = inr (h.0, h.1, inr (h.2, pieces, h.3, refl))
+lookup_tree inventory interval source (Marked told) h = absurd h
+lookup_tree inventory interval source (Joined broker) h = absurd h
+lookup_tree inventory interval source (Compared same) h = absurd h
 
 pieces_found_once : (inventory : List Entry) (source : List ℕ) (asked : Extent) (ps qs : List Told) → IsFound inventory source asked ps → IsFound inventory source asked qs → ps ≡ qs
 pieces_found_once inventory source asked ps qs (inl x) (inl y) = x.1 ∙ sym y.1
@@ -232,36 +248,75 @@ lookup_once inventory interval source a b (inr x) (inr y) =
     let same : y.0 ≡ x.0 = same_Ok (extent_at interval) y.0 x.0 y.1 x.1 in
     source_once inventory source x.0 a b x.2 (subst (λ (e : Extent). OfSource inventory source e b) same y.2)
 
+-- ---- joins and comparisons
+
+join_once : (brokers : List (List Entry)) (into : ℕ) (own with : List Entry) (a b : Answer) (next other : List (List Entry)) → JoinsInto brokers into own with a next → JoinsInto brokers into own with b other → IsOne a b next other
+join_once brokers into own with a b next other (inl x) (inl y) =
+    (x.2 ∙ sym y.2, x.3 ∙ ap (slice_set brokers into) (x.1.entries ∙ sym y.1.entries) ∙ sym y.3)
+join_once brokers into own with a b next other (inl x) (inr y) = absurd (refused_or_joined own with x.0 y.0 y.1 x.1)
+join_once brokers into own with a b next other (inr x) (inl y) = absurd (refused_or_joined own with y.0 x.0 x.1 y.1)
+join_once brokers into own with a b next other (inr x) (inr y) =
+    let same : x.0 ≡ y.0 = one_refusal own with x.0 y.0 x.1 y.1 in
+    let one : x.2 ≡ y.2 = same_Some x.2 y.2 (sym x.3 ∙ ap (λ (f : JoinFault). not_joined f) same ∙ y.3) in
+    (x.4 ∙ ap Refused one ∙ sym y.4, x.5 ∙ sym y.5)
+
+same_test : (s t : Bool) (P : Type 0) → IsTrue s ↔ P → IsTrue t ↔ P → s ≡ t
+same_test true true P h k = refl
+same_test true false P h k = absurd (false≢true (k.1 (h.0 refl)))
+same_test false true P h k = absurd (false≢true (h.1 (k.0 refl)))
+same_test false false P h k = refl
+
+found_same : (brokers : List (List Entry)) (broker : ℕ) (x y : List Entry) → Holds brokers broker x → Holds brokers broker y → y ≡ x
+found_same brokers broker x y h k = same_Some y x (sym k ∙ h)
+
 -- ---- lines
 
-done_once : (inventory : List Entry) (command : Command) (a b : Answer) (next other : List Entry) → Does inventory command a next → Does inventory command b other → IsOne a b next other
-done_once inventory (reply node body) a b next other x y =
-    reply_once inventory node body a b next other (reply_tree inventory node body a next x) (reply_tree inventory node body b other y)
-done_once inventory (lookup interval source) a b next other x y =
-    (lookup_once inventory interval source a b (lookup_tree inventory interval source a x.0) (lookup_tree inventory interval source b y.0), x.1 ∙ sym y.1)
+done_once : (brokers : List (List Entry)) (command : Command) (a b : Answer) (next other : List (List Entry)) → Does brokers command a next → Does brokers command b other → IsOne a b next other
+done_once brokers (reply broker node body) a b next other x y =
+    let same = found_same brokers broker x.0 y.0 x.2 y.2 in
+    let there = subst (λ (i : List Entry). TakesReply i node body b y.1) same y.3 in
+    let one = reply_once x.0 node body a b x.1 y.1 (reply_tree x.0 node body a x.1 x.3) (reply_tree x.0 node body b y.1 there) in
+    (one.0, x.4 ∙ ap (slice_set brokers broker) one.1 ∙ sym y.4)
+done_once brokers (lookup broker interval source) a b next other x y =
+    let same = found_same brokers broker x.0 y.0 x.1 y.1 in
+    let there = subst (λ (i : List Entry). LooksUp i interval source b) same y.2 in
+    (lookup_once x.0 interval source a b (lookup_tree x.0 interval source a x.2) (lookup_tree x.0 interval source b there), x.3 ∙ sym y.3)
+done_once brokers (marks broker) a b next other x y =
+    let same = found_same brokers broker x.0 y.0 x.1 y.1 in
+    (x.2 ∙ ap (λ (i : List Entry). Marked (map (λ e. e.mark) i)) (sym same) ∙ sym y.2, x.3 ∙ sym y.3)
+done_once brokers (join from into) a b next other x y =
+    let own = found_same brokers into x.0 y.0 x.2 y.2 in
+    let with = found_same brokers from x.1 y.1 x.3 y.3 in
+    let there = subst (λ (i : List Entry). JoinsInto brokers into i x.1 b other) own (subst (λ (i : List Entry). JoinsInto brokers into y.0 i b other) with y.4) in
+    join_once brokers into x.0 x.1 a b next other x.4 there
+done_once brokers (equal left right) a b next other x y =
+    let one = found_same brokers left x.0 y.0 x.2 y.2 in
+    let with = found_same brokers right x.1 y.1 x.3 y.3 in
+    let there = subst (λ (i : List Entry). IsTrue y.4 ↔ (i ≡ x.1)) one (subst (λ (i : List Entry). IsTrue y.4 ↔ (y.0 ≡ i)) with y.5) in
+    (x.6 ∙ ap Compared (same_test x.4 y.4 (x.0 ≡ x.1) x.5 there) ∙ sym y.6, x.7 ∙ sym y.7)
 
-given_once : (state : Option (List Entry)) (d : Data) (a b : Answer) (next other : Option (List Entry)) → Answers state d a next → Answers state d b other → IsOne a b next other
+given_once : (state : Option (List (List Entry))) (d : Data) (a b : Answer) (next other : Option (List (List Entry))) → Answers state d a next → Answers state d b other → IsOne a b next other
 given_once None d a b next other x y =
     let same : y.0 ≡ x.0 = same_Some y.0 x.0 (sym y.1 ∙ x.1) in
-    let there = subst (λ (names : List (List ℕ)). TakesBrokers names b other) same y.2 in
+    let there = subst (λ (o : Opening). TakesBrokers o b other) same y.2 in
     brokers_once x.0 a b next other (brokers_tree x.0 a next x.2) (brokers_tree x.0 b other there)
-given_once (Some inventory) d a b next other x y =
+given_once (Some brokers) d a b next other x y =
     let same : y.0 ≡ x.0 = same_Some y.0 x.0 (sym y.1 ∙ x.1) in
-    let there = subst (λ (c : Command). Does inventory c b y.2) same y.4 in
-    let one = done_once inventory x.0 a b x.2 y.2 x.4 there in
+    let there = subst (λ (c : Command). Does brokers c b y.2) same y.4 in
+    let one = done_once brokers x.0 a b x.2 y.2 x.4 there in
     (one.0, x.3 ∙ ap Some one.1 ∙ sym y.3)
 
 -- a line is answered in one way
-pub answered_once : (state : Option (List Entry)) (line : List ℕ) (a b : Answer) (next other : Option (List Entry)) → IsAnswered state line a next → IsAnswered state line b other → IsOne a b next other
+pub answered_once : (state : Option (List (List Entry))) (line : List ℕ) (a b : Answer) (next other : Option (List (List Entry))) → IsAnswered state line a next → IsAnswered state line b other → IsOne a b next other
 answered_once state line a b next other x y =
     let same : y.1 ≡ x.1 = same_Some y.1 x.1 (sym y.2.1 ∙ x.2.1) in
     given_once state x.1 a b next other x.3 (subst (λ (d : Data). Answers state d b other) same y.3)
 
-is_command : (state next : Option (List Entry)) (d : Data) (answer : Answer) → Answers state d answer next → IsNoCommand state d → ⊥
+is_command : (state next : Option (List (List Entry))) (d : Data) (answer : Answer) → Answers state d answer next → IsNoCommand state d → ⊥
 is_command None next d answer given none = let read = given.1 in cc
-is_command (Some inventory) next d answer given none = let read = given.1 in cc
+is_command (Some brokers) next d answer given none = let read = given.1 in cc
 
 -- and is not bad
-pub answered_not_bad : (state next : Option (List Entry)) (line : List ℕ) (answer : Answer) → IsAnswered state line answer next → IsBad state line → ⊥
+pub answered_not_bad : (state next : Option (List (List Entry))) (line : List ℕ) (answer : Answer) → IsAnswered state line answer next → IsBad state line → ⊥
 answered_not_bad state next line answer given (inl long) = absurd (omega (arith, given.0))
 answered_not_bad state next line answer given (inr bad) = is_command state next given.1 answer given.3 (bad given.1 given.2)

@@ -1,9 +1,11 @@
 -- Each line is bad or has an answer.
-use Rattle.std.proofs.Common.{◌≡◌, ℕ, ◌<◌, ◌≤◌, Bool, List, All, length, map, Option, None, Some, Result, Ok, Err, ◌⊎◌, inl, inr, slice_get, slice_set, refl, sym, subst, ◌∙◌, arith}
+use Rattle.std.proofs.Common.{◌≡◌, ℕ, zero, suc, ◌<◌, ◌≤◌, Bool, true, false, nat_lt, if◌then◌else◌, List, [], ◌∷◌, All, length, map, replicate, Option, None, Some, Result, Ok, Err, ◌⊎◌, inl, inr, slice_get, slice_set, refl, sym, ap, subst, ◌∙◌, arith}
 use Rattle.std.specs.Str.{IsUtf8, is_utf8}
 use Rattle.std.specs.Bool.{IsTrue}
 use Rattle.std.proofs.lemmas.Bool.{cases_lt}
-use Rattle.std.proofs.lemmas.Option.{same_Some}
+use Rattle.std.specs.Cmp.{first_so, second_so}
+use Rattle.std.proofs.lemmas.Bool.Decides.{Decides-ltb}
+use Rattle.std.proofs.lemmas.Option.{same_Some, none-some}
 use Rattle.std.proofs.lemmas.Str.{IsUtf8-from_is_utf8, is_utf8-from_IsUtf8}
 use Rattle.serde_json.specs.Data.{Data}
 use Rattle.serde_json.specs.Read.{read}
@@ -14,6 +16,7 @@ use Rattle.druid_time.specs.declared.fault.TimeFault.TheVariants as times
 use Rattle.druid_segid.specs.Names.{IsName, max_name, is_name_byte}
 use Rattle.druid_shard.specs.declared.reply.Body.{Body}
 use Rattle.druid_shard.specs.declared.reply.Body.TheVariants.{Delta, Snapshot, Reset}
+use Rattle.druid_time.specs.Options.{◌>>=◌}
 use Rattle.druid_inventory.specs.Entry.{Entry, fresh, HaveOwnNames}
 use Rattle.druid_inventory.specs.Step.{Steps, Refuses}
 use Rattle.druid_inventory.specs.declared.fault.Outcome.{Outcome}
@@ -21,11 +24,17 @@ use Rattle.druid_inventory.specs.declared.fault.ApplyFault.{ApplyFault}
 use Rattle.druid_inventory.specs.declared.fault.ApplyFault.TheVariants as steps
 use Rattle.druid_inventory.proofs.StepLemmas.{Steps-some}
 use Rattle.druid_sync.specs.Read.{IsRead, form_at}
-use Rattle.druid_cluster.specs.Commands.{Command, reply, lookup, opening_at, command_at}
-use Rattle.druid_cluster.specs.Serving.{TakesBrokers, TakesReply, LooksUp, Does, Answers, IsNoCommand, IsAnswered, IsBad, max_line}
+use Rattle.druid_inventory.specs.Equality.{same_entries}
+use Rattle.druid_inventory.specs.Join.{IsJoin, RefusesJoin}
+use Rattle.druid_inventory.specs.declared.fault.JoinFault.{JoinFault}
+use Rattle.druid_inventory.specs.declared.fault.JoinFault.TheVariants as joins
+use Rattle.druid_inventory.proofs.JoinLemmas.{join_some, same_entries-decides}
+use Rattle.druid_cluster.specs.Commands.{Opening, Command, reply, lookup, marks, join, equal, is_among, opening_at, asked_at, command_at}
+use Rattle.druid_cluster.specs.Seen.{AreAmong}
+use Rattle.druid_cluster.specs.Serving.{TakesBrokers, TakesReply, LooksUp, Holds, JoinsInto, Does, Answers, IsNoCommand, IsAnswered, IsBad, max_line}
 use Rattle.druid_cluster.specs.declared.answer.Refusal.TheVariants as refusals
 use Rattle.druid_cluster.specs.declared.answer.Answer.{Answer}
-use Rattle.druid_cluster.specs.declared.answer.Answer.TheVariants.{Refused, Taken, Stepped, Found}
+use Rattle.druid_cluster.specs.declared.answer.Answer.TheVariants.{Refused, Taken, Stepped, Found, Marked, Joined, Compared}
 use Rattle.druid_cluster.proofs.Decided.{Decided, by_test, all_decided, own_decided}
 use Rattle.druid_cluster.proofs.ReadSome.{IsReadSo, read_some}
 use Rattle.druid_cluster.proofs.FoundSome.{found_some}
@@ -47,12 +56,12 @@ name_decided text =
           inl (record { not_empty = omega (arith, some); short = short; bytes = each })
       by (inl some) (inr short) (inr none) = inr (λ name. none name.bytes)
 
-brokers_some : (names : List (List ℕ)) → (answer : Answer) × (next : Option (List Entry)) × TakesBrokers names answer next
-brokers_some names = by (all_decided IsName name_decided names) (own_decided (λ (n : List ℕ). n) names) where
-  by : Decided (All IsName names) → Decided (HaveOwnNames names) → (answer : Answer) × (next : Option (List Entry)) × TakesBrokers names answer next
+brokers_some : (o : Opening) → (answer : Answer) × (next : Option (List (List Entry))) × TakesBrokers o answer next
+brokers_some o = by (all_decided IsName name_decided o.names) (own_decided (λ (n : List ℕ). n) o.names) where
+  by : Decided (All IsName o.names) → Decided (HaveOwnNames o.names) → (answer : Answer) × (next : Option (List (List Entry))) × TakesBrokers o answer next
   by (inr none) own = (Refused refusals.BadName, None, (none, refl))
   by (inl all) (inr twice) = (Refused refusals.DoubledNode, None, (all, twice, refl))
-  by (inl all) (inl own) = (Taken, Some (map fresh names), ((all, own), refl))
+  by (inl all) (inl own) = (Taken o.count, Some (replicate o.count (map fresh o.names)), ((all, own), refl, refl))
 
 -- ---- replies
 
@@ -116,39 +125,104 @@ lookup_some inventory interval source = by (extent_at interval) refl (name_decid
       let found = found_some inventory source asked in
       (Found found.0, (asked, is, name, found.1))
 
+-- ---- joins and comparisons
+
+join_some_answer : (brokers : List (List Entry)) (into : ℕ) (own with : List Entry)
+    → ((joined : List Entry) × IsJoin own with joined) ⊎ ((f : JoinFault) × RefusesJoin own with f)
+    → (answer : Answer) × (next : List (List Entry)) × JoinsInto brokers into own with answer next
+join_some_answer brokers into own with (inl x) = (Joined into, slice_set brokers into x.0, inl (x.0, x.1, refl, refl))
+join_some_answer brokers into own with (inr (joins.OtherNodes, h)) =
+    (Refused refusals.OtherNodes, brokers, inr (joins.OtherNodes, h, refusals.OtherNodes, refl, refl, refl))
+join_some_answer brokers into own with (inr (joins.Conflict node, h)) =
+    (Refused refusals.OtherSets, brokers, inr (joins.Conflict node, h, refusals.OtherSets, refl, refl, refl))
+join_some_answer brokers into own with (inr (joins.Memory, h)) = absurd h
+
 -- ---- lines
 
-does_some : (inventory : List Entry) (command : Command) → (answer : Answer) × (next : List Entry) × Does inventory command answer next
-does_some inventory (reply node body) = reply_some inventory node body
-does_some inventory (lookup interval source) =
-    let found = lookup_some inventory interval source in
-    (found.0, inventory, (found.1, refl))
+lt_so : (a b : ℕ) → nat_lt a b ≡ true → a < b
+lt_so a b e = (Decides-ltb a b).0 e
 
-abbrev IsAnswerable : Option (List Entry) → Data → Type 0
-IsAnswerable state d = (answer : Answer) × (next : Option (List Entry)) × Answers state d answer next
+among_so : (count : ℕ) (c : Command) → is_among count c ≡ true → AreAmong count c
+among_so count (reply broker node body) e = lt_so broker count e
+among_so count (lookup broker interval source) e = lt_so broker count e
+among_so count (marks broker) e = lt_so broker count e
+among_so count (join from into) e = (lt_so from count (first_so _ _ e), lt_so into count (second_so _ _ e))
+among_so count (equal left right) e = (lt_so left count (first_so _ _ e), lt_so right count (second_so _ _ e))
 
-given_some : (state : Option (List Entry)) (d : Data) → IsNoCommand state d ⊎ IsAnswerable state d
+among_test : (count : ℕ) (c e : Command) → (if is_among count c then Some c else None) ≡ Some e → AreAmong count e
+among_test count c e h = by (is_among count c) refl where
+  by : (t : Bool) → is_among count c ≡ t → AreAmong count e
+  by true is =
+      let same : c ≡ e = same_Some c e (sym (ap (λ (t : Bool). if t then Some c else None) is) ∙ h) in
+      subst (AreAmong count) same (among_so count c is)
+  by false is = absurd (none-some e (sym (ap (λ (t : Bool). if t then Some c else None) is) ∙ h))
+
+bind_some : {A B : Type 0} (f : A → Option B) (o : Option A) (y : B) → (o >>= f) ≡ Some y → (x : A) × (o ≡ Some x) × (f x ≡ Some y)
+bind_some f (Some x) y e = (x, refl, e)
+bind_some f None y e = absurd (none-some y e)
+
+-- a command that is read is of brokers that stand
+command_among : (count : ℕ) (d : Data) (c : Command) → command_at count d ≡ Some c → AreAmong count c
+unfolding command_at
+command_among count d c h =
+    let step = bind_some (λ e. if is_among count e then Some e else None) (asked_at d) c h in
+    among_test count step.0 c step.2
+
+held_at : (brokers : List (List Entry)) (broker : ℕ) → broker < length brokers → (inventory : List Entry) × Holds brokers broker inventory
+held_at [] broker l = absurd (omega (arith, l))
+held_at (x ∷ xs) zero l = (x, refl)
+held_at (x ∷ xs) (suc broker) l = held_at xs broker (omega (arith, l))
+
+does_some : (brokers : List (List Entry)) (command : Command) → AreAmong (length brokers) command → (answer : Answer) × (next : List (List Entry)) × Does brokers command answer next
+does_some brokers (reply broker node body) l =
+    let held = held_at brokers broker l in
+    let all = reply_some held.0 node body in
+    (all.0, slice_set brokers broker all.1, (held.0, all.1, held.1, all.2, refl))
+does_some brokers (lookup broker interval source) l =
+    let held = held_at brokers broker l in
+    let found = lookup_some held.0 interval source in
+    (found.0, brokers, (held.0, held.1, found.1, refl))
+does_some brokers (marks broker) l =
+    let held = held_at brokers broker l in
+    (Marked (map (λ e. e.mark) held.0), brokers, (held.0, held.1, refl, refl))
+does_some brokers (join from into) l =
+    let own = held_at brokers into l.1 in
+    let with = held_at brokers from l.0 in
+    let all = join_some_answer brokers into own.0 with.0 (join_some own.0 with.0) in
+    (all.0, all.1, (own.0, with.0, own.1, with.1, all.2))
+does_some brokers (equal left right) l =
+    let one = held_at brokers left l.0 in
+    let with = held_at brokers right l.1 in (
+      Compared (same_entries one.0 with.0),
+      brokers,
+      (one.0, with.0, one.1, with.1, same_entries one.0 with.0, same_entries-decides one.0 with.0, refl, refl),
+    )
+
+abbrev IsAnswerable : Option (List (List Entry)) → Data → Type 0
+IsAnswerable state d = (answer : Answer) × (next : Option (List (List Entry))) × Answers state d answer next
+
+given_some : (state : Option (List (List Entry))) (d : Data) → IsNoCommand state d ⊎ IsAnswerable state d
 given_some None d = by (opening_at d) refl where
-  by : (o : Option (List (List ℕ))) → opening_at d ≡ o → IsNoCommand None d ⊎ IsAnswerable None d
+  by : (o : Option Opening) → opening_at d ≡ o → IsNoCommand None d ⊎ IsAnswerable None d
   by None none = inl none
-  by (Some names) some = let all = brokers_some names in inr (all.0, all.1, (names, some, all.2))
-given_some (Some inventory) d = by (command_at d) refl where
-  by : (o : Option Command) → command_at d ≡ o → IsNoCommand (Some inventory) d ⊎ IsAnswerable (Some inventory) d
+  by (Some opening) some = let all = brokers_some opening in inr (all.0, all.1, (opening, some, all.2))
+given_some (Some brokers) d = by (command_at (length brokers) d) refl where
+  by : (o : Option Command) → command_at (length brokers) d ≡ o → IsNoCommand (Some brokers) d ⊎ IsAnswerable (Some brokers) d
   by None none = inl none
   by (Some command) some =
-      let all = does_some inventory command in
+      let all = does_some brokers command (command_among (length brokers) d command some) in
       inr (all.0, Some all.1, (command, some, all.1, refl, all.2))
 
 -- each line is bad or has an answer
-pub line_some : (state : Option (List Entry)) (line : List ℕ) → IsBad state line ⊎ ((answer : Answer) × (next : Option (List Entry)) × IsAnswered state line answer next)
+pub line_some : (state : Option (List (List Entry))) (line : List ℕ) → IsBad state line ⊎ ((answer : Answer) × (next : Option (List (List Entry))) × IsAnswered state line answer next)
 line_some state line =
     by (cases_lt max_line (length line)) (by_test (IsUtf8 line) (is_utf8 line) (IsUtf8-from_is_utf8 line) (is_utf8-from_IsUtf8 line)) (read line) refl where
-      given : length line ≤ max_line → IsUtf8 line → (d : Data) → read line ≡ Some d → IsNoCommand state d ⊎ IsAnswerable state d → IsBad state line ⊎ ((answer : Answer) × (next : Option (List Entry)) × IsAnswered state line answer next)
+      given : length line ≤ max_line → IsUtf8 line → (d : Data) → read line ≡ Some d → IsNoCommand state d ⊎ IsAnswerable state d → IsBad state line ⊎ ((answer : Answer) × (next : Option (List (List Entry))) × IsAnswered state line answer next)
       given short text d is (inl none) =
           inl (inr (λ other h. subst (IsNoCommand state) (same_Some d other (sym is ∙ h.1)) none))
       given short text d is (inr all) = inr (all.0, all.1, (short, d, (text, is), all.2))
 
-      by : (max_line < length line) ⊎ (length line ≤ max_line) → Decided (IsUtf8 line) → (o : Option Data) → read line ≡ o → IsBad state line ⊎ ((answer : Answer) × (next : Option (List Entry)) × IsAnswered state line answer next)
+      by : (max_line < length line) ⊎ (length line ≤ max_line) → Decided (IsUtf8 line) → (o : Option Data) → read line ≡ o → IsBad state line ⊎ ((answer : Answer) × (next : Option (List (List Entry))) × IsAnswered state line answer next)
       by (inl long) text o is = inl (inl long)
       by (inr short) (inr none) o is = inl (inr (λ d h. absurd (none h.0)))
       by (inr short) (inl text) None is = inl (inr (λ d h. let other : read line ≡ Some d = h.1 in absurd cc))

@@ -22,7 +22,7 @@ use Rattle.druid_inventory.specs.Entry.{Entry}
 use Rattle.druid_inventory.specs.Sources.{Serves, HasSource, IsHoldingOf}
 use Rattle.druid_cluster.specs.Serving.{IsFound}
 use Rattle.druid_cluster.proofs.OrderOnce.{by_number}
-use Rattle.druid_cluster.proofs.HoldingOnce.{in_filter, from_filter}
+use Rattle.druid_timeline.proofs.HoldingLemmas.{in_filter, from_filter}
 use Rattle.druid_cluster.proofs.Decided.{Decided, by_test}
 
 -- ---- what is held of a source

@@ -6,6 +6,7 @@ pub mod PieceLemmas
 pub mod WriteLemmas
 pub mod RunLemmas
 pub mod LookLemmas
+pub mod MarkLemmas
 pub mod NameLemmas
 pub mod ProgramLemmas
 pub mod OrderOnce

@@ -18,11 +18,11 @@ use Rattle.druid_cluster.specs.Status.{line_of}
 use Rattle.druid_cluster.proofs.LineLemmas.{lines_of-first}
 
 -- the run of the whole goes on as the run of what is left
-abbrev pub GoesOn : List ℕ → Option (List Entry) → ℕ → List ℕ → List ℕ → Type 0
+abbrev pub GoesOn : List ℕ → Option (List (List Entry)) → ℕ → List ℕ → List ℕ → Type 0
 GoesOn xs state n ys written =
     (rest : List ℕ) (end : End) → Runs state n (lines_of ys) rest end → Runs None 1 (lines_of xs) (written ++ rest) end
 
-abbrev pub UnderWay : Option (List ℕ) → Option (List ℕ) → Option (List ℕ) → Option (List ℕ) → Option (List Entry) → ℕ → Type 0
+abbrev pub UnderWay : Option (List ℕ) → Option (List ℕ) → Option (List ℕ) → Option (List ℕ) → Option (List (List Entry)) → ℕ → Type 0
 UnderWay None left before now state n = Unit {0}
 UnderWay (Some xs) None before now state n = ⊥
 UnderWay (Some xs) (Some ys) before now state n = (written : List ℕ) × Appends before now written × GoesOn xs state n ys written
@@ -32,7 +32,7 @@ starts None b = tt
 starts (Some xs) b = ([], Appends-nil b, λ rest end run. run)
 
 -- one more line is answered
-pub goes_on : (a l m b w v : Option (List ℕ)) (state next : Option (List Entry)) (n : ℕ) (line : List ℕ) (answer : Answer)
+pub goes_on : (a l m b w v : Option (List ℕ)) (state next : Option (List (List Entry))) (n : ℕ) (line : List ℕ) (answer : Answer)
     → UnderWay a l b w state n → IfSome l (λ ys. (0 < length ys) × (line ≡ line_at ys) × (m ≡ Some (drop_through 10 ys)))
     → IsAnswered state line answer next → Appends w v (line_text answer) → UnderWay a m b v next (n + 1)
 goes_on None l m b w v state next n line answer way found answered grown = tt
@@ -49,25 +49,25 @@ goes_on (Some xs) (Some ys) m b w v state next n line answer way found answered 
     )
 
 -- the input is at its end
-pub ends : (a l b w : Option (List ℕ)) (state : Option (List Entry)) (n : ℕ) → UnderWay a l b w state n → IfSome l (λ ys. ys ≡ []) → Writes a b w done
+pub ends : (a l b w : Option (List ℕ)) (state : Option (List (List Entry))) (n : ℕ) → UnderWay a l b w state n → IfSome l (λ ys. ys ≡ []) → Writes a b w done
 ends None l b w state n way none = tt
 ends (Some xs) None b w state n way none = absurd way
 ends (Some xs) (Some ys) b w state n way none =
     (way.0 ++ [], way.2 [] done (subst (λ (zs : List ℕ). Runs state n (lines_of zs) [] done) (sym none) (refl, inl refl)), subst (Appends b w) (sym (append-nil way.0)) way.1)
 
 -- a device may fail at any line, and behind the last
-can_break : (state : Option (List Entry)) (n : ℕ) (lines : List (List ℕ)) → Runs state n lines [] (broken_at n)
+can_break : (state : Option (List (List Entry))) (n : ℕ) (lines : List (List ℕ)) → Runs state n lines [] (broken_at n)
 can_break state n [] = (refl, inr refl)
 can_break state n (line ∷ more) = inr (inl (inl refl, refl))
 
-pub stops : (a l b w : Option (List ℕ)) (state : Option (List Entry)) (n : ℕ) → UnderWay a l b w state n → Writes a b w (broken_at n)
+pub stops : (a l b w : Option (List ℕ)) (state : Option (List (List Entry))) (n : ℕ) → UnderWay a l b w state n → Writes a b w (broken_at n)
 stops None l b w state n way = tt
 stops (Some xs) None b w state n way = absurd way
 stops (Some xs) (Some ys) b w state n way =
     (way.0 ++ [], way.2 [] (broken_at n) (can_break state n (lines_of ys)), subst (Appends b w) (sym (append-nil way.0)) way.1)
 
 -- a front of the answer to a line is written
-stops_inside : (a l m b w v : Option (List ℕ)) (state : Option (List Entry)) (n : ℕ) (line out : List ℕ)
+stops_inside : (a l m b w v : Option (List ℕ)) (state : Option (List (List Entry))) (n : ℕ) (line out : List ℕ)
     → UnderWay a l b w state n → IfSome l (λ ys. (0 < length ys) × (line ≡ line_at ys) × (m ≡ Some (drop_through 10 ys)))
     → IsFront state line out → Appends w v out → Writes a b v (broken_at n)
 stops_inside None l m b w v state n line out way found front grown = tt
@@ -79,7 +79,7 @@ stops_inside (Some xs) (Some ys) m b w v state n line out way found front grown 
     (way.0 ++ out, way.2 out (broken_at n) here, Appends-trans b w v way.0 out way.1 grown)
 
 -- the line is bad
-pub breaks : (a l b w v : Option (List ℕ)) (state : Option (List Entry)) (n : ℕ) → UnderWay a l b w state n → IfSome l (λ ys. (0 < length ys) × IsBad state (line_at ys)) → Keeps w v → Writes a b v (bad_at n)
+pub breaks : (a l b w v : Option (List ℕ)) (state : Option (List (List Entry))) (n : ℕ) → UnderWay a l b w state n → IfSome l (λ ys. (0 < length ys) × IsBad state (line_at ys)) → Keeps w v → Writes a b v (bad_at n)
 breaks None l b w v state n way bad kept = tt
 breaks (Some xs) None b w v state n way bad kept = absurd way
 breaks (Some xs) (Some ys) b w v state n way bad kept =
@@ -88,17 +88,17 @@ breaks (Some xs) (Some ys) b w v state n way bad kept =
     (way.0 ++ [], way.2 [] (bad_at n) here, subst (Appends b v) (sym (append-nil way.0)) (Appends-kept b w v way.0 way.1 kept))
 
 -- a line that is too long is bad
-pub long_is_bad : (l : Option (List ℕ)) (state : Option (List Entry)) → IfSome l (λ ys. (0 < length ys) × (max_line < length (line_at ys))) → IfSome l (λ ys. (0 < length ys) × IsBad state (line_at ys))
+pub long_is_bad : (l : Option (List ℕ)) (state : Option (List (List Entry))) → IfSome l (λ ys. (0 < length ys) × (max_line < length (line_at ys))) → IfSome l (λ ys. (0 < length ys) × IsBad state (line_at ys))
 long_is_bad None state long = tt
 long_is_bad (Some ys) state long = (long.0, inl long.1)
 
 -- a line that was found, and is bad
-pub found_is_bad : (l m : Option (List ℕ)) (state : Option (List Entry)) (line : List ℕ) → IfSome l (λ ys. (0 < length ys) × (line ≡ line_at ys) × (m ≡ Some (drop_through 10 ys))) → IsBad state line → IfSome l (λ ys. (0 < length ys) × IsBad state (line_at ys))
+pub found_is_bad : (l m : Option (List ℕ)) (state : Option (List (List Entry))) (line : List ℕ) → IfSome l (λ ys. (0 < length ys) × (line ≡ line_at ys) × (m ≡ Some (drop_through 10 ys))) → IsBad state line → IfSome l (λ ys. (0 < length ys) × IsBad state (line_at ys))
 found_is_bad None m state line found bad = tt
 found_is_bad (Some ys) m state line found bad = (found.0, subst (IsBad state) found.1 bad)
 
 -- the fault of a line that was found
-pub told_of : (fault : ReplayFault) (a l m b w v : Option (List ℕ)) (state : Option (List Entry)) (n : ℕ) (line : List ℕ)
+pub told_of : (fault : ReplayFault) (a l m b w v : Option (List ℕ)) (state : Option (List (List Entry))) (n : ℕ) (line : List ℕ)
     → UnderWay a l b w state n → IfSome l (λ ys. (0 < length ys) × (line ≡ line_at ys) × (m ≡ Some (drop_through 10 ys)))
     → n < 2 ^ 64 → TellsLine state line n w v fault → EndsBy a b v fault
 told_of (BadCommand k) a l m b w v state n line way found small tells =
@@ -112,7 +112,7 @@ flushed None b w v end written kept = tt
 flushed (Some xs) b w v end written kept = (written.0, written.1, Appends-kept b w v written.0 written.2 kept)
 
 -- where a run ends at a bad line, a device may have failed there
-breaks_too : (state : Option (List Entry)) (n m : ℕ) (lines : List (List ℕ)) (out : List ℕ) → Runs state n lines out (bad_at m) → Runs state n lines out (broken_at m)
+breaks_too : (state : Option (List (List Entry))) (n m : ℕ) (lines : List (List ℕ)) (out : List ℕ) → Runs state n lines out (bad_at m) → Runs state n lines out (broken_at m)
 breaks_too state n m [] out run = elim run.1 as (λ _. Runs state n [] out (broken_at m)) [ inl e ↦ absurd cc | inr e ↦ absurd cc ]
 breaks_too state n m (line ∷ more) out (inl bad) = inr (inl (inl bad.1, let same : bad_at m ≡ bad_at n = bad.2 in cc))
 breaks_too state n m (line ∷ more) out (inr (inl front)) = absurd (let e = front.1 in cc)
@@ -136,11 +136,11 @@ found_line TooLong l m line e found = absurd cc
 found_line AtEnd l m line e found = absurd cc
 
 -- what a writer that failed has got of an answer
-pub told_front : (state next : Option (List Entry)) (line : List ℕ) (answer : Answer) (number : ℕ) (w v : Option (List ℕ))
+pub told_front : (state next : Option (List (List Entry))) (line : List ℕ) (answer : Answer) (number : ℕ) (w v : Option (List ℕ))
     → IsAnswered state line answer next → AppendsFront w v (line_text answer) → TellsLine state line number w v (Device number)
 told_front state next line answer number w v answered grown =
     (refl, grown.0, inr (answer, next, answered, grown.1, grown.2, grown.3), grown.4)
 
 -- before anything is written
-pub told_nothing : (state : Option (List Entry)) (line : List ℕ) (number : ℕ) (w : Option (List ℕ)) → TellsLine state line number w w (Device number)
+pub told_nothing : (state : Option (List (List Entry))) (line : List ℕ) (number : ℕ) (w : Option (List ℕ)) → TellsLine state line number w w (Device number)
 told_nothing state line number w = (refl, [], inl refl, Appends-nil w)

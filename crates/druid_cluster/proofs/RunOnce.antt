@@ -12,7 +12,7 @@ ended : (end : End) (n : ℕ) → NoDeviceFails end → (end ≡ done) ⊎ (end 
 ended end n whole (inl all) = all
 ended end n whole (inr broken) = absurd (whole n broken)
 
-pub runs_once : (state : Option (List Entry)) (n : ℕ) (lines : List (List ℕ)) (out other : List ℕ) (end last : End)
+pub runs_once : (state : Option (List (List Entry))) (n : ℕ) (lines : List (List ℕ)) (out other : List ℕ) (end last : End)
     → Runs state n lines out end → Runs state n lines other last → NoDeviceFails end → NoDeviceFails last → (out ≡ other) × (end ≡ last)
 runs_once state n [] out other end last x y whole too =
     (x.0 ∙ sym y.0, ended end n whole x.1 ∙ sym (ended last n too y.1))
@@ -26,6 +26,6 @@ runs_once state n (line ∷ more) out other end last (inr (inr x)) (inl y) whole
 runs_once state n (line ∷ more) out other end last (inr (inr x)) (inr (inl y)) whole too = absurd (too n y.1)
 runs_once state n (line ∷ more) out other end last (inr (inr x)) (inr (inr y)) whole too =
     let one = answered_once state line x.0 y.0 x.1 y.1 x.2 y.2 in
-    let there = subst (λ (s : Option (List Entry)). Runs s (n + 1) more y.3 last) (sym one.1) y.5 in
+    let there = subst (λ (s : Option (List (List Entry))). Runs s (n + 1) more y.3 last) (sym one.1) y.5 in
     let rest = runs_once x.1 (n + 1) more x.3 y.3 end last x.5 there whole too in
     (x.4 ∙ (λ i. line_text (one.0 i) ++ rest.0 i) ∙ sym y.4, rest.1)

@@ -11,7 +11,7 @@ all_done n e = cc
 stops_at : (k : ℕ) → NoDeviceFails (bad_at k)
 stops_at k n e = cc
 
-pub runs_some : (state : Option (List Entry)) (n : ℕ) (lines : List (List ℕ)) → (out : List ℕ) × (end : End) × Runs state n lines out end × NoDeviceFails end
+pub runs_some : (state : Option (List (List Entry))) (n : ℕ) (lines : List (List ℕ)) → (out : List ℕ) × (end : End) × Runs state n lines out end × NoDeviceFails end
 runs_some state n [] = ([], done, (refl, inl refl), all_done)
 runs_some state n (line ∷ more) =
     elim (line_some state line) [

@@ -1,9 +1,10 @@
 -- The JSON that answers a command.
 use Rattle.std.specs.Prelude.{ℕ, List, [], ◌∷◌, ◌++◌, map, codes}
-use Rattle.serde_json.specs.Data.{Data, object, member, no_members, array, number, unsigned, string}
+use Rattle.serde_json.specs.Data.{Data, object, member, no_members, array, boolean, number, unsigned, string}
 use Rattle.serde_json.specs.View.{items_of}
 use Rattle.serde_json.specs.Written.{compact_text}
 use Rattle.druid_time.specs.Texts.{extent_text}
+use Rattle.druid_shard.specs.Mark.{Point}
 use Rattle.druid_sync.specs.Written.{mark_data}
 use Rattle.druid_timeline.specs.Pieces.{Told}
 use Rattle.druid_inventory.specs.declared.fault.Outcome.{Outcome}
@@ -11,7 +12,7 @@ use Rattle.druid_inventory.specs.declared.fault.Outcome.TheVariants.{Moved, Alre
 use Rattle.druid_cluster.specs.declared.answer.Refusal.{Refusal}
 use Rattle.druid_cluster.specs.declared.answer.Refusal.TheVariants as refusals
 use Rattle.druid_cluster.specs.declared.answer.Answer.{Answer}
-use Rattle.druid_cluster.specs.declared.answer.Answer.TheVariants.{Refused, Taken, Stepped, Found}
+use Rattle.druid_cluster.specs.declared.answer.Answer.TheVariants.{Refused, Taken, Stepped, Found, Marked, Joined, Compared}
 
 -- the code that tells a refusal
 abbrev pub code_of : Refusal → List ℕ
@@ -30,6 +31,8 @@ code_of refusals.Gap = codes "A2"
 code_of refusals.NotStrict = codes "A4"
 code_of refusals.TooManySegments = codes "A6"
 code_of refusals.Conflict = codes "A5"
+code_of refusals.OtherNodes = codes "J1"
+code_of refusals.OtherSets = codes "J2"
 
 abbrev pub outcome_text : Outcome → List ℕ
 outcome_text Moved = codes "Moved"
@@ -54,13 +57,19 @@ piece_data piece =
 unfoldable pub pieces_data : List Told → Data
 pieces_data pieces = array (items_of (map piece_data pieces))
 
+unfoldable pub marks_data : List Point → Data
+marks_data marks = array (items_of (map mark_data marks))
+
 unfoldable pub answer_data : Answer → Data
 answer_data (Refused refusal) = lone (codes "refused") (string (code_of refusal))
-answer_data Taken = lone (codes "brokers") (number (unsigned 1))
+answer_data (Taken count) = lone (codes "brokers") (number (unsigned count))
 answer_data (Stepped mark outcome) =
     object (member (codes "mark") (mark_data mark)
     (member (codes "outcome") (string (outcome_text outcome)) no_members))
 answer_data (Found pieces) = lone (codes "pieces") (pieces_data pieces)
+answer_data (Marked marks) = lone (codes "marks") (marks_data marks)
+answer_data (Joined broker) = lone (codes "joined") (number (unsigned broker))
+answer_data (Compared equal) = lone (codes "equal") (boolean equal)
 
 -- the line of an answer, with its line feed
 abbrev pub line_text : Answer → List ℕ

@@ -20,20 +20,20 @@ abbrev pub NoDeviceFails : End → Type 0
 NoDeviceFails end = (number : ℕ) → end ≡ broken_at number → ⊥
 
 -- nothing, or a front of what the line is answered, which is not the whole
-abbrev pub IsFront : Option (List Entry) → List ℕ → List ℕ → Type 0
+abbrev pub IsFront : Option (List (List Entry)) → List ℕ → List ℕ → Type 0
 IsFront state line out =
     (out ≡ [])
-    ⊎ ((answer : Answer) × (next : Option (List Entry)) × IsAnswered state line answer next
+    ⊎ ((answer : Answer) × (next : Option (List (List Entry))) × IsAnswered state line answer next
     × (back : List ℕ) × (line_text answer ≡ out ++ back) × (0 < length back))
 
 -- from what stands, the lines from this number on are answered so, one after another, and the run ends so; a device
 -- may fail at any line, and behind the last
-abbrev pub Runs : Option (List Entry) → ℕ → List (List ℕ) → List ℕ → End → Type 0
+abbrev pub Runs : Option (List (List Entry)) → ℕ → List (List ℕ) → List ℕ → End → Type 0
 Runs state number [] out end = (out ≡ []) × ((end ≡ done) ⊎ (end ≡ broken_at number))
 Runs state number (line ∷ more) out end =
     (IsBad state line × (out ≡ []) × (end ≡ bad_at number))
     ⊎ (IsFront state line out × (end ≡ broken_at number))
-    ⊎ ((answer : Answer) × (next : Option (List Entry)) × IsAnswered state line answer next
+    ⊎ ((answer : Answer) × (next : Option (List (List Entry))) × IsAnswered state line answer next
     × (rest : List ℕ) × (out ≡ line_text answer ++ rest) × Runs next (number + 1) more rest end)
 
 -- where the input is known, the known bytes of the writer grow by what the run of its lines writes, which ends so
@@ -53,7 +53,7 @@ AppendsFront old new text =
     (front back : List ℕ) × (text ≡ front ++ back) × (0 < length back) × Appends old new front
 
 -- the same of one line
-abbrev pub TellsLine : Option (List Entry) → List ℕ → ℕ → Option (List ℕ) → Option (List ℕ) → ReplayFault → Type 0
+abbrev pub TellsLine : Option (List (List Entry)) → List ℕ → ℕ → Option (List ℕ) → Option (List ℕ) → ReplayFault → Type 0
 TellsLine state line number old new (BadCommand told) = (told ≡ number) × IsBad state line × Keeps old new
 TellsLine state line number old new (Device told) =
     (told ≡ number) × (out : List ℕ) × IsFront state line out × Appends old new out

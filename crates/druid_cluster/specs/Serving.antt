@@ -1,5 +1,5 @@
 -- What each line is answered, and what stands after it.
-use Rattle.std.specs.Prelude.{◌≡◌, ◌≤◌, ◌<◌, ◌⊎◌, ℕ, List, [], All, length, map, Option, Some, None, Ok, Err, slice_set}
+use Rattle.std.specs.Prelude.{◌≡◌, ◌≤◌, ◌<◌, ◌⊎◌, ◌↔◌, ⊤, ℕ, Bool, IsTrue, List, [], All, length, map, replicate, Option, Some, None, Ok, Err, slice_get, slice_set}
 use Rattle.serde_json.specs.Data.{Data}
 use Rattle.druid_time.specs.Extent.{Extent, Has}
 use Rattle.druid_time.specs.Texts.{extent_at}
@@ -9,30 +9,36 @@ use Rattle.druid_shard.specs.declared.reply.Body.{Body}
 use Rattle.druid_timeline.specs.Holding.{Held, members_of}
 use Rattle.druid_timeline.specs.Pieces.{Told, shown_of, ArePiecesIn, ArePartitions}
 use Rattle.druid_inventory.specs.Entry.{Entry, fresh, HaveOwnNames}
+use Rattle.druid_inventory.specs.Join.{IsJoin, RefusesJoin, TellsJoin}
 use Rattle.druid_inventory.specs.Step.{StepsAt, Tells}
 use Rattle.druid_inventory.specs.declared.fault.ApplyFault.{ApplyFault}
 use Rattle.druid_inventory.specs.declared.fault.ApplyFault.TheVariants as steps
+use Rattle.druid_inventory.specs.declared.fault.JoinFault.{JoinFault}
+use Rattle.druid_inventory.specs.declared.fault.JoinFault.TheVariants as joins
 use Rattle.druid_inventory.specs.Sources.{HasSource, IsHoldingOf}
 use Rattle.druid_sync.specs.Read.{ReadsAs, IsRead}
 use Rattle.druid_sync.specs.declared.fault.SyncFault.{SyncFault}
 use Rattle.druid_sync.specs.declared.fault.SyncFault.TheVariants as replies
-use Rattle.druid_cluster.specs.Commands.{Command, reply, lookup, opening_at, command_at}
+use Rattle.druid_cluster.specs.Commands.{Opening, Command, reply, lookup, marks, join, equal, opening_at, command_at}
 use Rattle.druid_cluster.specs.declared.answer.Refusal.{Refusal}
 use Rattle.druid_cluster.specs.declared.answer.Refusal.TheVariants as refusals
 use Rattle.druid_cluster.specs.declared.answer.Answer.{Answer}
-use Rattle.druid_cluster.specs.declared.answer.Answer.TheVariants.{Refused, Taken, Stepped, Found}
+use Rattle.druid_cluster.specs.declared.answer.Answer.TheVariants.{Refused, Taken, Stepped, Found, Marked, Joined, Compared}
+use Rattle.druid_cluster.specs.declared.lines.TheConstants.{MAX_LINE}
 
 -- a list of nodes: each name is one, and none stands twice
 abbrev pub AreNodes : List (List ℕ) → Type 0
 AreNodes names = All IsName names × HaveOwnNames names
 
--- one broker over nodes of these names: a name that is none is refused before one that stands twice
-abbrev pub TakesBrokers : List (List ℕ) → Answer → Option (List Entry) → Type 0
-TakesBrokers names (Refused refusals.BadName) next = (All IsName names → ⊥) × (next ≡ None)
-TakesBrokers names (Refused refusals.DoubledNode) next =
-    All IsName names × (HaveOwnNames names → ⊥) × (next ≡ None)
-TakesBrokers names Taken next = AreNodes names × (next ≡ Some (map fresh names))
-TakesBrokers names answer next = ⊥
+-- that many brokers over nodes of these names, none of which was synced: a name that is none is refused before one that
+-- stands twice
+abbrev pub TakesBrokers : Opening → Answer → Option (List (List Entry)) → Type 0
+TakesBrokers o (Refused refusals.BadName) next = (All IsName o.names → ⊥) × (next ≡ None)
+TakesBrokers o (Refused refusals.DoubledNode) next =
+    All IsName o.names × (HaveOwnNames o.names → ⊥) × (next ≡ None)
+TakesBrokers o (Taken count) next =
+    AreNodes o.names × (count ≡ o.count) × (next ≡ Some (replicate o.count (map fresh o.names)))
+TakesBrokers o answer next = ⊥
 
 -- what tells that a reply was not read; the value of a line is JSON, and want of memory is not told
 abbrev pub unread : SyncFault → Option Refusal
@@ -66,8 +72,7 @@ TakesReply inventory node d (Refused refusal) next = RefusesReply inventory node
 TakesReply inventory node d (Stepped mark outcome) next =
     (body : Body) × IsRead d (Ok body) × (new : Entry) × StepsAt inventory node body outcome new
     × (next ≡ slice_set inventory node new) × (mark ≡ new.mark)
-TakesReply inventory node d Taken next = ⊥
-TakesReply inventory node d (Found pieces) next = ⊥
+TakesReply inventory node d answer next = ⊥
 
 -- these are the visible pieces in an interval of what is held, each with all partitions of its chunk
 pub record AreFoundIn (asked : Extent) (held : List Held) (pieces : List Told) : Type 0 where
@@ -92,22 +97,50 @@ LooksUp inventory interval source (Found pieces) =
     (asked : Extent) × (extent_at interval ≡ Ok asked) × IsName source × IsFound inventory source asked pieces
 LooksUp inventory interval source answer = ⊥
 
--- a command is answered so, and leaves this inventory
-abbrev pub Does : List Entry → Command → Answer → List Entry → Type 0
-Does inventory (reply node body) answer next = TakesReply inventory node body answer next
-Does inventory (lookup interval source) answer next = LooksUp inventory interval source answer × (next ≡ inventory)
+-- what tells that inventories were not joined
+abbrev pub not_joined : JoinFault → Option Refusal
+not_joined joins.OtherNodes = Some refusals.OtherNodes
+not_joined (joins.Conflict node) = Some refusals.OtherSets
+not_joined joins.Memory = None
+
+-- of the brokers, one has this inventory
+abbrev pub Holds : List (List Entry) → ℕ → List Entry → Type 0
+Holds brokers broker inventory = slice_get brokers broker ≡ Some inventory
+
+-- a broker with this inventory becomes the join of it and another; a refusal changes nothing
+abbrev pub JoinsInto : List (List Entry) → ℕ → List Entry → List Entry → Answer → List (List Entry) → Type 0
+JoinsInto brokers into own other answer next =
+    ((joined : List Entry) × IsJoin own other joined × (answer ≡ Joined into) × (next ≡ slice_set brokers into joined))
+    ⊎ ((fault : JoinFault) × RefusesJoin own other fault × (refusal : Refusal) × (not_joined fault ≡ Some refusal)
+    × (answer ≡ Refused refusal) × (next ≡ brokers))
+
+-- a command is answered so, and leaves these inventories
+abbrev pub Does : List (List Entry) → Command → Answer → List (List Entry) → Type 0
+Does brokers (reply broker node body) answer next =
+    (inventory new : List Entry) × Holds brokers broker inventory × TakesReply inventory node body answer new
+    × (next ≡ slice_set brokers broker new)
+Does brokers (lookup broker interval source) answer next =
+    (inventory : List Entry) × Holds brokers broker inventory × LooksUp inventory interval source answer × (next ≡ brokers)
+-- of each node, in order, how far its history has been followed
+Does brokers (marks broker) answer next =
+    (inventory : List Entry) × Holds brokers broker inventory × (answer ≡ Marked (map (λ e. e.mark) inventory)) × (next ≡ brokers)
+Does brokers (join from into) answer next =
+    (own other : List Entry) × Holds brokers into own × Holds brokers from other × JoinsInto brokers into own other answer next
+Does brokers (equal left right) answer next =
+    (one other : List Entry) × Holds brokers left one × Holds brokers right other
+    × (same : Bool) × (IsTrue same ↔ (one ≡ other)) × (answer ≡ Compared same) × (next ≡ brokers)
 
 -- JSON is answered so, and leaves this: before brokers were taken nothing stands
-abbrev pub Answers : Option (List Entry) → Data → Answer → Option (List Entry) → Type 0
-Answers None d answer next = (names : List (List ℕ)) × (opening_at d ≡ Some names) × TakesBrokers names answer next
-Answers (Some inventory) d answer next =
-    (command : Command) × (command_at d ≡ Some command)
-    × (new : List Entry) × (next ≡ Some new) × Does inventory command answer new
+abbrev pub Answers : Option (List (List Entry)) → Data → Answer → Option (List (List Entry)) → Type 0
+Answers None d answer next = (opening : Opening) × (opening_at d ≡ Some opening) × TakesBrokers opening answer next
+Answers (Some brokers) d answer next =
+    (command : Command) × (command_at (length brokers) d ≡ Some command)
+    × (new : List (List Entry)) × (next ≡ Some new) × Does brokers command answer new
 
 -- JSON is no command here
-abbrev pub IsNoCommand : Option (List Entry) → Data → Type 0
+abbrev pub IsNoCommand : Option (List (List Entry)) → Data → Type 0
 IsNoCommand None d = opening_at d ≡ None
-IsNoCommand (Some inventory) d = command_at d ≡ None
+IsNoCommand (Some brokers) d = command_at (length brokers) d ≡ None
 
 -- ---- want of memory: no refusal that is seen without memory holds
 
@@ -120,25 +153,31 @@ ReplyWants inventory node d =
 abbrev pub LookupWants : List ℕ → List ℕ → Type 0
 LookupWants interval source = (asked : Extent) × (extent_at interval ≡ Ok asked) × IsName source
 
-abbrev pub CommandWants : List Entry → Command → Type 0
-CommandWants inventory (reply node body) = ReplyWants inventory node body
-CommandWants inventory (lookup interval source) = LookupWants interval source
+-- a comparison wants none
+abbrev pub CommandWants : List (List Entry) → Command → Type 0
+CommandWants brokers (reply broker node body) =
+    (inventory : List Entry) × Holds brokers broker inventory × ReplyWants inventory node body
+CommandWants brokers (lookup broker interval source) = LookupWants interval source
+CommandWants brokers (marks broker) = ⊤
+CommandWants brokers (join from into) =
+    (own other : List Entry) × Holds brokers into own × Holds brokers from other × TellsJoin own other joins.Memory
+CommandWants brokers (equal left right) = ⊥
 
 -- carrying a line's JSON out may want memory
-abbrev pub WantsMemory : Option (List Entry) → Data → Type 0
-WantsMemory None d = (names : List (List ℕ)) × (opening_at d ≡ Some names) × AreNodes names
-WantsMemory (Some inventory) d =
-    (command : Command) × (command_at d ≡ Some command) × CommandWants inventory command
+abbrev pub WantsMemory : Option (List (List Entry)) → Data → Type 0
+WantsMemory None d = (opening : Opening) × (opening_at d ≡ Some opening) × AreNodes opening.names
+WantsMemory (Some brokers) d =
+    (command : Command) × (command_at (length brokers) d ≡ Some command) × CommandWants brokers command
 
 -- the most bytes of a line
 abbrev pub max_line : ℕ
-max_line = 16_777_216
+max_line = MAX_LINE
 
 -- a line is answered so
-abbrev pub IsAnswered : Option (List Entry) → List ℕ → Answer → Option (List Entry) → Type 0
+abbrev pub IsAnswered : Option (List (List Entry)) → List ℕ → Answer → Option (List (List Entry)) → Type 0
 IsAnswered state line answer next =
     (length line ≤ max_line) × (d : Data) × ReadsAs line d × Answers state d answer next
 
 -- a line ends the run: it is too long, no JSON, or no command
-abbrev pub IsBad : Option (List Entry) → List ℕ → Type 0
+abbrev pub IsBad : Option (List (List Entry)) → List ℕ → Type 0
 IsBad state line = (max_line < length line) ⊎ ((d : Data) → ReadsAs line d → IsNoCommand state d)

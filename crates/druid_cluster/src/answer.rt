@@ -2,7 +2,7 @@
 ghost use Rattle.std.specs.Prelude.{◌≡◌, IfOk, string_bytes, false};
 ghost use Rattle.serde_json.specs.View.{view};
 ghost use Rattle.serde_json.specs.Written.{has_float};
-ghost use Rattle.druid_cluster.specs.Answers.{code_of, outcome_text, parts_data, piece_data, pieces_data, answer_data, line_text};
+ghost use Rattle.druid_cluster.specs.Answers.{code_of, outcome_text, parts_data, piece_data, pieces_data, marks_data, answer_data, line_text};
 
 use druid_inventory::Outcome;
 use druid_shard::Mark;
@@ -45,6 +45,10 @@ pub enum Refusal {
     TooManySegments,
     /// A5: the mark is the one held, and the set is another.
     Conflict,
+    /// J1: inventories of other nodes.
+    OtherNodes,
+    /// J2: inventories that have other sets at one mark.
+    OtherSets,
 }
 
 impl Refusal {
@@ -68,6 +72,8 @@ impl Refusal {
             Refusal::NotStrict => "A4",
             Refusal::TooManySegments => "A6",
             Refusal::Conflict => "A5",
+            Refusal::OtherNodes => "J1",
+            Refusal::OtherSets => "J2",
         }
     }
 }
@@ -103,13 +109,44 @@ impl Pieces {
     }
 }
 
+/// Marks, in the order of their nodes. A contract sees a list.
+#[derive(Debug, Drop)]
+pub struct Marks {
+    items: Vec<Mark>,
+}
+
+impl Model for Marks {
+    ghost use Rattle.std.specs.Prelude.{List};
+    ghost use Rattle.druid_shard.specs.Mark.{Point};
+
+    ghost Value = { List Point };
+
+    ghost view = { λ a. a.items.items };
+}
+
+impl Marks {
+    /// These marks, in this order.
+    pub fn new(items: Vec<Mark>) -> Marks
+        ensures { result ≡ items.items }
+    {
+        Marks { items }
+    }
+
+    /// The marks, lent.
+    pub fn as_slice(&self) -> &[Mark]
+        ensures { result.now ≡ self.now }
+    {
+        self.items.as_slice()
+    }
+}
+
 /// What a command is answered.
 #[derive(Debug, Drop)]
 pub enum Answer {
     /// It changes nothing.
     Refused(Refusal),
-    /// The broker stands.
-    Taken,
+    /// That many brokers stand.
+    Taken(u64),
     /// A reply was taken.
     Stepped {
         /// The mark of the node after it.
@@ -119,6 +156,12 @@ pub enum Answer {
     },
     /// What is visible.
     Found(Pieces),
+    /// How far each node has been followed.
+    Marked(Marks),
+    /// This broker was joined with another.
+    Joined(u64),
+    /// Whether two brokers are equal.
+    Compared(bool),
 }
 
 fn outcome_text(outcome: Outcome) -> &'static str
@@ -170,6 +213,17 @@ fn pieces_value(alloc: Global, pieces: &[Piece]) -> Result<Value, AllocError>
     Ok(Value::Array(values))
 }
 
+#[tactic(auto, using(crate::proofs::JsonLemmas::json_lists), unfolding(crate::specs::Answers::marks_data))]
+fn marks_value(alloc: Global, marks: &[Mark]) -> Result<Value, AllocError>
+    ensures { IfOk result (λ v. view v ≡ marks_data marks.now) }
+{
+    let mut values = Vec::with_capacity(alloc, marks.len())?;
+    for mark in marks {
+        values.push(mark_value(alloc, *mark)?)?;
+    }
+    Ok(Value::Array(values))
+}
+
 #[tactic(auto, unfolding(crate::specs::Answers::answer_data))]
 fn answer_value(alloc: Global, answer: &Answer) -> Result<Value, AllocError>
     ensures { IfOk result (λ v. view v ≡ answer_data answer.now) }
@@ -179,7 +233,7 @@ fn answer_value(alloc: Global, answer: &Answer) -> Result<Value, AllocError>
             let code = refusal.code();
             json!(in alloc; {"refused": code})
         }
-        Answer::Taken => json!(in alloc; {"brokers": 1u64}),
+        Answer::Taken(count) => json!(in alloc; {"brokers": *count}),
         Answer::Stepped { mark, outcome } => {
             let mark = mark_value(alloc, *mark)?;
             let outcome = outcome_text(*outcome);
@@ -189,6 +243,12 @@ fn answer_value(alloc: Global, answer: &Answer) -> Result<Value, AllocError>
             let pieces = pieces_value(alloc, pieces.as_slice())?;
             json!(in alloc; {"pieces": pieces})
         }
+        Answer::Marked(marks) => {
+            let marks = marks_value(alloc, marks.as_slice())?;
+            json!(in alloc; {"marks": marks})
+        }
+        Answer::Joined(broker) => json!(in alloc; {"joined": *broker}),
+        Answer::Compared(equal) => json!(in alloc; {"equal": *equal}),
     }
 }
 

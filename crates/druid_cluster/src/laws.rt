@@ -7,7 +7,7 @@ ghost use Rattle.druid_cluster.specs.declared.answer.Answer.{Answer};
 
 /// No line that is answered is bad.
 pub fn no_answered_line_is_bad()
-    ensures { (state next : Option (List Entry)) (line : List ℕ) (answer : Answer)
+    ensures { (state next : Option (List (List Entry))) (line : List ℕ) (answer : Answer)
         → IsAnswered state line answer next → IsBad state line → ⊥ }
 {}
 
@@ -22,7 +22,7 @@ pub fn one_run()
 
 /// Each line is bad or has an answer, whatever stands before it.
 pub fn each_line_is_bad_or_answered()
-    ensures { (state : Option (List Entry)) (line : List ℕ)
+    ensures { (state : Option (List (List Entry))) (line : List ℕ)
         → IsBad state line
-        ⊎ ((answer : Answer) × (next : Option (List Entry)) × IsAnswered state line answer next) }
+        ⊎ ((answer : Answer) × (next : Option (List (List Entry))) × IsAnswered state line answer next) }
 {}

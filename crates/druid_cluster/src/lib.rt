@@ -2,6 +2,7 @@
 #![tactic(auto)]
 
 mod answer;
+mod brokers;
 mod command;
 mod fault;
 mod interrupted;

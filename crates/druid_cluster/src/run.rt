@@ -6,23 +6,23 @@ ghost use Rattle.druid_cluster.specs.Serving.{IsAnswered, max_line};
 ghost use Rattle.druid_cluster.specs.Runs.{done, broken_at, Writes, EndsBy, TellsLine, AppendsFront};
 ghost use Rattle.druid_cluster.specs.declared.answer.Answer.{Answer};
 
+use crate::brokers::Brokers;
 use crate::fault::ReplayFault;
 use crate::lines::{Next, next_line};
 use crate::serving::serve_line;
 use crate::writing::write_answer;
-use druid_inventory::Inventory;
 use std::alloc::Global;
 use std::io::{BufRead, Write};
 
-// Writes the answer to a line, and gives the inventory that stands after it.
+// Writes the answer to a line, and gives the brokers that stand after it.
 #[tactic(auto, using(crate::proofs::RunLemmas::told_front, crate::proofs::RunLemmas::told_nothing))]
 fn answer_to<W: Write>(
     alloc: Global,
-    state: Option<Inventory>,
+    state: Option<Brokers>,
     line: &[u8],
     number: u64,
     writer: &mut W,
-) -> Result<Option<Inventory>, ReplayFault>
+) -> Result<Option<Brokers>, ReplayFault>
     requires { length line.now ≤ max_line }
     ensures ok { IfOk result (λ next. (answer : Answer) × IsAnswered state line.now answer next
         × Appends (W.contents writer.old) (W.contents writer.new) (line_text answer)) }

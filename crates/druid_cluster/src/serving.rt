@@ -1,14 +1,16 @@
 //! Commands, carried out.
-ghost use Rattle.std.specs.Prelude.{◌≡◌, ◌↔◌, ◌≤◌, ◌<◌, ℕ, List, All, Some, None, get_or, length, IsTrue, IfOk, OnErr, IfSome, IfNone};
+ghost use Rattle.std.specs.Prelude.{◌≡◌, ◌↔◌, ◌≤◌, ◌<◌, ℕ, List, All, Some, None, get_or, length, map, unwrap_or, IsTrue, IfOk, OnErr, IfSome, IfNone};
 ghost use Rattle.druid_segid.specs.Names.{IsName};
 ghost use Rattle.druid_inventory.specs.Entry.{HaveOwnNames, max_nodes};
 ghost use Rattle.serde_json.specs.View.{view};
-ghost use Rattle.druid_cluster.specs.Seen.{texts_in};
-ghost use Rattle.druid_cluster.specs.Serving.{TakesBrokers, unread, not_applied, TakesReply, AreFoundIn, LooksUp, Answers, IsNoCommand, IsAnswered, IsBad, AreNodes, ReplyWants, LookupWants, WantsMemory, max_line};
+ghost use Rattle.druid_cluster.specs.Commands as commands;
+ghost use Rattle.druid_cluster.specs.Seen.{texts_in, command_seen, AreAmong};
+ghost use Rattle.druid_cluster.specs.Serving.{TakesBrokers, unread, not_applied, not_joined, TakesReply, AreFoundIn, LooksUp, Does, Answers, IsNoCommand, IsAnswered, IsBad, AreNodes, ReplyWants, LookupWants, CommandWants, WantsMemory, max_line};
 
-use crate::answer::{Answer, Pieces, Refusal};
-use crate::command::{Command, command_of, opening_of, text_of};
-use druid_inventory::{ApplyFault, Inventory, InventoryFault};
+use crate::answer::{Answer, Marks, Pieces, Refusal};
+use crate::brokers::Brokers;
+use crate::command::{Command, Opening, command_of, opening_of, text_of};
+use druid_inventory::{ApplyFault, Inventory, InventoryFault, JoinFault};
 use druid_segid::Name;
 use druid_sync::{SyncFault, reply_of};
 use druid_time::{Interval, IntervalSet, TimeFault};
@@ -67,11 +69,16 @@ fn names_of(alloc: Global, nodes: &[Value]) -> Result<Vec<Name>, AllocError>
     Ok(names)
 }
 
-// One broker over nodes of these names: what it is answered, and the inventory where it was taken.
-fn take_brokers(alloc: Global, nodes: &[Value]) -> Result<(Answer, Option<Inventory>), AllocError>
+// Brokers over nodes: what they are answered, and the brokers where they were taken.
+fn take_brokers(
+    alloc: Global,
+    count: u64,
+    nodes: &[Value],
+) -> Result<(Answer, Option<Brokers>), AllocError>
     requires some { 1 ≤ length nodes.now }
     requires few { length nodes.now ≤ max_nodes }
-    ensures ok { IfOk result (λ r. TakesBrokers (texts_in nodes.now) r.0 r.1) }
+    ensures ok { IfOk result (λ r.
+        TakesBrokers (record { count = count; names = texts_in nodes.now }) r.0 r.1) }
     ensures memory { OnErr result (AreNodes (texts_in nodes.now)) }
 {
     if !are_names(nodes) {
@@ -80,11 +87,11 @@ fn take_brokers(alloc: Global, nodes: &[Value]) -> Result<(Answer, Option<Invent
     if !have_own_texts(nodes) {
         return Ok((Answer::Refused(Refusal::DoubledNode), None));
     }
-    match Inventory::new(alloc, names_of(alloc, nodes)?) {
-        Ok(inventory) => Ok((Answer::Taken, Some(inventory))),
-        Err(InventoryFault::DoubledNode) => Ok((Answer::Refused(Refusal::DoubledNode), None)),
-        Err(InventoryFault::Memory) => Err(AllocError),
-    }
+    let Ok(inventory) = Inventory::new(alloc, names_of(alloc, nodes)?) else {
+        return Err(AllocError);
+    };
+    let brokers = Brokers::new(alloc, &inventory, count)?;
+    Ok((Answer::Taken(count), Some(brokers)))
 }
 
 // What tells that a reply was not read; want of memory is not told.
@@ -116,32 +123,63 @@ fn not_applied(fault: ApplyFault) -> Option<Refusal>
     }
 }
 
-// The broker takes a reply of a node: what it is answered, and the inventory after it.
-fn take_reply(
+// What tells that inventories were not joined; want of memory is not told.
+fn not_joined(fault: JoinFault) -> Option<Refusal>
+    ensures { result ≡ not_joined fault }
+{
+    match fault {
+        JoinFault::OtherNodes => Some(Refusal::OtherNodes),
+        JoinFault::Conflict(_) => Some(Refusal::OtherSets),
+        JoinFault::Memory => None,
+    }
+}
+
+// What a reply of a node is answered, and the inventory after it; None where it is the same.
+fn step(
     alloc: Global,
-    inventory: Inventory,
+    inventory: &Inventory,
     node: u16,
     value: &Value,
-) -> Result<(Answer, Inventory), AllocError>
-    ensures ok { IfOk result (λ r. TakesReply inventory node (view value.now) r.0 r.1) }
-    ensures memory { OnErr result (ReplyWants inventory node (view value.now)) }
+) -> Result<(Answer, Option<Inventory>), AllocError>
+    ensures ok { IfOk result (λ r.
+        TakesReply inventory.now node (view value.now) r.0 (unwrap_or r.1 inventory.now)) }
+    ensures memory { OnErr result (ReplyWants inventory.now node (view value.now)) }
 {
     let reply = match reply_of(alloc, value) {
         Ok(reply) => reply,
         Err(fault) => match unread(fault) {
-            Some(refusal) => return Ok((Answer::Refused(refusal), inventory)),
+            Some(refusal) => return Ok((Answer::Refused(refusal), None)),
             None => return Err(AllocError),
         },
     };
     match inventory.apply(node, &reply) {
         Ok((next, outcome)) => {
             let mark = next.mark(node).unwrap();
-            Ok((Answer::Stepped { mark, outcome }, next))
+            Ok((Answer::Stepped { mark, outcome }, Some(next)))
         }
         Err(fault) => match not_applied(fault) {
-            Some(refusal) => Ok((Answer::Refused(refusal), inventory)),
+            Some(refusal) => Ok((Answer::Refused(refusal), None)),
             None => Err(AllocError),
         },
+    }
+}
+
+// A broker takes a reply of a node.
+fn take_reply(
+    alloc: Global,
+    brokers: Brokers,
+    broker: u64,
+    node: u16,
+    value: &Value,
+) -> Result<(Answer, Brokers), AllocError>
+    requires { broker < length brokers }
+    ensures ok { IfOk result (λ r. Does brokers (commands.reply broker node (view value.now)) r.0 r.1) }
+    ensures memory { OnErr result (CommandWants brokers (commands.reply broker node (view value.now))) }
+{
+    let (answer, next) = step(alloc, brokers.inventory(broker), node, value)?;
+    match next {
+        Some(inventory) => Ok((answer, brokers.with(broker, inventory))),
+        None => Ok((answer, brokers)),
     }
 }
 
@@ -183,53 +221,123 @@ fn look_up(
     Ok(Answer::Found(pieces))
 }
 
-// A command to a broker that stands.
+// How far each node of an inventory has been followed.
+fn marks_of(alloc: Global, inventory: &Inventory) -> Result<Marks, AllocError>
+    ensures { IfOk result (λ marks. marks ≡ map (λ e. e.mark) inventory.now) }
+{
+    let mut marks = Vec::new(alloc);
+    for node in 0..inventory.node_count() {
+        let Some(mark) = inventory.mark(node) else {
+            unreachable!()
+        };
+        marks.push(mark)?;
+    }
+    Ok(Marks::new(marks))
+}
+
+// A broker becomes the join of itself and another.
+fn join_brokers(brokers: Brokers, from: u64, into: u64) -> Result<(Answer, Brokers), AllocError>
+    requires from { from < length brokers }
+    requires into { into < length brokers }
+    ensures ok { IfOk result (λ r. Does brokers (commands.join from into) r.0 r.1) }
+    ensures memory { OnErr result (CommandWants brokers (commands.join from into)) }
+{
+    let joined = brokers.inventory(into).join(brokers.inventory(from));
+    match joined {
+        Ok(inventory) => Ok((Answer::Joined(into), brokers.with(into, inventory))),
+        Err(fault) => match not_joined(fault) {
+            Some(refusal) => Ok((Answer::Refused(refusal), brokers)),
+            None => Err(AllocError),
+        },
+    }
+}
+
+// Whether two brokers are equal.
+fn compare(brokers: &Brokers, left: u64, right: u64) -> Answer
+    requires left { left < length brokers.now }
+    requires right { right < length brokers.now }
+    ensures { Does brokers.now (commands.equal left right) result brokers.now }
+{
+    Answer::Compared(brokers.inventory(left) == brokers.inventory(right))
+}
+
+// A command to brokers that stand.
+fn do_command(
+    alloc: Global,
+    brokers: Brokers,
+    command: Command<'_>,
+) -> Result<(Answer, Brokers), AllocError>
+    requires { AreAmong (length brokers) (command_seen command) }
+    ensures ok { IfOk result (λ r. Does brokers (command_seen command.entry) r.0 r.1) }
+    ensures memory { OnErr result (CommandWants brokers (command_seen command.entry)) }
+{
+    match command {
+        Command::Reply {
+            broker,
+            node,
+            reply,
+        } => take_reply(alloc, brokers, broker, node, reply),
+        Command::Lookup {
+            broker,
+            interval,
+            source,
+        } => {
+            let answer = look_up(alloc, brokers.inventory(broker), interval, source)?;
+            Ok((answer, brokers))
+        }
+        Command::Marks { broker } => {
+            let marks = marks_of(alloc, brokers.inventory(broker))?;
+            Ok((Answer::Marked(marks), brokers))
+        }
+        Command::Join { from, into } => join_brokers(brokers, from, into),
+        Command::Equal { left, right } => {
+            let answer = compare(&brokers, left, right);
+            Ok((answer, brokers))
+        }
+    }
+}
+
+// What a value is answered, once brokers stand.
 fn answer_command(
     alloc: Global,
-    inventory: Inventory,
+    brokers: Brokers,
     value: &Value,
-) -> Result<Option<(Answer, Option<Inventory>)>, AllocError>
+) -> Result<Option<(Answer, Option<Brokers>)>, AllocError>
     ensures answered { IfOk result (λ found.
-        IfSome found (λ r. Answers (Some inventory) (view value.now) r.0 r.1)) }
+        IfSome found (λ r. Answers (Some brokers) (view value.now) r.0 r.1)) }
     ensures none { IfOk result (λ found.
-        IfNone found (IsNoCommand (Some inventory) (view value.now))) }
-    ensures memory { OnErr result (WantsMemory (Some inventory) (view value.now)) }
+        IfNone found (IsNoCommand (Some brokers) (view value.now))) }
+    ensures memory { OnErr result (WantsMemory (Some brokers) (view value.now)) }
 {
-    match command_of(value) {
-        Some(Command::Reply { node, reply }) => {
-            let (answer, next) = take_reply(alloc, inventory, node, reply)?;
-            Ok(Some((answer, Some(next))))
-        }
-        Some(Command::Lookup { interval, source }) => {
-            let answer = look_up(alloc, &inventory, interval, source)?;
-            Ok(Some((answer, Some(inventory))))
-        }
-        None => Ok(None),
-    }
+    let Some(command) = command_of(value, brokers.count()) else {
+        return Ok(None);
+    };
+    let (answer, next) = do_command(alloc, brokers, command)?;
+    Ok(Some((answer, Some(next))))
 }
 
 // The first command, which asks for brokers.
 fn answer_opening(
     alloc: Global,
     value: &Value,
-) -> Result<Option<(Answer, Option<Inventory>)>, AllocError>
+) -> Result<Option<(Answer, Option<Brokers>)>, AllocError>
     ensures answered { IfOk result (λ found.
         IfSome found (λ r. Answers None (view value.now) r.0 r.1)) }
     ensures none { IfOk result (λ found. IfNone found (IsNoCommand None (view value.now))) }
     ensures memory { OnErr result (WantsMemory None (view value.now)) }
 {
-    let Some(nodes) = opening_of(value) else {
+    let Some(Opening { count, nodes }) = opening_of(value) else {
         return Ok(None);
     };
-    Ok(Some(take_brokers(alloc, nodes)?))
+    Ok(Some(take_brokers(alloc, count, nodes)?))
 }
 
-/// What a line is answered, and the inventory that stands after it; None where the line is no JSON or no command.
+/// What a line is answered, and the brokers that stand after it; None where the line is no JSON or no command.
 pub fn serve_line(
     alloc: Global,
-    state: Option<Inventory>,
+    state: Option<Brokers>,
     line: &[u8],
-) -> Result<Option<(Answer, Option<Inventory>)>, AllocError>
+) -> Result<Option<(Answer, Option<Brokers>)>, AllocError>
     requires { length line.now ≤ max_line }
     ensures answered { IfOk result (λ found.
         IfSome found (λ r. IsAnswered state line.now r.0 r.1)) }
@@ -245,7 +353,7 @@ pub fn serve_line(
         }
     };
     match state {
-        Some(inventory) => answer_command(alloc, inventory, &value),
+        Some(brokers) => answer_command(alloc, brokers, &value),
         None => answer_opening(alloc, &value),
     }
 }

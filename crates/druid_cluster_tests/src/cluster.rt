@@ -61,7 +61,7 @@ fn refusals(rt: HostRuntime) -> Result<(), Fail> {
 #[test]
 fn bad_lines(rt: HostRuntime) -> Result<(), Fail> {
     let firsts = "\nx\n{}\n[]\n{\"do\":\"marks\"}\n@lookup;\n\u{feff}@brokers;
-{\"count\":2,\"do\":\"brokers\",\"nodes\":[\"n0\"]}\n{\"count\":1.0,\"do\":\"brokers\",\"nodes\":[\"n0\"]}
+{\"count\":0,\"do\":\"brokers\",\"nodes\":[\"n0\"]}\n{\"count\":65,\"do\":\"brokers\",\"nodes\":[\"n0\"]}\n{\"count\":1.0,\"do\":\"brokers\",\"nodes\":[\"n0\"]}
 {\"count\":1,\"do\":\"brokers\",\"nodes\":[]}\n{\"count\":1,\"do\":\"brokers\",\"nodes\":[\"a b\",1]}";
     for line in firsts.lines() {
         let row = format!(in rt.alloc(); "{line} => bad")?;
@@ -70,6 +70,12 @@ fn bad_lines(rt: HostRuntime) -> Result<(), Fail> {
     let laters = r#"@brokers;
 
 {"broker":1,"do":"lookup","interval":"x","source":"w"}
+{"broker":1,"do":"marks"}
+{"do":"join","from":1,"into":0}
+{"do":"join","from":0,"into":1}
+{"do":"equal","left":1,"right":0}
+{"do":"equal","left":0,"right":1}
+{"do":"equal","left":0}
 {"broker":0,"do":"lookup","interval":1,"source":"w"}
 {"broker":0,"do":"reply","node":65536,"reply":null}
 {"broker":0,"do":"reply","node":0}"#;

@@ -8,6 +8,8 @@ mod devices;
 #[cfg(test)]
 mod following;
 #[cfg(test)]
+mod joining;
+#[cfg(test)]
 mod printing;
 #[cfg(test)]
 mod script;

@@ -9,6 +9,8 @@ pub(crate) fn named(name: &str) -> &'static str {
         "brokers" => r#"{"count":1,"do":"brokers","nodes":["n0","n1"]}"#,
         "node0" => r#"{"broker":0,"do":"reply","node":0,"reply":"#,
         "node1" => r#"{"broker":0,"do":"reply","node":1,"reply":"#,
+        "second0" => r#"{"broker":1,"do":"reply","node":0,"reply":"#,
+        "second1" => r#"{"broker":1,"do":"reply","node":1,"reply":"#,
         "at1" => r#"{"counter":{"counter":1,"hash":1},"from":null,"requests":["#,
         "at2" => r#"{"counter":{"counter":2,"hash":1},"from":null,"requests":["#,
         "at4" => r#"{"counter":{"counter":4,"hash":1},"from":null,"requests":["#,

@@ -195,7 +195,7 @@ loaded_taken entries node s d m over strict =
     ])
 
 -- a segment that is dropped is in the timeline of its source
-dropped_in : (served : ℕ → Described → Type 0) (node : ℕ) (d : Described) (o : Option Serving) → IsKept served d.id.source o → served node d
+pub dropped_in : (served : ℕ → Described → Type 0) (node : ℕ) (d : Described) (o : Option Serving) → IsKept served d.id.source o → served node d
     → (t : Serving) × (o ≡ Some t) × IsServed t node d.id
 dropped_in served node d None h there = absurd (h node d there refl)
 dropped_in served node d (Some t) h there =

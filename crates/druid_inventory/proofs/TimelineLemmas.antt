@@ -1,5 +1,5 @@
--- Timelines over what nodes serve: one segment more, one node more.
-use Rattle.std.proofs.Common.{◌≡◌, ◌+◌, ◌<◌, ◌⊎◌, ◌++◌, ℕ, zero, suc, List, [], ◌∷◌, take, length, get_or, Option, Some, None, IfSome, IsSome, option_map, Bor, map, Bool, bytes_eq, true, false, refl, sym, ap, ◌∙◌, subst, inl, inr, arith}
+-- Timelines over what nodes serve, and one segment more.
+use Rattle.std.proofs.Common.{◌≡◌, ◌<◌, ◌⊎◌, ℕ, zero, suc, List, [], ◌∷◌, length, get_or, Option, Some, None, IfSome, IsSome, option_map, Bor, map, Bool, bytes_eq, true, false, refl, sym, ap, ◌∙◌, subst, inl, inr, arith}
 use Rattle.std.specs.Prelude.{◌↔◌, Contains, ⊤}
 use Rattle.std.specs.Bool.{Decides}
 use Rattle.std.specs.Option.{option_copied}
@@ -13,18 +13,15 @@ use Rattle.std.specs.Ordering.{nat_cmp, is_eq}
 use Rattle.std.specs.declared.cmp.Ordering.{Ordering}
 use Rattle.std.specs.declared.cmp.Ordering.TheVariants.{Less, Equal, Greater}
 use Rattle.std.specs.Cmp.Lexicographic.{slice_cmp, bytes_decides}
-use Rattle.std.proofs.lemmas.List.{take_more, length-take-le, get_or-take, get_or_default}
-use Rattle.std.proofs.lemmas.List.Elements.{Contains-append_left, Contains-push, Contains-push_cases}
 use Rattle.std.proofs.lemmas.Option.{same_Some, none-some, slice_get-map, slice_get_read, MatchOption-at_some}
-use Rattle.std.proofs.lemmas.Bool.{cases_eq, false≢true}
-use Rattle.druid_segid.specs.Identifier.{Identifier, identifier_text}
+use Rattle.std.proofs.lemmas.Bool.{false≢true}
+use Rattle.druid_segid.specs.Identifier.{Identifier}
 use Rattle.druid_segid.specs.Group.{group_of}
 use Rattle.druid_segid.proofs.OrderLemmas.{slice_cmp-Equal}
 use Rattle.druid_shard.specs.Described.{Described}
-use Rattle.druid_shard.specs.Reply.{AreSorted}
-use Rattle.druid_shard.proofs.SortedLemmas.{AreSorted-own}
+use Rattle.druid_shard.proofs.MemberLemmas.{Contains-nil}
 use Rattle.druid_timeline.specs.Holding.{Held, Serving, held_of, AddsHeld}
-use Rattle.druid_inventory.specs.Entry.{Entry}
+use Rattle.druid_inventory.specs.Entry.{Entry, fresh}
 use Rattle.druid_inventory.specs.Sources.{Serves, HasSource, IsHoldingOf}
 use Rattle.druid_inventory.specs.Timelines.{kept, IsTimelineOf, IsKept, AreTimelines, AreTimelinesOf, held_by, TakesSegment, AddsSegment, IsInventory}
 
@@ -182,92 +179,9 @@ AddsSegment-begun m n source key name begun t node d same absent at called new w
     (subst (λ (o : Option Serving). AddsHeld (held_by o) t.held (held_of node d)) (sym e)
     (subst (λ (xs : List Held). AddsHeld xs t.held (held_of node d)) none adds))
 
--- ---- one node more
-
--- what some nodes serve, and some segments of one more
-abbrev pub WithSome : List Entry → ℕ → List Described → ℕ → Described → Type 0
-WithSome entries node some i y = Serves entries i y ⊎ ((i ≡ node) × Contains some y)
-
-slice_get-take : {X : Type 0} (xs : List X) (n i : ℕ) → i < n → slice_get (take n xs) i ≡ slice_get xs i
-slice_get-take xs zero i h = absurd (omega arith)
-slice_get-take [] (suc n) i h = refl
-slice_get-take (x ∷ xs) (suc n) zero h = refl
-slice_get-take (x ∷ xs) (suc n) (suc i) h = slice_get-take xs n i (omega arith)
-
-slice_get-short : {X : Type 0} (xs : List X) (n i : ℕ) (x : X) → slice_get (take n xs) i ≡ Some x → i < n
-slice_get-short xs zero i x e = absurd (none-some x e)
-slice_get-short [] (suc n) i x e = absurd (none-some x e)
-slice_get-short (y ∷ xs) (suc n) zero x e = omega arith
-slice_get-short (y ∷ xs) (suc n) (suc i) x e = let below = slice_get-short xs n i x e in omega arith
-
--- the segment at a place is none that the node serves before it
-pub not_before : (entries : List Entry) (node : ℕ) (some : List Described) (k : ℕ) (d : Described) → AreSorted some → k < length some
-    → (y : Described) → WithSome (take node entries) node (take k some) node y → y.id ≡ (get_or some k d).id → ⊥
-not_before entries node some k d sorted l y (inl s) e =
-    let below = slice_get-short entries node node s.0 s.1 in
-    absurd (omega arith)
-not_before entries node some k d sorted l y (inr new) e =
-    let at = new.1 in
-    let long = length-take-le k some (omega arith) in
-    let below : at.0 < k = omega arith in
-    let same : get_or some at.0 y ≡ y = sym (get_or-take k some at.0 y below) ∙ at.2 in
-    let texts : identifier_text (get_or some at.0 d).id ≡ identifier_text (get_or some k d).id =
-    ap (λ (z : Described). identifier_text z.id) (get_or_default some at.0 d y (omega arith) ∙ same) ∙ ap identifier_text e in
-    let level : at.0 ≡ k = AreSorted-own some sorted at.0 k d (omega arith) l texts in
-    absurd (omega arith)
-
--- a set grows by its next segment
-pub WithSome-more : (entries : List Entry) (node : ℕ) (some : List Described) (k : ℕ) (d : Described) → k < length some
-    → (i : ℕ) (y : Described) → WithSegment (WithSome entries node (take k some)) node (get_or some k d) i y ↔ WithSome entries node (take (k + 1) some) i y
-WithSome-more entries node some k d l i y = rw (take_more some k d l) (
-  λ h. elim h [
-    | inl (inl s) ↦ inl s
-    | inl (inr new) ↦ inr (new.0, Contains-append_left (take k some) (get_or some k d ∷ []) y new.1)
-    | inr new ↦ inr (new.0, subst (λ (z : Described). Contains (take k some ++ get_or some k d ∷ []) z) (sym new.1) (Contains-push (take k some) (get_or some k d)))
-  ],
-  λ h. elim h [
-    | inl s ↦ inl (inl s)
-    | inr new ↦ elim (Contains-push_cases (take k some) (get_or some k d) y new.1) [
-      | inl c ↦ inl (inr (new.0, c))
-      | inr e ↦ inr (new.0, sym e)
-    ]
-  ],
-)
-
--- before its first segment
-pub WithSome-none : (entries : List Entry) (node : ℕ) (i : ℕ) (y : Described) → Serves entries i y ↔ WithSome entries node [] i y
-WithSome-none entries node i y = (λ s. inl s, λ h. elim h [ inl s ↦ s | inr new ↦ absurd (omega (arith, new.1.1)) ])
-
--- with its whole set, the node is served
-pub WithSome-all : (entries : List Entry) (node : ℕ) (e : Entry) → slice_get entries node ≡ Some e
-    → (i : ℕ) (y : Described) → WithSome (take node entries) node e.set i y ↔ Serves (take (node + 1) entries) i y
-WithSome-all entries node e found i y = (
-  λ h. elim h [
-    | inl s ↦
-        let below = slice_get-short entries node i s.0 s.1 in
-        (s.0, slice_get-take entries (node + 1) i (omega arith) ∙ sym (slice_get-take entries node i below) ∙ s.1, s.2)
-    | inr new ↦ (e, slice_get-take entries (node + 1) i (omega arith) ∙ ap (slice_get entries) new.0 ∙ found, new.1)
-  ],
-  λ s. from_more s,
-) where
-  from_more : Serves (take (node + 1) entries) i y → WithSome (take node entries) node e.set i y
-  from_more s =
-      let below = slice_get-short entries (node + 1) i s.0 s.1 in
-      let there : slice_get entries i ≡ Some s.0 = sym (slice_get-take entries (node + 1) i below) ∙ s.1 in
-      elim (cases_eq i node) [
-        | inl at ↦
-            let same : s.0 ≡ e = same_Some s.0 e (sym there ∙ ap (slice_get entries) at ∙ found) in
-            inr (at, subst (λ (x : Entry). Contains x.set y) same s.2)
-        | inr apart ↦ inl (s.0, slice_get-take entries node i (omega arith) ∙ there, s.2)
-      ]
-
 -- what a pointer of the list points to
 pub found_behind : {A B : Type 0} (f : A → B) (xs : List A) (i : ℕ) (x : A) → i < length xs → x ≡ get_or xs i x → slice_get (map f xs) i ≡ Some (f x)
 found_behind f xs i x l e = slice_get-map f xs i ∙ ap (option_map f) (slice_get_read xs (length xs) i x refl l e)
-
--- no node, no timeline
-pub AreTimelinesOf-none : (m : BTreeMap (List ℕ) Serving) → m.entries ≡ [] → AreTimelinesOf [] m
-AreTimelinesOf-none m e = record { each = λ source. let none : kept m source ≡ None = ap (lookup (is_at (slice_cmp nat_cmp source))) e in rw none (λ i y s f. none-some s.0 s.1) }
 
 -- ---- what an inventory answers
 
@@ -299,3 +213,21 @@ key_served entries m over source =
     let found = btree_map_contains_key_iff nat_list_cmp_total exact_bytes m source in
     let served = kept_some entries source (kept m source) (over.each source) in
     (λ there. served.0 (found.1 there), λ has. found.0 (served.1 has))
+
+-- ---- nodes that were never synced
+
+serves_none : (names : List (List ℕ)) (node : ℕ) (d : Described) → Serves (map fresh names) node d → ⊥
+serves_none [] node d h = none-some h.0 h.1
+serves_none (n ∷ names) zero d h =
+    let nothing : h.0.set ≡ [] = ap (λ (e : Entry). e.set) (sym (same_Some (fresh n) h.0 h.1)) in
+    Contains-nil d (subst (λ (s : List Described). Contains s d) nothing h.2)
+serves_none (n ∷ names) (suc node) d h = serves_none names node d h
+
+-- an empty map has all their timelines, which are none
+pub AreTimelinesOf-fresh : (names : List (List ℕ)) (entries : List Entry) (timelines : BTreeMap (List ℕ) Serving)
+    → entries ≡ map fresh names → timelines.entries ≡ [] → AreTimelinesOf entries timelines
+AreTimelinesOf-fresh names entries timelines are empty = record {
+  each = λ source.
+      let none : kept timelines source ≡ None = ap (lookup (is_at (slice_cmp nat_cmp source))) empty in
+      rw none (λ node d there _. serves_none names node d (subst (λ (es : List Entry). Serves es node d) are there));
+}

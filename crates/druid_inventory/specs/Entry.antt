@@ -1,13 +1,16 @@
 -- What a broker knows of the data nodes.
-use Rattle.std.specs.Prelude.{◌≡◌, ℕ, List, [], length, slice_index_or, ◌<◌, if◌then◌else◌}
+use Rattle.std.specs.Prelude.{◌≡◌, ◌≢◌, ℕ, ◌<◌, List, [], length, slice_get, slice_index_or, Some, if◌then◌else◌}
 use Rattle.druid_shard.specs.Described.{Described}
 use Rattle.druid_shard.specs.Mark.{Point, never, same_mark}
 use Rattle.druid_shard.specs.declared.change.Ask.{Ask}
+use Rattle.druid_inventory.specs.declared.inventory.TheConstants.{MAX_NODES}
 use Rattle.druid_shard.specs.declared.change.Ask.TheVariants.{Whole, Since}
+use Rattle.druid_shard.specs.declared.reply.Body.{Body}
+use Rattle.druid_shard.specs.declared.reply.Body.TheVariants.{Snapshot}
 
 -- the most nodes of a list
 abbrev pub max_nodes : ℕ
-max_nodes = 64
+max_nodes = MAX_NODES
 
 -- of one node: its name, how far its history has been followed, and what it serves at that mark
 pub record Entry : Type 0 where
@@ -28,3 +31,12 @@ HaveOwnNames names =
 -- what to ask a node for that is known up to a mark: all, where it was never synced, and else what comes behind
 abbrev pub ask_of : Point → Ask
 ask_of mark = if same_mark mark never then Whole else Since mark
+
+-- the node was never synced
+abbrev pub IsUnsynced : List Entry → ℕ → Type 0
+IsUnsynced inventory node = (e : Entry) × (slice_get inventory node ≡ Some e) × (e.mark ≡ never)
+
+-- the reply that tells a peer what is known of the node, which was synced: all that it serves at its mark
+abbrev pub IsEntryOf : List Entry → ℕ → Body → Type 0
+IsEntryOf inventory node reply =
+    (e : Entry) × (slice_get inventory node ≡ Some e) × (e.mark ≢ never) × (reply ≡ Snapshot e.mark e.set)

@@ -1,4 +1,6 @@
 pub mod Entry
+pub mod Join
+pub mod Equality
 pub mod Step
 pub mod Judged
 pub mod Sources

@@ -1,9 +1,11 @@
 -- The timelines over what nodes serve, as an inventory keeps them: only proofs use this.
-use Rattle.std.specs.Prelude.{◌≡◌, ℕ, ◌≤◌, ◌⊎◌, Bool, IsTrue, IfSome, List, [], length, ◌↔◌, Option, None, Some, Contains}
+use Rattle.std.specs.Prelude.{◌≡◌, ◌≢◌, ℕ, ◌≤◌, ◌⊎◌, Bool, IsTrue, IfSome, List, [], length, ◌↔◌, Option, None, Some, Contains}
 use Rattle.std.specs.BTreeMap.{BTreeMap, get}
 use Rattle.std.specs.Ordering.{nat_cmp}
 use Rattle.std.specs.Cmp.Lexicographic.{slice_cmp}
 use Rattle.druid_shard.specs.Described.{Described}
+use Rattle.druid_shard.specs.Mark.{never}
+use Rattle.druid_shard.specs.Replay.{IsSegmentSet}
 use Rattle.druid_shard.specs.declared.change.Change.{Change}
 use Rattle.druid_shard.specs.declared.change.Change.TheVariants.{Load, Drop}
 use Rattle.druid_timeline.specs.Holding.{Held, Serving, held_of, HoldsNothing, IsHeld, IsServed, AddsHeld, RemovesHeld}
@@ -33,6 +35,11 @@ pub record AreTimelines (served : ℕ → Described → Type 0) (timelines : BTr
 -- the timelines over these entries
 abbrev pub AreTimelinesOf : List Entry → BTreeMap (List ℕ) Serving → Type 0
 AreTimelinesOf entries timelines = AreTimelines (Serves entries) timelines
+
+-- what is kept of a node: a set that it may serve, and an incarnation where it was synced
+pub record IsEntry (e : Entry) : Type 0 where
+  pub set : IsSegmentSet e.set
+  pub incarnation : e.mark ≢ never → 1 ≤ e.mark.incarnation
 
 -- what an inventory keeps: not too many entries, and the timelines over them
 pub record IsInventory (entries : List Entry) (timelines : BTreeMap (List ℕ) Serving) : Type 0 where
@@ -82,6 +89,10 @@ abbrev pub MakesChange : BTreeMap (List ℕ) Serving → BTreeMap (List ℕ) Ser
 MakesChange old new node (Load d) = AddsSegment old new node d
 MakesChange old new node (Drop d) = RemovesSegment old new node d
 
+-- a node serves these segments, and the others theirs
+abbrev pub ServesThese : List Entry → ℕ → (Described → Type 0) → ℕ → Described → Type 0
+ServesThese entries node these i d = ((i ≡ node) × these d) ⊎ ((i ≡ node → ⊥) × Serves entries i d)
+
 -- a node has this set, and the others have theirs
 abbrev pub ServesWith : List Entry → ℕ → List Described → ℕ → Described → Type 0
-ServesWith entries node set i d = ((i ≡ node) × Contains set d) ⊎ ((i ≡ node → ⊥) × Serves entries i d)
+ServesWith entries node set = ServesThese entries node (Contains set)

@@ -1,16 +1,24 @@
 ghost use Rattle.std.specs.Prelude.{◌≡◌};
 ghost use Rattle.druid_inventory.specs.declared.fault.InventoryFault.TheVariants as new_fault;
 ghost use Rattle.druid_inventory.specs.declared.fault.ApplyFault.TheVariants as apply_fault;
+ghost use Rattle.druid_inventory.specs.declared.fault.JoinFault.TheVariants as join_fault;
 
+use druid_shard::NodeNo;
 use std::alloc::AllocError;
 use thiserror::Error;
 
-/// Why there is no inventory of a list of nodes.
+/// Why there is no inventory of a list of nodes, or no entry of a node.
 #[derive(Clone, Copy, Debug, PartialEq, Eq, Drop, Error)]
 pub enum InventoryFault {
     /// V1: a name stands twice in the list.
     #[error("V1: a doubled node")]
     DoubledNode,
+    /// V2: the list has no such node.
+    #[error("V2: an unknown node")]
+    UnknownNode,
+    /// V3: the node was never synced.
+    #[error("V3: a node that was never synced")]
+    NotSynced,
     /// V9: memory was refused.
     #[error("V9: out of memory")]
     Memory,
@@ -58,6 +66,28 @@ impl From<AllocError> for ApplyFault {
 
     fn from(_error: AllocError) -> ApplyFault {
         ApplyFault::Memory
+    }
+}
+
+/// Why two inventories are not joined.
+#[derive(Clone, Copy, Debug, PartialEq, Eq, Drop, Error)]
+pub enum JoinFault {
+    /// J1: the inventories are of other nodes, or have them in another order.
+    #[error("J1: other nodes")]
+    OtherNodes,
+    /// J2: at one mark of this node they have other sets; it is the least such node.
+    #[error("J2: a conflict at node {0}")]
+    Conflict(NodeNo),
+    /// J9: memory was refused.
+    #[error("J9: out of memory")]
+    Memory,
+}
+
+impl From<AllocError> for JoinFault {
+    ghost from_gives = { λ _ fault. fault ≡ join_fault.Memory };
+
+    fn from(_error: AllocError) -> JoinFault {
+        JoinFault::Memory
     }
 }
 

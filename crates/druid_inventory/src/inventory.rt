@@ -7,21 +7,25 @@ ghost use Rattle.druid_shard.specs.Reply.{max_segments, AreSorted};
 ghost use Rattle.druid_shard.specs.Described.{Described};
 ghost use Rattle.druid_shard.specs.Replay.{replay_from};
 ghost use Rattle.druid_shard.specs.ReplyBody.{IsReply};
-ghost use Rattle.druid_inventory.specs.Entry.{Entry, max_nodes, fresh, ask_of, HaveOwnNames};
+ghost use Rattle.druid_inventory.specs.Entry.{Entry, max_nodes, fresh, ask_of, HaveOwnNames, IsEntryOf, IsUnsynced};
+ghost use Rattle.druid_inventory.specs.Equality.{same_entries, same_entries-per, same_entries-equiv};
+ghost use Rattle.druid_inventory.specs.Join.{names_of, later_each, ConflictAt, IsJoin, RefusesJoin, TellsJoin};
 ghost use Rattle.druid_inventory.specs.Step.{Steps, StepsAt, RefusedAt, Tells, moved_to};
 ghost use Rattle.druid_inventory.specs.declared.fault.ApplyFault.{ApplyFault};
 ghost use Rattle.druid_inventory.specs.declared.fault.Outcome.TheVariants.{Moved};
 ghost use Rattle.druid_inventory.specs.Sources.{HasSource, IsHoldingOf};
 ghost use Rattle.druid_inventory.specs.Timelines.{AreTimelinesOf};
 
+use crate::join::{are_of_same_nodes, catch_up, first_conflict, has_later};
 use crate::judge::judge;
 use crate::known::{Known, copy_of};
-use crate::timelines::{Timelines, names_of, replay_changes, timelines_over};
-use crate::{ApplyFault, InventoryFault, Outcome};
+use crate::timelines::{Timelines, change_set, names_of, replay_changes};
+use crate::{ApplyFault, InventoryFault, JoinFault, Outcome};
 use druid_segid::Name;
 use druid_shard::{Ask, Body, Change, Descriptor, Mark, NodeNo, Reply};
 use druid_timeline::Timeline;
 use std::alloc::{AllocError, Global};
+use std::collections::BTreeMap;
 use std::marker::Model;
 use std::sync::Arc;
 
@@ -85,21 +89,14 @@ impl Inventory {
         ensures ok { IfOk result (λ inventory. inventory ≡ map fresh names.items) }
         ensures own { OnOk result (HaveOwnNames names.items) }
         ensures doubled { IsErrOf result InventoryFault.DoubledNode ↔ (HaveOwnNames names.items → ⊥) }
+        ensures unknown { result ≢ Err InventoryFault.UnknownNode }
+        ensures not_synced { result ≢ Err InventoryFault.NotSynced }
     {
         if !have_own_names(&names) {
             return Err(InventoryFault::DoubledNode);
         }
         let entries = fresh_entries(alloc, names)?;
-        Ok(Inventory::over(alloc, entries)?)
-    }
-
-    // The inventory of these entries, with timelines built from them.
-    fn over(alloc: Global, entries: Vec<Arc<Known, Global>>) -> Result<Inventory, AllocError>
-        requires { vec_len entries ≤ max_nodes }
-        ensures { IfOk result (λ inventory. inventory ≡ map arc_value entries.items) }
-    {
-        let timelines = timelines_over(alloc, &entries)?;
-        Inventory::of(alloc, entries, timelines)
+        Ok(Inventory::of(alloc, entries, BTreeMap::new(alloc))?)
     }
 
     // The inventory of these entries and the timelines over them.
@@ -130,13 +127,16 @@ impl Inventory {
         })
     }
 
-    // The inventory with another entry for a node, which shares the other entries with this one.
-    fn with_entry(&self, node: NodeNo, entry: Known) -> Result<Inventory, AllocError>
-        requires { node < length self.now }
+    // The inventory with another entry for a node. It shares the other entries with this one, and the timelines of the
+    // sources on which both sets of the node agree.
+    fn with_entry(&self, node: NodeNo, known: &Known, entry: Known) -> Result<Inventory, AllocError>
+        requires { slice_get self.now node ≡ Some known.now }
         ensures { IfOk result (λ inventory. inventory ≡ slice_set self.now node entry) }
     {
+        let mut timelines = self.copied_timelines()?;
+        change_set(&mut timelines, self.alloc, node, known.set(), entry.set())?;
         let entries = self.entries_with(node, entry)?;
-        Inventory::over(self.alloc, entries)
+        Inventory::of(self.alloc, entries, timelines)
     }
 
     // The entries with another one for a node, the others shared.
@@ -149,9 +149,40 @@ impl Inventory {
         ensures entries { IfOk result (λ entries. map arc_value entries.items ≡ slice_set self.now node entry) }
         ensures few { IfOk result (λ entries. vec_len entries ≤ max_nodes) }
     {
-        let mut entries = Vec::clone(&self.entries)?;
+        let mut entries = self.copied_entries()?;
         entries[node as usize] = Arc::new(self.alloc, entry)?;
         Ok(entries)
+    }
+
+    // The entries, shared.
+    fn copied_entries(&self) -> Result<Vec<Arc<Known, Global>>, AllocError>
+        ensures entries { IfOk result (λ entries. map arc_value entries.items ≡ self.now) }
+        ensures few { IfOk result (λ entries. vec_len entries ≤ max_nodes) }
+    {
+        Vec::clone(&self.entries)
+    }
+
+    // The timelines, shared.
+    fn copied_timelines(&self) -> Result<Timelines, AllocError>
+        ensures { IfOk result (AreTimelinesOf self.now) }
+    {
+        Timelines::clone(&self.timelines)
+    }
+
+    // The entries, lent.
+    fn entries(&self) -> &[Arc<Known, Global>]
+        ensures value { map arc_value result.now ≡ self.now }
+        ensures few { length result.now ≤ max_nodes }
+    {
+        self.entries.as_slice()
+    }
+
+    /// How many nodes the list has. It takes no memory.
+    pub fn node_count(&self) -> NodeNo
+        ensures value { result ≡ length self.now }
+        ensures few { length self.now ≤ max_nodes }
+    {
+        self.entries().len() as NodeNo
     }
 
     /// How far a node's history has been followed; None where the list has no such node. It takes no memory.
@@ -269,7 +300,7 @@ impl Inventory {
             }
             Body::Snapshot { at, segments } => {
                 let set = copy_of(self.alloc, segments.as_slice())?;
-                self.with_entry(node, known.with_set(*at, set)?)
+                self.with_entry(node, known, known.with_set(*at, set)?)
             }
             Body::Reset { .. } => unreachable!(),
         }
@@ -285,12 +316,13 @@ impl Inventory {
         changes: &[Change],
     ) -> Result<Inventory, AllocError>
         requires known { slice_get self.now node ≡ Some known.now }
+        requires incarnation { 1 ≤ to.incarnation }
         requires made { (t : List Described) × (replay_from known.now.set changes.now ≡ Some t) }
         ensures { IfOk result (λ inventory. (t : List Described) × (replay_from known.now.set changes.now ≡ Some t)
             × (inventory ≡ slice_set self.now node (moved_to known.now to t))) }
     {
         let mut set = copy_of(self.alloc, known.set())?;
-        let mut timelines = Timelines::clone(&self.timelines)?;
+        let mut timelines = self.copied_timelines()?;
         replay_changes(&mut timelines, self.alloc, node, &mut set, changes)?;
         let entries = self.entries_with(node, known.with_set(to, set)?)?;
         Inventory::of(self.alloc, entries, timelines)
@@ -308,4 +340,119 @@ impl Inventory {
             Some(Ask::Since(mark))
         }
     }
+
+    /// What is known of a node, as a reply for a broker that knows less: all that the node serves at its mark. V2 where
+    /// the list has no such node, V3 where the node was never synced, and V9 last.
+    pub fn entry(&self, node: NodeNo) -> Result<Reply, InventoryFault>
+        ensures ok { IfOk result (IsEntryOf self.now node) }
+        ensures unknown { IsErrOf result InventoryFault.UnknownNode ↔ (slice_get self.now node ≡ None) }
+        ensures not_synced { IsErrOf result InventoryFault.NotSynced ↔ IsUnsynced self.now node }
+        ensures doubled { result ≢ Err InventoryFault.DoubledNode }
+    {
+        let Some(known) = self.known(node) else {
+            return Err(InventoryFault::UnknownNode);
+        };
+        if !known.is_synced() {
+            return Err(InventoryFault::NotSynced);
+        }
+        match known.snapshot(self.alloc) {
+            Ok(reply) => Ok(reply),
+            Err(_) => Err(InventoryFault::Memory),
+        }
+    }
+
+    /// What this inventory and another of the same nodes are together: of each node the entry of later mark. J1 where
+    /// they are of other nodes, then J2 where they have other sets at one mark, with the least such node, and J9 last.
+    /// It shares with both what it takes of them; both stay.
+    pub fn join(&self, other: &Inventory) -> Result<Inventory, JoinFault>
+        ensures ok { IfOk result (IsJoin self.now other.now) }
+        ensures other_nodes { IsErrOf result JoinFault.OtherNodes
+            ↔ RefusesJoin self.now other.now JoinFault.OtherNodes }
+        ensures conflict { (node : ℕ) → IsErrOf result (JoinFault.Conflict node)
+            ↔ RefusesJoin self.now other.now (JoinFault.Conflict node) }
+        ensures told { IfErr result (TellsJoin self.now other.now) }
+    {
+        self.judged_join(other)
+    }
+
+    // What this inventory and another are together, or why there is none.
+    fn judged_join(&self, other: &Inventory) -> Result<Inventory, JoinFault>
+        ensures ok { IfOk result (IsJoin self.now other.now) }
+        ensures told { IfErr result (TellsJoin self.now other.now) }
+    {
+        let entries = self.entries();
+        let others = other.entries();
+        if !are_of_same_nodes(entries, others) {
+            return Err(JoinFault::OtherNodes);
+        }
+        if let Some(node) = first_conflict(entries, others) {
+            return Err(JoinFault::Conflict(node));
+        }
+        match self.joined(other) {
+            Ok(inventory) => Ok(inventory),
+            Err(_) => Err(JoinFault::Memory),
+        }
+    }
+
+    // What this inventory and another are together, which agree.
+    fn joined(&self, other: &Inventory) -> Result<Inventory, AllocError>
+        requires same_nodes { names_of self.now ≡ names_of other.now }
+        requires agree { (node : ℕ) → ConflictAt self.now other.now node → ⊥ }
+        ensures { IfOk result (λ inventory. inventory ≡ later_each self.now other.now) }
+    {
+        let entries = self.entries();
+        let others = other.entries();
+        if !has_later(entries, others) {
+            return self.shared();
+        }
+        if !has_later(others, entries) {
+            return other.shared();
+        }
+        self.caught_up(others)
+    }
+
+    // This inventory with each of these entries that is later.
+    fn caught_up(&self, others: &[Arc<Known, Global>]) -> Result<Inventory, AllocError>
+        requires { length self.now ≡ length others.now }
+        ensures { IfOk result (λ inventory. inventory ≡ later_each self.now (map arc_value others.now)) }
+    {
+        let mut entries = self.copied_entries()?;
+        let mut timelines = self.copied_timelines()?;
+        for node in 0..others.len() {
+            catch_up(
+                &mut entries,
+                &mut timelines,
+                self.alloc,
+                node,
+                &others[node],
+            )?;
+        }
+        Inventory::of(self.alloc, entries, timelines)
+    }
+}
+
+/// A copy shares all with the inventory. It takes no memory, but an owner more.
+impl Clone for Inventory {
+    ghost is_clone = { λ inventory copy. copy ≡ inventory };
+
+    fn clone(&self) -> Result<Inventory, AllocError> {
+        self.shared()
+    }
+}
+
+impl PartialEq for Inventory {
+    ghost eq = { same_entries };
+
+    ghost laws = { same_entries-per };
+
+    fn eq(&self, other: &Inventory) -> bool
+        ensures value { result ≡ same_entries self.now other.now }
+        ensures same { IsTrue result ↔ (self.now ≡ other.now) }
+    {
+        self.entries() == other.entries()
+    }
+}
+
+impl Eq for Inventory {
+    ghost laws = { same_entries-equiv };
 }

@@ -1,11 +1,14 @@
 //! What is known of one node.
-ghost use Rattle.std.specs.Prelude.{◌≡◌, ◌↔◌, IsTrue, IfOk};
+ghost use Rattle.std.specs.Prelude.{◌≡◌, ◌≢◌, ◌↔◌, ◌≤◌, IsTrue, IfOk};
+ghost use Rattle.druid_shard.specs.Mark.{never};
 ghost use Rattle.druid_shard.specs.Replay.{IsSegmentSet};
+ghost use Rattle.druid_shard.specs.declared.reply.Body.TheVariants.{Snapshot};
 ghost use Rattle.druid_inventory.specs.Entry.{fresh};
+ghost use Rattle.druid_inventory.specs.Equality.{same_entry, same_entry-per};
 ghost use Rattle.druid_inventory.specs.Step.{moved_to};
 
 use druid_segid::Name;
-use druid_shard::{Descriptor, Mark};
+use druid_shard::{Descriptor, Mark, Reply, ReplyFault};
 use std::alloc::{AllocError, Global};
 use std::marker::Model;
 
@@ -19,13 +22,13 @@ pub(crate) struct Known {
 
 impl Model for Known {
     ghost use Rattle.druid_inventory.specs.Entry.{Entry};
-    ghost use Rattle.druid_shard.specs.Replay.{IsSegmentSet};
+    ghost use Rattle.druid_inventory.specs.Timelines.{IsEntry};
 
     ghost Value = { Entry };
 
     ghost view = { λ a. record { name = a.name; mark = a.mark; set = a.set.items } };
 
-    ghost invariant = { λ a. IsSegmentSet a.set.items };
+    ghost invariant = { λ a. IsEntry (record { name = a.name; mark = a.mark; set = a.set.items }) };
 }
 
 impl Known {
@@ -42,7 +45,8 @@ impl Known {
 
     // The node at another mark, with another set.
     pub(crate) fn with_set(&self, at: Mark, set: Vec<Descriptor>) -> Result<Known, AllocError>
-        requires { IsSegmentSet set.items }
+        requires set { IsSegmentSet set.items }
+        requires incarnation { 1 ≤ at.incarnation }
         ensures { IfOk result (λ known. known ≡ moved_to self.now at set.items) }
     {
         Ok(Known {
@@ -50,6 +54,13 @@ impl Known {
             mark: at,
             set,
         })
+    }
+
+    // The node's name.
+    pub(crate) fn name(&self) -> &Name
+        ensures { result.now ≡ self.now.name }
+    {
+        &self.name
     }
 
     // How far the node's history has been followed.
@@ -65,6 +76,42 @@ impl Known {
         ensures valid { IsSegmentSet self.now.set }
     {
         self.set.as_slice()
+    }
+
+    // Whether the node was synced.
+    pub(crate) fn is_synced(&self) -> bool
+        ensures { IsTrue result ↔ (self.now.mark ≢ never) }
+    {
+        self.mark != Mark::never()
+    }
+
+    // All that the node serves at its mark.
+    pub(crate) fn snapshot(&self, alloc: Global) -> Result<Reply, AllocError>
+        requires { self.now.mark ≢ never }
+        ensures { IfOk result (λ reply. reply ≡ Snapshot self.now.mark self.now.set) }
+    {
+        let set = copy_of(alloc, &self.set)?;
+        match Reply::snapshot(self.mark, set) {
+            Ok(reply) => Ok(reply),
+            Err(ReplyFault::TooMany) => unreachable!(),
+            Err(ReplyFault::LengthOfDelta) => unreachable!(),
+            Err(ReplyFault::DoubledSegment) => unreachable!(),
+            Err(ReplyFault::Memory) => unreachable!(),
+        }
+    }
+}
+
+impl PartialEq for Known {
+    ghost eq = { same_entry };
+
+    ghost laws = { same_entry-per };
+
+    #[tactic(auto, using(crate::proofs::JoinLemmas::equality_facts))]
+    fn eq(&self, other: &Known) -> bool
+        ensures value { result ≡ same_entry self.now other.now }
+        ensures same { IsTrue result ↔ (self.now ≡ other.now) }
+    {
+        self.name == other.name && self.mark == other.mark && self.set == other.set
     }
 }
 

@@ -3,12 +3,13 @@
 
 mod fault;
 mod inventory;
+mod join;
 mod judge;
 mod known;
 mod laws;
 mod shared;
 mod timelines;
 
-pub use fault::{ApplyFault, InventoryFault, Outcome};
+pub use fault::{ApplyFault, InventoryFault, JoinFault, Outcome};
 pub use inventory::{Inventory, MAX_NODES};
-pub use laws::{marks_never_fall, one_step};
+pub use laws::{marks_never_fall, one_join, one_step};

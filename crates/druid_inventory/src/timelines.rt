@@ -1,5 +1,5 @@
 //! The timelines of the data sources: built from what nodes serve, and edited where that changes.
-ghost use Rattle.std.specs.Prelude.{◌≡◌, ◌+◌, ◌<◌, ◌^◌, List, IfOk, IfSome, OnOk, Some, length, map, take};
+ghost use Rattle.std.specs.Prelude.{◌≡◌, ◌↔◌, ◌⊎◌, ◌+◌, ◌<◌, ◌^◌, List, Contains, IsTrue, IfOk, IfSome, OnOk, Some, length, map, take};
 ghost use Rattle.std.specs.Arc.{arc_value};
 ghost use Rattle.std.specs.BTreeMap as tree;
 ghost use Rattle.std.specs.Ordering.{nat_cmp};
@@ -8,12 +8,12 @@ ghost use Rattle.druid_shard.specs.Described.{Described};
 ghost use Rattle.druid_shard.specs.Replay.{IsSegmentSet, replay_from};
 ghost use Rattle.druid_shard.specs.declared.change.Change.TheVariants.{Drop};
 ghost use Rattle.druid_inventory.specs.Entry.{Entry};
-ghost use Rattle.druid_inventory.specs.Timelines.{kept, AreTimelines, AreTimelinesOf, TakesSegment, TakesChange, AddsSegment, EditsOut, RemovesSegment, MakesChange, ServesWith};
+ghost use Rattle.druid_inventory.specs.Timelines.{kept, AreTimelines, AreTimelinesOf, TakesSegment, TakesChange, AddsSegment, EditsOut, RemovesSegment, MakesChange, ServesThese, ServesWith};
 
 use crate::known::Known;
 use crate::shared::SharedTimeline;
 use druid_segid::Name;
-use druid_shard::{Change, Descriptor, NodeNo, apply_change};
+use druid_shard::{Change, Descriptor, NodeNo, apply_change, find_segment};
 use druid_timeline::Timeline;
 use std::alloc::{AllocError, Global};
 use std::collections::BTreeMap;
@@ -96,39 +96,6 @@ fn remove_segment(
     Ok(())
 }
 
-// Adds the set of a node to the timelines over the nodes before it.
-fn add_set(
-    timelines: &mut Timelines,
-    alloc: Global,
-    entries: &[Arc<Known, Global>],
-    node: NodeNo,
-) -> Result<(), AllocError>
-    requires node { node < length entries.now }
-    requires before { AreTimelinesOf (take node (map arc_value entries.now)) timelines.old }
-    ensures { OnOk result (AreTimelinesOf (take (node + 1) (map arc_value entries.now)) timelines.new) }
-{
-    let set = entries[node as usize].set();
-    for descriptor in set {
-        add_segment(timelines, alloc, node, descriptor)?;
-    }
-    Ok(())
-}
-
-// The timelines over the sets of these nodes.
-pub(crate) fn timelines_over(
-    alloc: Global,
-    entries: &[Arc<Known, Global>],
-) -> Result<Timelines, AllocError>
-    requires { length entries.now < 2 ^ 16 }
-    ensures { IfOk result (AreTimelinesOf (map arc_value entries.now)) }
-{
-    let mut timelines = BTreeMap::new(alloc);
-    for node in 0..entries.len() {
-        add_set(&mut timelines, alloc, entries, node as NodeNo)?;
-    }
-    Ok(timelines)
-}
-
 // Edits the timeline of the source of a segment that the node begins or ceases to serve.
 fn change_timeline(
     timelines: &mut Timelines,
@@ -165,4 +132,78 @@ pub(crate) fn replay_changes(
         apply_change(set, change)?;
     }
     Ok(())
+}
+
+// Whether a set has a segment.
+fn has_segment(set: &[Descriptor], descriptor: &Descriptor) -> bool
+    requires { IsSegmentSet set.now }
+    ensures { IsTrue result ↔ Contains set.now descriptor.now }
+{
+    match find_segment(set, descriptor.id()) {
+        Ok(place) => &set[place] == descriptor,
+        Err(_) => false,
+    }
+}
+
+// Takes what the second set has not out of the timelines, where a node has the first.
+fn drop_others(
+    timelines: &mut Timelines,
+    node: NodeNo,
+    old: &[Descriptor],
+    new: &[Descriptor],
+) -> Result<(), AllocError>
+    requires old { IsSegmentSet old.now }
+    requires new { IsSegmentSet new.now }
+    requires over { (entries : List Entry) × AreTimelines (ServesWith entries node old.now) timelines.old }
+    ensures { OnOk result ((entries : List Entry) → AreTimelines (ServesWith entries node old.now) timelines.old
+        → AreTimelines (ServesThese entries node (λ d. Contains old.now d × Contains new.now d)) timelines.new) }
+{
+    for descriptor in old {
+        if !has_segment(new, descriptor) {
+            remove_segment(timelines, node, descriptor)?;
+        }
+    }
+    Ok(())
+}
+
+// Puts what the first set has not into the timelines, where a node has what the sets share.
+fn load_others(
+    timelines: &mut Timelines,
+    alloc: Global,
+    node: NodeNo,
+    old: &[Descriptor],
+    new: &[Descriptor],
+) -> Result<(), AllocError>
+    requires old { IsSegmentSet old.now }
+    requires new { IsSegmentSet new.now }
+    requires over { (entries : List Entry)
+        × AreTimelines (ServesThese entries node (λ d. Contains old.now d × Contains new.now d)) timelines.old }
+    ensures { OnOk result ((entries : List Entry)
+        → AreTimelines (ServesThese entries node (λ d. Contains old.now d × Contains new.now d)) timelines.old
+        → AreTimelines (ServesWith entries node new.now) timelines.new) }
+{
+    for descriptor in new {
+        if !has_segment(old, descriptor) {
+            add_segment(timelines, alloc, node, descriptor)?;
+        }
+    }
+    Ok(())
+}
+
+// Edits the timelines where a node has a new set in place of an old one. Those of sources on which the sets agree stay.
+pub(crate) fn change_set(
+    timelines: &mut Timelines,
+    alloc: Global,
+    node: NodeNo,
+    old: &[Descriptor],
+    new: &[Descriptor],
+) -> Result<(), AllocError>
+    requires old { IsSegmentSet old.now }
+    requires new { IsSegmentSet new.now }
+    requires over { (entries : List Entry) × AreTimelines (ServesWith entries node old.now) timelines.old }
+    ensures { OnOk result ((entries : List Entry) → AreTimelines (ServesWith entries node old.now) timelines.old
+        → AreTimelines (ServesWith entries node new.now) timelines.new) }
+{
+    drop_others(timelines, node, old, new)?;
+    load_others(timelines, alloc, node, old, new)
 }

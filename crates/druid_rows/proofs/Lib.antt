@@ -4,3 +4,4 @@ pub mod NameLemmas
 pub mod PageLemmas
 pub mod PagesLemmas
 pub mod TextsLemmas
+mod FilterLemmas

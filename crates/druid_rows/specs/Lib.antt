@@ -4,3 +4,4 @@ pub mod Segment
 pub mod Texts
 pub mod Sheet
 pub mod Pages
+pub mod Filters

@@ -4,6 +4,7 @@ use Rattle.std.specs.Global.{Global}
 use Rattle.std.specs.Option.{option_map}
 use Rattle.druid_time.specs.Extent.{Extent, Has}
 use Rattle.druid_rows.specs.Names.{IsFieldName, AreDistinct}
+use Rattle.druid_rows.specs.declared.lent.TheConstants.{MAX_VALUE}
 
 -- the names of the dimensions and of the metrics that each row has a value for, in order
 pub record Schema : Type 0 where
@@ -33,7 +34,7 @@ IsInside interval row = Has interval row.time
 
 -- the most bytes of the value of a dimension
 abbrev pub max_value : ℕ
-max_value = 1_024
+max_value = MAX_VALUE
 
 -- no text is longer than the value of a dimension may be
 abbrev pub AreShort : List (Option (List ℕ)) → Type 0

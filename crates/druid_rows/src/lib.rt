@@ -3,6 +3,7 @@
 
 mod builder;
 mod fault;
+mod filter;
 mod lent;
 mod page;
 mod row;
@@ -13,6 +14,7 @@ mod texts;
 
 pub use builder::SegmentBuilder;
 pub use fault::RowFault;
+pub use filter::{Filter, matches};
 pub use lent::MAX_VALUE;
 pub use row::Row;
 pub use schema::{MAX_NAME, Schema};

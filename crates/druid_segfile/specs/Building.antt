@@ -6,7 +6,7 @@ use Rattle.druid_rows.specs.Rows.{Schema, Row}
 use Rattle.druid_rows.specs.Segment.{Segment, IsSegment, segment_of, text_length, max_rows, max_text}
 use Rattle.druid_segfile.specs.declared.fault.FileFault.{FileFault}
 use Rattle.druid_time.specs.Results.{◌>>=◌}
-use Rattle.druid_segfile.specs.Reading.{Cursor, Shape, shape_of, magic_at, descriptor_at, fields_at, number_at, at_most, each_at, values_at, content_at}
+use Rattle.druid_segfile.specs.Reading.{Cursor, Shape, shape_of, magic_at, descriptor_at, fields_at, number_at, at_most, each_at, values_at}
 
 -- the bytes behind the part are left, and nothing is kept of it; or the fault is the one of reading
 abbrev pub Passes : {X : Type 0} → Cursor → Cursor → Result X FileFault → Result (List ℕ) FileFault → Type 0

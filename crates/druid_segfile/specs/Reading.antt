@@ -7,7 +7,7 @@ use Rattle.druid_time.specs.Extent.{Extent}
 use Rattle.druid_time.specs.Instant.{instant_count, unix_epoch}
 use Rattle.druid_segid.specs.Names.{max_name, is_name, max_version, is_version}
 use Rattle.druid_shard.specs.Described.{Described, max_core}
-use Rattle.druid_rows.specs.Names.{is_field_name}
+use Rattle.druid_rows.specs.Names.{is_field_name, max_field_name}
 use Rattle.druid_rows.specs.Rows.{Schema, Row, max_value}
 use Rattle.druid_rows.specs.Segment.{Segment, segment_of, max_fields, max_rows, max_text}
 use Rattle.druid_time.specs.Results.{◌>>=◌}
@@ -166,7 +166,7 @@ is_new_name before name = is_field_name name && not (list_any (bytes_eq name) be
 
 unfoldable pub field_name_at : FileFault → List (List ℕ) → List ℕ → Result (List ℕ × List ℕ) FileFault
 field_name_at short before bytes = do
-  text ← short_text_at short 100 bytes
+  text ← short_text_at short max_field_name bytes
   name ← accepted (is_new_name before) text.0
   Ok (name, text.1)
 

@@ -1,17 +1,13 @@
 -- Identifiers read from texts: what the code sees of a text.
-use Rattle.std.proofs.Common.{◌≡◌, ◌≢◌, ℕ, ◌+◌, ◌-◌, ◌<◌, ◌≤◌, ◌^◌, Bool, true, false, not, List, [], ◌∷◌, suc, length, get_or, take, drop, refl, sym, ap, ◌∙◌, subst, arith, inl, inr, decimal, Some, None, Result, Ok, Err}
+use Rattle.std.proofs.Common.{◌≡◌, ◌≢◌, ℕ, ◌+◌, ◌-◌, ◌<◌, ◌≤◌, Bool, true, false, not, List, [], ◌∷◌, suc, length, get_or, take, drop, refl, sym, ap, ◌∙◌, subst, arith, inl, inr, Some, None, Result, Ok, Err}
 use Rattle.std.specs.Str.{IsUtf8, bytes_eq}
-use Rattle.std.specs.Char.{digit_value}
-use Rattle.std.specs.Str.Parse.{digits_value, IsNumeral, without_leading_plus}
 use Rattle.std.specs.Result.{result_ok}
 use Rattle.std.specs.List.{list_any, position_or_len, before_first}
-use Rattle.std.proofs.lemmas.Bool.{cases_Bool, and_parts, and_from, eq-eqb, le-leb, lt-ltb, leb-true, ltb-true, false_from_ne_true}
-use Rattle.std.proofs.lemmas.Fmt.{decimal_is_IsNumeral, IsAscii-decimal}
+use Rattle.std.proofs.lemmas.Bool.{cases_Bool, and_from, eq-eqb, le-leb, false_from_ne_true}
 use Rattle.std.proofs.lemmas.List.{length-drop, take_all}
 use Rattle.std.proofs.lemmas.List.Sums.{position_or_len_is}
 use Rattle.std.proofs.lemmas.Slice.Eq.{bytes_eq-Decides}
 use Rattle.std.proofs.lemmas.Str.{IsUtf8-from_ascii}
-use Rattle.std.proofs.lemmas.Str.Parse.{without_leading_plus_none}
 use Rattle.druid_time.specs.declared.fault.TimeFault.{TimeFault}
 use Rattle.druid_time.specs.Texts.{instant_at}
 use Rattle.druid_time.proofs.TextLemmas.{IsUtf8-instant_text}
@@ -19,7 +15,7 @@ use Rattle.druid_time.proofs.PrintedLemmas.{instant_text-instant_at}
 use Rattle.druid_segid.specs.Names.{is_version}
 use Rattle.druid_segid.proofs.IdentifierLemmas.{IsAscii-version}
 use Rattle.druid_segid.proofs.NameLemmas.{is_version-to}
-use Rattle.druid_segid.specs.Parsed.{is_underscore, tail_at, printed_at, version_at, number_at, partition_at}
+use Rattle.druid_segid.specs.Parsed.{is_underscore, tail_at, printed_at, version_at, partition_number, partition_at}
 
 -- ---- the first `_`
 
@@ -64,56 +60,6 @@ pub printed_at-not_utf8 : (printed : List ℕ) → length printed ≡ 24 → ¬ 
 printed_at-not_utf8 printed long bad =
     not_read (instant_at printed) (λ t e. bad (subst IsUtf8 (instant_text-instant_at printed t long e) (IsUtf8-instant_text t)))
 
--- ---- the number of the partition
-
--- a number in digits begins with no `+`
-plain_numeral : (ds : List ℕ) → IsNumeral 10 ds → get_or ds 0 0 ≢ 43
-plain_numeral [] h e = absurd (omega (arith, h.0))
-plain_numeral (d ∷ ds) h e = let small : digit_value 43 < 10 = subst (λ x. digit_value x < 10) e h.1.0 in absurd (omega arith)
-
--- a number is read of the digits that it prints as
-read_decimal : (digits : List ℕ) (n : ℕ) → n < 65536 → decimal n ≡ digits
-    → IsNumeral 10 (without_leading_plus digits) × (digits_value 10 (without_leading_plus digits) ≡ n)
-read_decimal digits n high e =
-    let numeral = decimal_is_IsNumeral n (omega arith) in
-    let plain = without_leading_plus_none (decimal n) (plain_numeral (decimal n) numeral.0) in
-    subst (λ ds. IsNumeral 10 ds × (digits_value 10 ds ≡ n)) (sym plain ∙ ap without_leading_plus e) numeral
-
-pub number_at-found : (digits : List ℕ) (n : ℕ) → 1 ≤ n → n < 65536 → decimal n ≡ digits → number_at digits ≡ Some n
-unfolding number_at
-number_at-found digits n low high e =
-    let value : digits_value 10 digits ≡ n = ap (digits_value 10) (sym e) ∙ (decimal_is_IsNumeral n (omega arith)).1 in
-    rw (value, le-leb 1 n low, lt-ltb n 65536 high, (bytes_eq-Decides digits (decimal n)).1 (sym e)) refl
-
-pub number_at-none : (digits : List ℕ) → ((n : ℕ) → 1 ≤ n → n < 65536 → decimal n ≡ digits → ⊥) → number_at digits ≡ None
-unfolding number_at
-number_at-none digits none =
-    let n = digits_value 10 digits in
-    let failing = false_from_ne_true _ (λ all.
-    let parts = and_parts _ _ all in
-    let bounds = and_parts _ _ parts.0 in
-    none n (leb-true 1 n bounds.0) (ltb-true n 65536 bounds.1) (sym ((bytes_eq-Decides digits (decimal n)).0 parts.1))) in
-    rw failing refl
-
--- no number was read
-pub number_at-unread : (digits : List ℕ) → ¬ (IsNumeral 10 (without_leading_plus digits) × (digits_value 10 (without_leading_plus digits) < 2 ^ 16)) → number_at digits ≡ None
-number_at-unread digits bad =
-    number_at-none digits (λ n low high e.
-    let read = read_decimal digits n high e in
-    bad (read.0, subst (λ m. m < 2 ^ 16) (sym read.1) high))
-
--- one was read, and it is 0 or prints as other digits
-pub number_at-odd : (digits : List ℕ) (m : ℕ) → m ≡ digits_value 10 (without_leading_plus digits) → (1 ≤ m → decimal m ≡ digits → ⊥) → number_at digits ≡ None
-number_at-odd digits m is odd =
-    number_at-none digits (λ n low high e.
-    let same : n ≡ m = sym (is ∙ (read_decimal digits n high e).1) in
-    odd (subst (λ k. 1 ≤ k) same low) (ap decimal (sym same) ∙ e))
-
--- bytes that are no text are no number
-pub number_at-not_utf8 : (digits : List ℕ) → ¬ IsUtf8 digits → number_at digits ≡ None
-number_at-not_utf8 digits bad =
-    number_at-none digits (λ n low high e. bad (subst IsUtf8 e (IsUtf8-from_ascii (decimal n) (IsAscii-decimal n (omega arith)))))
-
 -- ---- the parts
 
 pub tail_at-found : (rest : List ℕ) → 50 < length rest → get_or rest 24 0 ≡ 95 → get_or rest 49 0 ≡ 95 → tail_at rest ≡ Some (take (length rest - 50) (drop 50 rest))
@@ -137,14 +83,14 @@ unfolding partition_at
 partition_at-none tail place e f = rw (no_underscore tail (sym e ∙ f)) refl
 
 pub partition_at-some : (tail digits : List ℕ) (place : ℕ) → place ≡ position_or_len is_underscore tail → place ≢ length tail → place ≤ length tail
-    → digits ≡ take (length tail - (place + 1)) (drop (place + 1) tail) → partition_at tail ≡ number_at digits
+    → digits ≡ take (length tail - (place + 1)) (drop (place + 1) tail) → partition_at tail ≡ partition_number digits
 unfolding partition_at
 partition_at-some tail digits place e other within cut =
     let inside : place < length tail = omega arith in
     let here : list_any is_underscore tail ≡ true = any_underscore tail (subst (λ n. n < length tail) e inside) in
     let whole : take (length tail - (place + 1)) (drop (place + 1) tail) ≡ drop (place + 1) tail =
     take_all (length tail - (place + 1)) (drop (place + 1) tail) (omega (arith, length-drop (place + 1) tail)) in
-    rw here (ap (λ n. number_at (drop (n + 1) tail)) (sym e) ∙ ap number_at (sym (cut ∙ whole)))
+    rw here (ap (λ n. partition_number (drop (n + 1) tail)) (sym e) ∙ ap partition_number (sym (cut ∙ whole)))
 
 -- what the comparison of two texts tells
 pub texts_differ : (a b : List ℕ) (r : Bool) → r ≡ not (bytes_eq a b) → r ≡ true → a ≢ b
@@ -165,7 +111,5 @@ pub ruleset tail_facts = (tail_at-found)
 pub ruleset version_facts = (version_at-not_utf8)
 
 pub ruleset instant_facts = (printed_at-not_utf8)
-
-pub ruleset number_facts = (number_at-found, number_at-unread, number_at-odd)
 
 pub ruleset partition_facts = (partition_at-none)

@@ -2,7 +2,6 @@
 use Rattle.std.proofs.Common.{◌≡◌, ◌≢◌, ◌↔◌, ℕ, ◌+◌, ◌<◌, ◌≤◌, true, false, List, [], ◌∷◌, ◌++◌, length, not, nat_lt, nat_le, ◌&&◌, if◌then◌else◌, get_or, take, drop, refl, sym, ap, ◌∙◌, subst, arith, inl, inr, append-nil, length-append, drop-cons, codes, decimal, Option, Some, None, Result, Ok, Err}
 use Rattle.std.specs.Option.{option_and_then, ok_or}
 use Rattle.std.specs.Str.{bytes_eq}
-use Rattle.std.specs.Str.Parse.{digits_value}
 use Rattle.std.specs.Result.{result_ok}
 use Rattle.std.specs.List.{list_any, position_or_len, before_first, after_first}
 use Rattle.std.proofs.lemmas.Bool.{cases_Bool, cases_eq, cases_lt, and_parts, and_from, eq-eqb, ne_eqb, eqb-true, le-leb, lt-ltb, leb-true, ltb-true}
@@ -20,10 +19,12 @@ use Rattle.druid_time.proofs.TextLemmas.{length-instant_text, instant_at-instant
 use Rattle.druid_time.proofs.PrintedLemmas.{instant_text-instant_at}
 use Rattle.druid_segid.specs.Names.{IsName, IsVersion, is_version}
 use Rattle.druid_segid.specs.Identifier.{Identifier, Spells, partition_suffix}
-use Rattle.druid_segid.specs.Parsed.{Refusal, other_source, bad_parts, bad_interval, bad_version, bad_partition, is_underscore, behind, rest_at, tail_at, printed_at, interval_at, version_at, number_at, partition_at, identifier_at}
+use Rattle.druid_segid.specs.Parsed.{Refusal, other_source, bad_parts, bad_interval, bad_version, bad_partition, is_underscore, behind, rest_at, tail_at, printed_at, interval_at, version_at, partition_number, partition_at, identifier_at}
+use Rattle.druid_segid.specs.Numbers.{number_at}
 use Rattle.druid_segid.proofs.IdentifierLemmas.{identifier_text-behind}
 use Rattle.druid_segid.proofs.NameLemmas.{is_version-true, is_version-to}
-use Rattle.druid_segid.proofs.ParsedLemmas.{any_underscore, no_underscore, number_at-found}
+use Rattle.druid_segid.proofs.ParsedLemmas.{any_underscore, no_underscore}
+use Rattle.druid_segid.proofs.NumberLemmas.{number_at-found, number_at-to}
 
 -- ---- steps
 
@@ -224,19 +225,26 @@ version_at-to tail version h =
       | inr fail ↦ let none = rw fail at h in absurd (cc)
     ]
 
-number_at-to : (digits : List ℕ) (n : ℕ) → number_at digits ≡ Some n → (1 ≤ n) × (n < 65536) × (digits ≡ decimal n)
-unfolding number_at
-number_at-to digits n h =
-    let m = digits_value 10 digits in
-    elim (cases_Bool (nat_le 1 m && nat_lt m 65536 && bytes_eq digits (decimal m))) [
-      | inl pass ↦
-          let same : m ≡ n = some_same _ _ (rw pass at h) in
-          let parts = and_parts _ _ pass in
-          let bounds = and_parts _ _ parts.0 in
-          subst (λ k. (1 ≤ k) × (k < 65536) × (digits ≡ decimal k)) same
-          (leb-true 1 m bounds.0, ltb-true m 65536 bounds.1, (bytes_eq-Decides digits (decimal m)).0 parts.1)
-      | inr fail ↦ let none = rw fail at h in absurd (cc)
-    ]
+partition_number-found : (p : ℕ) → 1 ≤ p → p < 65536 → partition_number (decimal p) ≡ Some p
+unfolding partition_number
+partition_number-found p low high =
+    rw (number_at-found (decimal p) p (omega (arith, high)) refl, le-leb 1 p low, lt-ltb p 65536 high) refl
+
+partition_number-to : (digits : List ℕ) (p : ℕ) → partition_number digits ≡ Some p → (1 ≤ p) × (p < 65536) × (digits ≡ decimal p)
+unfolding partition_number
+partition_number-to digits p h = by (number_at digits) refl h where
+  by : (o : Option ℕ) → number_at digits ≡ o → option_and_then (λ n. if nat_le 1 n && nat_lt n 65536 then Some n else None) o ≡ Some p
+      → (1 ≤ p) × (p < 65536) × (digits ≡ decimal p)
+  by None e h = absurd (cc)
+  by (Some n) e h =
+      elim (cases_Bool (nat_le 1 n && nat_lt n 65536)) [
+        | inl pass ↦
+            let same : n ≡ p = some_same _ _ (rw pass at h) in
+            let bounds = and_parts _ _ pass in
+            subst (λ k. (1 ≤ k) × (k < 65536) × (digits ≡ decimal k)) same
+            (leb-true 1 n bounds.0, ltb-true n 65536 bounds.1, (number_at-to digits n e).1)
+        | inr fail ↦ let none = rw fail at h in absurd (cc)
+      ]
 
 partition_at-to : (tail : List ℕ) (p : ℕ) → partition_at tail ≡ Some p → (before_first is_underscore tail ++ partition_suffix p ≡ tail) × (p < 65536)
 unfolding partition_at
@@ -244,7 +252,7 @@ partition_at-to tail p h =
     let place = position_or_len is_underscore tail in
     elim (cases_lt place (length tail)) [
       | inl inside ↦
-          let number = number_at-to (after_first is_underscore tail) p (rw (any_underscore tail inside) at h) in
+          let number = partition_number-to (after_first is_underscore tail) p (rw (any_underscore tail inside) at h) in
           let line : get_or tail place 0 ≡ 95 = eqb-true (get_or tail place 0) 95 (passes_at_first is_underscore tail 0 inside) in
           let back_line : 95 ≡ get_or tail place 0 = sym line in
           let back_digits : decimal p ≡ after_first is_underscore tail = sym number.2 in
@@ -298,7 +306,7 @@ tail-behind version p h low high =
     let here : list_any is_underscore tail ≡ true = any_underscore tail (omega (arith, place, length-append version (95 ∷ decimal p))) in
     let front : before_first is_underscore tail ≡ version = ap (λ n. take n tail) place ∙ take-append_seam version (95 ∷ decimal p) in
     let back : after_first is_underscore tail ≡ decimal p = ap (λ n. drop (n + 1) tail) place ∙ drop-append-add version (95 ∷ decimal p) 1 in
-    tail_made tail version p h front (rw here (ap number_at back ∙ number_at-found (decimal p) p low high refl))
+    tail_made tail version p h front (rw here (ap partition_number back ∙ partition_number-found p low high))
 
 tail-made : (version : List ℕ) (p : ℕ) → IsVersion version → p < 65536 → ReadTail (version ++ partition_suffix p) version p
 tail-made version p h high =

@@ -1,4 +1,5 @@
 pub mod Names
+pub mod Numbers
 pub mod Identifier
 pub mod Parsed
 pub mod Group

@@ -1,13 +1,13 @@
 -- Identifiers read from texts, with the data source known. A text is its bytes.
-use Rattle.std.specs.Prelude.{◌≡◌, ℕ, Bool, ◌&&◌, ◌==◌, List, length, take, drop, slice_index, codes, decimal, Option, Some, None, option_and_then, ok_or, Result, Ok, Err, IsOk, nat_lt, nat_le, if◌then◌else◌}
+use Rattle.std.specs.Prelude.{◌≡◌, ℕ, Bool, ◌&&◌, ◌==◌, List, length, take, drop, slice_index, codes, Option, Some, None, option_and_then, ok_or, Result, Ok, Err, IsOk, nat_lt, nat_le, if◌then◌else◌}
 use Rattle.std.specs.Str.{bytes_eq}
-use Rattle.std.specs.Str.Parse.{digits_value}
 use Rattle.std.specs.Result.{result_ok}
 use Rattle.std.specs.List.{list_any, before_first, after_first}
 use Rattle.druid_time.specs.Extent.{Extent}
 use Rattle.druid_time.specs.Results.{◌>>=◌}
 use Rattle.druid_time.specs.Texts.{instant_at}
 use Rattle.druid_segid.specs.Names.{is_version}
+use Rattle.druid_segid.specs.Numbers.{number_at}
 use Rattle.druid_segid.specs.Identifier.{Identifier}
 use Rattle.druid_segid.specs.declared.fault.IdFault.{IdFault}
 use Rattle.druid_segid.specs.declared.fault.IdFault.TheVariants as faults
@@ -54,16 +54,13 @@ interval_at rest =
 unfoldable pub version_at : List ℕ → Option (List ℕ)
 version_at tail = if is_version (before_first is_underscore tail) then Some (before_first is_underscore tail) else None
 
--- the number from 1 to 65,535 that prints as these digits
-unfoldable pub number_at : List ℕ → Option ℕ
-number_at digits =
-    if nat_le 1 (digits_value 10 digits) && nat_lt (digits_value 10 digits) 65536 && bytes_eq digits (decimal (digits_value 10 digits))
-    then Some (digits_value 10 digits)
-    else None
+-- the number of a partition, from 1 to 65,535, that prints as these digits
+unfoldable pub partition_number : List ℕ → Option ℕ
+partition_number digits = option_and_then (λ n. if nat_le 1 n && nat_lt n 65536 then Some n else None) (number_at digits)
 
 -- the partition stands behind that `_`. Without one it is 0
 unfoldable pub partition_at : List ℕ → Option ℕ
-partition_at tail = if list_any is_underscore tail then number_at (after_first is_underscore tail) else Some 0
+partition_at tail = if list_any is_underscore tail then partition_number (after_first is_underscore tail) else Some 0
 
 -- the identifier that a text spells
 unfoldable pub identifier_at : List ℕ → List ℕ → Result Identifier Refusal

@@ -4,9 +4,9 @@ ghost use Rattle.std.specs.List.{position_or_len};
 ghost use Rattle.druid_time.specs.Extent.{IsExtent};
 ghost use Rattle.druid_segid.specs.Identifier.{IsIdentifier};
 ghost use Rattle.druid_segid.specs.Names.{IsVersion};
-ghost use Rattle.druid_segid.specs.Parsed.{is_underscore, rest_at, tail_at, printed_at, interval_at, version_at, number_at, partition_at, identifier_at, Gives};
+ghost use Rattle.druid_segid.specs.Parsed.{is_underscore, rest_at, tail_at, printed_at, interval_at, version_at, partition_number, partition_at, identifier_at, Gives};
 
-use crate::{IdFault, Name, SegmentId, Version};
+use crate::{IdFault, Name, SegmentId, Version, number_of};
 use druid_time::{Instant, Interval};
 use std::alloc::Global;
 use std::str;
@@ -95,22 +95,17 @@ fn version_of(tail: &[u8]) -> Option<&str>
     }
 }
 
-// The number from 1 to 65,535 that prints as these digits.
-#[tactic(auto, using(crate::proofs::ParsedLemmas::number_facts))]
-fn number_of(digits: &str) -> Option<u16>
-    ensures { result ≡ number_at digits.now }
+// The number of a partition, from 1 to 65,535, that prints as these digits.
+#[tactic(auto, unfolding(crate::specs::Parsed::partition_number))]
+fn partition_number(digits: &[u8]) -> Option<u16>
+    ensures { result ≡ partition_number digits.now }
 {
-    let Ok(number) = digits.parse::<u16>() else {
-        return None;
-    };
-    if number == 0 {
-        return None;
+    let number = number_of(digits)?;
+    if 1 <= number && number < 65_536 {
+        Some(number as u16)
+    } else {
+        None
     }
-    let mut printed = itoa::Buffer::new();
-    if printed.format(number) != digits {
-        return None;
-    }
-    Some(number)
 }
 
 // The partition stands behind the version and `_`. Without these it is 0.
@@ -122,10 +117,7 @@ fn partition_of(tail: &[u8]) -> Option<u16>
     if place == tail.len() {
         return Some(0);
     }
-    let Ok(digits) = str::from_utf8(&tail[place + 1..]) else {
-        return None;
-    };
-    number_of(digits)
+    partition_number(&tail[place + 1..])
 }
 
 impl SegmentId {

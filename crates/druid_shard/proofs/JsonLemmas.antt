@@ -1,12 +1,9 @@
 -- Descriptors as JSON: what is written is read back.
-use Rattle.std.proofs.Common.{◌≡◌, ◌<◌, ◌≤◌, ◌&&◌, ℕ, Bool, true, cond, List, length, codes, Some, Ok, refl, sym, ap, ◌∙◌, subst, arith, le-leb}
-use Rattle.serde_json.specs.Data.{Data}
-use Rattle.serde_json.specs.Find.{get}
-use Rattle.druid_time.specs.Texts.{extent_at, extent_text}
+use Rattle.std.proofs.Common.{◌≡◌, Ok, refl, arith, le-leb}
 use Rattle.druid_time.proofs.TextLemmas.{extent_at-extent_text}
 use Rattle.druid_segid.proofs.NameLemmas.{is_name-true, is_version-true}
-use Rattle.druid_shard.specs.Described.{Described, IsDescribed, Place}
-use Rattle.druid_shard.specs.Json.{descriptor_data, descriptor_at, place_at, shard_data}
+use Rattle.druid_shard.specs.Described.{Described, IsDescribed}
+use Rattle.druid_shard.specs.Json.{descriptor_data, descriptor_at, place_at}
 
 place_at-data : (d : Described) → IsDescribed d → place_at (descriptor_data d) ≡ Ok (record { partition = d.id.partition; core = d.core })
 unfolding place_at descriptor_data

@@ -1,18 +1,18 @@
 -- Where a segment stands in a set.
-use Rattle.std.proofs.Common.{◌≡◌, ◌+◌, ◌-◌, ◌<◌, ◌≤◌, ◌⊎◌, ℕ, zero, suc, Bool, true, false, List, length, get_or, refl, sym, ap, ◌∙◌, subst, inl, inr, arith, IsTrue}
-use Rattle.std.specs.Ordering.{nat_cmp, is_eq, is_lt, ordering_reverse, ordering_then}
+use Rattle.std.proofs.Common.{◌≡◌, ◌+◌, ◌<◌, ◌≤◌, ℕ, List, length, get_or, refl, sym, ap, ◌∙◌, subst, inl, inr, arith, IsTrue}
+use Rattle.std.specs.Ordering.{nat_cmp, is_eq, is_lt, ordering_reverse}
 use Rattle.std.specs.declared.cmp.Ordering.{Ordering}
 use Rattle.std.specs.declared.cmp.Ordering.TheVariants.{Less, Equal, Greater}
 use Rattle.std.specs.Cmp.Lexicographic.{slice_cmp}
 use Rattle.std.specs.List.{Contains, insert, remove}
-use Rattle.std.proofs.lemmas.Bool.{false≢true, cases_order}
+use Rattle.std.proofs.lemmas.Bool.{cases_order}
 use Rattle.std.proofs.lemmas.Cmp.{nat_list_cmp_total, tied_itself}
 use Rattle.std.proofs.lemmas.List.{get_or_default}
 use Rattle.druid_segid.specs.Identifier.{Identifier, identifier_text, identifier_cmp}
 use Rattle.druid_segid.specs.IdentifierLaws.{identifier_cmp-ties, same_identifier-true}
 use Rattle.druid_shard.specs.Described.{Described}
 use Rattle.druid_shard.specs.Reply.{AreSorted}
-use Rattle.druid_shard.specs.Replay.{StandsAt, BelongsAt, is_before, is_strict, with_segment, without_segment}
+use Rattle.druid_shard.specs.Replay.{StandsAt, BelongsAt, is_strict, with_segment, without_segment}
 use Rattle.druid_shard.specs.declared.change.Change.TheVariants.{Load, Drop}
 use Rattle.druid_shard.proofs.ReplayLemmas.{in_order, strict_load, strict_drop, with_segment-at, without_segment-at}
 use Rattle.druid_shard.proofs.SortedLemmas.{AreSorted-own}

@@ -1,6 +1,6 @@
 -- The orders of marks and of descriptors are orders: only proofs use this.
-use Rattle.std.proofs.Common.{◌≡◌, Bool, true, Some, refl}
-use Rattle.std.specs.Ordering.{nat_cmp, is_eq}
+use Rattle.std.proofs.Common.{◌≡◌, true, Some, refl}
+use Rattle.std.specs.Ordering.{is_eq}
 use Rattle.std.specs.Cmp.{IsTotalOrder, IsPartialOrder, IsEquivalence, IsPartialEquivalence, partial_equiv_from_equiv, partial_order_from_agreeing_total, both_tied, first_so, second_so, unsigned_Decides, unsigned_ties, nat_eq_equiv}
 use Rattle.std.proofs.lemmas.Cmp.{then_total, on_total, nat_cmp_total, and_equiv, on_equiv}
 use Rattle.druid_segid.specs.IdentifierLaws.{identifier_cmp-total, identifier_cmp-ties, same_identifier-equiv, same_identifier-true}

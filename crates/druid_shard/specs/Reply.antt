@@ -8,14 +8,15 @@ use Rattle.druid_segid.specs.Identifier.{identifier_text}
 use Rattle.druid_shard.specs.Described.{Described}
 use Rattle.druid_shard.specs.Mark.{Point}
 use Rattle.druid_shard.specs.declared.change.Change.{Change}
+use Rattle.druid_shard.specs.declared.reply.TheConstants.{MAX_SEGMENTS, MAX_CHANGES}
 
 -- the most segments that a node serves
 abbrev pub max_segments : ℕ
-max_segments = 20_000
+max_segments = MAX_SEGMENTS
 
 -- the most changes that a delta has, and that a node keeps
 abbrev pub max_changes : ℕ
-max_changes = 1_000
+max_changes = MAX_CHANGES
 
 -- a comes before b by the bytes of their identifiers' texts
 abbrev pub IsBefore : Described → Described → Type 0

@@ -1,70 +1,10 @@
--- Asks, read: numbers in digits, and how often a parameter is given.
-use Rattle.std.proofs.Common.{◌≡◌, ◌≢◌, ℕ, ◌+◌, ◌<◌, ◌≤◌, ◌^◌, Bool, true, false, not, List, [], ◌∷◌, ◌++◌, append_assoc, length, get_or, refl, sym, ap, ◌∙◌, subst, arith, inl, inr, decimal, Some, None, cond, map, filter, Bor}
-use Rattle.std.specs.Str.{IsUtf8, bytes_eq}
-use Rattle.std.specs.Char.{digit_value}
-use Rattle.std.specs.Str.Parse.{digits_value, IsNumeral, without_leading_plus}
-use Rattle.std.proofs.lemmas.Bool.{and_parts, lt-ltb, ltb-true, false_from_ne_true}
-use Rattle.std.proofs.lemmas.Fmt.{decimal_is_IsNumeral, IsAscii-decimal}
-use Rattle.std.proofs.lemmas.Slice.Eq.{bytes_eq-Decides}
-use Rattle.std.proofs.lemmas.Str.{IsUtf8-from_ascii}
-use Rattle.std.proofs.lemmas.Str.Parse.{without_leading_plus_none}
-use Rattle.druid_sync.specs.Asks.{number_at, values_at}
+-- Asks, read: how often a parameter is given.
+use Rattle.std.proofs.Common.{◌≡◌, ℕ, Bool, true, false, List, [], ◌∷◌, ◌++◌, append_assoc, sym, ap, ◌∙◌, subst, cond, map, filter, Bor}
+use Rattle.std.specs.Str.{bytes_eq}
+use Rattle.druid_sync.specs.Asks.{values_at}
 use Rattle.druid_sync.specs.Given.{IsGiven}
 use Rattle.druid_sync.specs.declared.ask.Given.{Given}
 use Rattle.druid_sync.specs.declared.ask.Given.TheVariants.{Once, Twice}
-
--- ---- numbers
-
--- a number in digits begins with no `+`
-plain_numeral : (ds : List ℕ) → IsNumeral 10 ds → get_or ds 0 0 ≢ 43
-plain_numeral [] h e = absurd (omega (arith, h.0))
-plain_numeral (d ∷ ds) h e = let small : digit_value 43 < 10 = subst (λ x. digit_value x < 10) e h.1.0 in absurd (omega arith)
-
--- a number is read of the digits that it prints as
-read_decimal : (digits : List ℕ) (n : ℕ) → n < 2 ^ 64 → decimal n ≡ digits
-    → IsNumeral 10 (without_leading_plus digits) × (digits_value 10 (without_leading_plus digits) ≡ n)
-read_decimal digits n high e =
-    let numeral = decimal_is_IsNumeral n (omega (arith, high)) in
-    let plain = without_leading_plus_none (decimal n) (plain_numeral (decimal n) numeral.0) in
-    subst (λ ds. IsNumeral 10 ds × (digits_value 10 ds ≡ n)) (sym plain ∙ ap without_leading_plus e) numeral
-
-pub number_at-found : (digits : List ℕ) (n : ℕ) → n < 2 ^ 64 → decimal n ≡ digits → number_at digits ≡ Some n
-unfolding number_at
-number_at-found digits n high e =
-    let value : digits_value 10 digits ≡ n = ap (digits_value 10) (sym e) ∙ (decimal_is_IsNumeral n (omega (arith, high))).1 in
-    rw (value, lt-ltb n (2 ^ 64) high, (bytes_eq-Decides digits (decimal n)).1 (sym e)) refl
-
-pub number_at-none : (digits : List ℕ) → ((n : ℕ) → n < 2 ^ 64 → decimal n ≡ digits → ⊥) → number_at digits ≡ None
-unfolding number_at
-number_at-none digits none =
-    let n = digits_value 10 digits in
-    let failing = false_from_ne_true _ (λ all.
-    let parts = and_parts _ _ all in
-    none n (ltb-true n (2 ^ 64) parts.0) (sym ((bytes_eq-Decides digits (decimal n)).0 parts.1))) in
-    rw failing refl
-
--- no number was read
-pub number_at-unread : (digits : List ℕ) → ¬ (IsNumeral 10 (without_leading_plus digits) × (digits_value 10 (without_leading_plus digits) < 2 ^ 64)) → number_at digits ≡ None
-number_at-unread digits bad =
-    number_at-none digits (λ n high e.
-    let read = read_decimal digits n high e in
-    bad (read.0, subst (λ m. m < 2 ^ 64) (sym read.1) high))
-
--- one was read, and it prints as other digits
-pub number_at-odd : (digits : List ℕ) (m : ℕ) → m ≡ digits_value 10 (without_leading_plus digits) → (decimal m ≡ digits → ⊥) → number_at digits ≡ None
-number_at-odd digits m is odd =
-    number_at-none digits (λ n high e.
-    let same : n ≡ m = sym (is ∙ (read_decimal digits n high e).1) in
-    odd (ap decimal (sym same) ∙ e))
-
--- bytes that are no text are no number
-pub number_at-not_utf8 : (digits : List ℕ) → ¬ IsUtf8 digits → number_at digits ≡ None
-number_at-not_utf8 digits bad =
-    number_at-none digits (λ n high e. bad (subst IsUtf8 e (IsUtf8-from_ascii (decimal n) (IsAscii-decimal n (omega (arith, high))))))
-
-pub ruleset number_facts = (number_at-unread)
-
-pub ruleset text_facts = (number_at-not_utf8)
 
 -- ---- parameters
 

@@ -1,6 +1,6 @@
 -- Replies as JSON: what is written is read back.
-use Rattle.std.proofs.Common.{◌≡◌, ◌≤◌, ◌<◌, ℕ, List, [], ◌∷◌, map, codes, Contains, Option, Some, None, Ok, refl, sym, ap, ◌∙◌, subst, arith, le-leb, true, is_some}
-use Rattle.serde_json.specs.Data.{Data, Items}
+use Rattle.std.proofs.Common.{◌≡◌, ◌≤◌, ℕ, List, [], ◌∷◌, map, codes, Contains, Option, Some, None, Ok, refl, ap, ◌∙◌, arith, le-leb, is_some}
+use Rattle.serde_json.specs.Data.{Data}
 use Rattle.serde_json.specs.View.{items_of}
 use Rattle.druid_time.specs.Options.{◌>>=◌}
 use Rattle.druid_time.proofs.TextLemmas.{extent_at-extent_text}
@@ -8,17 +8,16 @@ use Rattle.druid_segid.proofs.NameLemmas.{is_name-true, is_version-true}
 use Rattle.druid_shard.specs.Mark.{Point}
 use Rattle.druid_shard.proofs.MemberLemmas.{Contains-later}
 use Rattle.druid_shard.specs.Described.{Described, IsDescribed}
-use Rattle.druid_shard.specs.Json.{descriptor_at, place_at, result_ok}
+use Rattle.druid_shard.specs.Json.{descriptor_at, place_at}
 use Rattle.druid_shard.specs.declared.change.Change.{Change}
 use Rattle.druid_shard.specs.declared.change.Change.TheVariants.{Load, Drop}
 use Rattle.druid_shard.specs.declared.change.Cause.{Cause}
 use Rattle.druid_shard.specs.declared.change.Cause.TheVariants.{OtherIncarnation, Ahead, TooOld}
-use Rattle.druid_shard.specs.declared.reply.Body.{Body}
 use Rattle.druid_sync.specs.Fields.{each_of}
 use Rattle.serde_json.specs.Find.{as_null}
 use Rattle.druid_shard.specs.declared.reply.Body.TheVariants.{Delta, Snapshot, Reset}
 use Rattle.druid_sync.specs.Written.{mark_data, from_data, request_data, change_data, load_data, segment_of, cause_data, five_fields, reply_data}
-use Rattle.druid_sync.specs.Read.{Five, mark_at, change_at, load_at, cause_at, five_at, followed, whole, begun_again, reset_at, snapshot_at, delta_at, changes_at, form_at}
+use Rattle.druid_sync.specs.Read.{mark_at, change_at, load_at, cause_at, five_at, followed, whole, begun_again, reset_at, snapshot_at, delta_at, changes_at, form_at}
 
 -- ---- marks
 

@@ -1,7 +1,7 @@
 -- The form of a list of changes, where each is one, and where one is none.
 use Rattle.std.proofs.Common.{◌≡◌, ◌==◌, arith, List, [], ◌∷◌, length, Some, None, IsSome, is_some, true, false, refl, sym, subst, ap, ◌∙◌}
 use Rattle.std.proofs.lemmas.Bool.Decides.{nat_tests}
-use Rattle.serde_json.specs.Data.{Data, Items}
+use Rattle.serde_json.specs.Data.{Data}
 use Rattle.serde_json.specs.View.{items_view}
 use Rattle.serde_json.specs.declared.value.Value.{Value}
 use Rattle.druid_time.specs.Options.{◌>>=◌}
@@ -9,7 +9,7 @@ use Rattle.druid_shard.specs.Described.{Described}
 use Rattle.druid_shard.specs.Mark.{Point}
 use Rattle.druid_shard.specs.declared.change.Change.{Change}
 use Rattle.druid_sync.specs.Fields.{each_of}
-use Rattle.druid_sync.specs.Read.{Form, followed, whole, mark_at, change_at, load_at, none_in, snapshot_at, delta_at}
+use Rattle.druid_sync.specs.Read.{followed, whole, mark_at, change_at, load_at, none_in, snapshot_at, delta_at}
 use Rattle.druid_sync.proofs.EachLemmas.{Reads, all_read, not_all_read}
 
 -- ---- snapshots

@@ -1,9 +1,9 @@
 -- The texts of asks.
-use Rattle.std.specs.Prelude.{◌≡◌, ℕ, ◌^◌, ◌++◌, List, [], ◌∷◌, map, filter, codes, nat_le, nat_lt, decimal, ◌&&◌, Option, Some, None, if◌then◌else◌}
+use Rattle.std.specs.Prelude.{ℕ, ◌++◌, List, [], ◌∷◌, map, filter, codes, nat_le, decimal, Option, Some, None, if◌then◌else◌}
 use Rattle.std.specs.Str.{bytes_eq}
-use Rattle.std.specs.Str.Parse.{digits_value}
 use Rattle.form_urlencoded.specs.Form.{raw_pairs}
 use Rattle.druid_time.specs.Options.{◌>>=◌}
+use Rattle.druid_segid.specs.Numbers.{number_at}
 use Rattle.druid_shard.specs.Mark.{Point}
 use Rattle.druid_shard.specs.declared.change.Ask.{Ask}
 use Rattle.druid_shard.specs.declared.change.Ask.TheVariants.{Whole, Since}
@@ -16,13 +16,6 @@ query_text m = codes "counter=" ++ (decimal m.count ++ (codes "&hash=" ++ decima
 abbrev pub ask_text : Ask → List ℕ
 ask_text Whole = codes "/druid-internal/v1/segments"
 ask_text (Since m) = codes "/druid-internal/v1/segments?" ++ query_text m
-
--- the number below 2^64 that prints as these digits
-unfoldable pub number_at : List ℕ → Option ℕ
-number_at digits =
-    if nat_lt (digits_value 10 digits) (2 ^ 64) && bytes_eq digits (decimal (digits_value 10 digits))
-    then Some (digits_value 10 digits)
-    else None
 
 -- the values of the parameters of that name, in order. Parameters stand between `&`, a name before the first `=`, and
 -- its value behind it

@@ -1,5 +1,5 @@
 -- The fields of JSON objects.
-use Rattle.std.specs.Prelude.{List, [], ◌∷◌, Option, Some, None}
+use Rattle.std.specs.Prelude.{List, [], ◌∷◌, Option, Some}
 use Rattle.serde_json.specs.Data.{Data, Items, no_items, item}
 use Rattle.druid_time.specs.Options.{◌>>=◌}
 

@@ -1,13 +1,13 @@
 //! Asks, written and read.
 ghost use Rattle.std.specs.Prelude.{◌≡◌, ◌++◌, ◌∷◌, [], ℕ, List, IfOk, string_bytes, codes, decimal, ok_or};
-ghost use Rattle.druid_sync.specs.Asks.{ask_text, number_at, values_of, since_at, ask_of, ask_at};
+ghost use Rattle.druid_sync.specs.Asks.{ask_text, values_of, since_at, ask_of, ask_at};
 ghost use Rattle.druid_sync.specs.Given.{IsGiven};
 
 use crate::AskFault;
+use druid_segid::number_of;
 use druid_shard::{Ask, Mark};
 use form_urlencoded::raw_pairs;
 use std::alloc::{AllocError, Global};
-use std::str;
 
 fn since_text(alloc: Global, count: u64, incarnation: u64) -> Result<String, AllocError>
     ensures { IfOk result (λ text. string_bytes text ≡ codes "/druid-internal/v1/segments?counter="
@@ -61,32 +61,6 @@ fn values_given<'a>(query: &'a str, name: &str) -> Given<'a>
         }
     }
     given
-}
-
-// The number below 2^64 that prints as these digits.
-#[tactic(auto, using(crate::proofs::AskLemmas::number_facts))]
-fn number_in(digits: &str) -> Option<u64>
-    ensures { result ≡ number_at digits.now }
-{
-    let Ok(number) = digits.parse::<u64>() else {
-        return None;
-    };
-    let mut printed = itoa::Buffer::new();
-    if printed.format(number) != digits {
-        return None;
-    }
-    Some(number)
-}
-
-// The same of bytes, which may be no text.
-#[tactic(auto, using(crate::proofs::AskLemmas::text_facts))]
-fn number_of(digits: &[u8]) -> Option<u64>
-    ensures { result ≡ number_at digits.now }
-{
-    let Ok(digits) = str::from_utf8(digits) else {
-        return None;
-    };
-    number_in(digits)
 }
 
 // An ask for what comes behind a mark, by the digits of its count and of its incarnation.

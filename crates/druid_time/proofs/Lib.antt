@@ -4,3 +4,4 @@ pub mod PrintedLemmas
 mod ReadLemmas
 pub mod ExtentLemmas
 mod MergeLemmas
+mod BucketLemmas

@@ -1,9 +1,8 @@
 -- A text of 24 bytes that names an instant is the printed form of that instant.
-use Rattle.std.proofs.Common.{◌≡◌, ℕ, ◌+◌, ◌-◌, ◌*◌, ◌/◌, ◌%◌, ◌++◌, ◌<◌, ◌≤◌, true, Bool, false, List, [], ◌∷◌, length, nat_eq, refl, sym, ap, subst, ◌∙◌, arith, inl, inr, codes, Result, Ok, Err}
+use Rattle.std.proofs.Common.{◌≡◌, ℕ, ◌+◌, ◌-◌, ◌*◌, ◌/◌, ◌%◌, ◌++◌, ◌<◌, ◌≤◌, true, false, List, [], ◌∷◌, length, nat_eq, refl, sym, ap, subst, ◌∙◌, arith, inl, inr, codes, Result, Ok}
 use Rattle.std.proofs.lemmas.Bool.{and_parts, leb-true, eqb-true, cases_Bool}
 use Rattle.druid_time.specs.declared.fault.TimeFault.{TimeFault}
-use Rattle.druid_time.specs.Civil.{Civil, IsCivil, is_civil, instant_of, civil_of}
-use Rattle.druid_time.specs.Instant.{IsInstant}
+use Rattle.druid_time.specs.Civil.{is_civil, instant_of, civil_of}
 use Rattle.druid_time.specs.Texts.{fits_form, has_form, digits_value, two_digits, three_digits, four_digits, civil_parts, civil_text, instant_text, instant_at}
 use Rattle.druid_time.proofs.CivilLemmas.{civil_of-instant_of}
 use Rattle.druid_time.proofs.ReadLemmas.{has_form-24}

@@ -4,3 +4,4 @@ pub mod Instant
 pub mod Extent
 pub mod Civil
 pub mod Texts
+pub mod Granularity

@@ -1,10 +1,11 @@
 ghost use Rattle.std.specs.Prelude.{◌≡◌, ◌<◌, ◌↔◌, ℤ, pos, neg_ℤ, ◌≤ℤ◌, IsSome, IfSome, IfOk};
 ghost use Rattle.druid_time.specs.Instant.{IsInstant, unix_ms};
+ghost use Rattle.druid_time.specs.Granularity.{bucket_at};
 ghost use Rattle.druid_time.specs.Texts.{instant_text, instant_at};
 
-use crate::TimeFault;
 use crate::civil::Civil;
 use crate::reading::has_form;
+use crate::{Granularity, TimeFault};
 use std::marker::Model;
 
 // The first instant, 0000-01-01T00:00:00.000Z, in milliseconds since 1970.
@@ -82,5 +83,16 @@ impl Instant {
         ensures { out.new ≡ instant_text self.now }
     {
         *out = Civil::of_instant(self.since_year_zero).text();
+    }
+
+    /// The start of the bucket that it falls into: the greatest multiple of the bucket's length, counted from
+    /// 1970-01-01T00:00:00.000Z in both directions, that is not above it. None for `All`.
+    pub fn bucket(self, granularity: Granularity) -> Option<Instant>
+        ensures value { result ≡ bucket_at granularity self }
+        ensures range { IfSome result IsInstant }
+    {
+        let length = granularity.length()?;
+        let since_year_zero = self.since_year_zero - self.since_year_zero % length;
+        Some(Instant { since_year_zero })
     }
 }

@@ -1,11 +1,13 @@
 //! Facts about the definitions that the contracts cite.
-ghost use Rattle.std.specs.Prelude.{◌≡◌, ℕ, List, Ok};
+ghost use Rattle.std.specs.Prelude.{◌≡◌, ℕ, List, Ok, Some};
 ghost use Rattle.std.specs.Ordering.{nat_cmp};
 ghost use Rattle.std.specs.Cmp.Lexicographic.{slice_cmp};
 ghost use Rattle.druid_time.specs.Civil.{Civil, IsCivil, civil_of, instant_of, new_year_1970};
 ghost use Rattle.druid_time.specs.Extent.{Extent, IsExtent, AreParts, SameInstants};
+ghost use Rattle.druid_time.specs.Granularity.{bucket_length, bucket_at, StartsBucket};
 ghost use Rattle.druid_time.specs.Instant.{IsInstant, unix_epoch};
 ghost use Rattle.druid_time.specs.Texts.{instant_at, instant_text, extent_at, extent_text};
+ghost use Rattle.druid_time.specs.declared.granularity.Granularity.{Granularity};
 
 /// Each instant has a date and a time of the calendar, which name it, and each date and time of
 /// the calendar names an instant, which has them. 1970 begins where milliseconds are counted from.
@@ -31,4 +33,10 @@ pub fn texts_keep_order()
 /// A set of instants has one list of parts.
 pub fn one_list_of_parts()
     ensures { (xs ys : List Extent) → AreParts xs → AreParts ys → SameInstants xs ys → xs ≡ ys }
+{}
+
+/// Each bucket starts at the greatest multiple of its length that is not above its instants, counted from 1970.
+pub fn buckets_count_from_1970()
+    ensures { (granularity : Granularity) (length t b : ℕ) → bucket_length granularity ≡ Some length
+        → bucket_at granularity t ≡ Some b → StartsBucket length t b }
 {}

@@ -1,4 +1,4 @@
-use Rattle.std.proofs.Common.{IsTrue, refl, subst, sym, ◌∙◌}
+use Rattle.std.proofs.Common.{refl, subst, sym, ◌∙◌}
 use Rattle.std.proofs.lemmas.Bool.{false≢true}
 use Rattle.std.proofs.lemmas.List.{take_all}
 use Rattle.druid_rows.specs.Rows.{texts_by, AreShort}

@@ -1,4 +1,4 @@
-use Rattle.std.proofs.Common.{◌∙◌, List, [], ◌∷◌, Option, Some, ℕ, string_bytes, option_map, subst, sym, append-nil}
+use Rattle.std.proofs.Common.{◌∙◌, List, [], ◌∷◌, Some, ℕ, string_bytes, subst, sym, append-nil}
 use Rattle.std.proofs.lemmas.Str.{IsUtf8-nil}
 use Rattle.druid_rows.specs.Texts.{Grows}
 use Rattle.druid_rows.proofs.TextsLemmas.{on_err, Keeps-none, Keeps-text, Grows-null, Grows-text}

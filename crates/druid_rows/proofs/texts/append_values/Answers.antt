@@ -1,6 +1,4 @@
-use Rattle.std.proofs.Common.{◌≡◌, ◌∙◌, ◌<◌, ◌+◌, length, ◌++◌, [], ◌∷◌, List, Option, ℕ, take, get_or, string_bytes, option_map, subst, ap, sym}
-use Rattle.std.proofs.lemmas.List.{map_push, take_more}
-use Rattle.druid_rows.specs.Rows.{texts_by}
+use Rattle.std.proofs.Common.{length, List, Option, ℕ, string_bytes, subst, sym}
 use Rattle.druid_rows.specs.Texts.{Grows}
 use Rattle.druid_rows.proofs.TextsLemmas.{on_err, Keeps-then, Grows-none, Grows-then, texts_more, room_for_next}
 use Rattle.druid_rows.proofs.texts.append_values.Goals as goal

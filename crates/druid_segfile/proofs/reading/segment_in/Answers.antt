@@ -1,4 +1,4 @@
-use Rattle.std.proofs.Common.{◌≡◌, ◌∙◌, List, ℕ, Ok, eqb, length, sym, ap, arith}
+use Rattle.std.proofs.Common.{◌∙◌, Ok, sym, ap, arith}
 use Rattle.std.proofs.lemmas.Result.{err_from_is_err_and}
 use Rattle.druid_segfile.specs.Reading.{Cursor}
 use Rattle.druid_segfile.proofs.SegmentLemmas.{judged_err, judged_ok, judged_trails, judged_passes, may_lack_memory, is_spelling}

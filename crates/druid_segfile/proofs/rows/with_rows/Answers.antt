@@ -1,4 +1,4 @@
-use Rattle.std.proofs.Common.{◌≡◌, ◌-◌, ◌+◌, ◌++◌, ◌∷◌, ◌∙◌, [], List, ℕ, Ok, Err, length, subst, sym, ap, arith}
+use Rattle.std.proofs.Common.{◌≡◌, ◌-◌, ◌+◌, ◌++◌, ◌∙◌, List, ℕ, Ok, Err, length, subst, sym}
 use Rattle.druid_rows.specs.Rows.{Row, row_of}
 use Rattle.druid_rows.specs.Segment.{Segment, IsSegment, segment_of, with_row}
 use Rattle.druid_segfile.specs.Reading.{each_at, values_at}

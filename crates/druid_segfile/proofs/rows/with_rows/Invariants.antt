@@ -1,5 +1,4 @@
-use Rattle.std.proofs.Common.{◌≡◌, ◌-◌, List, length}
-use Rattle.druid_rows.specs.Rows.{Row}
+use Rattle.std.proofs.Common.{◌≡◌, ◌-◌, length}
 use Rattle.druid_segfile.specs.Reading.{each_at, values_at}
 use Rattle.druid_segfile.specs.Building.{HasRoom, with_read}
 use Rattle.druid_segfile.proofs.PartLemmas.{IsBytes}

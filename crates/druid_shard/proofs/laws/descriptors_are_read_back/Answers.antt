@@ -1,4 +1,3 @@
-use Rattle.std.proofs.Common.{refl}
 use Rattle.druid_shard.proofs.JsonLemmas.{descriptor_at-data}
 use Rattle.druid_shard.proofs.laws.descriptors_are_read_back.Goals as goal
 

@@ -1,6 +1,6 @@
 use Rattle.std.proofs.Common.{◌≡◌, ℕ, List, subst, sym, ap, ◌∙◌}
 use Rattle.std.specs.Bool.{IsTrue}
-use Rattle.std.specs.List.{insert, remove}
+use Rattle.std.specs.List.{insert}
 use Rattle.druid_segid.specs.Identifier.{Identifier}
 use Rattle.druid_shard.specs.Described.{Described}
 use Rattle.druid_shard.specs.Replay.{StandsAt, BelongsAt, is_strict, after}

@@ -1,13 +1,10 @@
-use Rattle.std.proofs.Common.{map, set, ◌∙◌}
+use Rattle.std.proofs.Common.{set, ◌∙◌}
 use Rattle.std.specs.Arc.{arc_value}
 use Rattle.std.proofs.lemmas.List.{map-set}
-use Rattle.druid_inventory.proofs.EntryLemmas.{map-copied}
 use Rattle.druid_inventory.proofs.inventory.Inventory.entries_with.Goals as goal
 
 -- one pointer is another, and the others point to what they pointed to
 pub returns-clause-entries : goal.returns-clause-entries
 returns-clause-entries c =
-    let copied = map-copied arc_value c.deref.result.now.items c.in_ok-entries.entries.items c.in_ok-entries.ensures.cases.0 in
-    let whole = copied ∙ (λ i. map arc_value (c.deref.ensures i).items) ∙ c.self.view_is in
     map-set arc_value c.in_ok-entries.entries.items c.args.node c.in_ok-entries-2.field-0
-    ∙ (λ i. set (whole i) c.args.node (c.in_ok-entries-2.ensures.ok i))
+    ∙ (λ i. set (c.in_ok-entries.ensures.entries i) c.args.node (c.in_ok-entries-2.ensures.ok i))

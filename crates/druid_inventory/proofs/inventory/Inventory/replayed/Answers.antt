@@ -1,26 +1,23 @@
-use Rattle.std.proofs.Common.{map, ap, sym, subst, ◌∙◌}
-use Rattle.std.specs.Arc.{arc_value}
+use Rattle.std.proofs.Common.{refl, ap, sym, subst, ◌∙◌}
 use Rattle.std.proofs.lemmas.Option.{slice_get_within}
 use Rattle.druid_shard.specs.Replay.{IsSegmentSet}
 use Rattle.druid_shard.proofs.ReplayLemmas.{replay_from-set}
+use Rattle.std.specs.Arc.{arc_value}
+use Rattle.std.proofs.Common.{map}
 use Rattle.druid_inventory.specs.Entry.{Entry}
-use Rattle.druid_inventory.proofs.EditLemmas.{copied_entries, replay_start, replay_end}
-use Rattle.druid_inventory.proofs.TimelineLemmas.{IsInventory-same}
+use Rattle.druid_inventory.proofs.EditLemmas.{replay_start, replay_end}
 use Rattle.druid_inventory.proofs.inventory.Inventory.replayed.Goals as goal
 
 pub replay_changes-requires-clause-over :
     goal.replay_changes-requires-clause-over
-replay_changes-requires-clause-over c =
-    let kept = IsInventory-same (map arc_value (arc_value c.self.inside.entries).items) c.args.self.now (arc_value c.self.inside.timelines) c.deref.result.now
-    (sym c.self.view_is) c.deref.ensures c.self.invariant in (
-      c.args.self.now,
-      replay_start c.args.self.now c.args.node c.args.known.now c.in_ok-set.set.items c.deref.result.now c.in_ok-timelines.timelines
-          c.requires.known (c.in_ok-set.ensures ∙ c.set.ensures.value)
-          (copied_entries c.deref.result.now c.in_ok-timelines.timelines c.in_ok-timelines.ensures.cases) kept.over,
-    )
+replay_changes-requires-clause-over c = (
+  c.args.self.now,
+  replay_start c.args.self.now c.args.node c.args.known.now c.in_ok-set.set.items c.in_ok-timelines.timelines c.in_ok-timelines.timelines
+      c.requires.known (c.in_ok-set.ensures ∙ c.set.ensures.value) refl c.in_ok-timelines.ensures,
+)
 
-pub with_set-requires : goal.with_set-requires
-with_set-requires c =
+pub with_set-requires-clause-set : goal.with_set-requires-clause-set
+with_set-requires-clause-set c =
     let set = subst IsSegmentSet (sym (c.in_ok-set.ensures ∙ c.set.ensures.value)) c.set.ensures.valid in
     replay_from-set c.in_ok-set.set.items c.replay_changes.new.set.items c.args.changes.now set c.in_ok-replay_changes.ensures.made
 
@@ -29,11 +26,8 @@ entries_with-requires c = slice_get_within c.args.self.now c.args.node c.args.kn
 
 pub of-requires-clause-over : goal.of-requires-clause-over
 of-requires-clause-over c =
-    let kept = IsInventory-same (map arc_value (arc_value c.self.inside.entries).items) c.args.self.now (arc_value c.self.inside.timelines) c.deref.result.now
-    (sym c.self.view_is) c.deref.ensures c.self.invariant in
-    let start = replay_start c.args.self.now c.args.node c.args.known.now c.in_ok-set.set.items c.deref.result.now c.in_ok-timelines.timelines
-    c.requires.known (c.in_ok-set.ensures ∙ c.set.ensures.value)
-    (copied_entries c.deref.result.now c.in_ok-timelines.timelines c.in_ok-timelines.ensures.cases) kept.over in
+    let start = replay_start c.args.self.now c.args.node c.args.known.now c.in_ok-set.set.items c.in_ok-timelines.timelines c.in_ok-timelines.timelines
+    c.requires.known (c.in_ok-set.ensures ∙ c.set.ensures.value) refl c.in_ok-timelines.ensures in
     replay_end c.args.self.now (map arc_value c.in_ok-entries.entries.items) c.args.node c.args.known.now c.in_ok-with_set.field-0
     c.replay_changes.new.set.items c.replay_changes.new.timelines c.requires.known
     (ap (λ (e : Entry). e.set) c.in_ok-with_set.ensures) c.in_ok-entries.ensures.entries (c.in_ok-replay_changes.ensures.over c.args.self.now start)

@@ -1,7 +1,5 @@
-use Rattle.std.proofs.Common.{◌≡◌, ◌++◌, ◌∷◌, ◌∙◌, [], List, ℤ, Option, Ok, Err, subst, sym, arith, length}
+use Rattle.std.proofs.Common.{◌≡◌, ◌++◌, ◌∷◌, ◌∙◌, [], List, ℤ, Option, Ok, Err, subst, arith}
 use Rattle.std.proofs.lemmas.Result.{err_from_is_err_and}
-use Rattle.std.proofs.lemmas.List.{map_push, length_push}
-use Rattle.druid_segfile.specs.declared.fault.FileFault.{FileFault}
 use Rattle.druid_segfile.specs.Reading.{each_at, number_value_at}
 use Rattle.druid_segfile.proofs.LoopLemmas.{goes_on, ends, is_done}
 use Rattle.druid_segfile.proofs.cursor.Cursor.numbers.Goals as goal

@@ -1,0 +1,7 @@
+use Rattle.std.proofs.Common.{map}
+use Rattle.std.specs.Arc.{arc_value}
+use Rattle.druid_inventory.proofs.JoinLemmas.{NoneLaterTo}
+use Rattle.druid_inventory.proofs.join.has_later.Given as goal
+
+abbrev pub invariant-loop-node : goal.invariant-loop-node
+invariant-loop-node l = NoneLaterTo (map arc_value l.a) (map arc_value l.b) l.node

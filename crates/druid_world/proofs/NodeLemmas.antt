@@ -1,0 +1,50 @@
+-- Which changes a node's history takes.
+use Rattle.std.proofs.Common.{◌≡◌, ◌↔◌, ℕ, Bool, true, false, List, [], ◌∷◌, length, Some, None, IsTrue, refl, sym, ap, ◌∙◌, arith, nat_le}
+use Rattle.std.specs.Option.{option_and_then}
+use Rattle.std.proofs.lemmas.Bool.{lt-ltb, ltb-true, lt-leb}
+use Rattle.druid_shard.specs.Replay.{replay_from, changed}
+use Rattle.druid_shard.specs.declared.change.Change.{Change}
+use Rattle.druid_shard.proofs.ReplayLemmas.{replay_from-append, and_then-some, changed-is}
+use Rattle.druid_changes.specs.Kept.{Kept, last_count, refusal}
+use Rattle.druid_changes.proofs.HistoryLemmas.{no_refusal, stands-more}
+use Rattle.druid_world.specs.World.{Era, Life}
+use Rattle.druid_world.specs.Node.{IsFollowed}
+use Rattle.druid_world.specs.Run.{takes, last_incarnation}
+use Rattle.druid_world.proofs.RunLemmas.{takes-is}
+
+-- the node with this history
+abbrev pub life_with : List Era → Kept → List Change → ℕ → Life
+life_with ended history changes kept = record { ended = ended; last = record { incarnation = history.incarnation; changes = changes }; kept = kept }
+
+taken : (ended : List Era) (history : Kept) (changes : List Change) (kept : ℕ) (c : Change) → IsFollowed history changes kept → refusal history c ≡ None
+    → takes (life_with ended history changes kept) c ≡ true
+unfolding takes
+taken ended history changes kept c h none =
+    let is = no_refusal history c none in
+    let more = (stands-more history c changes is.strict is.room h.stands).set in
+    let below = is.more in
+    let count = h.stands.count in
+    rw (more, lt-ltb (length changes) last_incarnation (omega arith)) refl
+
+accepted : (ended : List Era) (history : Kept) (changes : List Change) (kept : ℕ) (c : Change) → IsFollowed history changes kept
+    → takes (life_with ended history changes kept) c ≡ true → refusal history c ≡ None
+unfolding refusal
+accepted ended history changes kept c h t =
+    let is = takes-is (life_with ended history changes kept) c t in
+    let below = ltb-true (length changes) last_incarnation is.1 in
+    let count = h.stands.count in
+    let step : replay_from history.set (c ∷ []) ≡ Some is.0.0 =
+    ap (option_and_then (λ s. replay_from s (c ∷ []))) (sym h.stands.set) ∙ sym (replay_from-append [] changes (c ∷ [])) ∙ is.0.1 in
+    let made = and_then-some (λ s. replay_from s []) (changed history.set c) is.0.0 step in
+    let parts = changed-is history.set made.0 c made.1 in
+    let end : nat_le last_count history.count ≡ false = lt-leb last_count history.count (omega arith) in
+    rw (parts.0, parts.1, end) refl
+
+pub takes_told : (ended : List Era) (history : Kept) (changes : List Change) (kept : ℕ) (c : Change) (r : Bool) → IsFollowed history changes kept
+    → (IsTrue r ↔ (refusal history c ≡ None)) → r ≡ takes (life_with ended history changes kept) c
+takes_told ended history changes kept c r h told = by r (takes (life_with ended history changes kept) c) refl told where
+  by : (a b : Bool) → takes (life_with ended history changes kept) c ≡ b → (IsTrue a ↔ (refusal history c ≡ None)) → a ≡ b
+  by true true e t = refl
+  by true false e t = sym (sym e ∙ taken ended history changes kept c h (t.0 refl))
+  by false true e t = t.1 (accepted ended history changes kept c h e)
+  by false false e t = refl

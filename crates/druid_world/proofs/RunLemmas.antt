@@ -1,0 +1,325 @@
+-- What every run keeps: the world is one, every packet that was put tells the truth of it, and so does each inventory.
+use Rattle.std.proofs.Common.{◌≡◌, ◌+◌, ◌<◌, ℕ, zero, suc, Bool, true, false, cond, ◌&&◌, List, [], ◌∷◌, ◌++◌, length, map, replicate, set, Option, Some, None, refl, sym, ap, ◌∙◌, subst, inl, inr, arith, append_assoc, nat_lt}
+use Rattle.std.specs.List.{AllByRecursion, AllZip, Contains, slice_get}
+use Rattle.std.specs.Option.{is_some}
+use Rattle.std.proofs.lemmas.List.{append-nil, length-replicate}
+use Rattle.std.proofs.lemmas.List.Elements.{All-from_recursion, All-contains}
+use Rattle.std.proofs.lemmas.List.FromFn.{length-map-range_with_len}
+use Rattle.std.proofs.lemmas.Option.{same_Some}
+use Rattle.druid_shard.specs.Described.{Described}
+use Rattle.druid_shard.specs.Replay.{replay}
+use Rattle.druid_shard.specs.declared.change.Ask.{Ask}
+use Rattle.druid_shard.specs.declared.change.Ask.TheVariants as asks
+use Rattle.druid_shard.specs.declared.change.Change.{Change}
+use Rattle.druid_shard.specs.declared.reply.Body.{Body}
+use Rattle.druid_shard.specs.declared.reply.Body.TheVariants as bodies
+use Rattle.druid_changes.specs.Answer.{answer}
+use Rattle.druid_inventory.specs.Entry.{Entry, fresh, ask_of}
+use Rattle.druid_inventory.specs.Join.{names_of}
+use Rattle.druid_inventory.specs.Step.{Steps}
+use Rattle.druid_inventory.specs.declared.fault.Outcome.{Outcome}
+use Rattle.druid_inventory.specs.declared.fault.Outcome.TheVariants.{Moved}
+use Rattle.druid_inventory.proofs.StepLemmas.{Steps-left}
+use Rattle.druid_world.specs.World.{Era, Life, IsEra, IsLife, IsWorld, IsHonest, IsTrueEntry, IsInventoryOf, IsHonestAt, Grows, eras_of, marks_of, set_at, with_more}
+use Rattle.druid_world.specs.Run.{State, Next, Run, IsReached, Applies, Folds, AreHonest, newborn, node_name, node_names, opening, takes, recorded, restarted, last_incarnation, with_packet, with_broker}
+use Rattle.druid_world.specs.declared.event.Event.{Event}
+use Rattle.druid_world.specs.declared.event.Event.TheVariants.{Record, Restart, Ask as Asks, Answer, Seed, Deliver, Cut, Fail}
+use Rattle.druid_world.specs.declared.event.Packet.{Packet}
+use Rattle.druid_world.specs.declared.event.Packet.TheVariants.{Request, Reply}
+use Rattle.druid_world.proofs.ListLemmas.{each_get, each_set, each_more, each_front, each_last, each_weaker, each_replicate, below_get, length_set, pairs_at, pairs_set, pairs_self, pairs_over, pairs_find}
+use Rattle.druid_world.proofs.WorldLemmas.{rising_same, rising_more, grows_self, honest-grows, entry-grows, step_true, answer_true}
+
+-- ---- the world grows
+
+recorded-grows : (life : Life) (c : Change) → Grows life (recorded life c)
+recorded-grows life c = (c ∷ [], [], refl)
+
+restarted-grows : (life : Life) → Grows life (restarted life)
+restarted-grows life =
+    let next : Era = record { incarnation = life.last.incarnation + 1; changes = [] } in (
+      [],
+      next ∷ [],
+      append_assoc life.ended (life.last ∷ []) (next ∷ [])
+          ∙ ap (λ cs. life.ended ++ record { incarnation = life.last.incarnation; changes = cs } ∷ next ∷ []) (sym (append-nil life.last.changes)),
+    )
+
+node_grows : (world : List Life) (node : ℕ) (life new : Life) → slice_get world node ≡ Some life → Grows life new → AllZip Grows world (set world node new)
+node_grows world node life new e g = pairs_set Grows world world node life new (pairs_self Grows world grows_self) e g
+
+unchanged : (s t : State) → s.world ≡ t.world → AllZip Grows s.world t.world
+unchanged s t e = subst (λ (w : List Life). AllZip Grows s.world w) e (pairs_self Grows s.world grows_self)
+
+pub next-grows : (s t : State) (event : Event) → Next s event t → AllZip Grows s.world t.world
+next-grows s t (Record node change) h =
+    subst (λ (u : State). AllZip Grows s.world u.world) (sym h.3) (node_grows s.world node h.0 (recorded h.0 change) h.1 (recorded-grows h.0 change))
+next-grows s t (Restart node) h =
+    subst (λ (u : State). AllZip Grows s.world u.world) (sym h.3) (node_grows s.world node h.0 (restarted h.0) h.1 (restarted-grows h.0))
+next-grows s t (Asks broker node whole) h = unchanged s t (ap (λ (u : State). u.world) (sym h.6))
+next-grows s t (Answer packet) h = unchanged s t (ap (λ (u : State). u.world) (sym h.8))
+next-grows s t (Seed peer broker node) h = unchanged s t (ap (λ (u : State). u.world) (sym h.8))
+next-grows s t (Deliver packet) h = unchanged s t (ap (λ (u : State). u.world) (sym h.8))
+next-grows s t (Cut packet) h = unchanged s t (ap (λ (u : State). u.world) (sym h.2))
+next-grows s t (Fail broker node) h = unchanged s t (ap (λ (u : State). u.world) (sym h.4))
+
+-- ---- the world stays one
+
+some_of : {A : Type 0} (o : Option A) → is_some o ≡ true → (x : A) × (o ≡ Some x)
+some_of None e = absurd (cc)
+some_of (Some x) e = (x, refl)
+
+both : (a b : Bool) → (a && b) ≡ true → (a ≡ true) × (b ≡ true)
+both true b e = (refl, e)
+both false b e = absurd (cc)
+
+-- a node's history takes the change
+pub takes-is : (life : Life) (c : Change) → takes life c ≡ true
+    → ((set : List Described) × (replay (life.last.changes ++ c ∷ []) ≡ Some set)) × (nat_lt (length life.last.changes) last_incarnation ≡ true)
+unfolding takes
+takes-is life c e =
+    let parts = both (is_some (replay (life.last.changes ++ c ∷ []))) (nat_lt (length life.last.changes) last_incarnation) e in
+    (some_of (replay (life.last.changes ++ c ∷ [])) parts.0, parts.1)
+
+recorded-life : (life : Life) (c : Change) → takes life c ≡ true → IsLife life → IsLife (recorded life c)
+recorded-life life c e h =
+    let last = each_last IsEra life.ended life.last h.eras in
+    let taken = (takes-is life c e).0 in
+    let new : Era = with_more life.last (c ∷ []) in
+    let era : IsEra new = record { incarnation = last.incarnation; set = taken.0; replayed = taken.1 } in
+    record {
+      eras = each_more IsEra life.ended new (each_front IsEra life.ended (life.last ∷ []) h.eras) era;
+      rising = rising_same life.ended life.last new refl h.rising;
+    }
+
+restarted-life : (life : Life) → IsLife life → IsLife (restarted life)
+restarted-life life h =
+    let new : Era = record { incarnation = life.last.incarnation + 1; changes = [] } in
+    let era : IsEra new = record { incarnation = omega arith; set = []; replayed = refl } in
+    record { eras = each_more IsEra (eras_of life) new h.eras era; rising = rising_more life.ended life.last new (omega arith) h.rising }
+
+newborn-life : (kept : ℕ) → IsLife (newborn kept)
+newborn-life kept =
+    let new : Era = record { incarnation = 1; changes = [] } in
+    let era : IsEra new = record { incarnation = omega arith; set = []; replayed = refl } in
+    record { eras = (era, tt); rising = tt }
+
+-- ---- what holds of every state that a run comes to
+
+-- a packet that was put: it is of a node and a broker, and a reply is true
+abbrev pub IsPut : List Life → ℕ → Packet → Type 0
+IsPut world brokers (Request broker node ask) = ((life : Life) × (slice_get world node ≡ Some life)) × (broker < brokers)
+IsPut world brokers (Reply broker node reply) = IsHonestAt world node reply × (broker < brokers)
+
+pub record Holds (names : List (List ℕ)) (s : State) : Type 0 where
+  pub world : IsWorld s.world
+  pub packets : AllByRecursion (IsPut s.world (length s.brokers)) s.packets
+  pub brokers : AllByRecursion (IsInventoryOf s.world) s.brokers
+  pub named : AllByRecursion (λ inventory. names_of inventory ≡ names) s.brokers
+
+honest_at-grows : (world new : List Life) (node : ℕ) (reply : Body) → AllZip Grows world new → IsHonestAt world node reply → IsHonestAt new node reply
+honest_at-grows world new node reply g h =
+    let found = pairs_find Grows world new node h.0 g h.1 in
+    (found.0, found.1, honest-grows h.0 found.0 reply found.2 h.2)
+
+put-grows : (world new : List Life) (n : ℕ) (p : Packet) → AllZip Grows world new → IsPut world n p → IsPut new n p
+put-grows world new n (Request broker node ask) g h =
+    let found = pairs_find Grows world new node h.0.0 g h.0.1 in
+    ((found.0, found.1), h.1)
+put-grows world new n (Reply broker node reply) g h = (honest_at-grows world new node reply g h.0, h.1)
+
+pub inventory-grows : (world new : List Life) (inventory : List Entry) → AllZip Grows world new → IsInventoryOf world inventory → IsInventoryOf new inventory
+inventory-grows world new inventory g h = pairs_over Grows IsTrueEntry world new inventory entry-grows g h
+
+-- the world grew
+holds-grown : (names : List (List ℕ)) (s : State) (new : List Life) → Holds names s → IsWorld new → AllZip Grows s.world new
+    → Holds names (record { world = new; packets = s.packets; brokers = s.brokers })
+holds-grown names s new h valid g = record {
+  world = valid;
+  packets = each_weaker (IsPut s.world (length s.brokers)) (IsPut new (length s.brokers)) s.packets (λ p. put-grows s.world new (length s.brokers) p g) h.packets;
+  brokers = each_weaker (IsInventoryOf s.world) (IsInventoryOf new) s.brokers (λ inventory. inventory-grows s.world new inventory g) h.brokers;
+  named = h.named;
+}
+
+-- a packet was put
+holds-put : (names : List (List ℕ)) (s : State) (p : Packet) → Holds names s → IsPut s.world (length s.brokers) p → Holds names (with_packet s p)
+holds-put names s p h put = record {
+  world = h.world;
+  packets = each_more (IsPut s.world (length s.brokers)) s.packets p h.packets put;
+  brokers = h.brokers;
+  named = h.named;
+}
+
+-- a broker knows something else
+holds-broker : (names : List (List ℕ)) (s : State) (broker : ℕ) (after : List Entry) → Holds names s → IsInventoryOf s.world after → names_of after ≡ names
+    → Holds names (with_broker s broker after)
+holds-broker names s broker after h is is_named =
+    let long = length_set s.brokers broker after in
+    record {
+      world = h.world;
+      packets = subst (λ (n : ℕ). AllByRecursion (IsPut s.world n) s.packets) (sym long) h.packets;
+      brokers = each_set (IsInventoryOf s.world) s.brokers broker after h.brokers is;
+      named = each_set (λ (inventory : List Entry). names_of inventory ≡ names) s.brokers broker after h.named is_named;
+    }
+
+-- ---- a broker applies a true reply
+
+step_name : (e new : Entry) (reply : Body) (outcome : Outcome) → Steps e reply outcome new → new.name ≡ e.name
+step_name e new (bodies.Delta from to changes) Moved h = ap (λ (x : Entry). x.name) h.3
+step_name e new (bodies.Snapshot at set) Moved h = ap (λ (x : Entry). x.name) h.1
+step_name e new reply outcome h = elim (Steps-left e reply outcome new h) [
+  | inl moved ↦ moved_name reply (subst (λ (o : Outcome). Steps e reply o new) moved h)
+  | inr left ↦ ap (λ (x : Entry). x.name) left
+] where
+  moved_name : (b : Body) → Steps e b Moved new → new.name ≡ e.name
+  moved_name (bodies.Delta from to changes) k = ap (λ (x : Entry). x.name) k.3
+  moved_name (bodies.Snapshot at set) k = ap (λ (x : Entry). x.name) k.1
+  moved_name (bodies.Reset cause at) k = absurd k
+
+names_set : (inventory : List Entry) (node : ℕ) (e new : Entry) → slice_get inventory node ≡ Some e → new.name ≡ e.name → names_of (set inventory node new) ≡ names_of inventory
+names_set [] node e new is same = refl
+names_set (x ∷ xs) zero e new is same = ap (λ n. n ∷ names_of xs) (same ∙ ap (λ (y : Entry). y.name) (sym (same_Some x e is)))
+names_set (x ∷ xs) (suc node) e new is same = ap (λ ns. x.name ∷ ns) (names_set xs node e new is same)
+
+pub applies_true : (world : List Life) (inventory after : List Entry) (node : ℕ) (reply : Body) → IsWorld world → IsInventoryOf world inventory
+    → IsHonestAt world node reply → Applies inventory node reply after → IsInventoryOf world after × (names_of after ≡ names_of inventory)
+applies_true world inventory after node reply valid is honest (inl h) =
+    let at = h.2 in
+    let life = each_get IsLife world node honest.0 valid honest.1 in
+    let known = pairs_at IsTrueEntry world inventory node honest.0 at.0 is honest.1 at.1 in
+    let new = step_true honest.0 at.0 h.1 reply h.0 life known honest.2 at.2 in (
+      subst (IsInventoryOf world) (sym h.3) (pairs_set IsTrueEntry world inventory node honest.0 h.1 is honest.1 new),
+      ap names_of h.3 ∙ names_set inventory node at.0 h.1 at.1 (step_name at.0 h.1 reply h.0 at.2),
+    )
+applies_true world inventory after node reply valid is honest (inr h) = (subst (IsInventoryOf world) (sym h.2) is, ap names_of h.2)
+
+-- ---- each event keeps it
+
+replaced_world : (world : List Life) (node : ℕ) (life new : Life) → slice_get world node ≡ Some life → IsWorld world → (IsLife life → IsLife new) → IsWorld (set world node new)
+replaced_world world node life new e h made = each_set IsLife world node new h (made (each_get IsLife world node life h e))
+
+holds-answer : (names : List (List ℕ)) (s : State) (broker node : ℕ) (life : Life) (ask : Ask) (reply : Body) → Holds names s
+    → IsPut s.world (length s.brokers) (Request broker node ask) → slice_get s.world node ≡ Some life → answer life.last.incarnation life.last.changes life.kept ask ≡ Some reply
+    → Holds names (with_packet s (Reply broker node reply))
+holds-answer names s broker node life ask reply h put e told =
+    let valid = each_get IsLife s.world node life h.world e in
+    holds-put names s (Reply broker node reply) h ((life, e, answer_true life ask reply valid told), put.1)
+
+pub holds-next : (names : List (List ℕ)) (s t : State) (event : Event) → Holds names s → Next s event t → Holds names t
+holds-next names s t (Record node change) h step =
+    let grown = node_grows s.world node step.0 (recorded step.0 change) step.1 (recorded-grows step.0 change) in
+    let valid = replaced_world s.world node step.0 (recorded step.0 change) step.1 h.world (recorded-life step.0 change step.2) in
+    subst (Holds names) (sym step.3) (holds-grown names s (set s.world node (recorded step.0 change)) h valid grown)
+holds-next names s t (Restart node) h step =
+    let grown = node_grows s.world node step.0 (restarted step.0) step.1 (restarted-grows step.0) in
+    let valid = replaced_world s.world node step.0 (restarted step.0) step.1 h.world (restarted-life step.0) in
+    subst (Holds names) (sym step.3) (holds-grown names s (set s.world node (restarted step.0)) h valid grown)
+holds-next names s t (Asks broker node whole) h step =
+    subst (Holds names) (sym step.6)
+    (holds-put names s (Request broker node (cond whole asks.Whole (ask_of step.2.mark))) h ((step.0, step.3), below_get s.brokers broker step.1 step.4))
+holds-next names s t (Answer packet) h step =
+    let put = each_get (IsPut s.world (length s.brokers)) s.packets packet (Request step.0 step.1 step.2) h.packets step.5 in
+    subst (Holds names) (sym step.8) (holds-answer names s step.0 step.1 step.3 step.2 step.4 h put step.6 step.7)
+holds-next names s t (Seed peer broker node) h step =
+    let is = each_get (IsInventoryOf s.world) s.brokers peer step.1 h.brokers step.5 in
+    let known = pairs_at IsTrueEntry s.world step.1 node step.0 step.7.0 is step.4 step.7.1 in
+    let honest = subst (IsHonest (eras_of step.0)) (sym step.7.3) known in
+    subst (Holds names) (sym step.8)
+    (holds-put names s (Reply broker node step.3) h ((step.0, step.4, honest), below_get s.brokers broker step.2 step.6))
+holds-next names s t (Deliver packet) h step =
+    let put = each_get (IsPut s.world (length s.brokers)) s.packets packet (Reply step.0 step.1 step.2) h.packets step.5 in
+    let is = each_get (IsInventoryOf s.world) s.brokers step.0 step.3 h.brokers step.6 in
+    let named = each_get (λ (inventory : List Entry). names_of inventory ≡ names) s.brokers step.0 step.3 h.named step.6 in
+    let after = applies_true s.world step.3 step.4 step.1 step.2 h.world is put.0 step.7 in
+    subst (Holds names) (sym step.8) (holds-broker names s step.0 step.4 h after.0 (after.1 ∙ named))
+holds-next names s t (Cut packet) h step = subst (Holds names) (sym step.2) h
+holds-next names s t (Fail broker node) h step = subst (Holds names) (sym step.4) h
+
+pub holds-run : (names : List (List ℕ)) (s t : State) (events : List Event) → Holds names s → Run s events t → Holds names t
+holds-run names s t [] h run = subst (Holds names) (sym run) h
+holds-run names s t (event ∷ events) h run = holds-run names run.0 t events (holds-next names s run.0 event h run.1) run.2
+
+-- ---- and the opening state has it
+
+unsynced : (life : Life) (name : List ℕ) → IsTrueEntry life (fresh name)
+unfolding set_at
+unsynced life name = refl
+
+pub fresh_true : (world : List Life) (names : List (List ℕ)) → length names ≡ length world → IsInventoryOf world (map fresh names)
+fresh_true [] [] e = tt
+fresh_true [] (name ∷ names) e = absurd (omega arith)
+fresh_true (life ∷ world) [] e = absurd (omega arith)
+fresh_true (life ∷ world) (name ∷ names) e = (unsynced life name, fresh_true world names (omega arith))
+
+fresh_names : (names : List (List ℕ)) → names_of (map fresh names) ≡ names
+fresh_names [] = refl
+fresh_names (name ∷ names) = ap (λ ns. name ∷ ns) (fresh_names names)
+
+opening-holds : (nodes brokers kept : ℕ) → Holds (node_names nodes) (opening nodes brokers kept)
+unfolding opening
+opening-holds nodes brokers kept =
+    let world = replicate nodes (newborn kept) in
+    let long : length (node_names nodes) ≡ length world = length-map-range_with_len node_name 0 nodes ∙ sym (length-replicate nodes (newborn kept)) in
+    record {
+      world = each_replicate IsLife nodes (newborn kept) (newborn-life kept);
+      packets = tt;
+      brokers = each_replicate (IsInventoryOf world) brokers (map fresh (node_names nodes)) (fresh_true world (node_names nodes) long);
+      named = each_replicate (λ (inventory : List Entry). names_of inventory ≡ node_names nodes) brokers (map fresh (node_names nodes)) (fresh_names (node_names nodes));
+    }
+
+pub reached-holds : (s : State) → (h : IsReached s) → Holds (node_names h.nodes) s
+reached-holds s h = holds-run (node_names h.nodes) (opening h.nodes h.brokers h.kept) s h.events (opening-holds h.nodes h.brokers h.kept) h.run
+
+-- ---- a run goes on
+
+run-more : (s t u : State) (events : List Event) (event : Event) → Run s events t → Next t event u → Run s (events ++ event ∷ []) u
+run-more s t u [] event run next = (u, subst (λ (v : State). Next v event u) run next, refl)
+run-more s t u (e ∷ events) event run next = (run.0, run.1, run-more run.0 t u events event run.2 next)
+
+pub goes_on : (s t : State) (event : Event) → IsReached s → Next s event t → IsReached t
+goes_on s t event h next = record {
+  nodes = h.nodes;
+  brokers = h.brokers;
+  kept = h.kept;
+  events = h.events ++ event ∷ [];
+  run = run-more _ s t h.events event h.run next;
+}
+
+pub opening-reached : (nodes brokers kept : ℕ) → IsReached (opening nodes brokers kept)
+opening-reached nodes brokers kept = record { nodes = nodes; brokers = brokers; kept = kept; events = []; run = refl }
+
+-- ---- the laws
+
+-- names and marks determine what is known
+pub determined : (world : List Life) (a b : List Entry) → IsInventoryOf world a → IsInventoryOf world b → names_of a ≡ names_of b → marks_of a ≡ marks_of b → a ≡ b
+determined [] [] [] h k names marks = refl
+determined [] [] (y ∷ b) h k names marks = absurd k
+determined [] (x ∷ a) b h k names marks = absurd h
+determined (life ∷ world) [] b h k names marks = absurd h
+determined (life ∷ world) (x ∷ a) [] h k names marks = absurd k
+determined (life ∷ world) (x ∷ a) (y ∷ b) h k names marks =
+    let name : x.name ≡ y.name = cc in
+    let mark : x.mark ≡ y.mark = cc in
+    let more_names : names_of a ≡ names_of b = cc in
+    let more_marks : marks_of a ≡ marks_of b = cc in
+    let sets : x.set ≡ y.set = same_Some x.set y.set (sym h.0 ∙ ap (set_at (eras_of life)) mark ∙ k.0) in
+    let rest = determined world a b h.1 k.1 more_names more_marks in
+    λ i. record { name = name i; mark = mark i; set = sets i } ∷ rest i
+
+pub equal_marks : (s : State) (a b : List Entry) → IsReached s → Contains s.brokers a → Contains s.brokers b → marks_of a ≡ marks_of b → a ≡ b
+equal_marks s a b h in_a in_b marks =
+    let holds = reached-holds s h in
+    let known = All-from_recursion (IsInventoryOf s.world) s.brokers holds.brokers in
+    let named = All-from_recursion (λ (inventory : List Entry). names_of inventory ≡ node_names h.nodes) s.brokers holds.named in
+    determined s.world a b (All-contains (IsInventoryOf s.world) s.brokers a known in_a) (All-contains (IsInventoryOf s.world) s.brokers b known in_b)
+    (All-contains (λ (inventory : List Entry). names_of inventory ≡ node_names h.nodes) s.brokers a named in_a
+    ∙ sym (All-contains (λ (inventory : List Entry). names_of inventory ≡ node_names h.nodes) s.brokers b named in_b)) marks
+
+folds_true : (world : List Life) (told : List (ℕ × Body)) (before after : List Entry) → IsWorld world → AreHonest world told → IsInventoryOf world before
+    → Folds before told after → IsInventoryOf world after
+folds_true world [] before after valid honest is folds = subst (IsInventoryOf world) (sym folds) is
+folds_true world (pair ∷ told) before after valid honest is folds =
+    let mid = applies_true world before folds.0 pair.0 pair.1 valid is honest.0 folds.1 in
+    folds_true world told folds.0 after valid honest.1 mid.0 folds.2
+
+pub folded : (world : List Life) (names : List (List ℕ)) (told : List (ℕ × Body)) (inventory : List Entry) → IsWorld world → length names ≡ length world → AreHonest world told
+    → Folds (map fresh names) told inventory → IsInventoryOf world inventory
+folded world names told inventory valid long honest folds = folds_true world told (map fresh names) inventory valid honest (fresh_true world names long) folds

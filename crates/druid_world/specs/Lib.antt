@@ -1,0 +1,3 @@
+pub mod World
+pub mod Run
+pub mod Node

@@ -1,0 +1,14 @@
+//! The world of events: nodes whose histories grow, brokers that follow them, and packets between them that may come
+//! late, again or never. What holds of all its runs.
+#![tactic(auto)]
+
+mod event;
+mod laws;
+mod node;
+mod sim;
+
+pub use event::{Event, Packet, SimFault};
+pub use laws::{
+    join_is_a_join, marks_never_fall, one_next, same_marks_same_inventory, worlds_grow,
+};
+pub use sim::{MAX_BROKERS, Sim};

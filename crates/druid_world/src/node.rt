@@ -1,0 +1,136 @@
+//! A node and all that ever happened to it.
+ghost use Rattle.std.specs.Prelude.{◌≡◌, ◌≢◌, ◌↔◌, ◌≤◌, ◌<◌, ◌+◌, ◌++◌, [], ◌∷◌, List, true, None, Some, IsTrue, IfOk, OnOk, OnErr, IfErr, nat_lt};
+ghost use Rattle.druid_shard.specs.Reply.{max_changes};
+ghost use Rattle.druid_changes.specs.Answer.{answer};
+ghost use Rattle.druid_world.specs.Run.{newborn, takes, recorded, restarted, last_incarnation};
+
+use crate::SimFault;
+use druid_changes::History;
+use druid_shard::{Ask, Change, Reply};
+use std::alloc::{AllocError, Global};
+use std::marker::Model;
+use std::mem;
+
+// An incarnation that ended, and its changes.
+#[derive(Debug, Drop)]
+pub(crate) struct Ended {
+    incarnation: u64,
+    changes: Vec<Change>,
+}
+
+impl Model for Ended {
+    ghost use Rattle.druid_world.specs.World.{Era};
+
+    ghost Value = { Era };
+
+    ghost view = { λ a. record { incarnation = a.incarnation; changes = a.changes.items } };
+}
+
+// A node: all changes of the incarnations that ended and of the one that goes on, and the history that it answers with.
+#[derive(Debug, Drop)]
+pub(crate) struct Node {
+    alloc: Global,
+    ended: Vec<Ended>,
+    changes: Vec<Change>,
+    kept: usize,
+    history: History,
+}
+
+impl Model for Node {
+    ghost use Rattle.druid_world.specs.World.{Life};
+    ghost use Rattle.druid_world.specs.Node.{IsFollowed};
+
+    ghost Value = { Life };
+
+    ghost view = { λ a. record { ended = a.ended.items; last = record { incarnation = a.history.incarnation; changes = a.changes.items }; kept = a.kept } };
+
+    ghost invariant = { λ a. IsFollowed a.history a.changes.items a.kept };
+}
+
+impl Node {
+    // A node at its first start, which keeps that many changes.
+    pub(crate) fn newborn(alloc: Global, kept: usize) -> Result<Node, SimFault>
+        requires some { 1 ≤ kept }
+        requires few { kept ≤ max_changes }
+        ensures ok { IfOk result (λ node. node ≡ newborn kept) }
+        ensures memory { IfErr result (λ fault. fault ≡ SimFault.Memory) }
+    {
+        let Ok(history) = History::new(alloc, 1, kept) else {
+            return Err(SimFault::Memory);
+        };
+        Ok(Node {
+            alloc,
+            ended: Vec::new(alloc),
+            changes: Vec::new(alloc),
+            kept,
+            history,
+        })
+    }
+
+    // Whether its history takes the change. It takes no memory.
+    pub(crate) fn takes(&self, change: &Change) -> bool
+        ensures { result ≡ takes self.now change.now }
+    {
+        self.history.accepts(change)
+    }
+
+    // Records a change that its history takes.
+    pub(crate) fn record(&mut self, change: Change) -> Result<(), SimFault>
+        requires { takes self.old change ≡ true }
+        ensures ok { OnOk result (self.new ≡ recorded self.old change) }
+        ensures unchanged { OnErr result (self.new ≡ self.old) }
+        ensures memory { IfErr result (λ fault. fault ≡ SimFault.Memory) }
+    {
+        let copy = change.clone()?;
+        self.changes.reserve(1)?;
+        match self.history.record(change) {
+            Ok(()) => {
+                let Ok(()) = self.changes.push(copy) else {
+                    unreachable!();
+                };
+                Ok(())
+            }
+            Err(_) => Err(SimFault::Memory),
+        }
+    }
+
+    // The number of its incarnation.
+    pub(crate) fn incarnation(&self) -> u64
+        ensures value { result ≡ self.now.last.incarnation }
+        ensures keeps_some { 1 ≤ self.now.kept }
+        ensures keeps_few { self.now.kept ≤ max_changes }
+    {
+        self.history.mark().incarnation()
+    }
+
+    // Begins the next incarnation.
+    pub(crate) fn restart(&mut self) -> Result<(), SimFault>
+        requires { self.old.last.incarnation < last_incarnation }
+        ensures ok { OnOk result (self.new ≡ restarted self.old) }
+        ensures unchanged { OnErr result (self.new ≡ self.old) }
+        ensures memory { IfErr result (λ fault. fault ≡ SimFault.Memory) }
+    {
+        self.ended.reserve(1)?;
+        let incarnation = self.incarnation();
+        let Ok(history) = History::new(self.alloc, incarnation + 1, self.kept) else {
+            return Err(SimFault::Memory);
+        };
+        self.history = history;
+        let changes = mem::replace(&mut self.changes, Vec::new(self.alloc));
+        let Ok(()) = self.ended.push(Ended {
+            incarnation,
+            changes,
+        })
+        else {
+            unreachable!();
+        };
+        Ok(())
+    }
+
+    // Its reply to what is asked, by its history now.
+    pub(crate) fn since(&self, ask: &Ask) -> Result<Reply, AllocError>
+        ensures { IfOk result (λ reply. answer self.now.last.incarnation self.now.last.changes self.now.kept ask.now ≡ Some reply) }
+    {
+        self.history.since(ask)
+    }
+}
