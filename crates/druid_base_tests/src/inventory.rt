@@ -191,9 +191,15 @@ fn is_doubled(alloc: Global) -> Result<bool, Fail> {
     Ok(fault == Some(InventoryFault::DoubledNode))
 }
 
+fn is_its_copy(inventory: &Inventory) -> Result<bool, Fail> {
+    let copy = inventory.clone()?;
+    Ok(&copy == inventory)
+}
+
 #[test]
 fn ample_memory(rt: HostRuntime) -> Result<(), Fail> {
     let inventory = broker(rt.alloc(), "1 5 0 1,")?;
+    assert!(rt; is_its_copy(&inventory)?);
     assert_eq!(rt; inventory.sources()?.len(), 1);
     assert_eq!(rt; entry_of(rt.alloc(), &inventory, 0)?.as_str(), "1 5: 0 1");
     assert_eq!(rt;

@@ -49,7 +49,7 @@ OfBrokers o answer next =
     ((All IsName o.names → ⊥) × (answer ≡ Refused refusals.BadName) × (next ≡ None))
     ⊎ (All IsName o.names × OfNames o answer next)
 
-brokers_tree : (o : Opening) (answer : Answer) (next : Option (List (List Entry))) → TakesBrokers o answer next → OfBrokers o answer next
+pub brokers_tree : (o : Opening) (answer : Answer) (next : Option (List (List Entry))) → TakesBrokers o answer next → OfBrokers o answer next
 brokers_tree o (Refused refusals.NotATime) next h = absurd h
 brokers_tree o (Refused refusals.OutOfRange) next h = absurd h
 brokers_tree o (Refused refusals.Empty) next h = absurd h
@@ -124,7 +124,7 @@ refused_tree : (inventory : List Entry) (node : ℕ) (d : Data) (refusal : Refus
 refused_tree inventory node d refusal (inl x) = (Err x.0, x.1, (refusal, x.2, refl, refl))
 refused_tree inventory node d refusal (inr x) = (Ok x.0, x.1, told_tree inventory node x.0 x.2 refusal x.3 x.4)
 
-reply_tree : (inventory : List Entry) (node : ℕ) (d : Data) (answer : Answer) (next : List Entry) → TakesReply inventory node d answer next → OfReply inventory node d answer next
+pub reply_tree : (inventory : List Entry) (node : ℕ) (d : Data) (answer : Answer) (next : List Entry) → TakesReply inventory node d answer next → OfReply inventory node d answer next
 reply_tree inventory node d (Refused refusal) next h =
     subst (λ (s : List Entry). OfReply inventory node d (Refused refusal) s) (sym h.1) (refused_tree inventory node d refusal h.0)
 reply_tree inventory node d (Taken count) next h = absurd h

@@ -1,13 +1,11 @@
 -- What is found in an interval depends on what is held as a set.
-use Rattle.std.proofs.Common.{◌≡◌, ℕ, ◌<◌, Bool, true, false, cond, List, [], ◌∷◌, map, filter, All, ◌⊎◌, inl, inr, refl, sym, ap, subst, ◌∙◌, arith}
-use Rattle.std.specs.List.{Contains}
+use Rattle.std.proofs.Common.{◌≡◌, ℕ, ◌<◌, List, [], ◌∷◌, map, All, refl, sym, ap, subst}
 use Rattle.std.specs.List.Sorted.{IsStrictlyIncreasing}
 use Rattle.std.proofs.lemmas.List.Elements.{All-head, All-tail}
 use Rattle.druid_time.specs.Extent.{Extent}
-use Rattle.druid_segid.specs.Group.{Group, same_group}
-use Rattle.druid_shard.specs.Members.{Member, IsComplete, SameMembers}
+use Rattle.druid_shard.specs.Members.{Member, SameMembers}
 use Rattle.druid_timeline.specs.Holding.{Held, members_of, SameHeld}
-use Rattle.druid_timeline.specs.Pieces.{Told, Shown, shown_of, ArePiecesIn, ArePartitions}
+use Rattle.druid_timeline.specs.Pieces.{Told, Shown, shown_of, ArePartitions}
 use Rattle.druid_timeline.proofs.HoldingLemmas.{SameHeld-members, ArePiecesIn-same}
 use Rattle.druid_cluster.specs.Serving.{AreFoundIn}
 use Rattle.druid_cluster.proofs.OrderOnce.{once, by_number}

@@ -13,6 +13,7 @@ pub mod OrderOnce
 pub mod HoldingOnce
 pub mod ReadOnce
 pub mod AnswerOnce
+pub mod NodeLists
 pub mod RunOnce
 pub mod Decided
 pub mod FoundSome

@@ -2,6 +2,7 @@ pub mod Commands
 pub mod Seen
 pub mod Answers
 pub mod Serving
+pub mod Nodes
 pub mod Lines
 pub mod Parts
 pub mod Runs

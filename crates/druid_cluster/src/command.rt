@@ -5,14 +5,14 @@ ghost use Rattle.serde_json.specs.Find.{as_str};
 ghost use Rattle.serde_json.specs.View.{view, items_view};
 ghost use Rattle.druid_inventory.specs.Entry.{max_nodes};
 ghost use Rattle.druid_sync.specs.Fields.{each_of};
-ghost use Rattle.druid_cluster.specs.Commands.{max_brokers, brokers_at, opening_at, reply_at, lookup_at, marks_at, join_at, equal_at, asked_at, is_among, command_at};
+ghost use Rattle.druid_cluster.specs.Commands.{brokers_at, opening_at, reply_at, lookup_at, marks_at, join_at, equal_at, asked_at, is_among, command_at};
 ghost use Rattle.druid_cluster.specs.Seen.{text_in, texts_in, command_seen, opening_seen, AreAmong};
 
 use druid_inventory::MAX_NODES;
 use druid_shard::{limited_field, number_field, text_field};
 use serde_json::Value;
 
-/// The most brokers of a script.
+// The most brokers of a script.
 const MAX_BROKERS: u64 = 64;
 
 /// The brokers that a script begins with.
@@ -97,7 +97,6 @@ fn texts_of(values: &[Value]) -> Option<&[Value]>
 #[tactic(auto, unfolding(crate::specs::Commands::brokers_at))]
 fn brokers_of(value: &Value) -> Option<Opening<'_>>
     ensures value { option_map opening_seen result ≡ brokers_at (view value.now) }
-    ensures count { IfSome result (λ opening. opening.count ≤ max_brokers) }
     ensures some { IfSome result (λ opening. 1 ≤ length opening.nodes.now) }
     ensures few { IfSome result (λ opening. length opening.nodes.now ≤ max_nodes) }
 {
@@ -115,7 +114,6 @@ fn brokers_of(value: &Value) -> Option<Opening<'_>>
 #[tactic(auto, unfolding(crate::specs::Commands::opening_at))]
 pub fn opening_of(value: &Value) -> Option<Opening<'_>>
     ensures value { option_map opening_seen result ≡ opening_at (view value.now) }
-    ensures count { IfSome result (λ opening. opening.count ≤ max_brokers) }
     ensures some { IfSome result (λ opening. 1 ≤ length opening.nodes.now) }
     ensures few { IfSome result (λ opening. length opening.nodes.now ≤ max_nodes) }
 {

@@ -1,9 +1,12 @@
 //! Facts that hold of all lines and of all runs.
-ghost use Rattle.std.specs.Prelude.{◌≡◌, ◌⊎◌, List, ℕ, Option, None};
+ghost use Rattle.std.specs.Prelude.{◌≡◌, ◌≢◌, ◌⊎◌, List, ℕ, Option, None};
 ghost use Rattle.druid_inventory.specs.Entry.{Entry};
+ghost use Rattle.druid_cluster.specs.Nodes.{HaveOneList};
 ghost use Rattle.druid_cluster.specs.Serving.{IsAnswered, IsBad};
 ghost use Rattle.druid_cluster.specs.Runs.{End, Runs, NoDeviceFails};
 ghost use Rattle.druid_cluster.specs.declared.answer.Answer.{Answer};
+ghost use Rattle.druid_cluster.specs.declared.answer.Answer.TheVariants.{Refused};
+ghost use Rattle.druid_cluster.specs.declared.answer.Refusal.TheVariants.{OtherNodes};
 
 /// No line that is answered is bad.
 pub fn no_answered_line_is_bad()
@@ -25,4 +28,12 @@ pub fn each_line_is_bad_or_answered()
     ensures { (state : Option (List (List Entry))) (line : List ℕ)
         → IsBad state line
         ⊎ ((answer : Answer) × (next : Option (List (List Entry))) × IsAnswered state line answer next) }
+{}
+
+/// The brokers of a script are of one list of nodes, whatever lines are answered: so no join is refused for other nodes.
+pub fn one_node_list()
+    ensures keeps { (state next : Option (List (List Entry))) (line : List ℕ) (answer : Answer)
+        → HaveOneList state → IsAnswered state line answer next → HaveOneList next }
+    ensures joins { (state next : Option (List (List Entry))) (line : List ℕ) (answer : Answer)
+        → HaveOneList state → IsAnswered state line answer next → answer ≢ Refused OtherNodes }
 {}

@@ -14,6 +14,6 @@ mod serving;
 mod writing;
 
 pub use fault::ReplayFault;
-pub use laws::{each_line_is_bad_or_answered, no_answered_line_is_bad, one_run};
+pub use laws::{each_line_is_bad_or_answered, no_answered_line_is_bad, one_node_list, one_run};
 pub use program::{Ending, obey, run_program};
 pub use run::replay;

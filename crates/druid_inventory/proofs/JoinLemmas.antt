@@ -19,7 +19,8 @@ use Rattle.druid_shard.specs.Orders.{mark_cmp-total, mark_cmp-ties, same_mark-eq
 use Rattle.druid_shard.proofs.DescribedLemmas.{same_described-decides}
 use Rattle.druid_inventory.specs.Entry.{Entry}
 use Rattle.druid_inventory.specs.Equality.{same_entry, same_entries, same_entry-equiv}
-use Rattle.druid_inventory.specs.Join.{names_of, later, later_each, Conflict, ConflictAt, NoneLater, IsJoin, RefusesJoin, TellsJoin}
+use Rattle.druid_inventory.specs.Join.{names_of, later, later_each, Conflict, ConflictAt, IsJoin, RefusesJoin, TellsJoin}
+use Rattle.druid_inventory.specs.Judged.{NoneLater}
 use Rattle.druid_inventory.proofs.EntryLemmas.{set-found}
 use Rattle.druid_inventory.proofs.TimelineLemmas.{found_behind}
 use Rattle.druid_inventory.specs.declared.fault.JoinFault.{JoinFault}
@@ -183,6 +184,20 @@ none_later-right (x ∷ a) (y ∷ b) e h apart =
     let names : names_of a ≡ names_of b = cc in
     let rest = none_later-right a b names (λ k v w p q. h (suc k) v w p q) (λ k c. apart (suc k) (c.0, c.1, c.2, c.3, c.4)) in
     (λ i. first i ∷ rest i)
+
+-- together they are of the nodes of both
+pub later_each-names : (a b : List Entry) → names_of a ≡ names_of b → names_of (later_each a b) ≡ names_of a
+later_each-names [] b e = refl
+later_each-names (x ∷ a) [] e = let l = names_long (x ∷ a) [] e in absurd (omega arith)
+later_each-names (x ∷ a) (y ∷ b) e =
+    let first : (later x y).name ≡ x.name = by (is_lt (mark_cmp x.mark y.mark)) in
+    let names : names_of a ≡ names_of b = cc in
+    let rest = later_each-names a b names in
+    (λ i. first i ∷ rest i)
+  where
+    by : (t : Bool) → (if t then y else x).name ≡ x.name
+    by true = sym (names_at (x ∷ a) (y ∷ b) 0 x y e refl refl)
+    by false = refl
 
 -- ---- one entry after another
 

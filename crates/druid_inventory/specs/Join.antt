@@ -1,5 +1,5 @@
 -- What two inventories are together.
-use Rattle.std.specs.Prelude.{◌≡◌, ◌≢◌, ℕ, ◌<◌, false, List, map, Some, slice_get, if◌then◌else◌}
+use Rattle.std.specs.Prelude.{◌≡◌, ◌≢◌, ℕ, ◌<◌, List, map, Some, slice_get, if◌then◌else◌}
 use Rattle.std.specs.List.{zip}
 use Rattle.std.specs.Ordering.{is_lt}
 use Rattle.druid_shard.specs.Mark.{mark_cmp}
@@ -44,9 +44,3 @@ RefusesJoin a b faults.Memory = ⊥
 abbrev pub TellsJoin : List Entry → List Entry → JoinFault → Type 0
 TellsJoin a b faults.Memory = (joined : List Entry) × IsJoin a b joined
 TellsJoin a b fault = RefusesJoin a b fault
-
--- ---- only proofs use what follows
-
--- no entry of the second is later than that of its node in the first
-abbrev pub NoneLater : List Entry → List Entry → Type 0
-NoneLater a b = (node : ℕ) (x y : Entry) → slice_get a node ≡ Some x → slice_get b node ≡ Some y → is_lt (mark_cmp x.mark y.mark) ≡ false

@@ -1,9 +1,12 @@
--- What is judged of changes before they are made: only proofs use this.
-use Rattle.std.specs.Prelude.{◌≡◌, ℕ, ◌+◌, ◌<◌, ◌≤◌, List, Option, length, slice_index_or, Contains, MatchOption}
+-- What is judged before changes are made and inventories joined: only proofs use this.
+use Rattle.std.specs.Prelude.{◌≡◌, ℕ, ◌+◌, ◌<◌, ◌≤◌, List, Option, length, false, Some, slice_get, slice_index_or, Contains, MatchOption}
+use Rattle.std.specs.Ordering.{is_lt}
 use Rattle.druid_segid.specs.Identifier.{Identifier, identifier_text}
 use Rattle.druid_shard.specs.Described.{Described}
+use Rattle.druid_shard.specs.Mark.{mark_cmp}
 use Rattle.druid_shard.specs.declared.change.Change.{Change}
 use Rattle.druid_shard.specs.declared.change.Change.TheVariants.{Load, Drop}
+use Rattle.druid_inventory.specs.Entry.{Entry}
 use Rattle.druid_inventory.specs.Step.{NotStrictAt, NoRoomAt}
 use Rattle.druid_inventory.specs.declared.fault.ApplyFault.{ApplyFault}
 use Rattle.druid_inventory.specs.declared.fault.ApplyFault.TheVariants as faults
@@ -29,3 +32,7 @@ abbrev pub IsOffence : List Described → List Change → ℕ → ApplyFault →
 IsOffence s cs n (faults.NotStrict index) = (k : ℕ) × NotStrictAt s cs k × (index ≡ n + k)
 IsOffence s cs n faults.TooMany = (k : ℕ) × NoRoomAt s cs k
 IsOffence s cs n _ = ⊥
+
+-- no entry of the second is later than that of its node in the first
+abbrev pub NoneLater : List Entry → List Entry → Type 0
+NoneLater a b = (node : ℕ) (x y : Entry) → slice_get a node ≡ Some x → slice_get b node ≡ Some y → is_lt (mark_cmp x.mark y.mark) ≡ false

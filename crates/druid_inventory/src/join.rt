@@ -4,7 +4,8 @@ ghost use Rattle.std.specs.Arc.{arc_value};
 ghost use Rattle.std.specs.Ordering.{is_lt};
 ghost use Rattle.druid_shard.specs.Mark.{mark_cmp};
 ghost use Rattle.druid_inventory.specs.Entry.{Entry, max_nodes};
-ghost use Rattle.druid_inventory.specs.Join.{names_of, later, Conflict, ConflictAt, NoneLater};
+ghost use Rattle.druid_inventory.specs.Join.{names_of, later, Conflict, ConflictAt};
+ghost use Rattle.druid_inventory.specs.Judged.{NoneLater};
 ghost use Rattle.druid_inventory.specs.Timelines.{AreTimelinesOf};
 
 use crate::known::{Known, are_same};

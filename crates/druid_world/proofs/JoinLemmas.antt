@@ -1,6 +1,5 @@
 -- What two inventories are together.
-use Rattle.std.proofs.Common.{◌≡◌, ◌⊎◌, ℕ, suc, Bool, true, false, cond, ◌&&◌, nat_eq, List, [], ◌∷◌, map, refl, sym, ap, ◌∙◌, inl, inr}
-use Rattle.std.specs.List.{zip}
+use Rattle.std.proofs.Common.{subst, ◌≡◌, ◌⊎◌, ℕ, suc, Bool, true, false, cond, ◌&&◌, nat_eq, List, [], ◌∷◌, refl, sym, ap, ◌∙◌, inl, inr}
 use Rattle.std.specs.Ordering.{is_lt, is_eq, ordering_reverse}
 use Rattle.std.specs.declared.cmp.Ordering.{Ordering}
 use Rattle.std.specs.declared.cmp.Ordering.TheVariants.{Less, Equal, Greater}
@@ -11,16 +10,12 @@ use Rattle.druid_shard.specs.Mark.{Point, mark_cmp}
 use Rattle.druid_shard.specs.Orders.{mark_cmp-total, mark_cmp-ties}
 use Rattle.druid_shard.proofs.DescribedLemmas.{same_described-decides}
 use Rattle.druid_inventory.specs.Entry.{Entry}
-use Rattle.druid_inventory.specs.Join.{IsJoin, Conflict, ConflictAt, later, names_of}
+use Rattle.druid_inventory.specs.Join.{IsJoin, Conflict, ConflictAt, later, later_each, names_of}
 use Rattle.druid_world.specs.World.{Life, IsTrueEntry, IsInventoryOf, eras_of, marks_of, set_at}
 use Rattle.druid_world.specs.Run.{AreLaterOf}
 use Rattle.druid_world.proofs.ListLemmas.{pairs_get}
 
 -- ---- without a world
-
--- the later entries, node by node
-abbrev pub later_of : List Entry → List Entry → List Entry
-later_of a b = map (λ p. later p.0 p.1) (zip a b)
 
 later_self : (x : Entry) → later x x ≡ x
 later_self x = by_test (is_lt (mark_cmp x.mark x.mark)) where
@@ -28,15 +23,15 @@ later_self x = by_test (is_lt (mark_cmp x.mark x.mark)) where
   by_test true = refl
   by_test false = refl
 
-later_of-self : (a : List Entry) → a ≡ later_of a a
-later_of-self [] = refl
-later_of-self (x ∷ a) = let first : x ≡ later x x = sym (later_self x) in let rest = later_of-self a in λ i. first i ∷ rest i
+later_each-self : (a : List Entry) → a ≡ later_each a a
+later_each-self [] = refl
+later_each-self (x ∷ a) = let first : x ≡ later x x = sym (later_self x) in let rest = later_each-self a in λ i. first i ∷ rest i
 
 pub join_self : (a : List Entry) → IsJoin a a a
 join_self a = record {
   same_nodes = refl;
   agree = λ node h. h.4.1 (ap (λ (e : Entry). e.set) (same_Some h.0 h.1 (sym h.2 ∙ h.3)));
-  entries = later_of-self a;
+  entries = later_each-self a;
 }
 
 same_list : (a b : List Described) → (a ≡ b → ⊥) ⊎ (a ≡ b)
@@ -98,18 +93,18 @@ later_assoc x y z = by (is_lt (mark_cmp x.mark y.mark)) (is_lt (mark_cmp y.mark 
       let right : later x (later y z) ≡ x = ap (later x) (later-not y z f) ∙ later-not x y e in
       left ∙ sym right
 
-later_of-assoc : (a b c : List Entry) → later_of (later_of a b) c ≡ later_of a (later_of b c)
-later_of-assoc [] b c = refl
-later_of-assoc (x ∷ a) [] c = refl
-later_of-assoc (x ∷ a) (y ∷ b) [] = refl
-later_of-assoc (x ∷ a) (y ∷ b) (z ∷ c) =
+later_each-assoc : (a b c : List Entry) → later_each (later_each a b) c ≡ later_each a (later_each b c)
+later_each-assoc [] b c = refl
+later_each-assoc (x ∷ a) [] c = refl
+later_each-assoc (x ∷ a) (y ∷ b) [] = refl
+later_each-assoc (x ∷ a) (y ∷ b) (z ∷ c) =
     let first = later_assoc x y z in
-    let rest = later_of-assoc a b c in
+    let rest = later_each-assoc a b c in
     λ i. first i ∷ rest i
 
 pub join_assoc : (a b c ab bc left right : List Entry) → IsJoin a b ab → IsJoin ab c left → IsJoin b c bc → IsJoin a bc right → left ≡ right
 join_assoc a b c ab bc left right first l second r =
-    l.entries ∙ ap (λ (v : List Entry). later_of v c) first.entries ∙ later_of-assoc a b c ∙ sym (r.entries ∙ ap (later_of a) second.entries)
+    l.entries ∙ ap (λ (v : List Entry). later_each v c) first.entries ∙ later_each-assoc a b c ∙ sym (r.entries ∙ ap (later_each a) second.entries)
 
 -- ---- the order of the two
 
@@ -138,22 +133,22 @@ later_swapped x y name agree = by (mark_cmp x.mark y.mark) refl where
       let same : x ≡ y = λ i. record { name = name i; mark = mark i; set = sets i } in
       later-not x y (ap is_lt e) ∙ same ∙ sym (later-not y x (ap is_lt (back Equal e)))
 
-later_of-swapped : (a b : List Entry) → names_of a ≡ names_of b → ((node : ℕ) → ConflictAt a b node → ⊥) → later_of a b ≡ later_of b a
-later_of-swapped [] [] names agree = refl
-later_of-swapped [] (y ∷ b) names agree = refl
-later_of-swapped (x ∷ a) [] names agree = refl
-later_of-swapped (x ∷ a) (y ∷ b) names agree =
+later_each-swapped : (a b : List Entry) → names_of a ≡ names_of b → ((node : ℕ) → ConflictAt a b node → ⊥) → later_each a b ≡ later_each b a
+later_each-swapped [] [] names agree = refl
+later_each-swapped [] (y ∷ b) names agree = refl
+later_each-swapped (x ∷ a) [] names agree = refl
+later_each-swapped (x ∷ a) (y ∷ b) names agree =
     let name : x.name ≡ y.name = cc in
     let more : names_of a ≡ names_of b = cc in
     let first = later_swapped x y name (λ conflict. agree 0 (x, y, refl, refl, conflict)) in
-    let rest = later_of-swapped a b more (λ node h. agree (suc node) h) in
+    let rest = later_each-swapped a b more (λ node h. agree (suc node) h) in
     λ i. first i ∷ rest i
 
 pub join_swapped : (a b joined : List Entry) → IsJoin a b joined → IsJoin b a joined
 join_swapped a b joined h = record {
   same_nodes = sym h.same_nodes;
   agree = λ node k. h.agree node (k.1, k.0, k.3, k.2, (sym k.4.0, λ e. k.4.1 (sym e)));
-  entries = h.entries ∙ later_of-swapped a b h.same_nodes h.agree;
+  entries = h.entries ∙ later_each-swapped a b h.same_nodes h.agree;
 }
 
 -- ---- in a world
@@ -174,12 +169,12 @@ later_true life x y h k = by_test (is_lt (mark_cmp x.mark y.mark)) where
   by_test true = k
   by_test false = h
 
-later_of-true : (world : List Life) (a b : List Entry) → IsInventoryOf world a → IsInventoryOf world b → IsInventoryOf world (later_of a b)
-later_of-true [] [] b h k = tt
-later_of-true [] (x ∷ a) b h k = absurd h
-later_of-true (life ∷ world) [] b h k = absurd h
-later_of-true (life ∷ world) (x ∷ a) [] h k = absurd k
-later_of-true (life ∷ world) (x ∷ a) (y ∷ b) h k = (later_true life x y h.0 k.0, later_of-true world a b h.1 k.1)
+later_each-true : (world : List Life) (a b : List Entry) → IsInventoryOf world a → IsInventoryOf world b → IsInventoryOf world (later_each a b)
+later_each-true [] [] b h k = tt
+later_each-true [] (x ∷ a) b h k = absurd h
+later_each-true (life ∷ world) [] b h k = absurd h
+later_each-true (life ∷ world) (x ∷ a) [] h k = absurd k
+later_each-true (life ∷ world) (x ∷ a) (y ∷ b) h k = (later_true life x y h.0 k.0, later_each-true world a b h.1 k.1)
 
 later_mark : (x y : Entry) → (later x y).mark ≡ cond (is_lt (mark_cmp x.mark y.mark)) y.mark x.mark
 later_mark x y = by_test (is_lt (mark_cmp x.mark y.mark)) where
@@ -187,13 +182,34 @@ later_mark x y = by_test (is_lt (mark_cmp x.mark y.mark)) where
   by_test true = refl
   by_test false = refl
 
-later_marks : (a b : List Entry) → AreLaterOf (marks_of a) (marks_of b) (marks_of (later_of a b))
+later_marks : (a b : List Entry) → AreLaterOf (marks_of a) (marks_of b) (marks_of (later_each a b))
 later_marks [] b = refl
 later_marks (x ∷ a) [] = refl
 later_marks (x ∷ a) (y ∷ b) = let first = later_mark x y in let rest = later_marks a b in λ i. first i ∷ rest i
 
-pub joined_true : (world : List Life) (a b : List Entry) → IsInventoryOf world a → IsInventoryOf world b → names_of a ≡ names_of b
-    → (joined : List Entry) × IsJoin a b joined × IsInventoryOf world joined × AreLaterOf (marks_of a) (marks_of b) (marks_of joined)
-joined_true world a b h k names =
-    let join : IsJoin a b (later_of a b) = record { same_nodes = names; agree = λ node. never_conflict world a b node h k; entries = refl } in
-    (later_of a b, join, later_of-true world a b h k, later_marks a b)
+later_name : (x y : Entry) → x.name ≡ y.name → (later x y).name ≡ x.name
+later_name x y name = by_test (is_lt (mark_cmp x.mark y.mark)) where
+  by_test : (b : Bool) → (cond b y x).name ≡ x.name
+  by_test true = sym name
+  by_test false = refl
+
+later_names : (a b : List Entry) → names_of a ≡ names_of b → names_of (later_each a b) ≡ names_of a
+later_names [] b names = refl
+later_names (x ∷ a) [] names = absurd (cc)
+later_names (x ∷ a) (y ∷ b) names =
+    let name : x.name ≡ y.name = cc in
+    let more : names_of a ≡ names_of b = cc in
+    let first = later_name x y name in
+    let rest = later_names a b more in
+    λ i. first i ∷ rest i
+
+pub join_there : (world : List Life) (a b : List Entry) → IsInventoryOf world a → IsInventoryOf world b → names_of a ≡ names_of b
+    → (joined : List Entry) × IsJoin a b joined
+join_there world a b h k names = (later_each a b, record { same_nodes = names; agree = λ node. never_conflict world a b node h k; entries = refl })
+
+pub joined_true : (world : List Life) (a b joined : List Entry) → IsInventoryOf world a → IsInventoryOf world b → IsJoin a b joined
+    → IsInventoryOf world joined × (names_of joined ≡ names_of a) × AreLaterOf (marks_of a) (marks_of b) (marks_of joined)
+joined_true world a b joined h k join =
+    let P : List Entry → Type 0 = λ c. IsInventoryOf world c × (names_of c ≡ names_of a) × AreLaterOf (marks_of a) (marks_of b) (marks_of c) in
+    let together : P (later_each a b) = (later_each-true world a b h k, later_names a b join.same_nodes, later_marks a b) in
+    subst P (sym join.entries) together

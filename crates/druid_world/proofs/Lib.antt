@@ -5,3 +5,4 @@ pub mod NextLemmas
 pub mod JoinLemmas
 pub mod NodeLemmas
 pub mod SimLemmas
+pub mod NameLemmas

@@ -112,3 +112,10 @@ pairs_find R [] (z ∷ ys) i x all e = absurd all
 pairs_find R (w ∷ xs) [] i x all e = absurd all
 pairs_find R (w ∷ xs) (z ∷ ys) zero x all e = (z, refl, subst (λ v. R v z) (same_Some w x e) all.0)
 pairs_find R (w ∷ xs) (z ∷ ys) (suc i) x all e = pairs_find R xs ys i x all.1 e
+
+pub pairs_join : {A : Type 0} (R : A → A → Type 0) (xs ys zs : List A) → ((x y z : A) → R x y → R y z → R x z) → AllZip R xs ys → AllZip R ys zs → AllZip R xs zs
+pairs_join R [] [] zs h all more = more
+pairs_join R [] (y ∷ ys) zs h all more = absurd all
+pairs_join R (x ∷ xs) [] zs h all more = absurd all
+pairs_join R (x ∷ xs) (y ∷ ys) [] h all more = absurd more
+pairs_join R (x ∷ xs) (y ∷ ys) (z ∷ zs) h all more = (h x y z all.0 more.0, pairs_join R xs ys zs h all.1 more.1)

@@ -1,9 +1,12 @@
 -- An event leads to one state, or it is refused; and no mark falls.
-use Rattle.std.proofs.Common.{◌≡◌, ◌≢◌, ℕ, Bool, true, false, cond, List, length, set, Option, Some, None, refl, sym, ap, ◌∙◌, subst, inl, inr, nat_lt}
+use Rattle.std.proofs.Common.{◌≡◌, ◌≢◌, ℕ, Bool, true, false, cond, List, length, set, Option, Some, None, refl, sym, ap, ◌∙◌, subst, inl, inr, nat_lt, [], ◌∷◌}
 use Rattle.std.specs.List.{AllZip, slice_get}
-use Rattle.std.specs.declared.cmp.Ordering.TheVariants.{Greater}
+use Rattle.std.specs.Ordering.{ordering_reverse}
+use Rattle.std.specs.declared.cmp.Ordering.{Ordering}
+use Rattle.std.specs.declared.cmp.Ordering.TheVariants.{Less, Equal, Greater}
 use Rattle.std.proofs.lemmas.Option.{same_Some}
-use Rattle.druid_shard.specs.Mark.{never, same_mark, mark_cmp}
+use Rattle.druid_shard.specs.Orders.{mark_cmp-total}
+use Rattle.druid_shard.specs.Mark.{Point, never, same_mark, mark_cmp}
 use Rattle.druid_shard.specs.declared.change.Ask.TheVariants as asks
 use Rattle.druid_shard.specs.declared.change.Cause.TheVariants.{Ahead}
 use Rattle.druid_shard.specs.declared.reply.Body.{Body}
@@ -14,14 +17,14 @@ use Rattle.druid_inventory.specs.Step.{Steps, Refuses}
 use Rattle.druid_inventory.specs.declared.fault.Outcome.TheVariants.{AskWhole}
 use Rattle.druid_inventory.proofs.StepLemmas.{Steps-mark, Steps-one, Steps-some, Steps-not_refused}
 use Rattle.druid_world.specs.World.{Life, IsLife, IsTrueEntry, IsInventoryOf}
-use Rattle.druid_world.specs.Run.{State, Next, IsReached, Applies, takes, recorded, restarted, last_incarnation, with_node, with_packet, with_broker, needs, is_request, refusal, node_names}
+use Rattle.druid_world.specs.Run.{State, Next, Run, IsReached, Applies, takes, recorded, restarted, last_incarnation, with_node, with_packet, with_broker, needs, is_request, refusal, node_names}
 use Rattle.druid_world.specs.declared.event.Event.{Event}
 use Rattle.druid_world.specs.declared.event.Event.TheVariants.{Record, Restart, Ask as Asks, Answer, Seed, Deliver, Cut, Fail}
 use Rattle.druid_world.specs.declared.event.Packet.{Packet}
 use Rattle.druid_world.specs.declared.event.Packet.TheVariants.{Request, Reply}
 use Rattle.druid_world.specs.declared.event.SimFault.{SimFault}
 use Rattle.druid_world.specs.declared.event.SimFault.TheVariants as faults
-use Rattle.druid_world.proofs.ListLemmas.{each_get, get_below, pairs_set, pairs_self, pairs_find}
+use Rattle.druid_world.proofs.ListLemmas.{each_get, get_below, pairs_set, pairs_self, pairs_find, pairs_join}
 use Rattle.druid_world.proofs.WorldLemmas.{answered, synced, unsynced_not}
 use Rattle.druid_world.proofs.RunLemmas.{Holds, IsPut, reached-holds}
 
@@ -60,11 +63,27 @@ next-risen s t (Deliver packet) h =
 next-risen s t (Cut packet) h = same_brokers s t (ap (λ (u : State). u.brokers) (sym h.2))
 next-risen s t (Fail broker node) h = same_brokers s t (ap (λ (u : State). u.brokers) (sym h.4))
 
-pub marks_rise : (s t : State) (event : Event) (broker node : ℕ) (before : List Entry) (e : Entry) → Next s event t → slice_get s.brokers broker ≡ Some before
+not_above : (p q r : Point) (o : Ordering) → mark_cmp p q ≡ o → o ≢ Greater → mark_cmp q r ≢ Greater → mark_cmp p r ≢ Greater
+not_above p q r Less e below next above =
+    let back : mark_cmp r p ≡ Less = mark_cmp-total.antisymm r p ∙ ap ordering_reverse above in
+    let less : mark_cmp r q ≡ Less = mark_cmp-total.trans r p q back e in
+    next (mark_cmp-total.antisymm q r ∙ ap ordering_reverse less)
+not_above p q r Equal e below next above = next (sym (mark_cmp-total.congr p q r e) ∙ above)
+not_above p q r Greater e below next above = below refl
+
+risen_on : (e f g : Entry) → HasRisen e f → HasRisen f g → HasRisen e g
+risen_on e f g h k = not_above e.mark f.mark g.mark (mark_cmp e.mark f.mark) refl h k
+
+run-risen : (s t : State) (events : List Event) → Run s events t → AllZip HaveRisen s.brokers t.brokers
+run-risen s t [] run = same_brokers s t (ap (λ (u : State). u.brokers) (sym run))
+run-risen s t (event ∷ events) run =
+    pairs_join HaveRisen s.brokers run.0.brokers t.brokers (λ a b c h k. pairs_join HasRisen a b c risen_on h k) (next-risen s run.0 event run.1) (run-risen run.0 t events run.2)
+
+pub marks_rise : (s t : State) (events : List Event) (broker node : ℕ) (before : List Entry) (e : Entry) → Run s events t → slice_get s.brokers broker ≡ Some before
     → slice_get before node ≡ Some e
     → (after : List Entry) × (f : Entry) × (slice_get t.brokers broker ≡ Some after) × (slice_get after node ≡ Some f) × (mark_cmp e.mark f.mark ≢ Greater)
-marks_rise s t event broker node before e next at_broker at_node =
-    let found = pairs_find HaveRisen s.brokers t.brokers broker before (next-risen s t event next) at_broker in
+marks_rise s t events broker node before e run at_broker at_node =
+    let found = pairs_find HaveRisen s.brokers t.brokers broker before (run-risen s t events run) at_broker in
     let entry = pairs_find HasRisen before found.0 node e found.2 at_node in
     (found.0, entry.0, found.1, entry.1, entry.2)
 
@@ -180,6 +199,18 @@ can_deliver names s packet (Reply broker node reply) h at is =
           (with_broker s broker inventory.0, (broker, node, reply, inventory.0, inventory.0, at, inventory.1, inr (told.0, (e.0, e.1, told.1), refl), refl))
     ]
 
+can_ask : (s : State) (broker node : ℕ) (whole : Bool) (life : Life) (inventory : List Entry) → slice_get s.world node ≡ Some life → slice_get s.brokers broker ≡ Some inventory
+    → ((e : Entry) × (slice_get inventory node ≡ Some e)) → (t : State) × Next s (Asks broker node whole) t
+can_ask s broker node whole life inventory at_node at_broker (e, at) =
+    (with_packet s (Request broker node (cond whole asks.Whole (ask_of e.mark))), (life, inventory, e, at_node, at_broker, at, refl))
+
+can_seed : (s : State) (peer broker node : ℕ) (life : Life) (inventory other : List Entry) (e : Entry) → slice_get s.world node ≡ Some life
+    → slice_get s.brokers peer ≡ Some inventory → slice_get s.brokers broker ≡ Some other → slice_get inventory node ≡ Some e → same_mark e.mark never ≡ false
+    → (t : State) × Next s (Seed peer broker node) t
+can_seed s peer broker node life inventory other e at_node at_peer at_broker at test =
+    let reply : Body = bodies.Snapshot e.mark e.set in
+    (with_packet s (Reply broker node reply), (life, inventory, other, reply, at_node, at_peer, at_broker, (e, at, unsynced_not e.mark test, refl), refl))
+
 pub can_happen : (names : List (List ℕ)) (s : State) (event : Event) → Holds names s → refusal s event ≡ None → (t : State) × Next s event t
 unfolding refusal
 can_happen names s (Record node change) h e =
@@ -191,8 +222,7 @@ can_happen names s (Restart node) h e =
 can_happen names s (Asks broker node whole) h e =
     let life = needed faults.NoSuchNode (slice_get s.world node) (λ x. needs faults.NoSuchBroker (slice_get s.brokers broker) (λ inventory. None)) e in
     let inventory = needed faults.NoSuchBroker (slice_get s.brokers broker) (λ x. None) life.2 in
-    let entry = entry_at names s broker node life.0 inventory.0 h life.1 inventory.1 in
-    (with_packet s (Request broker node (cond whole asks.Whole (ask_of entry.0.mark))), (life.0, inventory.0, entry.0, life.1, inventory.1, entry.1, refl))
+    can_ask s broker node whole life.0 inventory.0 life.1 inventory.1 (entry_at names s broker node life.0 inventory.0 h life.1 inventory.1)
 can_happen names s (Answer packet) h e =
     let sent = needed faults.NoSuchPacket (slice_get s.packets packet) (λ p. cond (is_request p) None (Some faults.NoSuchPacket)) e in
     can_answer names s packet sent.0 h sent.1 (unless_refused (is_request sent.0) faults.NoSuchPacket sent.2)
@@ -207,9 +237,7 @@ can_happen names s (Seed peer broker node) h e =
     let other = needed faults.NoSuchBroker (slice_get s.brokers broker)
     (λ x. needs faults.Refused (slice_get inventory.0 node) (λ y. cond (same_mark y.mark never) (Some faults.Refused) None)) inventory.2 in
     let entry = needed faults.Refused (slice_get inventory.0 node) (λ y. cond (same_mark y.mark never) (Some faults.Refused) None) other.2 in
-    let other_mark = unsynced_not entry.0.mark (refused_if (same_mark entry.0.mark never) faults.Refused entry.2) in
-    let reply : Body = bodies.Snapshot entry.0.mark entry.0.set in
-    (with_packet s (Reply broker node reply), (life.0, inventory.0, other.0, reply, life.1, inventory.1, other.1, (entry.0, entry.1, other_mark, refl), refl))
+    can_seed s peer broker node life.0 inventory.0 other.0 entry.0 life.1 inventory.1 other.1 entry.1 (refused_if (same_mark entry.0.mark never) faults.Refused entry.2)
 can_happen names s (Deliver packet) h e =
     let sent = needed faults.NoSuchPacket (slice_get s.packets packet) (λ p. cond (is_request p) (Some faults.NoSuchPacket) None) e in
     can_deliver names s packet sent.0 h sent.1 (refused_if (is_request sent.0) faults.NoSuchPacket sent.2)

@@ -304,14 +304,26 @@ determined (life ∷ world) (x ∷ a) (y ∷ b) h k names marks =
     let rest = determined world a b h.1 k.1 more_names more_marks in
     λ i. record { name = name i; mark = mark i; set = sets i } ∷ rest i
 
-pub equal_marks : (s : State) (a b : List Entry) → IsReached s → Contains s.brokers a → Contains s.brokers b → marks_of a ≡ marks_of b → a ≡ b
-equal_marks s a b h in_a in_b marks =
-    let holds = reached-holds s h in
-    let known = All-from_recursion (IsInventoryOf s.world) s.brokers holds.brokers in
-    let named = All-from_recursion (λ (inventory : List Entry). names_of inventory ≡ node_names h.nodes) s.brokers holds.named in
-    determined s.world a b (All-contains (IsInventoryOf s.world) s.brokers a known in_a) (All-contains (IsInventoryOf s.world) s.brokers b known in_b)
-    (All-contains (λ (inventory : List Entry). names_of inventory ≡ node_names h.nodes) s.brokers a named in_a
-    ∙ sym (All-contains (λ (inventory : List Entry). names_of inventory ≡ node_names h.nodes) s.brokers b named in_b)) marks
+-- what was known at a moment of a run is true later on
+known_later : (s t : State) (events : List Event) (inventory : List Entry) → Run s events t → IsInventoryOf s.world inventory → IsInventoryOf t.world inventory
+known_later s t [] inventory run is = subst (λ (u : State). IsInventoryOf u.world inventory) (sym run) is
+known_later s t (event ∷ events) inventory run is =
+    known_later run.0 t events inventory run.2 (inventory-grows s.world run.0.world inventory (next-grows s run.0 event run.1) is)
+
+each_in : {X : Type 0} (P : X → Type 0) (xs : List X) (x : X) → AllByRecursion P xs → Contains xs x → P x
+each_in P xs x all there = All-contains P xs x (All-from_recursion P xs all) there
+
+pub equal_marks : (s t : State) (events : List Event) (a b : List Entry) → IsReached s → Run s events t → Contains s.brokers a → Contains t.brokers b
+    → marks_of a ≡ marks_of b → a ≡ b
+equal_marks s t events a b h run in_a in_b marks =
+    let names = node_names h.nodes in
+    let before = reached-holds s h in
+    let after = holds-run names s t events before run in
+    let known_a = known_later s t events a run (each_in (IsInventoryOf s.world) s.brokers a before.brokers in_a) in
+    let known_b = each_in (IsInventoryOf t.world) t.brokers b after.brokers in_b in
+    let named_a : names_of a ≡ names = each_in (λ (inventory : List Entry). names_of inventory ≡ names) s.brokers a before.named in_a in
+    let named_b : names_of b ≡ names = each_in (λ (inventory : List Entry). names_of inventory ≡ names) t.brokers b after.named in_b in
+    determined t.world a b known_a known_b (named_a ∙ sym named_b) marks
 
 folds_true : (world : List Life) (told : List (ℕ × Body)) (before after : List Entry) → IsWorld world → AreHonest world told → IsInventoryOf world before
     → Folds before told after → IsInventoryOf world after

@@ -1,5 +1,5 @@
 -- What a mark stands for while the world grows, and what true replies make of what is known.
-use Rattle.std.proofs.Common.{◌≡◌, ◌+◌, ◌-◌, ◌<◌, ◌≤◌, ℕ, Bool, true, false, cond, ◌&&◌, List, [], ◌∷◌, ◌++◌, length, take, drop, Option, Some, None, refl, sym, ap, ◌∙◌, subst, arith, length-append, nat_eq, nat_le}
+use Rattle.std.proofs.Common.{◌≡◌, ◌+◌, ◌-◌, ◌<◌, ◌≤◌, ℕ, Bool, true, false, cond, ◌&&◌, List, [], ◌∷◌, ◌++◌, length, take, drop, Option, Some, None, refl, sym, ap, ◌∙◌, subst, arith, length-append, nat_eq, nat_le, inl, inr}
 use Rattle.std.specs.List.{AllByRecursion, slice_range}
 use Rattle.std.specs.Option.{option_and_then, option_map}
 use Rattle.std.proofs.lemmas.Bool.{false≢true, eq-eqb, eqb-true, ne_eqb, leb-true, le-leb}
@@ -14,14 +14,14 @@ use Rattle.druid_shard.specs.declared.change.Cause.{Cause}
 use Rattle.druid_shard.specs.declared.change.Change.{Change}
 use Rattle.druid_shard.specs.declared.reply.Body.{Body}
 use Rattle.druid_shard.specs.declared.reply.Body.TheVariants.{Delta, Snapshot, Reset}
-use Rattle.druid_shard.proofs.ReplayLemmas.{replay_from-append, and_then-some}
+use Rattle.druid_shard.proofs.ReplayLemmas.{replay_from-append, replay_from-front, and_then-some}
 use Rattle.druid_changes.specs.Answer.{answer, cause_of, mark_behind, reset_or_delta}
 use Rattle.druid_changes.proofs.HistoryLemmas.{no_cause}
 use Rattle.druid_inventory.specs.Entry.{Entry}
 use Rattle.druid_inventory.specs.Step.{Steps}
 use Rattle.druid_inventory.specs.declared.fault.Outcome.{Outcome}
 use Rattle.druid_inventory.specs.declared.fault.Outcome.TheVariants.{Moved, AlreadyHave, AskWhole}
-use Rattle.druid_world.specs.World.{Era, Life, IsEra, IsLife, AreRising, IsTrueEntry, IsStretch, IsHonest, Grows, eras_of, changes_of, set_after, set_at, with_more}
+use Rattle.druid_world.specs.World.{Era, Life, IsEra, IsLife, AreRising, CameTo, IsTrueEntry, IsStretch, IsHonest, Grows, eras_of, changes_of, set_after, set_at, with_more}
 use Rattle.druid_world.proofs.ListLemmas.{each_last}
 
 -- ---- the changes of an incarnation
@@ -279,3 +279,42 @@ answered life Whole valid =
     (Snapshot (mark_behind life.last.incarnation life.last.changes) last.set, ap (option_map (λ set. Snapshot (mark_behind life.last.incarnation life.last.changes) set)) last.replayed)
 answered life (Since mark) valid =
     (reset_or_delta life.last.incarnation life.last.changes mark (cause_of life.last.incarnation (length life.last.changes) life.kept mark), refl)
+
+-- ---- the marks of a node
+
+replayed_of : (eras : List Era) (i : ℕ) (cs : List Change) → AllByRecursion IsEra eras → changes_of eras i ≡ Some cs → (set : List Described) × (replay cs ≡ Some set)
+replayed_of [] i cs all e = absurd (none-some cs e)
+replayed_of (era ∷ eras) i cs all e = by_test (replayed_of eras i cs all.1) (nat_eq era.incarnation i) e where
+  by_test : (changes_of eras i ≡ Some cs → (set : List Described) × (replay cs ≡ Some set)) → (b : Bool)
+      → cond b (Some era.changes) (changes_of eras i) ≡ Some cs → (set : List Described) × (replay cs ≡ Some set)
+  by_test rest true f = (all.0.set, ap replay (sym (same_Some era.changes cs f)) ∙ all.0.replayed)
+  by_test rest false f = rest f
+
+-- what a node came to has a set
+pub set_there : (life : Life) (mark : Point) → IsLife life → CameTo life mark → (set : List Described) × (set_at (eras_of life) mark ≡ Some set)
+unfolding set_at
+set_there life mark valid (inl is) = ([], ap (λ (m : Point). set_at (eras_of life) m) is)
+set_there life mark valid (inr (cs, of_one, l)) =
+    let whole = replayed_of (eras_of life) mark.incarnation cs valid.eras of_one in
+    let parts : replay (take mark.count cs ++ drop mark.count cs) ≡ Some whole.0 = ap replay (take-append-drop mark.count cs) ∙ whole.1 in
+    let front = replay_from-front [] whole.0 (take mark.count cs) (drop mark.count cs) parts in
+    let low = from_one (eras_of life) mark.incarnation cs valid.eras of_one in
+    (front.0, set_at-made (eras_of life) mark cs front.0 low of_one l front.1)
+
+-- and it has none elsewhere
+pub came_to : (life : Life) (mark : Point) (set : List Described) → set_at (eras_of life) mark ≡ Some set → CameTo life mark
+unfolding set_at
+came_to life mark set e = by_test (nat_eq mark.incarnation 0) (nat_eq mark.count 0) refl refl e where
+  later : option_and_then (λ cs. set_after cs mark.count) (changes_of (eras_of life) mark.incarnation) ≡ Some set → CameTo life mark
+  later f =
+      let found = and_then-some (λ cs. set_after cs mark.count) (changes_of (eras_of life) mark.incarnation) set f in
+      inr (found.0, found.1, (set_after-is found.0 mark.count set found.2).0)
+
+  by_test : (a b : Bool) → nat_eq mark.incarnation 0 ≡ a → nat_eq mark.count 0 ≡ b
+      → cond (a && b) (Some []) (option_and_then (λ cs. set_after cs mark.count) (changes_of (eras_of life) mark.incarnation)) ≡ Some set → CameTo life mark
+  by_test true true i c f =
+      let incarnations = eqb-true mark.incarnation 0 i in
+      let counts = eqb-true mark.count 0 c in
+      inl (λ k. record { incarnation = incarnations k; count = counts k })
+  by_test true false i c f = later f
+  by_test false b i c f = later f

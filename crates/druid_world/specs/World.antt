@@ -1,6 +1,6 @@
 -- The world of events: which changes there were at each node, what a mark stands for, and what is said truly of it.
 -- A reader has to believe this file.
-use Rattle.std.specs.Prelude.{◌≡◌, ℕ, ◌<◌, ◌≤◌, ◌==◌, ⊤, List, [], ◌∷◌, ◌++◌, length, map, take, Option, Some, None, option_and_then, nat_le, slice_get, slice_range, if◌then◌else◌}
+use Rattle.std.specs.Prelude.{◌≡◌, ℕ, ◌<◌, ◌≤◌, ◌⊎◌, ◌==◌, ⊤, List, [], ◌∷◌, ◌++◌, length, map, take, Option, Some, None, option_and_then, nat_le, slice_get, slice_range, if◌then◌else◌}
 use Rattle.std.specs.List.{AllByRecursion, AllZip}
 use Rattle.druid_shard.specs.Described.{Described}
 use Rattle.druid_shard.specs.Mark.{Point, never, same_mark}
@@ -64,6 +64,12 @@ set_after changes count = if nat_le count (length changes) then replay (take cou
 unfoldable pub set_at : List Era → Point → Option (List Described)
 set_at eras mark =
     if same_mark mark never then Some [] else option_and_then (λ changes. set_after changes mark.count) (changes_of eras mark.incarnation)
+
+-- the mark is one of the node: (0, 0), or so many changes of an incarnation
+abbrev pub CameTo : Life → Point → Type 0
+CameTo life mark =
+    (mark ≡ never)
+    ⊎ ((changes : List Change) × (changes_of (eras_of life) mark.incarnation ≡ Some changes) × (mark.count ≤ length changes))
 
 -- what is known of a node is what it serves at that mark
 abbrev pub IsTrueEntry : Life → Entry → Type 0

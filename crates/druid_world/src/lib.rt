@@ -9,6 +9,7 @@ mod sim;
 
 pub use event::{Event, Packet, SimFault};
 pub use laws::{
-    join_is_a_join, marks_never_fall, one_next, same_marks_same_inventory, worlds_grow,
+    each_mark_has_a_set, join_is_a_join, marks_never_fall, one_next, same_marks_same_inventory,
+    worlds_grow,
 };
 pub use sim::{MAX_BROKERS, Sim};

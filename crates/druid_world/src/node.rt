@@ -1,5 +1,5 @@
 //! A node and all that ever happened to it.
-ghost use Rattle.std.specs.Prelude.{◌≡◌, ◌≢◌, ◌↔◌, ◌≤◌, ◌<◌, ◌+◌, ◌++◌, [], ◌∷◌, List, true, None, Some, IsTrue, IfOk, OnOk, OnErr, IfErr, nat_lt};
+ghost use Rattle.std.specs.Prelude.{◌≡◌, ◌≤◌, ◌<◌, ◌+◌, true, Some, IfOk, OnOk, OnErr, IfErr};
 ghost use Rattle.druid_shard.specs.Reply.{max_changes};
 ghost use Rattle.druid_changes.specs.Answer.{answer};
 ghost use Rattle.druid_world.specs.Run.{newborn, takes, recorded, restarted, last_incarnation};

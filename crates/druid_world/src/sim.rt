@@ -1,9 +1,7 @@
 //! A run of events, one after another.
-ghost use Rattle.std.specs.Prelude.{◌≡◌, ◌≢◌, ◌↔◌, ◌≤◌, ◌<◌, ℕ, [], ◌∷◌, List, length, false, unwrap_or, Some, None, IfOk, IfErr, IfSome, OnOk, OnErr, IsErrOf, MatchOption, option_map, replicate, slice_get, slice_set, vec_len, map};
-ghost use Rattle.std.specs.List.{range_with_len};
+ghost use Rattle.std.specs.Prelude.{◌≡◌, ◌↔◌, ◌≤◌, ◌<◌, length, unwrap_or, Some, None, IfOk, IfErr, IfSome, OnOk, OnErr, IsErrOf, MatchOption, option_map, replicate, slice_get, vec_len, map};
 ghost use Rattle.druid_shard.specs.Reply.{max_changes};
 ghost use Rattle.druid_inventory.specs.Entry.{IsEntryOf, max_nodes, fresh};
-ghost use Rattle.druid_inventory.specs.declared.fault.ApplyFault.TheVariants as apply_fault;
 ghost use Rattle.druid_world.specs.World.{IsInventoryOf};
 ghost use Rattle.druid_world.specs.Node.{TellsEntry};
 ghost use Rattle.druid_world.specs.Run.{State, IsReached, Next, Tells, Applies, refusal, with_packet, with_broker, opening, newborn, node_name, node_names};
@@ -13,7 +11,7 @@ ghost use Rattle.druid_world.specs.declared.event.Event.TheVariants as events;
 use crate::node::Node;
 use crate::{Event, Packet, SimFault};
 use druid_inventory::{ApplyFault, Inventory, InventoryFault};
-use druid_segid::Name;
+use druid_segid::{IdFault, Name};
 use druid_shard::{Ask, Change, NodeNo, Reply};
 use std::alloc::Global;
 use std::marker::Model;
@@ -28,7 +26,6 @@ pub const MAX_BROKERS: usize = 64;
 /// all runs hold of it.
 #[derive(Debug, Drop)]
 pub struct Sim {
-    alloc: Global,
     nodes: Vec<Node>,
     packets: Vec<Packet>,
     brokers: Vec<Inventory>,
@@ -53,6 +50,7 @@ fn node_name(alloc: Global, node: usize) -> Result<Name, SimFault>
     let text = format!(in alloc; "n{node}")?;
     match Name::new(alloc, &text) {
         Ok(name) => Ok(name),
+        Err(IdFault::BadName) => unreachable!(),
         Err(_) => Err(SimFault::Memory),
     }
 }
@@ -95,6 +93,7 @@ fn fresh_inventory(alloc: Global, nodes: usize) -> Result<Inventory, SimFault>
     let names = node_names(alloc, nodes)?;
     match Inventory::new(alloc, names) {
         Ok(inventory) => Ok(inventory),
+        Err(InventoryFault::DoubledNode) => unreachable!(),
         Err(_) => Err(SimFault::Memory),
     }
 }
@@ -164,7 +163,6 @@ impl Sim {
         let made = newborn_nodes(alloc, nodes, kept)?;
         let inventories = fresh_inventories(alloc, nodes, brokers)?;
         Ok(Sim {
-            alloc,
             nodes: made,
             packets: Vec::new(alloc),
             brokers: inventories,

@@ -1,5 +1,8 @@
-use Rattle.druid_world.proofs.JoinLemmas.{join_self, join_swapped, join_assoc, joined_true, never_conflict}
+use Rattle.druid_world.proofs.JoinLemmas.{join_self, join_swapped, join_assoc, join_there, joined_true, never_conflict}
 use Rattle.druid_world.proofs.laws.join_is_a_join.Goals as goal
+
+pub returns-clause-some : goal.returns-clause-some
+returns-clause-some c = join_there
 
 pub returns-clause-joined : goal.returns-clause-joined
 returns-clause-joined c = joined_true

@@ -1,6 +1,6 @@
 use Rattle.std.proofs.Common.{sym, ◌∙◌}
 use Rattle.std.proofs.lemmas.Result.{IfOk-weaker}
-use Rattle.druid_inventory.specs.Join.{NoneLater}
+use Rattle.druid_inventory.specs.Judged.{NoneLater}
 use Rattle.druid_inventory.proofs.JoinLemmas.{none_later-of, names_long, none_later-left, none_later-right}
 use Rattle.druid_inventory.proofs.inventory.Inventory.joined.Goals as goal
 
