@@ -1,5 +1,5 @@
 use crate::printing::printed;
-use druid_time::{Instant, Interval, IntervalSet};
+use druid_time::{Granularity, Instant, Interval, IntervalSet};
 use std::alloc::Global;
 use std::test::Fail;
 
@@ -56,6 +56,14 @@ const PRINTED: &str = "-1 = 1969-12-31T23:59:59.999Z
 -62167219200001 = none
 253402300800000 = none";
 
+// Milliseconds since 1970, and where the buckets by second, minute, hour and day start that have the instant.
+const BUCKETS: &str = "-1 = -1000 -60000 -3600000 -86400000
+0 = 0 0 0 0
+999 = 0 0 0 0
+1704103201001 = 1704103201000 1704103200000 1704103200000 1704067200000
+-62167219200000 = -62167219200000 -62167219200000 -62167219200000 -62167219200000
+253402300799999 = 253402300799000 253402300740000 253402297200000 253402214400000";
+
 // A text, and the printed form of the interval that it names, or its fault.
 const INTERVALS: &str =
     "2024-01-01/2024-01-02T00:00:00Z = 2024-01-01T00:00:00.000Z/2024-01-02T00:00:00.000Z
@@ -90,6 +98,20 @@ fn printed_form(alloc: Global, ms: &str) -> Result<String, Fail> {
         }
         None => Ok(String::from_str(alloc, "none")?),
     }
+}
+
+fn start_told(alloc: Global, instant: Instant, granularity: Granularity) -> Result<String, Fail> {
+    let start = instant.bucket(granularity).ok_or("no bucket")?;
+    Ok(format!(in alloc; "{}", start.ms())?)
+}
+
+fn buckets_told(alloc: Global, ms: &str) -> Result<String, Fail> {
+    let instant = Instant::new(ms.parse()?).ok_or("no instant")?;
+    let second = start_told(alloc, instant, Granularity::Second)?;
+    let minute = start_told(alloc, instant, Granularity::Minute)?;
+    let hour = start_told(alloc, instant, Granularity::Hour)?;
+    let day = start_told(alloc, instant, Granularity::Day)?;
+    Ok(format!(in alloc; "{second} {minute} {hour} {day}")?)
 }
 
 fn interval_told(alloc: Global, text: &str) -> Result<String, Fail> {
@@ -128,6 +150,16 @@ fn printed_instants(rt: HostRuntime) -> Result<(), Fail> {
     for row in PRINTED.lines() {
         let (ms, wanted) = row.split_once(" = ").ok_or("no row")?;
         let told = printed_form(rt.alloc(), ms)?;
+        assert_eq!(rt; told.as_str(), wanted, "at {ms}");
+    }
+    Ok(())
+}
+
+#[test]
+fn buckets(rt: HostRuntime) -> Result<(), Fail> {
+    for row in BUCKETS.lines() {
+        let (ms, wanted) = row.split_once(" = ").ok_or("no row")?;
+        let told = buckets_told(rt.alloc(), ms)?;
         assert_eq!(rt; told.as_str(), wanted, "at {ms}");
     }
     Ok(())

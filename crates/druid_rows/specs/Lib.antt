@@ -5,3 +5,4 @@ pub mod Texts
 pub mod Sheet
 pub mod Pages
 pub mod Filters
+pub mod FilterCode

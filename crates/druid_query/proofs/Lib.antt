@@ -1,0 +1,17 @@
+pub mod EachLemmas
+pub mod FilterLemmas
+pub mod RoomLemmas
+pub mod FitLemmas
+pub mod ListLemmas
+pub mod StepLemmas
+pub mod PartLemmas
+pub mod DistinctLemmas
+pub mod MappedLemmas
+pub mod NameLemmas
+pub mod WrittenLemmas
+pub mod PlainLemmas
+pub mod BackLemmas
+pub mod ExtentLemmas
+pub mod SoundLemmas
+pub mod QueryBackLemmas
+pub mod DepthLemmas

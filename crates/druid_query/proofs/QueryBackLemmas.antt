@@ -1,0 +1,213 @@
+-- Queries as JSON: what is written is read back.
+use Rattle.std.proofs.Common.{◌≡◌, ℕ, List, [], ◌∷◌, codes, Option, Some, None, option_and_then, Result, Ok, Err, is_some, if◌then◌else◌, true, false, Bool, refl, sym, ap, ◌∙◌, subst}
+use Rattle.serde_json.specs.Data.{Data, string, array, Items}
+use Rattle.serde_json.specs.Find.{get, as_null}
+use Rattle.druid_time.specs.Extent.{Extent, IsExtent}
+use Rattle.druid_time.specs.Results.{◌>>=◌}
+use Rattle.druid_time.specs.declared.granularity.Granularity.{Granularity}
+use Rattle.druid_segid.specs.Names.{is_name}
+use Rattle.druid_rows.specs.Filters.{Condition}
+use Rattle.druid_query.specs.Query.{Query, Dimension, Aggregator, is_label, fits_filter, fit_dimensions, fit_aggregators}
+use Rattle.druid_query.specs.Refusal.{Refusal, bad_field, bad_interval, limit_passed, or_refuse, when}
+use Rattle.druid_query.specs.Filters.{each_of, filter_at}
+use Rattle.druid_query.specs.Fields.{kind_at, source_text, interval_texts, interval_of, items_or_none, dimension_at, aggregator_at}
+use Rattle.druid_query.specs.Read.{list_of, fit_intervals, source_at, granularity_at, intervals_at, wanted_filter, filter_or_none, filter_field, listed_dimensions, dimensions_at, aggregations_at, no_more_at, query_at, IsQuery}
+use Rattle.druid_query.specs.Written.{wanted_data, granularity_text, interval_data, dimensions_data, aggregations_data, intervals_data, aggregator_data, timeseries_data, group_by_data, kinded_data, query_data}
+use Rattle.druid_query.specs.declared.query_type.QueryType.{QueryType}
+use Rattle.druid_query.specs.declared.query_type.QueryType.TheVariants.{Timeseries, GroupBy}
+use Rattle.druid_query.proofs.BackLemmas.{Every, each_back, each_sound, filter_back, filter_no_null, granularity_back, interval_back, texts_back, dimensions_back, aggregator_back, Fits}
+use Rattle.druid_query.proofs.SoundLemmas.{interval_sound, HasItem, texts_item, IsSomeList, read_some, aggregator_sound}
+use Rattle.druid_query.proofs.PartLemmas.{all_made, query_whole, parts_whole}
+
+-- ---- what a part that was read tells
+
+when_true : {A : Type 0} (b : Bool) (x y : A) (e : Refusal) → when b x e ≡ Ok y → (b ≡ true) × (x ≡ y)
+when_true {A} true x y e h = (refl, same_Ok x y h)
+  where
+    same_Ok : (p q : A) → ◌≡◌ {A = Result A Refusal} (Ok p) (Ok q) → p ≡ q
+    same_Ok p q e' = cc
+when_true false x y e h = absurd (cc)
+
+list_tells : {A : Type 0} (o : Option Items) (shape each : Refusal) (f : Data → Option A) (fits : List A → Bool) (all : List A) → list_of o shape f each fits ≡ Ok all
+    → (ds : Items) × (o ≡ Some ds) × (each_of f ds ≡ Some all) × (fits all ≡ true)
+list_tells None shape each f fits all h = absurd (cc)
+list_tells {A} (Some ds) shape each f fits all h = let r = through (each_of f ds) h in (ds, refl, r.0, r.1)
+  where
+    through : (o : Option (List A)) → (or_refuse o each >>= λ xs. when (fits xs) xs limit_passed) ≡ Ok all → (o ≡ Some all) × (fits all ≡ true)
+    through None h = absurd (cc)
+    through (Some xs) h = let w = when_true (fits xs) xs all limit_passed h in (ap Some w.1, ap fits (sym w.1) ∙ w.0)
+
+source_tells : (d : Data) (s : List ℕ) → source_at d ≡ Ok s → is_name s ≡ true
+unfolding source_at
+source_tells d s h = through (option_and_then source_text (get (codes "dataSource") d)) h
+  where
+    named : (x : List ℕ) (b : Bool) (e : Refusal) → is_name x ≡ b → (if b then Ok x else Err e) ≡ Ok s → is_name s ≡ true
+    named x true e is h = ap is_name (sym (same x s h)) ∙ is
+      where
+        same : (p q : List ℕ) → ◌≡◌ {A = Result (List ℕ) Refusal} (Ok p) (Ok q) → p ≡ q
+        same p q e' = cc
+    named x false e is h = absurd (cc)
+
+    through : (o : Option (List ℕ)) → (or_refuse o (bad_field (codes "dataSource")) >>= λ text. if is_name text then Ok text else Err (if is_label text then bad_field (codes "dataSource") else limit_passed)) ≡ Ok s → is_name s ≡ true
+    through None h = absurd (cc)
+    through (Some x) h = named x (is_name x) (if is_label x then bad_field (codes "dataSource") else limit_passed) refl h
+
+record Timed (all : List Extent) : Type 0 where
+  some : IsSomeList all
+  each : Every IsExtent all
+  few : fit_intervals all ≡ true
+
+intervals_tell : (d : Data) (all : List Extent) → intervals_at d ≡ Ok all → Timed all
+unfolding intervals_at
+intervals_tell d all h =
+    let t = list_tells (option_and_then interval_texts (get (codes "intervals") d)) (bad_field (codes "intervals")) bad_interval interval_of fit_intervals all h in
+    record {
+      some = read_some interval_of t.0 all (item_of (get (codes "intervals") d) t.0 t.1) t.2;
+      each = each_sound IsExtent interval_of interval_sound t.0 all t.2;
+      few = t.3;
+    }
+  where
+    item_of : (o : Option Data) (ds : Items) → option_and_then interval_texts o ≡ Some ds → HasItem ds
+    item_of None ds h = absurd (cc)
+    item_of (Some e) ds h = texts_item e ds h
+
+abbrev pub Passes : Option Condition → Type 0
+Passes None = Unit {0}
+Passes (Some c) = fits_filter c ≡ true
+
+pub filter_tells : (d : Data) (f : Option Condition) → filter_field d ≡ Ok f → Passes f
+unfolding filter_field wanted_filter
+filter_tells d f h = at (get (codes "filter") d) h
+  where
+    same : (p q : Option Condition) → ◌≡◌ {A = Result (Option Condition) Refusal} (Ok p) (Ok q) → p ≡ q
+    same p q e' = cc
+
+    wanted : (o : Option Condition) → (or_refuse o (bad_field (codes "filter")) >>= λ c. when (fits_filter c) (Some c) limit_passed) ≡ Ok f → Passes f
+    wanted None h = absurd (cc)
+    wanted (Some c) h = let w = when_true (fits_filter c) (Some c) f limit_passed h in subst Passes w.1 w.0
+
+    nullable : (e : Data) (b : Bool) → (if b then Ok None else wanted_filter e) ≡ Ok f → Passes f
+    nullable e true h = subst Passes (same None f h) tt
+    nullable e false h = wanted (filter_at e) h
+
+    at : (o : Option Data) → filter_or_none o ≡ Ok f → Passes f
+    at None h = subst Passes (same None f h) tt
+    at (Some e) h = nullable e (is_some (as_null e)) h
+
+record Counted (all : List Aggregator) : Type 0 where
+  each : Every (λ a. Fits a.kind a.field) all
+  few : fit_aggregators all ≡ true
+
+aggregations_tell : (d : Data) (all : List Aggregator) → aggregations_at d ≡ Ok all → Counted all
+unfolding aggregations_at
+aggregations_tell d all h =
+    let t = list_tells (items_or_none (get (codes "aggregations") d)) (bad_field (codes "aggregations")) (bad_field (codes "aggregations")) aggregator_at fit_aggregators all h in
+    record { each = each_sound (λ a. Fits a.kind a.field) aggregator_at aggregator_sound t.0 all t.2; few = t.3 }
+
+dimensions_tell : (d : Data) (all : List Dimension) → listed_dimensions d ≡ Ok all → fit_dimensions all ≡ true
+unfolding listed_dimensions
+dimensions_tell d all h =
+    (list_tells (items_or_none (get (codes "dimensions") d)) (bad_field (codes "dimensions")) (bad_field (codes "dimensions")) dimension_at fit_dimensions all h).3
+
+-- ---- what is written is read
+
+list_read : {A : Type 0} (ds : Items) (shape each : Refusal) (f : Data → Option A) (fits : List A → Bool) (all : List A) → each_of f ds ≡ Some all → fits all ≡ true → list_of (Some ds) shape f each fits ≡ Ok all
+list_read ds shape each f fits all read good =
+    ap (λ o. or_refuse o each >>= λ xs. when (fits xs) xs limit_passed) read ∙ ap (λ b. when b all limit_passed) good
+
+source_read : (d : Data) (s : List ℕ) → get (codes "dataSource") d ≡ Some (string s) → is_name s ≡ true → source_at d ≡ Ok s
+unfolding source_at source_text
+source_read d s h good = rw (h, good) refl
+
+granularity_read : (d : Data) (g : Granularity) → get (codes "granularity") d ≡ Some (string (granularity_text g)) → granularity_at d ≡ Ok g
+unfolding granularity_at
+granularity_read d g h = let back = granularity_back g in rw (h, back) refl
+
+texts_read : (all : List Extent) → IsSomeList all → interval_texts (array (intervals_data all)) ≡ Some (intervals_data all)
+unfolding interval_texts
+texts_read [] some = absurd some
+texts_read (e ∷ es) some = let all = texts_back (e ∷ es) in rw all refl
+
+intervals_read : (d : Data) (all : List Extent) → get (codes "intervals") d ≡ Some (array (intervals_data all)) → Timed all → intervals_at d ≡ Ok all
+unfolding intervals_at
+intervals_read d all h t =
+    ap (λ o. list_of (option_and_then interval_texts o) (bad_field (codes "intervals")) interval_of bad_interval fit_intervals) h
+    ∙ ap (λ o. list_of o (bad_field (codes "intervals")) interval_of bad_interval fit_intervals) (texts_read all t.some)
+    ∙ list_read (intervals_data all) (bad_field (codes "intervals")) bad_interval interval_of fit_intervals all (each_back interval_data interval_of all (valid all t.each)) t.few
+  where
+    valid : (es : List Extent) → Every IsExtent es → Every (λ e. interval_of (interval_data e) ≡ Some e) es
+    valid [] each = tt
+    valid (e ∷ es) each = (interval_back e each.0, valid es each.1)
+
+filter_read : (d : Data) (f : Option Condition) → get (codes "filter") d ≡ Some (wanted_data f) → Passes f → filter_field d ≡ Ok f
+unfolding filter_field wanted_filter
+filter_read d None h good = rw h refl
+filter_read d (Some c) h good =
+    let back = filter_back c in
+    let object = filter_no_null c in
+    ap filter_or_none h ∙ rw (object, back, good) refl
+
+aggregations_read : (d : Data) (all : List Aggregator) → get (codes "aggregations") d ≡ Some (array (aggregations_data all)) → Counted all → aggregations_at d ≡ Ok all
+unfolding aggregations_at
+aggregations_read d all h t =
+    ap (λ o. list_of (items_or_none o) (bad_field (codes "aggregations")) aggregator_at (bad_field (codes "aggregations")) fit_aggregators) h
+    ∙ list_read (aggregations_data all) (bad_field (codes "aggregations")) (bad_field (codes "aggregations")) aggregator_at fit_aggregators all (each_back aggregator_data aggregator_at all (valid all t.each)) t.few
+  where
+    valid : (xs : List Aggregator) → Every (λ a. Fits a.kind a.field) xs → Every (λ a. aggregator_at (aggregator_data a) ≡ Some a) xs
+    valid [] each = tt
+    valid (x ∷ xs) each = (aggregator_back x each.0, valid xs each.1)
+
+dimensions_read : (d : Data) (all : List Dimension) → get (codes "dimensions") d ≡ Some (array (dimensions_data all)) → fit_dimensions all ≡ true → listed_dimensions d ≡ Ok all
+unfolding listed_dimensions
+dimensions_read d all h good =
+    ap (λ o. list_of (items_or_none o) (bad_field (codes "dimensions")) dimension_at (bad_field (codes "dimensions")) fit_dimensions) h
+    ∙ list_read (dimensions_data all) (bad_field (codes "dimensions")) (bad_field (codes "dimensions")) dimension_at fit_dimensions all (dimensions_back all) good
+
+-- ---- the whole
+
+-- the keys of the written JSON
+record Keys (d : Data) (q : Query) : Type 0 where
+  kind : Some q.kind ≡ kind_at d
+  source : get (codes "dataSource") d ≡ Some (string q.source)
+  granularity : get (codes "granularity") d ≡ Some (string (granularity_text q.granularity))
+  intervals : get (codes "intervals") d ≡ Some (array (intervals_data q.intervals))
+  filter : get (codes "filter") d ≡ Some (wanted_data q.filter)
+  aggregations : get (codes "aggregations") d ≡ Some (array (aggregations_data q.aggregations))
+  more : no_more_at d ≡ Ok tt
+
+timeseries_keys : (q : Query) → q.kind ≡ Timeseries → Keys (kinded_data Timeseries q (array (intervals_data q.intervals))) q
+unfolding timeseries_data kind_at no_more_at
+timeseries_keys q is = record { kind = ap Some is; source = refl; granularity = refl; intervals = refl; filter = refl; aggregations = refl; more = refl }
+
+group_by_keys : (q : Query) → q.kind ≡ GroupBy → Keys (kinded_data GroupBy q (array (intervals_data q.intervals))) q
+unfolding group_by_data kind_at no_more_at
+group_by_keys q is = record { kind = ap Some is; source = refl; granularity = refl; intervals = refl; filter = refl; aggregations = refl; more = refl }
+
+group_by_dimensions : (q : Query) → get (codes "dimensions") (kinded_data GroupBy q (array (intervals_data q.intervals))) ≡ Some (array (dimensions_data q.dimensions))
+unfolding group_by_data
+group_by_dimensions q = refl
+
+back_by : (d e : Data) (q : Query) → query_at e ≡ Ok q → Keys d q → dimensions_at q.kind d ≡ Ok q.dimensions → query_at d ≡ Ok q
+back_by d e q read keys dimensions =
+    let parts = parts_whole e q read in
+    query_whole d q
+    (all_made d q.kind q.source q.granularity q.intervals q.filter q.dimensions q.aggregations keys.kind
+    (source_read d q.source keys.source (source_tells e q.source parts.source))
+    (granularity_read d q.granularity keys.granularity)
+    (intervals_read d q.intervals keys.intervals (intervals_tell e q.intervals parts.intervals))
+    (filter_read d q.filter keys.filter (filter_tells e q.filter parts.filter))
+    dimensions
+    (aggregations_read d q.aggregations keys.aggregations (aggregations_tell e q.aggregations parts.aggregations)))
+    keys.more parts.distinct
+
+by_kind : (q : Query) (e : Data) (k : QueryType) → q.kind ≡ k → query_at e ≡ Ok q → dimensions_at k e ≡ Ok q.dimensions → query_at (kinded_data k q (array (intervals_data q.intervals))) ≡ Ok q
+by_kind q e Timeseries is read dimensions =
+    let d = kinded_data Timeseries q (array (intervals_data q.intervals)) in
+    back_by d e q read (timeseries_keys q is) (ap (λ k. dimensions_at k d) is ∙ dimensions)
+by_kind q e GroupBy is read dimensions =
+    let d = kinded_data GroupBy q (array (intervals_data q.intervals)) in
+    back_by d e q read (group_by_keys q is)
+    (ap (λ k. dimensions_at k d) is ∙ dimensions_read d q.dimensions (group_by_dimensions q) (dimensions_tell e q.dimensions dimensions))
+
+pub query_back : (q : Query) → IsQuery q → query_at (query_data q) ≡ Ok q
+query_back q (e, read) = by_kind q e q.kind refl read (parts_whole e q read).dimensions

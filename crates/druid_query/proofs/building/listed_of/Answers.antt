@@ -1,0 +1,15 @@
+use Rattle.std.proofs.Common.{codes}
+use Rattle.serde_json.specs.Find.{get}
+use Rattle.serde_json.specs.View.{view}
+use Rattle.druid_query.specs.Query.{fit_dimensions}
+use Rattle.druid_query.specs.Refusal.{bad_field}
+use Rattle.druid_query.specs.Fields.{items_or_none, dimension_at}
+use Rattle.druid_query.specs.Read.{listed_dimensions}
+use Rattle.druid_query.proofs.ListLemmas.{list_built}
+use Rattle.druid_query.proofs.building.listed_of.Goals as goal
+
+pub returns : goal.returns
+unfolding listed_dimensions
+returns c =
+    list_built (λ v. v.items) (items_or_none (get (codes "dimensions") (view c.args.value.now))) c.in-Some.values.now (bad_field (codes "dimensions")) (bad_field (codes "dimensions")) dimension_at fit_dimensions c.dimension_list.result
+    c.in-Some.ensures c.if-not-fit_dimensions.ensures c.dimension_list.ensures

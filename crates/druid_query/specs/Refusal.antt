@@ -1,0 +1,46 @@
+-- Why a value is no query.
+use Rattle.std.specs.Prelude.{◌≡◌, ℕ, Bool, List, Option, Some, None, Result, Ok, Err, IsOk, ⊤, if◌then◌else◌}
+use Rattle.druid_query.specs.declared.fault.QueryFault.{QueryFault}
+use Rattle.druid_query.specs.declared.fault.QueryFault.TheVariants as faults
+
+-- a field goes by its key
+pub data Refusal : Type 0 where
+  unknown_type : Refusal
+  bad_field : (key : List ℕ) → Refusal
+  bad_interval : Refusal
+  limit_passed : Refusal
+  doubled_name : Refusal
+
+-- the value, or else the refusal
+abbrev pub or_refuse : {A : Type 0} → Option A → Refusal → Result A Refusal
+or_refuse None e = Err e
+or_refuse (Some x) e = Ok x
+
+-- the value where the test holds, or else the refusal
+abbrev pub when : {A : Type 0} → Bool → A → Refusal → Result A Refusal
+when test x e = if test then Ok x else Err e
+
+-- the same where there is no value
+abbrev pub allow : Bool → Refusal → Result ⊤ Refusal
+allow test e = if test then Ok tt else Err e
+
+-- the fault that tells a refusal
+abbrev pub Tells : {A : Type 0} → QueryFault → Result A Refusal → Type 0
+Tells faults.NotJson read = ⊥
+Tells faults.UnknownType read = read ≡ Err unknown_type
+Tells (faults.Field key) read = read ≡ Err (bad_field key.now)
+Tells faults.BadInterval read = read ≡ Err bad_interval
+Tells faults.LimitPassed read = read ≡ Err limit_passed
+Tells faults.DoubledName read = read ≡ Err doubled_name
+-- want of memory comes only where nothing is to be refused
+Tells faults.Memory read = IsOk read
+
+-- what a function answered is what reading gives, unless memory was refused
+abbrev pub Gives : {A : Type 0} → Result A QueryFault → Result A Refusal → Type 0
+Gives (Ok x) read = read ≡ Ok x
+Gives (Err e) read = Tells e read
+
+-- the same of a function that only looks whether it reads
+abbrev pub Checks : {A : Type 0} → Result ⊤ QueryFault → Result A Refusal → Type 0
+Checks (Ok _) read = IsOk read
+Checks (Err e) read = Tells e read

@@ -1,0 +1,128 @@
+ghost use Rattle.std.specs.Prelude.{◌≡◌, IfOk, option_map, string_bytes};
+
+use std::alloc::{AllocError, Global};
+use std::marker::Model;
+
+/// What an aggregator tells of a group of rows.
+#[derive(Clone, Copy, Debug, PartialEq, Eq, Drop)]
+pub enum AggregatorKind {
+    /// How many rows there are.
+    Count,
+    /// The sum of a field's values, wrapped to 64 bits.
+    LongSum,
+    /// The least of a field's values.
+    LongMin,
+    /// The greatest of a field's values.
+    LongMax,
+}
+
+/// What is told of each group of rows, and its name in the result.
+#[derive(Debug, Drop)]
+pub struct Aggregator {
+    name: String,
+    kind: AggregatorKind,
+    field: Option<String>,
+}
+
+impl Model for Aggregator {
+    ghost use Rattle.std.specs.Prelude.{string_bytes, option_map};
+    ghost use Rattle.druid_query.specs.Query.{Aggregator};
+
+    ghost Value = { Aggregator };
+
+    ghost view = { λ a. record {
+      name = string_bytes a.name;
+      kind = a.kind;
+      field = option_map string_bytes a.field;
+    } };
+}
+
+impl Aggregator {
+    /// Its name in the result.
+    pub fn name(&self) -> &str
+        ensures { result.now ≡ self.now.name }
+    {
+        self.name.as_str()
+    }
+
+    /// What it tells.
+    pub fn kind(&self) -> AggregatorKind
+        ensures { result ≡ self.now.kind }
+    {
+        self.kind
+    }
+
+    /// The field that it looks at; to count takes none.
+    pub fn field(&self) -> Option<&str>
+        ensures { option_map (λ s. s.now) result ≡ self.now.field }
+    {
+        self.field.as_deref()
+    }
+}
+
+// The same, lent.
+#[derive(Drop)]
+pub(crate) struct LentAggregator<'a> {
+    name: &'a str,
+    kind: AggregatorKind,
+    field: Option<&'a str>,
+}
+
+impl<'a> Model for LentAggregator<'a> {
+    ghost use Rattle.std.specs.Prelude.{option_map};
+    ghost use Rattle.druid_query.specs.Query.{Aggregator};
+
+    ghost Value = { Aggregator };
+
+    ghost view = { λ a. record {
+      name = a.name.now;
+      kind = a.kind;
+      field = option_map (λ s. s.now) a.field;
+    } };
+}
+
+fn copy_of(alloc: Global, text: Option<&str>) -> Result<Option<String>, AllocError>
+    ensures { IfOk result (λ copy. option_map string_bytes copy ≡ option_map (λ s. s.now) text.entry) }
+{
+    match text {
+        Some(text) => Ok(Some(String::from_str(alloc, text)?)),
+        None => Ok(None),
+    }
+}
+
+impl<'a> LentAggregator<'a> {
+    pub(crate) fn new(
+        name: &'a str,
+        kind: AggregatorKind,
+        field: Option<&'a str>,
+    ) -> LentAggregator<'a>
+        ensures { result ≡ record { name = name.now; kind = kind; field = option_map (λ s. s.now) field.entry } }
+    {
+        LentAggregator { name, kind, field }
+    }
+
+    pub(crate) fn name(&self) -> &'a str
+        ensures { result.now ≡ self.now.name }
+    {
+        self.name
+    }
+
+    pub(crate) fn field(&self) -> Option<&'a str>
+        ensures { option_map (λ s. s.now) result ≡ self.now.field }
+    {
+        self.field
+    }
+
+    // A copy.
+    pub(crate) fn owned(&self, alloc: Global) -> Result<Aggregator, AllocError>
+        ensures { IfOk result (λ copy. copy ≡ self.now) }
+    {
+        let name = String::from_str(alloc, self.name)?;
+        let field = copy_of(alloc, self.field)?;
+        Ok(Aggregator {
+            name,
+            kind: self.kind,
+            field,
+        })
+    }
+}

@@ -1,0 +1,27 @@
+use thiserror::Error;
+
+/// Why a text is no query.
+#[derive(Clone, Copy, Debug, PartialEq, Eq, Drop, Error)]
+pub enum QueryFault {
+    /// Q1: no JSON in UTF-8.
+    #[error("Q1: not JSON")]
+    NotJson,
+    /// Q2: no object, or a query of another type.
+    #[error("Q2: no query of a known type")]
+    UnknownType,
+    /// Q3: the field of that key has another shape.
+    #[error("Q3: {0} has another shape")]
+    Field(&'static str),
+    /// Q4: a text that names no interval.
+    #[error("Q4: not an interval")]
+    BadInterval,
+    /// Q5: more of something than a query may have.
+    #[error("Q5: a limit is passed")]
+    LimitPassed,
+    /// Q6: two columns of the result have one name.
+    #[error("Q6: a doubled name")]
+    DoubledName,
+    /// Q9: memory was refused.
+    #[error("Q9: out of memory")]
+    Memory,
+}
