@@ -16,7 +16,7 @@ use Rattle.druid_shard.specs.Reply.{max_segments, max_changes, HaveOwnIdentifier
 use Rattle.druid_shard.specs.declared.change.Change.{Change}
 use Rattle.druid_shard.specs.declared.reply.Body.{Body}
 use Rattle.druid_shard.specs.declared.reply.Body.TheVariants.{Delta, Snapshot, Reset}
-use Rattle.druid_sync.specs.Fields.{each_of}
+use Rattle.druid_shard.specs.Each.{each_of}
 use Rattle.druid_sync.specs.Read.{Form, followed, whole, begun_again, Five, mark_at, change_at, load_at, cause_at, none_in, five_at, reset_at, snapshot_at, delta_at, changes_at, form_at, Answers}
 use Rattle.druid_sync.specs.declared.fault.SyncFault.{SyncFault}
 use Rattle.druid_sync.specs.declared.fault.SyncFault.TheVariants as faults

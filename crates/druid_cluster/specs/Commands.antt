@@ -6,7 +6,7 @@ use Rattle.serde_json.specs.Find.{get, as_array, as_str}
 use Rattle.druid_shard.specs.Json.{text_at, number_at, limited_at}
 use Rattle.druid_inventory.specs.Entry.{max_nodes}
 use Rattle.druid_time.specs.Options.{◌>>=◌}
-use Rattle.druid_sync.specs.Fields.{each_of}
+use Rattle.druid_shard.specs.Each.{each_of}
 use Rattle.druid_cluster.specs.declared.command.TheConstants.{MAX_BROKERS}
 
 -- the most brokers of a script

@@ -37,7 +37,6 @@ fn write_some<W: Write>(writer: &mut W, text: &[u8]) -> io::Result<usize>
 }
 
 /// Writes a text. Where the writer fails, it has got some front of the text, and not the whole.
-
 pub fn write_text<W: Write>(writer: &mut W, text: &[u8]) -> io::Result<()>
     ensures ok { OnOk result (Appends (W.contents writer.old) (W.contents writer.new) text.now) }
     ensures err { OnErr result

@@ -1,6 +1,5 @@
 -- The fields of a query as JSON: what is written is read back.
-use Rattle.std.proofs.Common.{◌≡◌, ℕ, List, [], ◌∷◌, map, codes, Option, Some, None, is_some, true, false, refl, ap, ◌∙◌, subst}
-use Rattle.std.proofs.lemmas.Option.{same_Some}
+use Rattle.std.proofs.Common.{◌≡◌, ℕ, List, [], ◌∷◌, map, codes, Option, Some, None, is_some, true, false, refl, ap}
 use Rattle.serde_json.specs.Data.{Data, string, Items, no_items, item}
 use Rattle.serde_json.specs.View.{items_of}
 use Rattle.serde_json.specs.Find.{as_null, as_str}
@@ -13,37 +12,17 @@ use Rattle.druid_time.proofs.TextLemmas.{extent_at-extent_text}
 use Rattle.druid_shard.specs.Json.{result_ok}
 use Rattle.druid_rows.specs.Filters.{Condition, has, has_among, all_of, any_of, is_not, Conditions, no_conditions, condition}
 use Rattle.druid_query.specs.Query.{Dimension, Aggregator}
-use Rattle.druid_query.specs.Filters.{each_of, value_at, selector_in, among_in, filter_at, each_filter}
+use Rattle.druid_shard.specs.Each.{each_of}
+use Rattle.druid_shard.proofs.EachLemmas.{each_back}
+use Rattle.druid_query.specs.Filters.{value_at, selector_in, among_in, filter_at, each_filter}
 use Rattle.druid_query.specs.Fields.{granularity_of, interval_of, dimension_at, default_dimension, aggregator_at}
 use Rattle.druid_query.specs.Written.{value_data, selector_data, among_data, fields_data, not_data, filter_data, filters_data, granularity_text, interval_data, dimension_data, counting_data, of_field_data, fielded_data, aggregator_data, aggregator_text}
 use Rattle.druid_query.specs.declared.aggregator.AggregatorKind.{AggregatorKind}
 use Rattle.druid_query.specs.declared.aggregator.AggregatorKind.TheVariants.{Count, LongSum, LongMin, LongMax}
 
-abbrev pub Every : {A : Type 0} → (A → Type 0) → List A → Type 0
-Every P [] = Unit {0}
-Every P (x ∷ xs) = P x × Every P xs
-
--- each reads as what it was written for
-pub each_back : {A : Type 0} (f : A → Data) (g : Data → Option A) (xs : List A) → Every (λ x. g (f x) ≡ Some x) xs → each_of g (items_of (map f xs)) ≡ Some xs
-each_back f g [] all = refl
-each_back f g (x ∷ xs) all =
-    ap (λ o. o >>= λ y. each_of g (items_of (map f xs)) >>= λ ys. Some (y ∷ ys)) all.0
-    ∙ ap (λ o. o >>= λ ys. Some (x ∷ ys)) (each_back f g xs all.1)
-
-always : {A : Type 0} (P : A → Type 0) → ((x : A) → P x) → (xs : List A) → Every P xs
-always P each [] = tt
-always P each (x ∷ xs) = (each x, always P each xs)
-
-sound_next : {A : Type 0} (P : A → Type 0) (first : Option A) (rest : Option (List A)) (xs : List A) → ((x : A) → first ≡ Some x → P x) → ((ys : List A) → rest ≡ Some ys → Every P ys)
-    → (first >>= λ y. rest >>= λ ys. Some (y ∷ ys)) ≡ Some xs → Every P xs
-sound_next P None rest xs one more h = absurd (cc)
-sound_next P (Some x) None xs one more h = absurd (cc)
-sound_next P (Some x) (Some ys) xs one more h = subst (Every P) (same_Some (x ∷ ys) xs h) (one x refl, more ys refl)
-
--- what each item reads as, each of a list is
-pub each_sound : {A : Type 0} (P : A → Type 0) (f : Data → Option A) → ((d : Data) (x : A) → f d ≡ Some x → P x) → (ds : Items) (xs : List A) → each_of f ds ≡ Some xs → Every P xs
-each_sound P f one no_items xs h = subst (Every P) (same_Some [] xs h) tt
-each_sound P f one (item d ds) xs h = sound_next P (f d) (each_of f ds) xs (one d) (λ ys r. each_sound P f one ds ys r) h
+-- each of a list of what any value reads back as
+any_back : {A : Type 0} (f : A → Data) (g : Data → Option A) (xs : List A) → ((x : A) → g (f x) ≡ Some x) → each_of g (items_of (map f xs)) ≡ Some xs
+any_back f g xs back = each_back f g xs (λ x _. back x)
 
 -- ---- filters
 
@@ -58,15 +37,15 @@ selector_back d v = let back = value_back v in rw back refl
 
 among_back : (d : List ℕ) (vs : List (Option (List ℕ))) → filter_at (among_data d vs) ≡ Some (has_among d vs)
 unfolding filter_at among_data among_in
-among_back d vs = let back = each_back value_data value_at vs (always (λ v. value_at (value_data v) ≡ Some v) value_back vs) in rw back refl
+among_back d vs = let back = any_back value_data value_at vs value_back in rw back refl
 
-all_back : (fs : Items) (cs : Conditions) → each_filter fs ≡ Some cs → filter_at (fields_data (codes "and") fs) ≡ Some (all_of cs)
+and_back : (fs : Items) (cs : Conditions) → each_filter fs ≡ Some cs → filter_at (fields_data (codes "and") fs) ≡ Some (all_of cs)
 unfolding filter_at fields_data
-all_back fs cs h = rw h refl
+and_back fs cs h = rw h refl
 
-any_back : (fs : Items) (cs : Conditions) → each_filter fs ≡ Some cs → filter_at (fields_data (codes "or") fs) ≡ Some (any_of cs)
+or_back : (fs : Items) (cs : Conditions) → each_filter fs ≡ Some cs → filter_at (fields_data (codes "or") fs) ≡ Some (any_of cs)
 unfolding filter_at fields_data
-any_back fs cs h = rw h refl
+or_back fs cs h = rw h refl
 
 not_back : (d : Data) (c : Condition) → filter_at d ≡ Some c → filter_at (not_data d) ≡ Some (is_not c)
 unfolding filter_at not_data
@@ -84,8 +63,8 @@ mutual
   pub filter_back : (c : Condition) → filter_at (filter_data c) ≡ Some c
   filter_back (has d v) = selector_back d v
   filter_back (has_among d vs) = among_back d vs
-  filter_back (all_of cs) = all_back (filters_data cs) cs (filters_back cs)
-  filter_back (any_of cs) = any_back (filters_data cs) cs (filters_back cs)
+  filter_back (all_of cs) = and_back (filters_data cs) cs (filters_back cs)
+  filter_back (any_of cs) = or_back (filters_data cs) cs (filters_back cs)
   filter_back (is_not c) = not_back (filter_data c) c (filter_back c)
 
   pub filters_back : (cs : Conditions) → each_filter (filters_data cs) ≡ Some cs
@@ -126,7 +105,7 @@ unfolding dimension_at default_dimension dimension_data
 dimension_back d = refl
 
 pub dimensions_back : (ds : List Dimension) → each_of dimension_at (items_of (map dimension_data ds)) ≡ Some ds
-dimensions_back ds = each_back dimension_data dimension_at ds (always (λ d. dimension_at (dimension_data d) ≡ Some d) dimension_back ds)
+dimensions_back ds = any_back dimension_data dimension_at ds dimension_back
 
 -- an aggregator has a field where its kind takes one
 abbrev pub Fits : AggregatorKind → Option (List ℕ) → Type 0

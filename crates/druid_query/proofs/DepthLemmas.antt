@@ -9,6 +9,8 @@ use Rattle.druid_query.specs.Query.{Query, Dimension, Aggregator, levels, most_l
 use Rattle.druid_query.specs.Read.{IsQuery}
 use Rattle.druid_query.specs.Written.{value_data, selector_data, among_data, fields_data, not_data, filter_data, filters_data, wanted_data, interval_data, dimension_data, counting_data, of_field_data, fielded_data, aggregator_data, aggregator_text, timeseries_data, group_by_data, intervals_data, kinded_data, query_data}
 use Rattle.druid_query.specs.declared.limits.TheConstants.{MAX_LEVELS, MAX_MEMBERS}
+use Rattle.druid_query.specs.Asked.{Asked, asked_data}
+use Rattle.druid_query.specs.SubQuery.{SubQuery, segments_data, sub_timeseries_data, sub_group_by_data, kinded_sub_data, subquery_data}
 use Rattle.druid_query.specs.declared.query_type.QueryType.{QueryType}
 use Rattle.druid_query.specs.declared.query_type.QueryType.TheVariants.{Timeseries, GroupBy}
 use Rattle.druid_query.proofs.PartLemmas.{parts_whole}
@@ -87,3 +89,24 @@ kinded_deep GroupBy q passes =
 -- the JSON of a query nests no deeper than a reader takes
 pub query_deep : (q : Query) → IsQuery q → depth (query_data q) ≤ 127
 query_deep q (e, read) = kinded_deep q.kind q (filter_tells e q.filter (parts_whole e q read).filter)
+
+-- ---- subqueries
+
+asked_deep : (a : Asked) → depth (asked_data a) ≤ 1
+unfolding asked_data
+asked_deep a = omega arith
+
+segments_deep : (asked : List Asked) → depth (segments_data asked) ≤ 3
+unfolding segments_data
+segments_deep asked = omega (arith, items_deep asked_data 1 asked_deep asked)
+
+kinded_sub_deep : (k : QueryType) (q : Query) (segments : Data) → Passes q.filter → depth segments ≤ 3 → depth (kinded_sub_data k q segments) ≤ 127
+unfolding sub_timeseries_data sub_group_by_data
+kinded_sub_deep Timeseries q segments passes few =
+    omega (arith, items_deep aggregator_data 1 aggregator_deep q.aggregations, items_deep interval_data 0 interval_deep q.intervals, wanted_deep q.filter passes, few)
+kinded_sub_deep GroupBy q segments passes few =
+    omega (arith, items_deep aggregator_data 1 aggregator_deep q.aggregations, items_deep dimension_data 1 dimension_deep q.dimensions, items_deep interval_data 0 interval_deep q.intervals, wanted_deep q.filter passes, few)
+
+pub subquery_deep : (sub : SubQuery) → IsQuery sub.query → depth (subquery_data sub) ≤ 127
+subquery_deep sub (e, read) =
+    kinded_sub_deep sub.query.kind sub.query (segments_data sub.asked) (filter_tells e sub.query.filter (parts_whole e sub.query read).filter) (segments_deep sub.asked)

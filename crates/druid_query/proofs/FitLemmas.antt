@@ -8,9 +8,9 @@ use Rattle.druid_time.specs.Options.{◌>>=◌}
 use Rattle.druid_query.specs.Query.{fits_dimension, fit_dimensions, fits_aggregator, fit_aggregators}
 use Rattle.druid_query.specs.Fields.{dimension_at, aggregator_at}
 use Rattle.druid_query.specs.declared.limits.TheConstants.{MAX_DIMENSIONS, MAX_AGGREGATORS}
-use Rattle.druid_query.specs.Filters.{each_of}
+use Rattle.druid_shard.specs.Each.{each_of}
 use Rattle.druid_query.specs.Levels.{holds_in}
-use Rattle.druid_query.proofs.EachLemmas.{each_of_length}
+use Rattle.druid_shard.proofs.EachLemmas.{each_of_length}
 
 -- ---- each item fits
 

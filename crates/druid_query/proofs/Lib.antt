@@ -1,9 +1,12 @@
-pub mod EachLemmas
+pub mod EmptyLemmas
 pub mod FilterLemmas
 pub mod RoomLemmas
+pub mod InsideLemmas
 pub mod FitLemmas
 pub mod ListLemmas
 pub mod StepLemmas
+pub mod ChainLemmas
+pub mod AskedLemmas
 pub mod PartLemmas
 pub mod DistinctLemmas
 pub mod MappedLemmas
@@ -13,5 +16,11 @@ pub mod PlainLemmas
 pub mod BackLemmas
 pub mod ExtentLemmas
 pub mod SoundLemmas
+pub mod PieceLemmas
+pub mod SubLemmas
 pub mod QueryBackLemmas
+pub mod SubBackLemmas
+pub mod SubSoundLemmas
+pub mod SubTellLemmas
+pub mod ReadLemmas
 pub mod DepthLemmas

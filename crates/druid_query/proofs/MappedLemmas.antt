@@ -5,7 +5,7 @@ use Rattle.serde_json.specs.Data.{Data}
 use Rattle.serde_json.specs.View.{view, items_view}
 use Rattle.serde_json.specs.declared.value.Value.{Value}
 use Rattle.druid_time.specs.Options.{◌>>=◌}
-use Rattle.druid_query.specs.Filters.{each_of}
+use Rattle.druid_shard.specs.Each.{each_of}
 
 next : {A B : Type 0} (h : Option A → B) (g : A → B) → ((x : A) → h (Some x) ≡ g x) → (first : Option A) (rest : Option (List A)) (seen : List B) (xs : List A)
     → ((ys : List A) → rest ≡ Some ys → seen ≡ map g ys) → (first >>= λ y. rest >>= λ ys. Some (y ∷ ys)) ≡ Some xs → h first ∷ seen ≡ map g xs

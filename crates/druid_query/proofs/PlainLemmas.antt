@@ -6,6 +6,8 @@ use Rattle.serde_json.specs.Written.{has_float, items_have_float}
 use Rattle.druid_rows.specs.Filters.{Condition, has, has_among, all_of, any_of, is_not, Conditions, no_conditions, condition}
 use Rattle.druid_query.specs.Query.{Query, Dimension, Aggregator}
 use Rattle.druid_query.specs.Written.{value_data, selector_data, among_data, fields_data, not_data, filter_data, filters_data, wanted_data, interval_data, dimension_data, counting_data, of_field_data, fielded_data, aggregator_data, aggregator_text, timeseries_data, group_by_data, intervals_data, kinded_data, query_data}
+use Rattle.druid_query.specs.Asked.{Asked, asked_data}
+use Rattle.druid_query.specs.SubQuery.{SubQuery, segments_data, sub_timeseries_data, sub_group_by_data, kinded_sub_data, subquery_data}
 use Rattle.druid_query.specs.declared.query_type.QueryType.{QueryType}
 use Rattle.druid_query.specs.declared.query_type.QueryType.TheVariants.{Timeseries, GroupBy}
 
@@ -75,3 +77,30 @@ kinded_plain GroupBy q intervals plain =
 
 pub query_plain : (q : Query) → has_float (query_data q) ≡ false
 query_plain q = kinded_plain q.kind q (array (intervals_data q.intervals)) (items_plain interval_data (λ e. refl) q.intervals)
+
+-- ---- subqueries
+
+asked_plain : (a : Asked) → has_float (asked_data a) ≡ false
+unfolding asked_data
+asked_plain a = refl
+
+segments_plain : (asked : List Asked) → has_float (segments_data asked) ≡ false
+unfolding segments_data
+segments_plain asked = ap (λ b. b || false) (items_plain asked_data asked_plain asked)
+
+kinded_sub_plain : (k : QueryType) (q : Query) (segments : Data) → has_float segments ≡ false → has_float (kinded_sub_data k q segments) ≡ false
+unfolding sub_timeseries_data sub_group_by_data
+kinded_sub_plain Timeseries q segments plain =
+    let a = items_plain aggregator_data aggregator_plain q.aggregations in
+    let w = wanted_plain q.filter in
+    let i = items_plain interval_data (λ e. refl) q.intervals in
+    rw (a, w, plain, i) refl
+kinded_sub_plain GroupBy q segments plain =
+    let a = items_plain aggregator_data aggregator_plain q.aggregations in
+    let d = items_plain dimension_data dimension_plain q.dimensions in
+    let w = wanted_plain q.filter in
+    let i = items_plain interval_data (λ e. refl) q.intervals in
+    rw (a, d, w, plain, i) refl
+
+pub subquery_plain : (sub : SubQuery) → has_float (subquery_data sub) ≡ false
+subquery_plain sub = kinded_sub_plain sub.query.kind sub.query (segments_data sub.asked) (segments_plain sub.asked)

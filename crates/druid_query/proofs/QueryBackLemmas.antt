@@ -1,5 +1,5 @@
 -- Queries as JSON: what is written is read back.
-use Rattle.std.proofs.Common.{◌≡◌, ℕ, List, [], ◌∷◌, codes, Option, Some, None, option_and_then, Result, Ok, Err, is_some, if◌then◌else◌, true, false, Bool, refl, sym, ap, ◌∙◌, subst}
+use Rattle.std.proofs.Common.{◌≡◌, ℕ, List, [], ◌∷◌, codes, Option, Some, None, option_and_then, Result, Ok, Err, is_some, Contains, if◌then◌else◌, true, false, Bool, refl, sym, ap, ◌∙◌, subst}
 use Rattle.serde_json.specs.Data.{Data, string, array, Items}
 use Rattle.serde_json.specs.Find.{get, as_null}
 use Rattle.druid_time.specs.Extent.{Extent, IsExtent}
@@ -7,28 +7,31 @@ use Rattle.druid_time.specs.Results.{◌>>=◌}
 use Rattle.druid_time.specs.declared.granularity.Granularity.{Granularity}
 use Rattle.druid_segid.specs.Names.{is_name}
 use Rattle.druid_rows.specs.Filters.{Condition}
-use Rattle.druid_query.specs.Query.{Query, Dimension, Aggregator, is_label, fits_filter, fit_dimensions, fit_aggregators}
+use Rattle.druid_query.specs.Query.{Query, Dimension, Aggregator, are_distinct, result_names, is_label, fits_filter, fit_dimensions, fit_aggregators}
 use Rattle.druid_query.specs.Refusal.{Refusal, bad_field, bad_interval, limit_passed, or_refuse, when}
-use Rattle.druid_query.specs.Filters.{each_of, filter_at}
+use Rattle.druid_shard.specs.Each.{each_of}
+use Rattle.druid_shard.proofs.EachLemmas.{each_back, each_sound}
+use Rattle.druid_query.specs.Filters.{filter_at}
 use Rattle.druid_query.specs.Fields.{kind_at, source_text, interval_texts, interval_of, items_or_none, dimension_at, aggregator_at}
 use Rattle.druid_query.specs.Read.{list_of, fit_intervals, source_at, granularity_at, intervals_at, wanted_filter, filter_or_none, filter_field, listed_dimensions, dimensions_at, aggregations_at, no_more_at, query_at, IsQuery}
 use Rattle.druid_query.specs.Written.{wanted_data, granularity_text, interval_data, dimensions_data, aggregations_data, intervals_data, aggregator_data, timeseries_data, group_by_data, kinded_data, query_data}
 use Rattle.druid_query.specs.declared.query_type.QueryType.{QueryType}
 use Rattle.druid_query.specs.declared.query_type.QueryType.TheVariants.{Timeseries, GroupBy}
-use Rattle.druid_query.proofs.BackLemmas.{Every, each_back, each_sound, filter_back, filter_no_null, granularity_back, interval_back, texts_back, dimensions_back, aggregator_back, Fits}
+use Rattle.druid_query.proofs.BackLemmas.{filter_back, filter_no_null, granularity_back, interval_back, texts_back, dimensions_back, aggregator_back, Fits}
 use Rattle.druid_query.proofs.SoundLemmas.{interval_sound, HasItem, texts_item, IsSomeList, read_some, aggregator_sound}
-use Rattle.druid_query.proofs.PartLemmas.{all_made, query_whole, parts_whole}
+use Rattle.druid_query.proofs.PartLemmas.{query_whole, parts_whole}
+use Rattle.druid_query.proofs.ChainLemmas.{same_ok}
 
 -- ---- what a part that was read tells
 
-when_true : {A : Type 0} (b : Bool) (x y : A) (e : Refusal) → when b x e ≡ Ok y → (b ≡ true) × (x ≡ y)
+pub when_true : {A : Type 0} (b : Bool) (x y : A) (e : Refusal) → when b x e ≡ Ok y → (b ≡ true) × (x ≡ y)
 when_true {A} true x y e h = (refl, same_Ok x y h)
   where
     same_Ok : (p q : A) → ◌≡◌ {A = Result A Refusal} (Ok p) (Ok q) → p ≡ q
     same_Ok p q e' = cc
 when_true false x y e h = absurd (cc)
 
-list_tells : {A : Type 0} (o : Option Items) (shape each : Refusal) (f : Data → Option A) (fits : List A → Bool) (all : List A) → list_of o shape f each fits ≡ Ok all
+pub list_tells : {A : Type 0} (o : Option Items) (shape each : Refusal) (f : Data → Option A) (fits : List A → Bool) (all : List A) → list_of o shape f each fits ≡ Ok all
     → (ds : Items) × (o ≡ Some ds) × (each_of f ds ≡ Some all) × (fits all ≡ true)
 list_tells None shape each f fits all h = absurd (cc)
 list_tells {A} (Some ds) shape each f fits all h = let r = through (each_of f ds) h in (ds, refl, r.0, r.1)
@@ -37,7 +40,7 @@ list_tells {A} (Some ds) shape each f fits all h = let r = through (each_of f ds
     through None h = absurd (cc)
     through (Some xs) h = let w = when_true (fits xs) xs all limit_passed h in (ap Some w.1, ap fits (sym w.1) ∙ w.0)
 
-source_tells : (d : Data) (s : List ℕ) → source_at d ≡ Ok s → is_name s ≡ true
+pub source_tells : (d : Data) (s : List ℕ) → source_at d ≡ Ok s → is_name s ≡ true
 unfolding source_at
 source_tells d s h = through (option_and_then source_text (get (codes "dataSource") d)) h
   where
@@ -52,10 +55,10 @@ source_tells d s h = through (option_and_then source_text (get (codes "dataSourc
     through None h = absurd (cc)
     through (Some x) h = named x (is_name x) (if is_label x then bad_field (codes "dataSource") else limit_passed) refl h
 
-record Timed (all : List Extent) : Type 0 where
-  some : IsSomeList all
-  each : Every IsExtent all
-  few : fit_intervals all ≡ true
+pub record Timed (all : List Extent) : Type 0 where
+  pub some : IsSomeList all
+  pub each : (e : Extent) → Contains all e → IsExtent e
+  pub few : fit_intervals all ≡ true
 
 intervals_tell : (d : Data) (all : List Extent) → intervals_at d ≡ Ok all → Timed all
 unfolding intervals_at
@@ -94,8 +97,8 @@ filter_tells d f h = at (get (codes "filter") d) h
     at None h = subst Passes (same None f h) tt
     at (Some e) h = nullable e (is_some (as_null e)) h
 
-record Counted (all : List Aggregator) : Type 0 where
-  each : Every (λ a. Fits a.kind a.field) all
+pub record Counted (all : List Aggregator) : Type 0 where
+  each : (a : Aggregator) → Contains all a → Fits a.kind a.field
   few : fit_aggregators all ≡ true
 
 aggregations_tell : (d : Data) (all : List Aggregator) → aggregations_at d ≡ Ok all → Counted all
@@ -111,7 +114,7 @@ dimensions_tell d all h =
 
 -- ---- what is written is read
 
-list_read : {A : Type 0} (ds : Items) (shape each : Refusal) (f : Data → Option A) (fits : List A → Bool) (all : List A) → each_of f ds ≡ Some all → fits all ≡ true → list_of (Some ds) shape f each fits ≡ Ok all
+pub list_read : {A : Type 0} (ds : Items) (shape each : Refusal) (f : Data → Option A) (fits : List A → Bool) (all : List A) → each_of f ds ≡ Some all → fits all ≡ true → list_of (Some ds) shape f each fits ≡ Ok all
 list_read ds shape each f fits all read good =
     ap (λ o. or_refuse o each >>= λ xs. when (fits xs) xs limit_passed) read ∙ ap (λ b. when b all limit_passed) good
 
@@ -133,11 +136,7 @@ unfolding intervals_at
 intervals_read d all h t =
     ap (λ o. list_of (option_and_then interval_texts o) (bad_field (codes "intervals")) interval_of bad_interval fit_intervals) h
     ∙ ap (λ o. list_of o (bad_field (codes "intervals")) interval_of bad_interval fit_intervals) (texts_read all t.some)
-    ∙ list_read (intervals_data all) (bad_field (codes "intervals")) bad_interval interval_of fit_intervals all (each_back interval_data interval_of all (valid all t.each)) t.few
-  where
-    valid : (es : List Extent) → Every IsExtent es → Every (λ e. interval_of (interval_data e) ≡ Some e) es
-    valid [] each = tt
-    valid (e ∷ es) each = (interval_back e each.0, valid es each.1)
+    ∙ list_read (intervals_data all) (bad_field (codes "intervals")) bad_interval interval_of fit_intervals all (each_back interval_data interval_of all (λ e there. interval_back e (t.each e there))) t.few
 
 filter_read : (d : Data) (f : Option Condition) → get (codes "filter") d ≡ Some (wanted_data f) → Passes f → filter_field d ≡ Ok f
 unfolding filter_field wanted_filter
@@ -151,11 +150,7 @@ aggregations_read : (d : Data) (all : List Aggregator) → get (codes "aggregati
 unfolding aggregations_at
 aggregations_read d all h t =
     ap (λ o. list_of (items_or_none o) (bad_field (codes "aggregations")) aggregator_at (bad_field (codes "aggregations")) fit_aggregators) h
-    ∙ list_read (aggregations_data all) (bad_field (codes "aggregations")) (bad_field (codes "aggregations")) aggregator_at fit_aggregators all (each_back aggregator_data aggregator_at all (valid all t.each)) t.few
-  where
-    valid : (xs : List Aggregator) → Every (λ a. Fits a.kind a.field) xs → Every (λ a. aggregator_at (aggregator_data a) ≡ Some a) xs
-    valid [] each = tt
-    valid (x ∷ xs) each = (aggregator_back x each.0, valid xs each.1)
+    ∙ list_read (aggregations_data all) (bad_field (codes "aggregations")) (bad_field (codes "aggregations")) aggregator_at fit_aggregators all (each_back aggregator_data aggregator_at all (λ a there. aggregator_back a (t.each a there))) t.few
 
 dimensions_read : (d : Data) (all : List Dimension) → get (codes "dimensions") d ≡ Some (array (dimensions_data all)) → fit_dimensions all ≡ true → listed_dimensions d ≡ Ok all
 unfolding listed_dimensions
@@ -163,51 +158,100 @@ dimensions_read d all h good =
     ap (λ o. list_of (items_or_none o) (bad_field (codes "dimensions")) dimension_at (bad_field (codes "dimensions")) fit_dimensions) h
     ∙ list_read (dimensions_data all) (bad_field (codes "dimensions")) (bad_field (codes "dimensions")) dimension_at fit_dimensions all (dimensions_back all) good
 
+pub no_both : Timeseries ≡ GroupBy → ⊥
+no_both h = cc
+
 -- ---- the whole
 
--- the keys of the written JSON
-record Keys (d : Data) (q : Query) : Type 0 where
-  kind : Some q.kind ≡ kind_at d
-  source : get (codes "dataSource") d ≡ Some (string q.source)
-  granularity : get (codes "granularity") d ≡ Some (string (granularity_text q.granularity))
-  intervals : get (codes "intervals") d ≡ Some (array (intervals_data q.intervals))
-  filter : get (codes "filter") d ≡ Some (wanted_data q.filter)
-  aggregations : get (codes "aggregations") d ≡ Some (array (aggregations_data q.aggregations))
-  more : no_more_at d ≡ Ok tt
+-- a `timeseries` has no dimensions
+abbrev pub FitKind : QueryType → List Dimension → Type 0
+FitKind Timeseries all = all ≡ []
+FitKind GroupBy all = fit_dimensions all ≡ true
 
-timeseries_keys : (q : Query) → q.kind ≡ Timeseries → Keys (kinded_data Timeseries q (array (intervals_data q.intervals))) q
+kind_tells : (k : QueryType) (d : Data) (all : List Dimension) → dimensions_at k d ≡ Ok all → FitKind k all
+kind_tells Timeseries d all h = sym (same_ok [] all h)
+kind_tells GroupBy d all h = dimensions_tell d all h
+
+kind_read : (k : QueryType) (d : Data) (all : List Dimension) → (k ≡ GroupBy → get (codes "dimensions") d ≡ Some (array (dimensions_data all))) → FitKind k all → dimensions_at k d ≡ Ok all
+kind_read Timeseries d all h good = ap Ok (sym good)
+kind_read GroupBy d all h good = dimensions_read d all (h refl) good
+
+-- each part of a query is within its limits
+pub record IsSound (q : Query) : Type 0 where
+  pub source : is_name q.source ≡ true
+  pub times : Timed q.intervals
+  pub filter : Passes q.filter
+  pub dimensions : FitKind q.kind q.dimensions
+  pub aggregations : Counted q.aggregations
+  pub distinct : are_distinct (result_names q.dimensions q.aggregations) ≡ true
+
+pub sound_of : (d : Data) (q : Query) → source_at d ≡ Ok q.source → Timed q.intervals → filter_field d ≡ Ok q.filter → dimensions_at q.kind d ≡ Ok q.dimensions → aggregations_at d ≡ Ok q.aggregations
+    → are_distinct (result_names q.dimensions q.aggregations) ≡ true → IsSound q
+sound_of d q a t h j l distinct = record {
+  source = source_tells d q.source a;
+  times = t;
+  filter = filter_tells d q.filter h;
+  dimensions = kind_tells q.kind d q.dimensions j;
+  aggregations = aggregations_tell d q.aggregations l;
+  distinct = distinct;
+}
+
+pub query_sound : (q : Query) → IsQuery q → IsSound q
+query_sound q (d, read) =
+    let p = parts_whole d q read in
+    sound_of d q p.source (intervals_tell d q.intervals p.intervals) p.filter p.dimensions p.aggregations p.distinct
+
+-- the keys of the written JSON, but for the intervals
+pub record Keys (d : Data) (q : Query) : Type 0 where
+  pub kind : Some q.kind ≡ kind_at d
+  pub source : get (codes "dataSource") d ≡ Some (string q.source)
+  pub granularity : get (codes "granularity") d ≡ Some (string (granularity_text q.granularity))
+  pub filter : get (codes "filter") d ≡ Some (wanted_data q.filter)
+  pub dimensions : q.kind ≡ GroupBy → get (codes "dimensions") d ≡ Some (array (dimensions_data q.dimensions))
+  pub aggregations : get (codes "aggregations") d ≡ Some (array (aggregations_data q.aggregations))
+  pub more : no_more_at d ≡ Ok tt
+
+-- the parts that are read of them
+pub record Back (d : Data) (q : Query) : Type 0 where
+  pub source : source_at d ≡ Ok q.source
+  pub granularity : granularity_at d ≡ Ok q.granularity
+  pub filter : filter_field d ≡ Ok q.filter
+  pub dimensions : dimensions_at q.kind d ≡ Ok q.dimensions
+  pub aggregations : aggregations_at d ≡ Ok q.aggregations
+
+pub keys_back : (d : Data) (q : Query) → Keys d q → IsSound q → Back d q
+keys_back d q keys sound = record {
+  source = source_read d q.source keys.source sound.source;
+  granularity = granularity_read d q.granularity keys.granularity;
+  filter = filter_read d q.filter keys.filter sound.filter;
+  dimensions = kind_read q.kind d q.dimensions keys.dimensions sound.dimensions;
+  aggregations = aggregations_read d q.aggregations keys.aggregations sound.aggregations;
+}
+
+timeseries_keys : (q : Query) (intervals : Data) → q.kind ≡ Timeseries → Keys (kinded_data Timeseries q intervals) q
 unfolding timeseries_data kind_at no_more_at
-timeseries_keys q is = record { kind = ap Some is; source = refl; granularity = refl; intervals = refl; filter = refl; aggregations = refl; more = refl }
+timeseries_keys q intervals is = record { kind = ap Some is; source = refl; granularity = refl; filter = refl; dimensions = λ other. absurd (no_both (sym is ∙ other)); aggregations = refl; more = refl }
 
-group_by_keys : (q : Query) → q.kind ≡ GroupBy → Keys (kinded_data GroupBy q (array (intervals_data q.intervals))) q
+group_by_keys : (q : Query) (intervals : Data) → q.kind ≡ GroupBy → Keys (kinded_data GroupBy q intervals) q
 unfolding group_by_data kind_at no_more_at
-group_by_keys q is = record { kind = ap Some is; source = refl; granularity = refl; intervals = refl; filter = refl; aggregations = refl; more = refl }
+group_by_keys q intervals is = record { kind = ap Some is; source = refl; granularity = refl; filter = refl; dimensions = λ _. refl; aggregations = refl; more = refl }
 
-group_by_dimensions : (q : Query) → get (codes "dimensions") (kinded_data GroupBy q (array (intervals_data q.intervals))) ≡ Some (array (dimensions_data q.dimensions))
-unfolding group_by_data
-group_by_dimensions q = refl
+query_keys : (k : QueryType) (q : Query) → q.kind ≡ k → Keys (kinded_data k q (array (intervals_data q.intervals))) q
+query_keys Timeseries q is = timeseries_keys q (array (intervals_data q.intervals)) is
+query_keys GroupBy q is = group_by_keys q (array (intervals_data q.intervals)) is
 
-back_by : (d e : Data) (q : Query) → query_at e ≡ Ok q → Keys d q → dimensions_at q.kind d ≡ Ok q.dimensions → query_at d ≡ Ok q
-back_by d e q read keys dimensions =
-    let parts = parts_whole e q read in
-    query_whole d q
-    (all_made d q.kind q.source q.granularity q.intervals q.filter q.dimensions q.aggregations keys.kind
-    (source_read d q.source keys.source (source_tells e q.source parts.source))
-    (granularity_read d q.granularity keys.granularity)
-    (intervals_read d q.intervals keys.intervals (intervals_tell e q.intervals parts.intervals))
-    (filter_read d q.filter keys.filter (filter_tells e q.filter parts.filter))
-    dimensions
-    (aggregations_read d q.aggregations keys.aggregations (aggregations_tell e q.aggregations parts.aggregations)))
-    keys.more parts.distinct
+intervals_there : (k : QueryType) (q : Query) (intervals : Data) → get (codes "intervals") (kinded_data k q intervals) ≡ Some intervals
+unfolding timeseries_data group_by_data
+intervals_there Timeseries q intervals = refl
+intervals_there GroupBy q intervals = refl
 
-by_kind : (q : Query) (e : Data) (k : QueryType) → q.kind ≡ k → query_at e ≡ Ok q → dimensions_at k e ≡ Ok q.dimensions → query_at (kinded_data k q (array (intervals_data q.intervals))) ≡ Ok q
-by_kind q e Timeseries is read dimensions =
-    let d = kinded_data Timeseries q (array (intervals_data q.intervals)) in
-    back_by d e q read (timeseries_keys q is) (ap (λ k. dimensions_at k d) is ∙ dimensions)
-by_kind q e GroupBy is read dimensions =
-    let d = kinded_data GroupBy q (array (intervals_data q.intervals)) in
-    back_by d e q read (group_by_keys q is)
-    (ap (λ k. dimensions_at k d) is ∙ dimensions_read d q.dimensions (group_by_dimensions q) (dimensions_tell e q.dimensions dimensions))
+pub sound_back : (q : Query) → IsSound q → query_at (query_data q) ≡ Ok q
+sound_back q sound =
+    let d = query_data q in
+    let keys = query_keys q.kind q refl in
+    let back = keys_back d q keys sound in
+    query_whole d q keys.kind back.source back.granularity (intervals_read d q.intervals (intervals_there q.kind q (array (intervals_data q.intervals))) sound.times) back.filter back.dimensions back.aggregations
+    keys.more sound.distinct
 
 pub query_back : (q : Query) → IsQuery q → query_at (query_data q) ≡ Ok q
-query_back q (e, read) = by_kind q e q.kind refl read (parts_whole e q read).dimensions
+query_back q is = sound_back q (query_sound q is)

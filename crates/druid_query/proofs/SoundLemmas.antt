@@ -9,7 +9,7 @@ use Rattle.druid_time.specs.Texts.{extent_at}
 use Rattle.druid_time.specs.declared.fault.TimeFault.{TimeFault}
 use Rattle.druid_shard.specs.Json.{text_at, result_ok}
 use Rattle.druid_query.specs.Query.{Aggregator}
-use Rattle.druid_query.specs.Filters.{each_of}
+use Rattle.druid_shard.specs.Each.{each_of}
 use Rattle.druid_query.specs.Fields.{interval_of, texts_among, listed_at, interval_texts, aggregator_named, field_for, aggregator_at}
 use Rattle.druid_query.specs.declared.aggregator.AggregatorKind.{AggregatorKind}
 use Rattle.druid_query.specs.declared.aggregator.AggregatorKind.TheVariants.{Count, LongSum, LongMin, LongMax}
@@ -18,7 +18,7 @@ use Rattle.druid_query.proofs.ExtentLemmas.{extent_valid}
 
 -- ---- intervals
 
-text_sound : (o : Option (List ℕ)) (e : Extent) → (o >>= λ text. result_ok (extent_at text)) ≡ Some e → IsExtent e
+pub text_sound : (o : Option (List ℕ)) (e : Extent) → (o >>= λ text. result_ok (extent_at text)) ≡ Some e → IsExtent e
 text_sound None e h = absurd (cc)
 text_sound (Some text) e h = through (extent_at text) refl h
   where
@@ -41,7 +41,7 @@ among_item (item d ds) es h = through (is_some (each_of as_str (item d ds))) h
     through true h = subst HasItem (same_Some (item d ds) es h) tt
     through false h = absurd (cc)
 
-bound_item : (o : Option Items) (es : Items) → (o >>= texts_among) ≡ Some es → HasItem es
+pub bound_item : (o : Option Items) (es : Items) → (o >>= texts_among) ≡ Some es → HasItem es
 bound_item None es h = absurd (cc)
 bound_item (Some ds) es h = among_item ds es h
 

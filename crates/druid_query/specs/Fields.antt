@@ -10,7 +10,7 @@ use Rattle.druid_time.specs.declared.granularity.Granularity.{Granularity}
 use Rattle.druid_time.specs.declared.granularity.Granularity.TheVariants.{All, Second, Minute, Hour, Day}
 use Rattle.druid_shard.specs.Json.{text_at, result_ok}
 use Rattle.druid_query.specs.Query.{Dimension, Aggregator}
-use Rattle.druid_query.specs.Filters.{each_of}
+use Rattle.druid_shard.specs.Each.{each_of}
 use Rattle.druid_query.specs.declared.aggregator.AggregatorKind.{AggregatorKind}
 use Rattle.druid_query.specs.declared.aggregator.AggregatorKind.TheVariants.{Count, LongSum, LongMin, LongMax}
 use Rattle.druid_query.specs.declared.query_type.QueryType.{QueryType}
@@ -62,10 +62,14 @@ granularity_of d = if is_some (as_str d) then (as_str d >>= granularity_named) e
 
 -- ---- `intervals`
 
+-- a list with a member, where each reads
+abbrev pub each_among : {A : Type 0} → (Data → Option A) → Items → Option Items
+each_among f no_items = None
+each_among f (item d ds) = if is_some (each_of f (item d ds)) then Some (item d ds) else None
+
 -- a list with a member, and each is a text
 abbrev pub texts_among : Items → Option Items
-texts_among no_items = None
-texts_among (item d ds) = if is_some (each_of as_str (item d ds)) then Some (item d ds) else None
+texts_among items = each_among as_str items
 
 -- the list of an object of the type `intervals`
 abbrev pub listed_at : Data → Option Items
@@ -78,6 +82,10 @@ unfoldable pub interval_texts : Data → Option Items
 interval_texts d =
     if is_some (as_str d) then Some (item d no_items)
     else (if is_some (as_array d) then (as_array d >>= texts_among) else (listed_at d >>= texts_among))
+
+-- the texts of a list alone
+unfoldable pub listed_texts : Data → Option Items
+listed_texts d = as_array d >>= texts_among
 
 -- the interval that a text names
 abbrev pub interval_of : Data → Option Extent

@@ -1,20 +1,13 @@
 -- Filters, read out of JSON.
-use Rattle.std.specs.Prelude.{ℕ, List, [], ◌∷◌, codes, Option, Some, None, is_some, option_map, option_and_then, if◌then◌else◌}
+use Rattle.std.specs.Prelude.{ℕ, List, codes, Option, Some, None, is_some, option_map, option_and_then, if◌then◌else◌}
 use Rattle.std.specs.Ordering.{nat_cmp, match_ordering}
 use Rattle.std.specs.Cmp.Lexicographic.{slice_cmp}
 use Rattle.std.specs.Str.{bytes_eq}
 use Rattle.serde_json.specs.Data.{Data, null, boolean, number, string, array, object, Items, no_items, item, Members, no_members, member}
 use Rattle.serde_json.specs.Find.{get_member, as_null, as_str, as_array}
 use Rattle.druid_time.specs.Options.{◌>>=◌}
+use Rattle.druid_shard.specs.Each.{each_of}
 use Rattle.druid_rows.specs.Filters.{Condition, has, has_among, all_of, any_of, is_not, Conditions, no_conditions, condition}
-
--- what each item reads as, in order, where each reads
-abbrev pub each_of : {A : Type 0} → (Data → Option A) → Items → Option (List A)
-each_of f no_items = Some []
-each_of f (item d ds) = do
-  x ← f d
-  xs ← each_of f ds
-  Some (x ∷ xs)
 
 -- a value of a dimension: a text or null
 unfoldable pub value_at : Data → Option (Option (List ℕ))

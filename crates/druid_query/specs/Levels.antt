@@ -10,7 +10,8 @@ use Rattle.druid_shard.specs.Json.{text_at}
 use Rattle.druid_rows.specs.Filters.{Condition, has, has_among, all_of, any_of, is_not, Conditions, no_conditions, condition}
 use Rattle.druid_query.specs.Query.{is_label, is_short}
 use Rattle.druid_query.specs.declared.limits.TheConstants.{MAX_VALUES}
-use Rattle.druid_query.specs.Filters.{each_of, value_at, filter_at, each_filter}
+use Rattle.druid_shard.specs.Each.{each_of}
+use Rattle.druid_query.specs.Filters.{value_at, filter_at, each_filter}
 use Rattle.druid_query.specs.declared.filters.Level.{Level}
 use Rattle.druid_query.specs.declared.filters.Level.TheVariants as lent
 

@@ -29,6 +29,18 @@ pub record Query : Type 0 where
   pub dimensions : List Dimension
   pub aggregations : List Aggregator
 
+-- the query of these parts
+abbrev pub query_of : QueryType → List ℕ → Granularity → List Extent → Option Condition → List Dimension → List Aggregator → Query
+query_of kind source granularity intervals filter dimensions aggregations = record {
+  kind = kind;
+  source = source;
+  granularity = granularity;
+  intervals = intervals;
+  filter = filter;
+  dimensions = dimensions;
+  aggregations = aggregations;
+}
+
 -- ---- limits
 
 -- a name in a query: 1 to 100 bytes

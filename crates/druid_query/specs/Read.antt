@@ -8,9 +8,10 @@ use Rattle.druid_time.specs.Results.{◌>>=◌}
 use Rattle.druid_time.specs.declared.granularity.Granularity.{Granularity}
 use Rattle.druid_segid.specs.Names.{is_name}
 use Rattle.druid_rows.specs.Filters.{Condition}
-use Rattle.druid_query.specs.Query.{Query, Dimension, Aggregator, is_label, fits_filter, fit_dimensions, fit_aggregators, result_names, are_distinct}
+use Rattle.druid_query.specs.Query.{Query, Dimension, Aggregator, query_of, is_label, fits_filter, fit_dimensions, fit_aggregators, result_names, are_distinct}
 use Rattle.druid_query.specs.Refusal.{Refusal, unknown_type, bad_field, bad_interval, limit_passed, doubled_name, or_refuse, when, allow, Gives}
-use Rattle.druid_query.specs.Filters.{each_of, filter_at}
+use Rattle.druid_shard.specs.Each.{each_of}
+use Rattle.druid_query.specs.Filters.{filter_at}
 use Rattle.druid_query.specs.Fields.{kind_at, source_text, granularity_of, interval_texts, interval_of, items_or_none, dimension_at, aggregator_at, is_off, is_empty_or_absent}
 use Rattle.druid_query.specs.declared.fault.QueryFault.{QueryFault}
 use Rattle.druid_query.specs.declared.fault.QueryFault.TheVariants as faults
@@ -84,15 +85,7 @@ parts_at d = do
   filter ← filter_field d
   dimensions ← dimensions_at kind d
   aggregations ← aggregations_at d
-  Ok (record {
-    kind = kind;
-    source = source;
-    granularity = granularity;
-    intervals = intervals;
-    filter = filter;
-    dimensions = dimensions;
-    aggregations = aggregations;
-  })
+  Ok (query_of kind source granularity intervals filter dimensions aggregations)
 
 -- what queries of other kinds have, and these have not
 unfoldable pub no_more_at : Data → Result ⊤ Refusal
@@ -121,7 +114,10 @@ abbrev pub ReadsAs : List ℕ → Data → Type 0
 ReadsAs bytes d = IsUtf8 bytes × (read bytes ≡ Some d)
 
 -- the same out of bytes, which may be no JSON; reading JSON may want memory at any byte
+abbrev pub IsReadBy : {A : Type 0} → (Data → Result A Refusal) → List ℕ → Result A QueryFault → Type 0
+IsReadBy at bytes (Err faults.NotJson) = (d : Data) → ReadsAs bytes d → ⊥
+IsReadBy at bytes (Err faults.Memory) = ⊤
+IsReadBy at bytes answer = (d : Data) × ReadsAs bytes d × Gives answer (at d)
+
 abbrev pub IsReadOf : List ℕ → Result Query QueryFault → Type 0
-IsReadOf bytes (Err faults.NotJson) = (d : Data) → ReadsAs bytes d → ⊥
-IsReadOf bytes (Err faults.Memory) = ⊤
-IsReadOf bytes answer = (d : Data) × ReadsAs bytes d × Gives answer (query_at d)
+IsReadOf bytes answer = IsReadBy query_at bytes answer

@@ -44,3 +44,17 @@ Gives (Err e) read = Tells e read
 abbrev pub Checks : {A : Type 0} → Result ⊤ QueryFault → Result A Refusal → Type 0
 Checks (Ok _) read = IsOk read
 Checks (Err e) read = Tells e read
+
+-- the same where a search takes memory on the way: then want of memory says only that nothing before the search is to be
+-- refused
+abbrev pub TellsAfter : {A B : Type 0} → Result B Refusal → QueryFault → Result A Refusal → Type 0
+TellsAfter before faults.Memory read = IsOk before
+TellsAfter before fault read = Tells fault read
+
+abbrev pub GivesAfter : {A B : Type 0} → Result B Refusal → Result A QueryFault → Result A Refusal → Type 0
+GivesAfter before (Ok x) read = read ≡ Ok x
+GivesAfter before (Err e) read = TellsAfter before e read
+
+abbrev pub ChecksAfter : {A B : Type 0} → Result B Refusal → Result ⊤ QueryFault → Result A Refusal → Type 0
+ChecksAfter before (Ok _) read = IsOk read
+ChecksAfter before (Err e) read = TellsAfter before e read

@@ -5,7 +5,7 @@ ghost use Rattle.serde_json.specs.View.{view, items_view};
 ghost use Rattle.serde_json.specs.Find.{get};
 ghost use Rattle.druid_query.specs.Query.{fits_dimension, fit_dimensions, fits_aggregator, fit_aggregators};
 ghost use Rattle.druid_query.specs.Refusal.{Checks};
-ghost use Rattle.druid_query.specs.Filters.{each_of};
+ghost use Rattle.druid_shard.specs.Each.{each_of};
 ghost use Rattle.druid_query.specs.Levels.{holds_in};
 ghost use Rattle.druid_query.specs.Fields.{source_text, granularity_of, interval_texts, interval_of, dimension_at, aggregator_at};
 ghost use Rattle.druid_query.specs.Read.{source_at, intervals_at, fit_intervals, wanted_filter, filter_field, listed_dimensions, dimensions_at, aggregations_at, no_more_at, granularity_at, parts_at, query_at};
@@ -57,7 +57,7 @@ pub(crate) fn check_source(value: &Value) -> Result<(), QueryFault>
     Err(QueryFault::LimitPassed)
 }
 
-fn are_intervals(values: &[Value]) -> bool
+pub(crate) fn are_intervals(values: &[Value]) -> bool
     ensures { result ≡ list_all (λ value. is_some (interval_of (view value))) values.now }
 {
     values.iter().all(|value| interval_of(value).is_some())
@@ -250,7 +250,7 @@ pub(crate) fn check_no_more(value: &Value) -> Result<(), QueryFault>
 }
 
 #[tactic(auto, unfolding(crate::specs::Read::granularity_at))]
-fn check_granularity(value: &Value) -> Result<(), QueryFault>
+pub(crate) fn check_granularity(value: &Value) -> Result<(), QueryFault>
     ensures read { Checks result (granularity_at (view value.now)) }
     ensures memory { result ≢ Err QueryFault.Memory }
 {

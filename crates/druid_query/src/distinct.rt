@@ -1,12 +1,13 @@
 //! Whether the names in the result are distinct, judged without memory.
-ghost use Rattle.std.specs.Prelude.{◌≡◌, ℕ, ◌+◌, ◌^◌, ◌<◌, [], List, Ok, length, map, drop, slice_index_or};
+ghost use Rattle.std.specs.Prelude.{◌≡◌, ℕ, ◌+◌, ◌^◌, ◌<◌, [], List, Ok, Some, length, map, drop, slice_index_or};
 ghost use Rattle.std.specs.List.{list_any};
 ghost use Rattle.std.specs.Str.{bytes_eq};
 ghost use Rattle.serde_json.specs.View.{view};
-ghost use Rattle.druid_query.specs.Query.{Query, Dimension, Aggregator, are_distinct, result_names};
-ghost use Rattle.druid_query.specs.Fields.{dimension_at, aggregator_at};
+ghost use Rattle.druid_query.specs.Query.{Dimension, Aggregator, are_distinct, result_names};
+ghost use Rattle.druid_query.specs.Fields.{kind_at, dimension_at, aggregator_at};
 ghost use Rattle.druid_query.specs.Lent.{output_or, name_or, outputs_in, names_in, all_names};
-ghost use Rattle.druid_query.specs.Read.{listed_dimensions, dimensions_at, aggregations_at, parts_at};
+ghost use Rattle.druid_query.specs.declared.query_type.QueryType.{QueryType};
+ghost use Rattle.druid_query.specs.Read.{listed_dimensions, dimensions_at, aggregations_at};
 
 use crate::QueryType;
 use crate::fields::{aggregator_of, dimension_of, kind_of, list_field};
@@ -102,10 +103,11 @@ fn aggregator_items(value: &Value) -> &[Value]
     }
 }
 
-// Whether the names in the result are distinct, where the parts of the query read.
+// Whether the names in the result are distinct, where the dimensions and the aggregators read.
 pub(crate) fn has_distinct_names(value: &Value) -> bool
-    ensures { (query : Query) → parts_at (view value.now) ≡ Ok query
-        → result ≡ are_distinct (result_names query.dimensions query.aggregations) }
+    ensures { (kind : QueryType) (dimensions : List Dimension) (aggregations : List Aggregator) → Some kind ≡ kind_at (view value.now)
+        → dimensions_at kind (view value.now) ≡ Ok dimensions → aggregations_at (view value.now) ≡ Ok aggregations
+        → result ≡ are_distinct (result_names dimensions aggregations) }
 {
     let Some(kind) = kind_of(value) else {
         return true;

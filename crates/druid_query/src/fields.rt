@@ -3,8 +3,9 @@ ghost use Rattle.std.specs.Prelude.{◌≡◌, option_map, is_some};
 ghost use Rattle.std.specs.List.{list_all};
 ghost use Rattle.serde_json.specs.View.{view, items_view};
 ghost use Rattle.serde_json.specs.Find.{get, as_str};
-ghost use Rattle.druid_query.specs.Filters.{each_of, value_at};
-ghost use Rattle.druid_query.specs.Fields.{kind_at, typed_text, source_text, granularity_named, all_at, granularity_of, texts_among, listed_at, interval_texts, interval_of, items_or_none, text_or, default_dimension, dimension_at, aggregator_named, field_for, aggregator_at, is_empty, is_empty_or_absent, is_null_or_false, is_off};
+ghost use Rattle.druid_shard.specs.Each.{each_of};
+ghost use Rattle.druid_query.specs.Filters.{value_at};
+ghost use Rattle.druid_query.specs.Fields.{kind_at, typed_text, source_text, granularity_named, all_at, granularity_of, texts_among, listed_at, interval_texts, listed_texts, interval_of, items_or_none, text_or, default_dimension, dimension_at, aggregator_named, field_for, aggregator_at, is_empty, is_empty_or_absent, is_null_or_false, is_off};
 
 use crate::aggregator::LentAggregator;
 use crate::dimension::LentDimension;
@@ -111,7 +112,7 @@ fn are_texts(values: &[Value]) -> bool
 }
 
 // The values, where there are some and each is a text.
-#[tactic(auto, using(crate::proofs::EachLemmas::texts_there, crate::proofs::EachLemmas::no_texts, crate::proofs::EachLemmas::not_texts))]
+#[tactic(auto, using(crate::proofs::EmptyLemmas::texts_there, crate::proofs::EmptyLemmas::no_texts, crate::proofs::EmptyLemmas::not_texts))]
 fn texts_among(values: &[Value]) -> Option<&[Value]>
     ensures { option_map (λ vs. items_view vs.now) result ≡ texts_among (items_view values.now) }
 {
@@ -147,6 +148,15 @@ pub(crate) fn interval_texts(value: &Value) -> Option<&[Value]>
         return texts_among(values.as_slice());
     }
     texts_among(listed_of(value)?)
+}
+
+// The texts of a list alone.
+#[tactic(auto, unfolding(crate::specs::Fields::listed_texts))]
+pub(crate) fn listed_texts(value: &Value) -> Option<&[Value]>
+    ensures { option_map (λ vs. items_view vs.now) result ≡ listed_texts (view value.now) }
+{
+    let values = value.as_array()?;
+    texts_among(values.as_slice())
 }
 
 pub(crate) fn interval_of(value: &Value) -> Option<Interval>
@@ -224,7 +234,7 @@ pub(crate) fn aggregator_of(value: &Value) -> Option<LentAggregator<'_>>
     Some(LentAggregator::new(name, kind, field))
 }
 
-#[tactic(auto, using(crate::proofs::EachLemmas::empty_null, crate::proofs::EachLemmas::empty_array, crate::proofs::EachLemmas::empty_object, crate::proofs::EachLemmas::not_empty))]
+#[tactic(auto, using(crate::proofs::EmptyLemmas::empty_null, crate::proofs::EmptyLemmas::empty_array, crate::proofs::EmptyLemmas::empty_object, crate::proofs::EmptyLemmas::not_empty))]
 fn is_empty(value: &Value) -> bool
     ensures { result ≡ is_empty (view value.now) }
 {

@@ -1,10 +1,11 @@
 //! Filters, read out of JSON.
-ghost use Rattle.std.specs.Prelude.{◌&&◌, length, nat_le, string_bytes, Ok, ◌≡◌, ◌-◌, ◌≤◌, Some, IfOk, IfSome, SomeIff, option_map, option_and_then, is_some, IsTrue};
+ghost use Rattle.std.specs.Prelude.{◌&&◌, length, nat_le, string_bytes, Ok, ◌≡◌, ◌-◌, ◌≤◌, Some, IfOk, IsSome, IfSome, SomeIff, option_map, option_and_then, is_some, IsTrue};
 ghost use Rattle.std.specs.List.{list_all};
 ghost use Rattle.serde_json.specs.Data.{depth};
 ghost use Rattle.serde_json.specs.Find.{get, as_array};
 ghost use Rattle.serde_json.specs.View.{view, items_view};
-ghost use Rattle.druid_query.specs.Filters.{each_of, value_at, filter_at, each_filter};
+ghost use Rattle.druid_shard.specs.Each.{each_of};
+ghost use Rattle.druid_query.specs.Filters.{value_at, filter_at, each_filter};
 ghost use Rattle.druid_query.specs.Levels.{selector_layer, among_layer, fields_at, layer_named, layer_at, layer_lent, leaf, left_after, all_left, holds_in, fits_among};
 ghost use Rattle.druid_query.specs.Query.{is_label, is_short, fits_filter};
 ghost use Rattle.druid_rows.specs.Filters.{says, each_says, has, has_among};
@@ -231,12 +232,13 @@ fn selector_of(alloc: Global, dimension: &str, wanted: Option<&str>) -> Result<F
 
 // The values, each of which is a text or null.
 fn values_of(alloc: Global, values: &[Value]) -> Result<Vec<Option<String>>, AllocError>
+    requires { IsSome (each_of value_at (items_view values.now)) }
     ensures { IfOk result (λ wanted. each_of value_at (items_view values.now) ≡ Some (nullable_texts_of wanted.items)) }
 {
     let mut wanted = Vec::with_capacity(alloc, values.len())?;
     for value in values {
         let Some(text) = value_of(value) else {
-            return Err(AllocError);
+            unreachable!()
         };
         wanted.push(copy_of(alloc, text)?)?;
     }
@@ -244,6 +246,7 @@ fn values_of(alloc: Global, values: &[Value]) -> Result<Vec<Option<String>>, All
 }
 
 fn among_of(alloc: Global, dimension: &str, values: &[Value]) -> Result<Filter, AllocError>
+    requires { IsSome (each_of value_at (items_view values.now)) }
     ensures { IfOk result (λ f. option_map (has_among dimension.now) (each_of value_at (items_view values.now)) ≡ Some (says f)) }
 {
     let dimension = String::from_str(alloc, dimension)?;
@@ -254,10 +257,11 @@ fn among_of(alloc: Global, dimension: &str, values: &[Value]) -> Result<Filter, 
 // The filter that a value is. It was judged before to be one.
 #[cycle(filter_of)]
 pub(crate) fn filter_of(alloc: Global, value: &Value) -> Result<Filter, AllocError>
+    requires { IsSome (filter_at (view value.now)) }
     ensures { IfOk result (λ f. filter_at (view value.now) ≡ Some (says f)) }
 {
     match level_of(value) {
-        None => Err(AllocError),
+        None => unreachable!(),
         Some(Level::Selector(dimension, wanted)) => selector_of(alloc, dimension, wanted),
         Some(Level::Among(dimension, values)) => among_of(alloc, dimension, values),
         Some(Level::All(fields)) => Ok(Filter::All(filters_of(alloc, fields)?)),
@@ -268,6 +272,7 @@ pub(crate) fn filter_of(alloc: Global, value: &Value) -> Result<Filter, AllocErr
 
 #[cycle(filter_of)]
 fn filters_of(alloc: Global, values: &[Value]) -> Result<Vec<Filter>, AllocError>
+    requires { IsSome (each_filter (items_view values.now)) }
     ensures { IfOk result (λ fs. each_filter (items_view values.now) ≡ Some (each_says fs.items)) }
 {
     let mut filters = Vec::with_capacity(alloc, values.len())?;

@@ -1,5 +1,10 @@
 //! Facts that hold of all queries.
-ghost use Rattle.std.specs.Prelude.{◌≡◌, Ok, Some};
+ghost use Rattle.std.specs.Prelude.{◌≡◌, ◌↔◌, List, Ok, Some, IsTrue};
+ghost use Rattle.serde_json.specs.Data.{Data};
+ghost use Rattle.druid_time.specs.Extent.{IsExtent};
+ghost use Rattle.druid_segid.specs.Identifier.{IsIdentifier};
+ghost use Rattle.druid_query.specs.Asked.{Asked, LiesInside, lies_inside, StandApart, stand_apart, asked_data, asked_at};
+ghost use Rattle.druid_query.specs.SubQuery.{SubQuery, IsAsked, subquery_data, subquery_at};
 ghost use Rattle.druid_query.specs.Query.{Query};
 ghost use Rattle.druid_query.specs.Read.{query_at, IsQuery};
 ghost use Rattle.druid_rows.specs.Filters.{Condition};
@@ -14,4 +19,28 @@ pub fn filters_are_read_back()
 /// The JSON of a query is read back as that query.
 pub fn queries_are_read_back()
     ensures { (q : Query) → IsQuery q → query_at (query_data q) ≡ Ok q }
+{}
+
+/// The JSON of a piece is read back as that piece, where the source is known.
+pub fn asked_are_read_back()
+    ensures { (a : Asked) → IsIdentifier a.0 → IsExtent a.1 → asked_at a.0.source (asked_data a) ≡ Some a }
+{}
+
+/// What is asked for is judged by its instants: that a piece lies inside its segment, and that no two of one segment overlap.
+pub fn pieces_are_judged()
+    ensures inside { (a : Asked) → IsExtent a.1 → IsTrue (lies_inside a) ↔ LiesInside a }
+    ensures apart { (all : List Asked) → IsTrue (stand_apart all) ↔ StandApart all }
+{}
+
+/// What a value that is a subquery asks for: at least one piece, each of a segment of the query's source and inside it, and no
+/// two of one segment overlap. Its query is one.
+pub fn subqueries_ask_for_pieces()
+    ensures query { (d : Data) (sub : SubQuery) → subquery_at d ≡ Ok sub → IsQuery sub.query }
+    ensures asked { (d : Data) (sub : SubQuery) → subquery_at d ≡ Ok sub → IsAsked sub.query.source sub.asked }
+{}
+
+/// The JSON of a subquery is read back as that subquery, where it asks for a piece, each is of a segment of the query's source
+/// and lies inside it, and no two of one segment overlap.
+pub fn subqueries_are_read_back()
+    ensures { (sub : SubQuery) → IsQuery sub.query → IsAsked sub.query.source sub.asked → subquery_at (subquery_data sub) ≡ Ok sub }
 {}

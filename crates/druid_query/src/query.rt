@@ -1,5 +1,6 @@
 ghost use Rattle.std.specs.Prelude.{◌≡◌, option_map};
 ghost use Rattle.druid_rows.specs.Filters.{says};
+ghost use Rattle.druid_query.specs.Query.{query_of};
 ghost use Rattle.druid_query.specs.Read.{IsQuery};
 
 use crate::{Aggregator, Dimension, QueryType};
@@ -25,32 +26,16 @@ impl Model for Query {
     ghost use Rattle.std.specs.Coded.{codes};
     ghost use Rattle.druid_rows.specs.FilterCode.{coded_condition};
     ghost use Rattle.druid_rows.specs.Filters.{says};
-    ghost use Rattle.druid_query.specs.Query.{Query};
+    ghost use Rattle.druid_query.specs.Query.{Query, query_of};
     ghost use Rattle.druid_query.specs.Read.{IsQuery};
 
     ghost Value = { Query };
 
     ghost coded = { Prim.hlevel (codes, coded_condition) };
 
-    ghost view = { λ a. record {
-      kind = a.kind;
-      source = a.source;
-      granularity = a.granularity;
-      intervals = a.intervals.items;
-      filter = option_map says a.filter;
-      dimensions = a.dimensions.items;
-      aggregations = a.aggregations.items;
-    } };
+    ghost view = { λ a. query_of a.kind a.source a.granularity a.intervals.items (option_map says a.filter) a.dimensions.items a.aggregations.items };
 
-    ghost invariant = { λ a. IsQuery (record {
-      kind = a.kind;
-      source = a.source;
-      granularity = a.granularity;
-      intervals = a.intervals.items;
-      filter = option_map says a.filter;
-      dimensions = a.dimensions.items;
-      aggregations = a.aggregations.items;
-    }) };
+    ghost invariant = { λ a. IsQuery (query_of a.kind a.source a.granularity a.intervals.items (option_map says a.filter) a.dimensions.items a.aggregations.items) };
 }
 
 impl Query {
@@ -64,24 +49,8 @@ impl Query {
         dimensions: Vec<Dimension>,
         aggregations: Vec<Aggregator>,
     ) -> Query
-        requires { IsQuery (record {
-          kind = kind;
-          source = source;
-          granularity = granularity;
-          intervals = intervals.items;
-          filter = option_map says filter;
-          dimensions = dimensions.items;
-          aggregations = aggregations.items;
-        }) }
-        ensures { result ≡ record {
-          kind = kind;
-          source = source;
-          granularity = granularity;
-          intervals = intervals.items;
-          filter = option_map says filter;
-          dimensions = dimensions.items;
-          aggregations = aggregations.items;
-        } }
+        requires { IsQuery (query_of kind source granularity intervals.items (option_map says filter) dimensions.items aggregations.items) }
+        ensures { result ≡ query_of kind source granularity intervals.items (option_map says filter) dimensions.items aggregations.items }
     {
         Query {
             kind,

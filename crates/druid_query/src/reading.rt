@@ -1,4 +1,5 @@
 //! Queries, read.
+ghost use Rattle.std.specs.Prelude.{◌≡◌, Ok, IsOk, IfOk};
 ghost use Rattle.serde_json.specs.View.{view};
 ghost use Rattle.druid_query.specs.Refusal.{Gives};
 ghost use Rattle.druid_query.specs.Read.{query_at, IsReadOf};
@@ -8,7 +9,35 @@ use crate::checks::{check_query, granularity_field};
 use crate::fields::kind_of;
 use crate::{Query, QueryFault};
 use serde_json::Value;
-use std::alloc::Global;
+use std::alloc::{AllocError, Global};
+
+// The query that a value is, which was judged before.
+#[tactic(auto, using(crate::proofs::ReadLemmas::no_kind, crate::proofs::ReadLemmas::no_granularity_field, crate::proofs::ReadLemmas::source_ok, crate::proofs::ReadLemmas::intervals_ok, crate::proofs::ReadLemmas::filter_ok, crate::proofs::ReadLemmas::dimensions_ok, crate::proofs::ReadLemmas::aggregations_ok))]
+fn built(alloc: Global, value: &Value) -> Result<Query, AllocError>
+    requires { IsOk (query_at (view value.now)) }
+    ensures { IfOk result (λ query. query_at (view value.now) ≡ Ok query) }
+{
+    let Some(kind) = kind_of(value) else {
+        unreachable!()
+    };
+    let source = source_of(alloc, value)?;
+    let Some(granularity) = granularity_field(value) else {
+        unreachable!()
+    };
+    let intervals = intervals_of(alloc, value)?;
+    let filter = filter_field_of(alloc, value)?;
+    let dimensions = dimensions_of(alloc, kind, value)?;
+    let aggregations = aggregations_of(alloc, value)?;
+    Ok(Query::new(
+        kind,
+        source,
+        granularity,
+        intervals,
+        filter,
+        dimensions,
+        aggregations,
+    ))
+}
 
 /// Reads a query. Q2 where the value is no object or no query of a known type; then field by field, in the order
 /// `dataSource`, `granularity`, `intervals`, `filter`, `dimensions`, `aggregations`, `descending`: Q3 for another shape, then
@@ -21,36 +50,10 @@ pub fn query_of(alloc: Global, value: &Value) -> Result<Query, QueryFault>
     if let Err(fault) = check_query(value) {
         return Err(fault);
     }
-    let Some(kind) = kind_of(value) else {
-        return Err(QueryFault::Memory);
-    };
-    let Ok(source) = source_of(alloc, value) else {
-        return Err(QueryFault::Memory);
-    };
-    let Some(granularity) = granularity_field(value) else {
-        return Err(QueryFault::Memory);
-    };
-    let Ok(intervals) = intervals_of(alloc, value) else {
-        return Err(QueryFault::Memory);
-    };
-    let Ok(filter) = filter_field_of(alloc, value) else {
-        return Err(QueryFault::Memory);
-    };
-    let Ok(dimensions) = dimensions_of(alloc, kind, value) else {
-        return Err(QueryFault::Memory);
-    };
-    let Ok(aggregations) = aggregations_of(alloc, value) else {
-        return Err(QueryFault::Memory);
-    };
-    Ok(Query::new(
-        kind,
-        source,
-        granularity,
-        intervals,
-        filter,
-        dimensions,
-        aggregations,
-    ))
+    match built(alloc, value) {
+        Ok(query) => Ok(query),
+        Err(AllocError) => Err(QueryFault::Memory),
+    }
 }
 
 /// Reads a query out of a text: Q1 where the bytes are no JSON in UTF-8, and then the refusals of the value. Reading JSON takes

@@ -109,7 +109,7 @@ fn filter_values(alloc: Global, filters: &[Filter]) -> Result<Vec<Value>, AllocE
     Ok(all)
 }
 
-fn wanted_value(alloc: Global, filter: Option<&Filter>) -> Result<Value, AllocError>
+pub(crate) fn wanted_value(alloc: Global, filter: Option<&Filter>) -> Result<Value, AllocError>
     ensures { IfOk result (λ v. view v ≡ wanted_data (option_map (λ f. says f.now) filter.entry)) }
 {
     match filter {
@@ -118,7 +118,7 @@ fn wanted_value(alloc: Global, filter: Option<&Filter>) -> Result<Value, AllocEr
     }
 }
 
-fn granularity_text(granularity: Granularity) -> &'static str
+pub(crate) fn granularity_text(granularity: Granularity) -> &'static str
     ensures { result.now ≡ granularity_text granularity }
 {
     match granularity {
@@ -130,7 +130,10 @@ fn granularity_text(granularity: Granularity) -> &'static str
     }
 }
 
-fn intervals_value(alloc: Global, intervals: &[Interval]) -> Result<Vec<Value>, AllocError>
+pub(crate) fn intervals_value(
+    alloc: Global,
+    intervals: &[Interval],
+) -> Result<Vec<Value>, AllocError>
     ensures { IfOk result (λ vs. items_view vs.items ≡ intervals_data intervals.now) }
 {
     let mut all = Vec::with_capacity(alloc, intervals.len())?;
@@ -151,7 +154,10 @@ fn dimension_value(alloc: Global, dimension: &Dimension) -> Result<Value, AllocE
     })
 }
 
-fn dimensions_value(alloc: Global, dimensions: &[Dimension]) -> Result<Vec<Value>, AllocError>
+pub(crate) fn dimensions_value(
+    alloc: Global,
+    dimensions: &[Dimension],
+) -> Result<Vec<Value>, AllocError>
     ensures { IfOk result (λ vs. items_view vs.items ≡ dimensions_data dimensions.now) }
 {
     let mut all = Vec::with_capacity(alloc, dimensions.len())?;
@@ -203,7 +209,10 @@ fn aggregator_value(alloc: Global, aggregator: &Aggregator) -> Result<Value, All
     }
 }
 
-fn aggregations_value(alloc: Global, aggregators: &[Aggregator]) -> Result<Vec<Value>, AllocError>
+pub(crate) fn aggregations_value(
+    alloc: Global,
+    aggregators: &[Aggregator],
+) -> Result<Vec<Value>, AllocError>
     ensures { IfOk result (λ vs. items_view vs.items ≡ aggregations_data aggregators.now) }
 {
     let mut all = Vec::with_capacity(alloc, aggregators.len())?;

@@ -6,3 +6,5 @@
 mod printing;
 #[cfg(test)]
 mod query;
+#[cfg(test)]
+mod subquery;

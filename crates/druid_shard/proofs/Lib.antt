@@ -1,3 +1,4 @@
+pub mod MovedLemmas
 pub mod SortedLemmas
 pub mod JsonLemmas
 pub mod MemberLemmas
@@ -5,3 +6,4 @@ pub mod SlotLemmas
 pub mod DescribedLemmas
 pub mod ReplayLemmas
 pub mod PlaceLemmas
+pub mod EachLemmas

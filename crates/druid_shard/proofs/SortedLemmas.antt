@@ -1,19 +1,17 @@
 -- Segments in the order of their identifiers' texts.
-use Rattle.std.proofs.Common.{◌≡◌, ◌+◌, ◌-◌, ◌⊎◌, ◌<◌, ℕ, zero, suc, List, length, get_or, true, refl, sym, ap, ◌∙◌, inl, inr, arith}
+use Rattle.std.proofs.Common.{◌≡◌, ◌+◌, ◌-◌, ◌<◌, ℕ, zero, suc, List, length, get_or, true, refl, sym, ap, ◌∙◌, inl, inr, arith}
 use Rattle.std.specs.Ordering.{nat_cmp, is_lt, ordering_reverse, ordering_then}
 use Rattle.std.specs.declared.cmp.Ordering.{Ordering}
 use Rattle.std.specs.declared.cmp.Ordering.TheVariants.{Less, Equal, Greater}
 use Rattle.std.specs.Cmp.Lexicographic.{slice_cmp}
-use Rattle.std.specs.List.{swap}
 use Rattle.std.specs.List.Sorted.{IsPermutation, IsSorted}
-use Rattle.std.proofs.lemmas.Bool.{cases_order, cases_eq, false≢true}
+use Rattle.std.proofs.lemmas.Bool.{cases_order, false≢true}
 use Rattle.std.proofs.lemmas.Cmp.{nat_list_cmp_total, tied_itself}
-use Rattle.std.proofs.lemmas.List.Edits.{length-swap, swapped_from_swap}
-use Rattle.std.proofs.lemmas.List.Sorted.{IsPermutation-keeps}
 use Rattle.druid_segid.specs.Identifier.{identifier_text, parts_cmp}
 use Rattle.druid_segid.proofs.OrderLemmas.{slice_cmp-Equal}
 use Rattle.druid_shard.specs.Described.{Described, described_cmp}
 use Rattle.druid_shard.specs.Reply.{IsBefore, AreSorted, HaveOwnIdentifiers}
+use Rattle.druid_shard.proofs.MovedLemmas.{alone-permutation}
 
 -- no identifier comes before itself
 pub not_before_itself : (a b : Described) → IsBefore a b → identifier_text a.id ≡ identifier_text b.id → ⊥
@@ -69,43 +67,6 @@ own-AreSorted ds sorted own k d l =
           let e' : is_lt (described_cmp (get_or ds (k + 1) d) (get_or ds k d)) ≡ true = ap is_lt less in
           absurd (false≢true (sym not_less ∙ e'))
 
--- the element at i stood at p before the places a and b were exchanged
-abbrev Came : ℕ → ℕ → ℕ → ℕ → Type 0
-Came a b i p =
-    ((i ≡ a) × (p ≡ b)) ⊎ ((i ≡ b) × (p ≡ a)) ⊎ ((i ≡ a → ⊥) × (i ≡ b → ⊥) × (p ≡ i))
-
-came_from : (ds : List Described) (a b i : ℕ) (d : Described) → a < length ds → b < length ds → i < length ds → (p : ℕ) × (p < length ds) × Came a b i p × (get_or (swap ds a b) i d ≡ get_or ds p d)
-came_from ds a b i d la lb li =
-    let moved = swapped_from_swap ds (swap ds a b) a b d la lb refl in
-    elim (cases_eq i a) [
-      | inl at_a ↦ (b, lb, inl (at_a, refl), ap (λ (n : ℕ). get_or (swap ds a b) n d) at_a ∙ moved.0)
-      | inr not_a ↦ elim (cases_eq i b) [
-        | inl at_b ↦ (a, la, inr (inl (at_b, refl)), ap (λ (n : ℕ). get_or (swap ds a b) n d) at_b ∙ moved.1)
-        | inr not_b ↦ (i, li, inr (inr (not_a, not_b, refl)), moved.2 i not_a not_b)
-      ]
-    ]
-
-came_alone : (a b i j p q : ℕ) → Came a b i p → Came a b j q → p ≡ q → i ≡ j
-came_alone a b i j p q (inl x) (inl y) e = omega arith
-came_alone a b i j p q (inl x) (inr (inl y)) e = omega arith
-came_alone a b i j p q (inl x) (inr (inr y)) e = absurd (y.1 (sym y.2 ∙ sym e ∙ x.1))
-came_alone a b i j p q (inr (inl x)) (inl y) e = omega arith
-came_alone a b i j p q (inr (inl x)) (inr (inl y)) e = omega arith
-came_alone a b i j p q (inr (inl x)) (inr (inr y)) e = absurd (y.0 (sym y.2 ∙ sym e ∙ x.1))
-came_alone a b i j p q (inr (inr x)) (inl y) e = absurd (x.1 (sym x.2 ∙ e ∙ y.1))
-came_alone a b i j p q (inr (inr x)) (inr (inl y)) e = absurd (x.0 (sym x.2 ∙ e ∙ y.1))
-came_alone a b i j p q (inr (inr x)) (inr (inr y)) e = omega arith
-
-own-swap : (ds : List Described) (a b : ℕ) → a < length ds → b < length ds → HaveOwnIdentifiers ds → HaveOwnIdentifiers (swap ds a b)
-own-swap ds a b la lb own i j d li lj same =
-    let len = length-swap ds a b in
-    let from_i = came_from ds a b i d la lb (omega arith) in
-    let from_j = came_from ds a b j d la lb (omega arith) in
-    let text : Described → List ℕ = λ x. identifier_text x.id in
-    let one = own from_i.0 from_j.0 d from_i.1 from_j.1 (sym (ap text from_i.3) ∙ same ∙ ap text from_j.3) in
-    came_alone a b i j from_i.0 from_j.0 from_i.2 from_j.2 one
-
 -- in whatever order they stand
 pub own-permutation : (xs ys : List Described) → IsPermutation xs ys → HaveOwnIdentifiers xs → HaveOwnIdentifiers ys
-own-permutation xs ys moved own =
-    IsPermutation-keeps xs HaveOwnIdentifiers own (λ ds a b la lb. own-swap ds a b la lb) ys moved
+own-permutation xs ys moved own = alone-permutation (λ a b. identifier_text a.id ≡ identifier_text b.id) xs ys moved own

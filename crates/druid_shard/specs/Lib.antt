@@ -1,3 +1,4 @@
+pub mod Each
 pub mod Described
 pub mod Json
 pub mod Members

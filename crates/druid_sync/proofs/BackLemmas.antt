@@ -1,19 +1,17 @@
 -- Replies as JSON: what is written is read back.
-use Rattle.std.proofs.Common.{◌≡◌, ◌≤◌, ℕ, List, [], ◌∷◌, map, codes, Contains, Option, Some, None, Ok, refl, ap, ◌∙◌, arith, le-leb, is_some}
+use Rattle.std.proofs.Common.{◌≡◌, ◌≤◌, ℕ, List, [], map, codes, Contains, Option, Some, None, Ok, refl, arith, le-leb, is_some}
 use Rattle.serde_json.specs.Data.{Data}
 use Rattle.serde_json.specs.View.{items_of}
-use Rattle.druid_time.specs.Options.{◌>>=◌}
 use Rattle.druid_time.proofs.TextLemmas.{extent_at-extent_text}
 use Rattle.druid_segid.proofs.NameLemmas.{is_name-true, is_version-true}
 use Rattle.druid_shard.specs.Mark.{Point}
-use Rattle.druid_shard.proofs.MemberLemmas.{Contains-later}
+use Rattle.druid_shard.proofs.EachLemmas.{each_back}
 use Rattle.druid_shard.specs.Described.{Described, IsDescribed}
 use Rattle.druid_shard.specs.Json.{descriptor_at, place_at}
 use Rattle.druid_shard.specs.declared.change.Change.{Change}
 use Rattle.druid_shard.specs.declared.change.Change.TheVariants.{Load, Drop}
 use Rattle.druid_shard.specs.declared.change.Cause.{Cause}
 use Rattle.druid_shard.specs.declared.change.Cause.TheVariants.{OtherIncarnation, Ahead, TooOld}
-use Rattle.druid_sync.specs.Fields.{each_of}
 use Rattle.serde_json.specs.Find.{as_null}
 use Rattle.druid_shard.specs.declared.reply.Body.TheVariants.{Delta, Snapshot, Reset}
 use Rattle.druid_sync.specs.Written.{mark_data, from_data, request_data, change_data, load_data, segment_of, cause_data, five_fields, reply_data}
@@ -50,13 +48,6 @@ change_at-data (Drop d) h = let read = descriptor_at-request (codes "drop") d h 
 
 pub load_at-data : (d : Described) → IsDescribed d → load_at (load_data d) ≡ Some d
 load_at-data d h = let read = change_at-data (Load d) h in rw read refl
-
--- each reads as what it was written for
-pub each_back : {A : Type 0} (f : A → Data) (g : Data → Option A) (xs : List A) → ((x : A) → Contains xs x → g (f x) ≡ Some x) → each_of g (items_of (map f xs)) ≡ Some xs
-each_back f g [] all = refl
-each_back f g (x ∷ xs) all =
-    ap (λ o. o >>= λ y. each_of g (items_of (map f xs)) >>= λ ys. Some (y ∷ ys)) (all x (0, omega arith, refl))
-    ∙ ap (λ o. o >>= λ ys. Some (x ∷ ys)) (each_back f g xs (λ y in_it. all y (Contains-later x xs y in_it)))
 
 -- ---- causes
 

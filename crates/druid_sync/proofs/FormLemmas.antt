@@ -8,9 +8,9 @@ use Rattle.druid_time.specs.Options.{◌>>=◌}
 use Rattle.druid_shard.specs.Described.{Described}
 use Rattle.druid_shard.specs.Mark.{Point}
 use Rattle.druid_shard.specs.declared.change.Change.{Change}
-use Rattle.druid_sync.specs.Fields.{each_of}
+use Rattle.druid_shard.specs.Each.{each_of}
 use Rattle.druid_sync.specs.Read.{followed, whole, mark_at, change_at, load_at, none_in, snapshot_at, delta_at}
-use Rattle.druid_sync.proofs.EachLemmas.{Reads, all_read, not_all_read}
+use Rattle.druid_shard.proofs.EachLemmas.{Reads, all_read, not_all_read}
 
 -- ---- snapshots
 

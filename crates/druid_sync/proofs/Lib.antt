@@ -1,5 +1,4 @@
 pub mod AskLemmas
 pub mod BackLemmas
-pub mod EachLemmas
 pub mod FormLemmas
 pub mod TextLemmas

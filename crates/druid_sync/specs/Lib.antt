@@ -1,4 +1,3 @@
-pub mod Fields
 pub mod Written
 pub mod Read
 pub mod Lent

@@ -16,7 +16,7 @@ use Rattle.druid_shard.specs.declared.change.Cause.{Cause}
 use Rattle.druid_shard.specs.declared.change.Cause.TheVariants.{OtherIncarnation, Ahead, TooOld}
 use Rattle.druid_shard.specs.declared.reply.Body.{Body}
 use Rattle.druid_shard.specs.declared.reply.Body.TheVariants.{Delta, Snapshot, Reset}
-use Rattle.druid_sync.specs.Fields.{each_of}
+use Rattle.druid_shard.specs.Each.{each_of}
 use Rattle.druid_sync.specs.declared.fault.SyncFault.{SyncFault}
 use Rattle.druid_sync.specs.declared.fault.SyncFault.TheVariants as faults
 

@@ -3,7 +3,7 @@ ghost use Rattle.std.specs.Prelude.{◌≡◌, ◌≤◌, ◌↔◌, IsTrue, Som
 ghost use Rattle.std.specs.List.{list_all};
 ghost use Rattle.serde_json.specs.View.{view, items_view};
 ghost use Rattle.druid_shard.specs.Reply.{IsAsFar};
-ghost use Rattle.druid_sync.specs.Fields.{each_of};
+ghost use Rattle.druid_shard.specs.Each.{each_of};
 ghost use Rattle.druid_sync.specs.Lent.{five_lent};
 ghost use Rattle.druid_sync.specs.Read.{mark_at, change_at, load_at, cause_at, five_at, begun_again, none_in, reset_at, snapshot_at, delta_at, changes_at, form_at, Answers, IsRead, IsReadOf};
 

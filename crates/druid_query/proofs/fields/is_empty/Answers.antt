@@ -1,5 +1,5 @@
 use Rattle.serde_json.specs.View.{view}
-use Rattle.druid_query.proofs.EachLemmas.{empty_object}
+use Rattle.druid_query.proofs.EmptyLemmas.{empty_object}
 use Rattle.druid_query.proofs.fields.is_empty.Goals as goal
 
 pub returns-in-Some-as_object : goal.returns-in-Some-as_object

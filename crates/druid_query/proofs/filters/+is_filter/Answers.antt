@@ -2,9 +2,10 @@ use Rattle.std.proofs.Common.{◌<◌, ◌≤◌, sym, ◌∙◌, arith, option_
 use Rattle.serde_json.specs.Data.{depth, items_depth}
 use Rattle.serde_json.specs.View.{view, items_view}
 use Rattle.druid_rows.specs.Filters.{has_among, all_of, any_of, is_not}
-use Rattle.druid_query.specs.Filters.{each_of, value_at, filter_at, each_filter}
+use Rattle.druid_shard.specs.Each.{each_of}
+use Rattle.druid_query.specs.Filters.{value_at, filter_at, each_filter}
 use Rattle.druid_query.specs.Levels.{selector, among, all, any, negation}
-use Rattle.druid_query.proofs.EachLemmas.{all_reads}
+use Rattle.druid_shard.proofs.EachLemmas.{all_reads}
 use Rattle.druid_query.proofs.FilterLemmas.{within, item_depth, judged, none_judged, filters_more, filters_refused, filters_last, map_some, told}
 use Rattle.druid_query.specs.declared.filters.Level.TheVariants as lent
 use Rattle.druid_query.proofs.filters.+is_filter.Goals as goal

@@ -1,8 +1,9 @@
 use Rattle.std.proofs.Common.{◌≡◌, drop}
 use Rattle.serde_json.specs.View.{items_view}
 use Rattle.druid_rows.specs.Rows.{nullable_texts_of}
-use Rattle.druid_query.specs.Filters.{each_of, value_at}
-use Rattle.druid_query.proofs.EachLemmas.{with_front}
+use Rattle.druid_shard.specs.Each.{each_of}
+use Rattle.druid_query.specs.Filters.{value_at}
+use Rattle.druid_shard.proofs.EachLemmas.{with_front}
 use Rattle.druid_query.proofs.filters.values_of.Given as goal
 
 abbrev pub invariant-loop-value : goal.invariant-loop-value

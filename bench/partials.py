@@ -1,0 +1,129 @@
+#!/usr/bin/env python3
+"""Builds the proved program of `bench/partials`, which answers queries over a segment of 100,000 rows, and prints its speed
+beside that of SQLite (in memory, one thread) on the same rows, whose answers are compared.
+
+It is built in the folder for temporary files, over copies of the crates; the first time that proves them, which takes some
+minutes.
+"""
+import json, os, shutil, sqlite3, subprocess, tempfile, time
+
+TOP = os.path.dirname(os.path.dirname(os.path.abspath(__file__)))
+PLACE = os.path.join(tempfile.gettempdir(), 'druid_cluster_bench_partials')
+CRATES = ['druid_time', 'druid_segid', 'druid_shard', 'druid_rows', 'druid_query', 'druid_partial']
+ROWS = 100_000
+RUNS = 5
+
+COUNT = {'type': 'count', 'name': 'n'}
+SUM = {'type': 'longSum', 'name': 's', 'fieldName': 'm0'}
+GREATEST = {'type': 'longMax', 'name': 'g', 'fieldName': 'm2'}
+AMONG = [f'v{k * 49:05}' for k in range(1000)]
+FILTER = {'type': 'and', 'fields': [{'type': 'selector', 'dimension': 'd0', 'value': 'v00003'},
+                                    {'type': 'in', 'dimension': 'd3', 'values': AMONG}]}
+
+
+def query(kind, granularity, dimensions, filter=None):
+    asked = {'queryType': kind, 'dataSource': 'bench', 'granularity': granularity, 'intervals': '1970-01-01/1970-01-02',
+             'aggregations': [COUNT, SUM, GREATEST], 'filter': filter}
+    if kind == 'groupBy':
+        asked['dimensions'] = dimensions
+    return asked
+
+
+# What is asked here, and of SQLite.
+QUERIES = [
+    ('timeseries by hour', query('timeseries', 'hour', []),
+     'SELECT t / 3600000 * 3600000 AS b, count(*), sum(m0), max(m2) FROM s WHERE t >= 0 AND t < 86400000 GROUP BY b ORDER BY b'),
+    ('groupBy of 10 values', query('groupBy', 'all', ['d0']),
+     'SELECT d0, count(*), sum(m0), max(m2) FROM s WHERE t >= 0 AND t < 86400000 GROUP BY d0 ORDER BY d0'),
+    ('groupBy of 1,000 values', query('groupBy', 'all', ['d2']),
+     'SELECT d2, count(*), sum(m0), max(m2) FROM s WHERE t >= 0 AND t < 86400000 GROUP BY d2 ORDER BY d2'),
+    ('groupBy of 50,000 values', query('groupBy', 'all', ['d3']),
+     'SELECT d3, count(*), sum(m0), max(m2) FROM s WHERE t >= 0 AND t < 86400000 GROUP BY d3 ORDER BY d3'),
+    ('and of selector and in of 1,000 values', query('groupBy', 'all', ['d1'], FILTER),
+     "SELECT d1, count(*), sum(m0), max(m2) FROM s WHERE t >= 0 AND t < 86400000 AND d0 = 'v00003' AND d3 IN ("
+     + ','.join(f"'{v}'" for v in AMONG) + ') GROUP BY d1 ORDER BY d1'),
+]
+
+
+def build():
+    os.makedirs(os.path.join(PLACE, 'crates', 'partials', 'src'), exist_ok=True)
+    with open(os.path.join(TOP, 'crates.txt')) as f:
+        kept = [line for line in f if line.split(':')[0] in CRATES]
+    with open(os.path.join(PLACE, 'crates.txt'), 'w') as f:
+        f.writelines(kept)
+        f.write('partials: druid_partial druid_query druid_rows druid_shard druid_segid druid_time serde_json anyhow\n')
+    for name in CRATES:
+        shutil.copytree(os.path.join(TOP, 'crates', name), os.path.join(PLACE, 'crates', name), dirs_exist_ok=True)
+    crate = os.path.join(PLACE, 'crates', 'partials')
+    shutil.copy(os.path.join(TOP, 'bench', 'partials', 'main.rt.in'), os.path.join(crate, 'src', 'main.rt'))
+    asked = os.path.join(PLACE, 'query.json')
+    with open(asked, 'w') as f:
+        json.dump(QUERIES[0][1], f)
+    subprocess.run(['rt', 'run', '--', asked, os.path.join(PLACE, 'result.json')], cwd=crate, check=True,
+                   stdout=subprocess.DEVNULL, stderr=subprocess.DEVNULL)
+    return os.path.join(crate, 'out', 'partials')
+
+
+def run(program, *args):
+    """The microseconds that each step took, by its name, and the peak memory in MiB."""
+    child = subprocess.Popen([program, *args], stdout=subprocess.PIPE, text=True)
+    told = [line.split() for line in child.stdout]
+    _, status, used = os.wait4(child.pid, 0)
+    assert os.waitstatus_to_exitcode(status) == 0, status
+    return {name: (int(count), int(spent)) for name, count, spent in told}, used.ru_maxrss / 1024
+
+
+def table():
+    """The rows of the segment, in SQLite."""
+    db = sqlite3.connect(':memory:')
+    db.execute('CREATE TABLE s (t INTEGER, d0 TEXT, d1 TEXT, d2 TEXT, d3 TEXT, m0 INTEGER, m1 INTEGER, m2 INTEGER, m3 INTEGER)')
+    for i in range(ROWS):
+        x = (i * 2654435761 + 12345) % 2**32
+        values = [f'v{v:05}' for v in (x % 10, x // 16 % 100, x // 256 % 1000, (i * 7919) % 2**32 % 50000)]
+        db.execute('INSERT INTO s VALUES (?, ?, ?, ?, ?, ?, ?, ?, ?)', (i * 864, *values, x % 1000, i, x, x % 7))
+    return db
+
+
+def asked_of_sqlite(db, text):
+    best = None
+    for _ in range(RUNS):
+        start = time.perf_counter()
+        rows = db.execute(text).fetchall()
+        spent = time.perf_counter() - start
+        best = spent if best is None else min(best, spent)
+    return rows, best
+
+
+def same(asked, result, rows):
+    """Whether the answer has the rows that SQLite has."""
+    if asked['queryType'] == 'timeseries':
+        ours = [tuple(row['result'][name] for name in ('n', 's', 'g')) for row in result]
+        return ours == [row[1:] for row in rows]
+    name = asked['dimensions'][0]
+    return [(row['event'][name], *(row['event'][k] for k in ('n', 's', 'g'))) for row in result] == rows
+
+
+def main():
+    program = build()
+    db = table()
+    print(f'{"":42}{"rows a second":>14} {"SQLite":>14}')
+    path, answer = os.path.join(PLACE, 'query.json'), os.path.join(PLACE, 'result.json')
+    for name, asked, text in QUERIES:
+        with open(path, 'w') as f:
+            json.dump(asked, f)
+        runs = [run(program, path, answer) for _ in range(RUNS)]
+        groups = runs[0][0]['groups'][0]
+        spent = min(told['groups'][1] for told, _ in runs)
+        rows, best = asked_of_sqlite(db, text)
+        with open(answer) as f:
+            assert same(asked, json.load(f), rows), name
+        print(f'{name:42}{ROWS / spent * 1e6:14,.0f} {ROWS / best:14,.0f}  {groups} groups, {runs[0][1]:.0f} MiB', flush=True)
+    with open(path, 'w') as f:
+        json.dump(QUERIES[3][1], f)
+    told, peak = run(program, 'merge', path)
+    for name, (count, spent) in told.items():
+        print(f'{name:10} {count:10,} {spent / 1000:10.1f} ms')
+    print(f'{peak:.0f} MiB')
+
+
+main()

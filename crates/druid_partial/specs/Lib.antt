@@ -1,0 +1,16 @@
+pub mod Groups
+pub mod Orders
+pub mod Joined
+pub mod Rows
+pub mod First
+pub mod Places
+pub mod Entries
+pub mod Tests
+pub mod Plans
+pub mod Written
+pub mod Read
+pub mod Tokens
+pub mod Lent
+pub mod Named
+pub mod Answers
+pub mod Missed

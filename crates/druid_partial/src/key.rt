@@ -1,0 +1,106 @@
+ghost use Rattle.std.specs.Prelude.{◌≡◌, Some, refl, map, IfOk, option_map, string_bytes};
+ghost use Rattle.std.specs.Ordering.{eq_by_cmp};
+ghost use Rattle.druid_rows.specs.Rows.{nullable_texts_of};
+ghost use Rattle.druid_partial.specs.Groups.{key_cmp};
+ghost use Rattle.druid_partial.specs.Orders as order;
+
+use druid_time::Instant;
+use std::alloc::{AllocError, Global};
+use std::cmp::Ordering;
+use std::marker::Model;
+
+// Where a row stands in a result: its bucket, and its values of the query's dimensions, lent by the segment.
+#[derive(Drop)]
+pub(crate) struct LentKey<'a> {
+    bucket: Instant,
+    values: Vec<Option<&'a str>>,
+}
+
+impl<'a> Model for LentKey<'a> {
+    ghost use Rattle.std.specs.Prelude.{map, option_map};
+    ghost use Rattle.druid_partial.specs.Groups.{Key};
+
+    ghost Value = { Key };
+
+    ghost view = { λ a. record {
+      bucket = a.bucket;
+      values = map (option_map (λ text. text.now)) a.values.items;
+    } };
+}
+
+impl<'a> PartialEq for LentKey<'a> {
+    ghost eq = { eq_by_cmp key_cmp };
+
+    ghost laws = { order.same_key-per };
+
+    fn eq(&self, other: &LentKey<'a>) -> bool {
+        self.cmp(other) == Ordering::Equal
+    }
+}
+
+impl<'a> Eq for LentKey<'a> {
+    ghost laws = { order.same_key-equiv };
+}
+
+impl<'a> PartialOrd for LentKey<'a> {
+    ghost partial_cmp = { λ a b. Some (key_cmp a b) };
+
+    ghost laws = { order.key_cmp-po };
+
+    fn partial_cmp(&self, other: &LentKey<'a>) -> Option<Ordering> {
+        Some(self.cmp(other))
+    }
+}
+
+impl<'a> Ord for LentKey<'a> {
+    ghost cmp = { key_cmp };
+
+    ghost total = { order.key_cmp-total };
+
+    ghost matches_partial_cmp = { λ a b. refl };
+
+    ghost matches_eq = { λ a b. refl };
+
+    fn cmp(&self, other: &LentKey<'a>) -> Ordering {
+        match self.bucket.cmp(&other.bucket) {
+            Ordering::Equal => self.values.cmp(&other.values),
+            order => order,
+        }
+    }
+}
+
+fn copy_of(alloc: Global, text: Option<&str>) -> Result<Option<String>, AllocError>
+    ensures { IfOk result (λ copy. option_map string_bytes copy ≡ option_map (λ text. text.now) text.entry) }
+{
+    match text {
+        Some(text) => Ok(Some(String::from_str(alloc, text)?)),
+        None => Ok(None),
+    }
+}
+
+impl<'a> LentKey<'a> {
+    // The key of these parts.
+    pub(crate) fn new(bucket: Instant, values: Vec<Option<&'a str>>) -> LentKey<'a>
+        ensures { result ≡ record { bucket = bucket; values = map (option_map (λ text. text.now)) values.entry.items } }
+    {
+        LentKey { bucket, values }
+    }
+
+    // Its bucket.
+    pub(crate) fn bucket(&self) -> Instant
+        ensures { result ≡ self.now.bucket }
+    {
+        self.bucket
+    }
+
+    // Its values, copied.
+    pub(crate) fn texts(&self, alloc: Global) -> Result<Vec<Option<String>>, AllocError>
+        ensures { IfOk result (λ texts. nullable_texts_of texts.items ≡ self.now.values) }
+    {
+        let mut texts = Vec::with_capacity(alloc, self.values.len())?;
+        for value in &self.values {
+            texts.push(copy_of(alloc, *value)?)?;
+        }
+        Ok(texts)
+    }
+}

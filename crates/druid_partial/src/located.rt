@@ -1,0 +1,151 @@
+//! Where the fields that a query names stand in a segment.
+ghost use Rattle.std.specs.Prelude.{◌≡◌, ◌<◌, length, map, All, IfOk, IfSome, option_map, option_and_then, FitsSigned};
+ghost use Rattle.std.specs.Int.{w64};
+ghost use Rattle.druid_rows.specs.Rows.{texts_of};
+ghost use Rattle.druid_rows.specs.Segment.{row_at};
+ghost use Rattle.druid_partial.specs.Groups.{AreWords};
+ghost use Rattle.druid_partial.specs.Places.{place_in, at_place, places_of, source_at, source_of, sources_of, source_number, IsSource, IsPlace};
+
+use druid_query::{Aggregator, AggregatorKind, Query};
+use druid_rows::{Schema, Segment};
+use std::alloc::{AllocError, Global};
+
+// Where a number of a row comes from.
+#[derive(Clone, Copy, Debug)]
+pub(crate) enum Source {
+    // Each row is one.
+    One,
+    // There is no such metric.
+    Null,
+    // The metric at that place.
+    Metric(usize),
+}
+
+// The place of a name.
+pub(crate) fn place_of(names: &[String], name: &str) -> Option<usize>
+    ensures { result ≡ place_in (texts_of names.now) name.now }
+{
+    for place in 0..names.len() {
+        if names[place].as_str() == name {
+            return Some(place);
+        }
+    }
+    None
+}
+
+// The places of the query's dimensions. None for one that the segment has not.
+pub(crate) fn places_of(
+    alloc: Global,
+    query: &Query,
+    schema: &Schema,
+) -> Result<Vec<Option<usize>>, AllocError>
+    ensures { IfOk result (λ places. places.items ≡ places_of query.now schema.now) }
+{
+    let names = schema.dimensions();
+    query
+        .dimensions()
+        .iter()
+        .map(|dimension| place_of(names, dimension.dimension()))
+        .collect(alloc)
+}
+
+// Where the number of a field comes from.
+fn field_source(schema: &Schema, field: Option<&str>) -> Source
+    ensures { result ≡ source_at (option_and_then (place_in schema.now.metrics) (option_map (λ s. s.now) field.entry)) }
+{
+    let Some(name) = field else {
+        return Source::Null;
+    };
+    match place_of(schema.metrics(), name) {
+        Some(place) => Source::Metric(place),
+        None => Source::Null,
+    }
+}
+
+// Where the number that an aggregator takes of a row comes from.
+fn source_of(schema: &Schema, aggregator: &Aggregator) -> Source
+    ensures { result ≡ source_of schema.now aggregator.now }
+{
+    match aggregator.kind() {
+        AggregatorKind::Count => Source::One,
+        AggregatorKind::LongSum | AggregatorKind::LongMin | AggregatorKind::LongMax => {
+            field_source(schema, aggregator.field())
+        }
+    }
+}
+
+// Where the numbers of the query's aggregators come from.
+pub(crate) fn sources_of(
+    alloc: Global,
+    query: &Query,
+    schema: &Schema,
+) -> Result<Vec<Source>, AllocError>
+    ensures { IfOk result (λ sources. sources.items ≡ sources_of query.now schema.now) }
+{
+    query
+        .aggregations()
+        .iter()
+        .map(|aggregator| source_of(schema, aggregator))
+        .collect(alloc)
+}
+
+// A row's value at a place.
+pub(crate) fn value_at(segment: &Segment, row: usize, place: Option<usize>) -> Option<&str>
+    requires row { row < length segment.now.rows }
+    requires place { IsPlace segment.now.fields place }
+    ensures { option_map (λ text. text.now) result ≡ at_place (row_at segment.now row).dimensions place }
+{
+    segment.dimension(row, place?)
+}
+
+// A row's values at these places.
+pub(crate) fn values_at<'a>(
+    alloc: Global,
+    segment: &'a Segment,
+    row: usize,
+    places: &[Option<usize>],
+) -> Result<Vec<Option<&'a str>>, AllocError>
+    requires row { row < length segment.now.rows }
+    requires places { All (IsPlace segment.now.fields) places.now }
+    ensures { IfOk result (λ values. map (option_map (λ text. text.now)) values.items
+        ≡ map (at_place (row_at segment.now row).dimensions) places.now) }
+{
+    let mut values = Vec::with_capacity(alloc, places.len())?;
+    for place in places {
+        values.push(value_at(segment, row, *place))?;
+    }
+    Ok(values)
+}
+
+// A row's number.
+fn number_at(segment: &Segment, row: usize, source: Source) -> Option<i64>
+    requires row { row < length segment.now.rows }
+    requires source { IsSource segment.now.fields source }
+    ensures value { result ≡ source_number (row_at segment.now row) source }
+    ensures word { IfSome result (FitsSigned w64) }
+{
+    match source {
+        Source::One => Some(1),
+        Source::Null => None,
+        Source::Metric(place) => segment.metric(row, place),
+    }
+}
+
+// A row's numbers.
+pub(crate) fn numbers_at(
+    alloc: Global,
+    segment: &Segment,
+    row: usize,
+    sources: &[Source],
+) -> Result<Vec<Option<i64>>, AllocError>
+    requires row { row < length segment.now.rows }
+    requires sources { All (IsSource segment.now.fields) sources.now }
+    ensures values { IfOk result (λ numbers. numbers.items ≡ map (source_number (row_at segment.now row)) sources.now) }
+    ensures words { IfOk result (λ numbers. AreWords numbers.items) }
+{
+    let mut numbers = Vec::with_capacity(alloc, sources.len())?;
+    for source in sources {
+        numbers.push(number_at(segment, row, *source))?;
+    }
+    Ok(numbers)
+}

@@ -1,0 +1,12 @@
+//! What no contract says of partials: worked examples, printed texts, and that calls succeed with ample memory. A module tells
+//! what it tests.
+#![tactic(auto)]
+
+#[cfg(test)]
+mod answers;
+#[cfg(test)]
+mod printing;
+#[cfg(test)]
+mod results;
+#[cfg(test)]
+mod texts;
