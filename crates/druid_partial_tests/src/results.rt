@@ -1,4 +1,7 @@
 //! What queries answer over rows of segments, put together in either order.
+ghost use Rattle.std.specs.Prelude.{IfOk};
+ghost use Rattle.druid_partial.specs.Rows.{IsPartialFor};
+
 use druid_partial::{Partial, merge, partial_of, result_text};
 use druid_query::{Query, read_query};
 use druid_rows::{Row, Schema, Segment};
@@ -103,34 +106,47 @@ fn segment(alloc: Global, text: &str) -> Result<Segment, Fail> {
     Ok(Segment::new(alloc, descriptor(alloc)?, schema, rows)?)
 }
 
-fn part(alloc: Global, query: &Query, text: &str) -> Result<Partial, Fail> {
+fn part(alloc: Global, query: &Query, text: &str) -> Result<Partial, Fail>
+    ensures { IfOk result (IsPartialFor query.now) }
+{
     let segment = segment(alloc, text)?;
     let day = Interval::parse("2024-01-01/2024-01-02")?;
     Ok(partial_of(alloc, query, &segment, day)?)
 }
 
-fn both(alloc: Global, first: Partial, second: Partial) -> Result<Partial, Fail> {
+fn both(alloc: Global, query: &Query, first: Partial, second: Partial) -> Result<Partial, Fail>
+    requires first { IsPartialFor query.now first }
+    requires second { IsPartialFor query.now second }
+    ensures { IfOk result (IsPartialFor query.now) }
+{
     match merge(alloc, first, second) {
         Ok(partial) => Ok(partial),
         Err(_) => Err("no memory".into()),
     }
 }
 
-// Whether the parts of the segments, each put behind those before it or in front of them, make that result.
+// What the segments tell, each put behind those before it or in front of them.
+fn told(alloc: Global, query: &Query, segments: &str, in_front: bool) -> Result<Partial, Fail>
+    ensures { IfOk result (IsPartialFor query.now) }
+{
+    let mut whole = Partial::empty(alloc, query)?;
+    for text in segments.split(" + ") {
+        let next = part(alloc, query, text)?;
+        whole = if in_front {
+            both(alloc, query, next, whole)?
+        } else {
+            both(alloc, query, whole, next)?
+        };
+    }
+    Ok(whole)
+}
+
 fn is_result(alloc: Global, line: &str, in_front: bool) -> Result<bool, Fail> {
     let (asked, rest) = line.split_once(" => ").ok_or("no query")?;
     let (segments, wanted) = rest.split_once(" = ").ok_or("no result")?;
     let query = query(alloc, asked)?;
-    let mut whole = Partial::empty(alloc, &query)?;
-    for text in segments.split(" + ") {
-        let next = part(alloc, &query, text)?;
-        whole = if in_front {
-            both(alloc, next, whole)?
-        } else {
-            both(alloc, whole, next)?
-        };
-    }
-    Ok(result_text(alloc, &query, &whole)?.as_str() == wanted)
+    let partial = told(alloc, &query, segments, in_front)?;
+    Ok(result_text(alloc, &query, &partial)?.as_str() == wanted)
 }
 
 #[test]
