@@ -1,5 +1,5 @@
 -- Partials, made of what was read.
-use Rattle.std.proofs.Common.{◌≡◌, ℕ, zero, suc, ◌+◌, ◌<◌, ◌≤◌, arith, ℤ, List, [], ◌∷◌, ◌++◌, length, get_or, drop, map, All, Bool, false, Option, Some, None, option_map, option_and_then, refl, sym, ap, subst, ◌∙◌, String, Global, string_bytes}
+use Rattle.std.proofs.Common.{◌≡◌, ℕ, zero, suc, ◌+◌, ◌<◌, ◌≤◌, arith, ℤ, List, [], ◌∷◌, ◌++◌, length, get_or, drop, map, All, Bool, false, Option, Some, None, IsSome, option_map, option_and_then, refl, sym, ap, subst, ◌∙◌, String, Global, string_bytes}
 use Rattle.std.specs.List.{AllByRecursion, AllAdjacentBelow, IsDistinct}
 use Rattle.std.specs.List.Sorted.{IsPermutation, IsSortedByKey}
 use Rattle.std.specs.Ordering.{is_lt, is_eq, ordering_reverse, eq_by_cmp}
@@ -10,21 +10,23 @@ use Rattle.std.proofs.lemmas.Option.{same_Some}
 use Rattle.std.proofs.lemmas.List.{get_or-map, length-map}
 use Rattle.std.proofs.lemmas.List.Sorted.{All-permutation, IsPermutation-sym, IsPermutation-trans, IsPermutation-map}
 use Rattle.std.proofs.lemmas.Map.Keys.{IsDistinct-IsPermutation, IsDistinct-from_sorted, sorted_from_all_adjacent}
-use Rattle.serde_json.specs.Data.{Data, Items}
+use Rattle.serde_json.specs.Data.{Data, null, boolean, number, string, array, object, Items}
 use Rattle.serde_json.specs.Find.{as_array}
 use Rattle.serde_json.specs.View.{view, items_view}
 use Rattle.serde_json.specs.declared.value.Value.{Value}
+use Rattle.druid_time.specs.Options.{◌>>=◌}
 use Rattle.druid_rows.specs.Rows.{nullable_texts_of}
 use Rattle.druid_query.specs.Query.{Query}
 use Rattle.druid_query.specs.declared.aggregator.AggregatorKind.{AggregatorKind}
 use Rattle.druid_shard.specs.Each.{each_of}
 use Rattle.druid_query.specs.Filters.{value_at}
-use Rattle.druid_shard.proofs.EachLemmas.{with_front, each_of_more, each_of_last}
+use Rattle.druid_shard.proofs.EachLemmas.{with_front, each_of_more, each_of_last, each_of_refused}
 use Rattle.druid_partial.specs.Groups.{Key, Group, key_of, key_cmp, InOrder}
 use Rattle.druid_partial.specs.Orders.{key_cmp-total}
 use Rattle.druid_partial.specs.Rows.{IsPartial, IsGroupFor, IsPartialFor, kinds_of}
 use Rattle.druid_partial.specs.Read.{number_or_null, Parts, parts_at, group_of, group_at, Lists, TellsGroups}
-use Rattle.druid_partial.specs.Lent.{HasWords, AreRows, IsBefore}
+use Rattle.druid_partial.specs.Lent.{parts_lent, HasWords, AreRows, IsBefore}
+use Rattle.druid_partial.specs.declared.reading.Lent.{Lent}
 
 -- ---- copied item by item
 
@@ -73,6 +75,47 @@ groups_more done vs i v x h is read before = more group_at done vs i v x h is re
 
 pub groups_last : (done : List Group) (vs : List Value) (i : ℕ) → length vs ≤ i → Made group_at done vs i → each_of group_at (items_view vs) ≡ Some done
 groups_last done vs i h before = ends group_at done vs i h before
+
+-- ---- each item of a list that reads does
+
+pub some_reads : {A : Type 0} (f : Data → Option A) (done : List A) (vs : List Value) (i : ℕ) (v : Value) (o : Option A) → f (view v) ≡ o → i < length vs → v ≡ get_or vs i v → Made f done vs i
+    → IsSome (each_of f (items_view vs)) → IsSome o
+some_reads f done vs i v (Some x) e h is before reads = refl
+some_reads {A} f done vs i v None e h is before reads =
+    let none : None ≡ each_of f (items_view vs) = sym (each_of_refused f done vs i v h is e) ∙ before in
+    subst (λ (o : Option (List A)). IsSome o) (sym none) reads
+
+pub value_reads : (done : List (Option (String Global))) (vs : List Value) (i : ℕ) (v : Value) → i < length vs → v ≡ get_or vs i v → Made value_at (nullable_texts_of done) vs i
+    → IsSome (each_of value_at (items_view vs)) → IsSome (value_at (view v))
+value_reads done vs i v h is before reads = some_reads value_at (nullable_texts_of done) vs i v (value_at (view v)) refl h is before reads
+
+pub row_reads : (done : List Group) (vs : List Value) (i : ℕ) (v : Value) → i < length vs → v ≡ get_or vs i v → Made group_at done vs i
+    → IsSome (each_of group_at (items_view vs)) → IsSome (group_at (view v))
+row_reads done vs i v h is before reads = some_reads group_at done vs i v (group_at (view v)) refl h is before reads
+
+-- what reads as a group has parts, whose lists read
+pub no_parts : (d : Data) → None ≡ parts_at d → IsSome (group_at d) → ⊥
+no_parts d none reads = let e : IsSome {T = Group} None = subst (λ (o : Option Parts). IsSome (option_and_then group_of o)) (sym none) reads in absurd (cc)
+
+abbrev of_lists : ℕ → Option (List (Option (List ℕ))) → Option (List (Option ℤ)) → Option Group
+of_lists bucket vs ns = vs >>= λ values. ns >>= λ numbers. Some (record { key = record { bucket = bucket; values = values }; numbers = numbers })
+
+both_read : (bucket : ℕ) (vs : Option (List (Option (List ℕ)))) (ns : Option (List (Option ℤ))) → IsSome (of_lists bucket vs ns) → IsSome vs × IsSome ns
+both_read bucket None ns reads = absurd (cc)
+both_read bucket (Some xs) None reads = absurd (cc)
+both_read bucket (Some xs) (Some ys) reads = (refl, refl)
+
+lists_read : (d : Data) (parts : Parts) → Some parts ≡ parts_at d → IsSome (group_at d) → IsSome (each_of value_at parts.values) × IsSome (each_of number_or_null parts.numbers)
+unfolding group_of
+lists_read d parts row reads =
+    both_read parts.bucket (each_of value_at parts.values) (each_of number_or_null parts.numbers)
+    (subst (λ (o : Option Parts). IsSome (option_and_then group_of o)) (sym row) reads)
+
+pub values_read : (d : Data) (row : Lent) → Some (parts_lent row) ≡ parts_at d → IsSome (group_at d) → IsSome (each_of value_at (items_view row.values.now))
+values_read d row is reads = (lists_read d (parts_lent row) is reads).0
+
+pub numbers_read : (d : Data) (row : Lent) → Some (parts_lent row) ≡ parts_at d → IsSome (group_at d) → IsSome (each_of number_or_null (items_view row.numbers.now))
+numbers_read d row is reads = (lists_read d (parts_lent row) is reads).1
 
 -- a row whose lists were read
 pub group_made : (d : Data) (parts : Parts) (values : List (Option (List ℕ))) (numbers : List (Option ℤ)) → Some parts ≡ parts_at d → each_of value_at parts.values ≡ Some values
@@ -148,32 +191,53 @@ list_of : (q : Query) (d : Data) (rows : List Group) → Lists q d rows → (o :
 list_of q d rows listed None is = let e : None ≡ Some rows = sym (ap (option_and_then (each_of group_at)) is) ∙ listed.read in absurd (cc)
 list_of q d rows listed (Some items) is = (items, refl, sym (ap (option_and_then (each_of group_at)) is) ∙ listed.read)
 
-pub no_list : (q : Query) (d : Data) → None ≡ as_array d → (groups : List Group) → TellsGroups q d groups → ⊥
-no_list q d none groups h = let l = list_of q d h.rows h.listed None (sym none) in let e : None ≡ Some l.0 = l.1 in cc
+pub no_list : (q : Query) (d : Data) → None ≡ as_array d → (rows : List Group) → Lists q d rows → ⊥
+no_list q d none rows listed = let l = list_of q d rows listed None (sym none) in let e : None ≡ Some l.0 = l.1 in cc
 
 same_items : (q : Query) (d : Data) (items : Items) (rows : List Group) → Some items ≡ as_array d → Lists q d rows → each_of group_at items ≡ Some rows
 same_items q d items rows is listed = ap (option_and_then (each_of group_at)) is ∙ listed.read
 
-pub no_such_rows : (q : Query) (d : Data) (items : Items) → Some items ≡ as_array d → (AreRows q items → ⊥) → (groups : List Group) → TellsGroups q d groups → ⊥
-no_such_rows q d items is not groups h = not (h.rows, same_items q d items h.rows is h.listed, h.listed.each)
+pub no_such_rows : (q : Query) (d : Data) (items : Items) → Some items ≡ as_array d → (AreRows q items → ⊥) → (rows : List Group) → Lists q d rows → ⊥
+no_such_rows q d items is not rows listed = not (rows, same_items q d items rows is listed, listed.each)
 
-pub rows_listed : (q : Query) (d : Data) (items : Items) → Some items ≡ as_array d → AreRows q items → (rows : List Group) × Lists q d rows
-rows_listed q d items is rows = (rows.0, record { read = ap (option_and_then (each_of group_at)) (sym is) ∙ rows.1; each = rows.2 })
+pub is_list : (d : Data) (items : Items) → Some items ≡ as_array d → d ≡ array items
+is_list null items is = absurd (cc)
+is_list (boolean b) items is = absurd (cc)
+is_list (number n) items is = absurd (cc)
+is_list (string s) items is = absurd (cc)
+is_list (array ds) items is = ap array (sym (same_Some items ds is))
+is_list (object ms) items is = absurd (cc)
 
-pub doubled : (q : Query) (d : Data) (items : Items) (made : List Group) → Some items ≡ as_array d → each_of group_at items ≡ Some made
-    → ((rows : List Group) → IsPermutation made rows → InOrder rows → ⊥) → (groups : List Group) → TellsGroups q d groups → ⊥
-doubled q d items made is read none groups h =
-    let same : made ≡ h.rows = same_Some made h.rows (sym read ∙ same_items q d items h.rows is h.listed) in
+pub rows_read : (q : Query) (items : Items) → AreRows q items → IsSome (each_of group_at items)
+rows_read q items rows = subst (λ (o : Option (List Group)). IsSome o) (sym rows.1) refl
+
+pub no_rows : (q : Query) (d : Data) → ((rows : List Group) → Lists q d rows → ⊥) → (groups : List Group) → TellsGroups q d groups → ⊥
+no_rows q d none groups h = none h.rows h.listed
+
+pub rows_listed : (q : Query) (d : Data) (items : Items) → d ≡ array items → AreRows q items → (rows : List Group) × Lists q d rows
+rows_listed q d items is rows =
+    subst (λ (e : Data). (rows : List Group) × Lists q e rows) (sym is) (rows.0, record { read = rows.1; each = rows.2 })
+
+pub not_told : (q : Query) (d : Data) (items : Items) → d ≡ array items → ((groups : List Group) → TellsGroups q (array items) groups → ⊥) → (groups : List Group) → TellsGroups q d groups → ⊥
+not_told q d items is none groups h = none groups (subst (λ (e : Data). TellsGroups q e groups) is h)
+
+pub is_told : (q : Query) (d : Data) (items : Items) (groups : List Group) → d ≡ array items → TellsGroups q (array items) groups → TellsGroups q d groups
+is_told q d items groups is told = subst (λ (e : Data). TellsGroups q e groups) (sym is) told
+
+pub doubled : (q : Query) (items : Items) (made : List Group) → each_of group_at items ≡ Some made
+    → ((rows : List Group) → IsPermutation made rows → InOrder rows → ⊥) → (groups : List Group) → TellsGroups q (array items) groups → ⊥
+doubled q items made read none groups h =
+    let same : made ≡ h.rows = same_Some made h.rows (sym read ∙ h.listed.read) in
     none groups (subst (λ (rows : List Group). IsPermutation rows groups) (sym same) h.same) h.ordered
 
 each_for : (q : Query) (items : Items) (made : List Group) → AreRows q items → each_of group_at items ≡ Some made → All (IsGroupFor q) made
 each_for q items made rows read = subst (All (IsGroupFor q)) (same_Some rows.0 made (sym rows.1 ∙ read)) rows.2
 
-pub told : (q : Query) (d : Data) (items : Items) (made groups : List Group) → Some items ≡ as_array d → AreRows q items → each_of group_at items ≡ Some made → IsPermutation made groups → InOrder groups
-    → TellsGroups q d groups
-told q d items made groups is rows read moved ordered = record {
+pub told : (q : Query) (items : Items) (made groups : List Group) → AreRows q items → each_of group_at items ≡ Some made → IsPermutation made groups → InOrder groups
+    → TellsGroups q (array items) groups
+told q items made groups rows read moved ordered = record {
   rows = made;
-  listed = record { read = ap (option_and_then (each_of group_at)) (sym is) ∙ read; each = each_for q items made rows read };
+  listed = record { read = read; each = each_for q items made rows read };
   same = moved;
   ordered = ordered;
 }

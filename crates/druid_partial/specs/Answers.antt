@@ -12,7 +12,7 @@ use Rattle.druid_query.specs.Read.{ReadsAs}
 use Rattle.druid_partial.specs.Groups.{Group}
 use Rattle.druid_partial.specs.Rows.{Partial, kinds_of}
 use Rattle.druid_partial.specs.Written.{partial_data}
-use Rattle.druid_partial.specs.Read.{TellsGroups}
+use Rattle.druid_partial.specs.Read.{Lists, TellsGroups}
 use Rattle.druid_partial.specs.declared.fault.PartialFault.{PartialFault}
 use Rattle.druid_partial.specs.declared.fault.PartialFault.TheVariants as faults
 
@@ -50,11 +50,21 @@ pub record TellsAnswer (sub : SubQuery) (d : Data) (missing : List Asked) (group
   pub found : get (codes "rows") d ≡ Some rows
   pub told : TellsGroups sub.query rows groups
 
--- what reading an answer out of JSON answers; to copy what is missing may want memory
+-- a value lists pieces as missing, and rows of the query
+pub record ListsAnswer (sub : SubQuery) (d : Data) : Type 0 where
+  pub missing : List Asked
+  pub missed : missing_at sub.query.source d ≡ Some missing
+  pub rows : Data
+  pub found : get (codes "rows") d ≡ Some rows
+  pub groups : List Group
+  pub listed : Lists sub.query rows groups
+
+-- what reading an answer out of JSON answers. Whether each piece was asked for, and whether a key stands twice, shows once
+-- pieces and groups are in order, and to put them in order may want memory
 abbrev pub IsAnswer : SubQuery → Data → Result NodeAnswer PartialFault → Type 0
 IsAnswer sub d (Ok a) = (a.partial.kinds ≡ kinds_of sub.query) × TellsAnswer sub d a.missing a.partial.groups
 IsAnswer sub d (Err faults.Shape) = (missing : List Asked) (groups : List Group) → TellsAnswer sub d missing groups → ⊥
-IsAnswer sub d (Err faults.Memory) = ⊤
+IsAnswer sub d (Err faults.Memory) = ListsAnswer sub d
 IsAnswer sub d (Err faults.NotJson) = ⊥
 
 -- the same out of bytes, which may be no JSON; reading JSON may want memory at any byte

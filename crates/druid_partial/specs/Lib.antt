@@ -14,3 +14,4 @@ pub mod Lent
 pub mod Named
 pub mod Answers
 pub mod Missed
+pub mod PieceOrder

@@ -1,15 +1,19 @@
 //! Answers of nodes, read.
-ghost use Rattle.std.specs.Prelude.{◌≡◌, ◌↔◌, ◌<◌, Some, Contains, IsTrue, IfOk, IfErr, IfSome, IfNone, length, List, option_map, option_and_then};
+ghost use Rattle.std.specs.Prelude.{◌≡◌, List, Some, IsSome, IfOk, IfSome, IfNone, option_map, option_and_then};
 ghost use Rattle.serde_json.specs.Find.{get, as_array};
 ghost use Rattle.serde_json.specs.View.{view, items_view};
 ghost use Rattle.druid_shard.specs.Each.{each_of};
 ghost use Rattle.druid_query.specs.Asked.{Asked, asked_at};
-ghost use Rattle.druid_query.specs.SubQuery.{SubQuery};
-ghost use Rattle.druid_partial.specs.Answers.{IsAnswer, IsAnswerOf};
-ghost use Rattle.druid_partial.specs.Missed.{AreMissed};
+ghost use Rattle.druid_partial.specs.Groups.{Group};
+ghost use Rattle.druid_partial.specs.Rows.{kinds_of};
+ghost use Rattle.druid_partial.specs.Lent.{AreRows};
+ghost use Rattle.druid_partial.specs.Answers.{ListsAnswer, IsAnswer, IsAnswerOf};
+ghost use Rattle.druid_partial.specs.Missed.{AreLists, TellBoth};
 
-use crate::{NodeAnswer, PartialFault, read_partial};
-use druid_query::{Asked, SubQuery, read_asked};
+use crate::missing::{are_pieces, missing_in};
+use crate::reading::{partial_in, rows_in};
+use crate::{NodeAnswer, PartialFault};
+use druid_query::SubQuery;
 use serde_json::Value;
 use std::alloc::{AllocError, Global};
 
@@ -20,72 +24,67 @@ fn list_at<'a>(value: &'a Value, key: &str) -> Option<&'a [Value]>
     Some(values.as_slice())
 }
 
-fn is_same(one: &Asked, other: &Asked) -> bool
-    ensures { IsTrue result ↔ (one.now ≡ other.now) }
-{
-    one.0 == other.0 && one.1 == other.1
+// The lists of an answer, each of whose members reads.
+#[derive(Drop)]
+struct Listed<'a> {
+    missing: &'a [Value],
+    rows: &'a [Value],
 }
 
-// Whether a piece was asked for.
-#[tactic(auto, using(crate::proofs::MissedLemmas::asked_here, crate::proofs::MissedLemmas::not_asked))]
-fn was_asked(asked: &[Asked], piece: &Asked) -> bool
-    ensures { IsTrue result ↔ Contains asked.now piece.now }
+// It takes no memory.
+#[tactic(auto, using(crate::proofs::MissedLemmas::no_missing, crate::proofs::MissedLemmas::no_rows, crate::proofs::MissedLemmas::no_pieces, crate::proofs::MissedLemmas::other_rows, crate::proofs::MissedLemmas::lists_read))]
+fn listed_in<'a>(sub: &SubQuery, value: &'a Value) -> Option<Listed<'a>>
+    ensures some { IfSome result (λ l. AreLists sub.now (view value.now) (items_view l.missing.now) (items_view l.rows.now)) }
+    ensures none { IfNone result (ListsAnswer sub.now (view value.now) → ⊥) }
 {
-    for other in asked {
-        if is_same(other, piece) {
-            return true;
-        }
+    let missing = list_at(value, "missing")?;
+    let rows = value.get("rows")?;
+    if !are_pieces(sub.query().source(), missing) {
+        return None;
     }
-    false
+    let rows = rows_in(sub.query(), rows)?;
+    Some(Listed { missing, rows })
 }
 
-// The pieces that are listed as missing. None where one is no piece, or was not asked for.
-#[tactic(auto, using(crate::proofs::MissedLemmas::pieces_more, crate::proofs::MissedLemmas::asked_more, crate::proofs::MissedLemmas::pieces_last, crate::proofs::MissedLemmas::no_piece, crate::proofs::MissedLemmas::other_piece))]
-fn missing_in(
+// The answer that the lists tell. None where a piece was not asked for, or a key stands twice.
+#[tactic(auto, using(crate::proofs::MissedLemmas::none_missed, crate::proofs::MissedLemmas::none_told))]
+fn answer_in(
     alloc: Global,
     sub: &SubQuery,
-    values: &[Value],
-) -> Result<Option<Vec<Asked>>, AllocError>
-    ensures some { IfOk result (λ read. IfSome read (λ v. AreMissed sub.now (items_view values.now) v.items)) }
-    ensures none { IfOk result (λ read. IfNone read
-        ((missing : List Asked) → AreMissed sub.now (items_view values.now) missing → ⊥)) }
+    missing: &[Value],
+    rows: &[Value],
+) -> Result<Option<NodeAnswer>, AllocError>
+    requires pieces { IsSome (each_of (asked_at sub.now.query.source) (items_view missing.now)) }
+    requires rows { AreRows sub.now.query (items_view rows.now) }
+    ensures kinds { IfOk result (λ read. IfSome read (λ a. a.partial.kinds ≡ kinds_of sub.now.query)) }
+    ensures both { IfOk result (λ read. IfSome read
+        (λ a. TellBoth sub.now (items_view missing.now) (items_view rows.now) a.missing a.partial.groups)) }
+    ensures none { IfOk result (λ read. IfNone read ((pieces : List Asked) (groups : List Group)
+        → TellBoth sub.now (items_view missing.now) (items_view rows.now) pieces groups → ⊥)) }
 {
-    let mut missing = Vec::with_capacity(alloc, values.len())?;
-    for value in values {
-        let Some(piece) = read_asked(alloc, sub.query().source(), value)? else {
-            return Ok(None);
-        };
-        if !was_asked(sub.asked(), &piece) {
-            return Ok(None);
-        }
-        missing.push(piece)?;
-    }
-    Ok(Some(missing))
+    let Some(pieces) = missing_in(alloc, sub, missing)? else {
+        return Ok(None);
+    };
+    let Some(partial) = partial_in(alloc, sub.query(), rows)? else {
+        return Ok(None);
+    };
+    Ok(Some(NodeAnswer::new(partial, pieces)))
 }
 
 /// The answer of a node that a value is: P2 where it has another shape than `node_answer_text` writes, `read_partial` refuses
-/// its rows as P2, or a piece that it lists as missing was not asked for; P9 where memory is refused.
-#[tactic(auto, using(crate::proofs::MissedLemmas::no_missing, crate::proofs::MissedLemmas::no_rows, crate::proofs::MissedLemmas::bad_missing, crate::proofs::MissedLemmas::bad_rows, crate::proofs::MissedLemmas::answered))]
+/// its rows as P2, or a piece that it lists as missing was not asked for; P9 where memory is refused, which comes before P2
+/// only where it is for two rows of one key or for a piece that was not asked for.
+#[tactic(auto, using(crate::proofs::MissedLemmas::no_lists, crate::proofs::MissedLemmas::lists_answer, crate::proofs::MissedLemmas::not_both, crate::proofs::MissedLemmas::both_told))]
 pub fn answer_of(alloc: Global, sub: &SubQuery, value: &Value) -> Result<NodeAnswer, PartialFault>
     ensures { IsAnswer sub.now (view value.now) result }
 {
-    let Some(values) = list_at(value, "missing") else {
+    let Some(listed) = listed_in(sub, value) else {
         return Err(PartialFault::Shape);
     };
-    let Some(rows) = value.get("rows") else {
-        return Err(PartialFault::Shape);
-    };
-    let Ok(read) = missing_in(alloc, sub, values) else {
-        return Err(PartialFault::Memory);
-    };
-    let Some(missing) = read else {
-        return Err(PartialFault::Shape);
-    };
-    match read_partial(alloc, sub.query(), rows) {
-        Ok(partial) => Ok(NodeAnswer::new(partial, missing)),
-        Err(PartialFault::Shape) => Err(PartialFault::Shape),
-        Err(PartialFault::Memory) => Err(PartialFault::Memory),
-        Err(PartialFault::NotJson) => unreachable!(),
+    match answer_in(alloc, sub, listed.missing, listed.rows) {
+        Ok(Some(answer)) => Ok(answer),
+        Ok(None) => Err(PartialFault::Shape),
+        Err(_) => Err(PartialFault::Memory),
     }
 }
 

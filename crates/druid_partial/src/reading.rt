@@ -4,13 +4,14 @@ ghost use Rattle.std.specs.Int.{w64};
 ghost use Rattle.std.specs.Option.{IsSomeAnd};
 ghost use Rattle.std.specs.List.{AllAdjacentBelow, list_all};
 ghost use Rattle.std.specs.List.Sorted.{IsPermutation, IsSortedByKey};
+ghost use Rattle.serde_json.specs.Data.{array};
 ghost use Rattle.serde_json.specs.View.{view, items_view};
 ghost use Rattle.druid_rows.specs.Rows.{nullable_texts_of};
 ghost use Rattle.druid_shard.specs.Each.{each_of};
 ghost use Rattle.druid_query.specs.Filters.{value_at};
 ghost use Rattle.druid_partial.specs.Groups.{Group, key_of, key_cmp, InOrder, AreWords};
-ghost use Rattle.druid_partial.specs.Rows.{earliest, IsGroupFor, IsPartialFor};
-ghost use Rattle.druid_partial.specs.Read.{integer_at, number_or_null, instant_of, three_of, parts_at, group_of, group_at, IsRead};
+ghost use Rattle.druid_partial.specs.Rows.{earliest, kinds_of, IsGroupFor, IsPartialFor};
+ghost use Rattle.druid_partial.specs.Read.{integer_at, number_or_null, instant_of, three_of, parts_at, group_of, group_at, Lists, TellsGroups, IsRead};
 ghost use Rattle.druid_partial.specs.Lent.{three_lent, parts_lent, IsNumberFor, AreNumbersFor, HasWords, AreRows, IsBefore};
 
 use crate::buckets::{earliest, is_bucket};
@@ -183,8 +184,9 @@ fn are_rows(query: &Query, values: &[Value]) -> bool
 }
 
 // The values of a row, copied.
-#[tactic(auto, using(crate::proofs::MadeLemmas::values_more, crate::proofs::MadeLemmas::values_last))]
+#[tactic(auto, using(crate::proofs::MadeLemmas::values_more, crate::proofs::MadeLemmas::values_last, crate::proofs::MadeLemmas::value_reads))]
 fn values_in(alloc: Global, values: &[Value]) -> Result<Vec<Option<String>>, AllocError>
+    requires { IsSome (each_of value_at (items_view values.now)) }
     ensures { IfOk result (λ made. each_of value_at (items_view values.now) ≡ Some (nullable_texts_of made.items)) }
 {
     let mut made = Vec::with_capacity(alloc, values.len())?;
@@ -196,25 +198,27 @@ fn values_in(alloc: Global, values: &[Value]) -> Result<Vec<Option<String>>, All
 
 // A value of a dimension, copied.
 fn copy_of(alloc: Global, value: &Value) -> Result<Option<String>, AllocError>
+    requires { IsSome (value_at (view value.now)) }
     ensures { IfOk result (λ made. value_at (view value.now) ≡ Some (option_map string_bytes made)) }
 {
     match value_of(value) {
         Some(Some(text)) => Ok(Some(String::from_str(alloc, text)?)),
         Some(None) => Ok(None),
-        None => Err(AllocError),
+        None => unreachable!(),
     }
 }
 
 // The numbers of a row.
 #[tactic(auto, using(crate::proofs::MadeLemmas::numbers_more, crate::proofs::MadeLemmas::numbers_last))]
 fn numbers_in(alloc: Global, values: &[Value]) -> Result<Vec<Option<i64>>, AllocError>
+    requires { IsSome (each_of number_or_null (items_view values.now)) }
     ensures read { IfOk result (λ made. each_of number_or_null (items_view values.now) ≡ Some made.items) }
     ensures words { IfOk result (λ made. AreWords made.items) }
 {
     let mut made = Vec::with_capacity(alloc, values.len())?;
     for value in values {
         let Some(number) = number_of(value) else {
-            return Err(AllocError);
+            unreachable!()
         };
         made.push(number)?;
     }
@@ -222,13 +226,14 @@ fn numbers_in(alloc: Global, values: &[Value]) -> Result<Vec<Option<i64>>, Alloc
 }
 
 // The group that a row tells.
-#[tactic(auto, using(crate::proofs::MadeLemmas::group_made))]
+#[tactic(auto, using(crate::proofs::MadeLemmas::group_made, crate::proofs::MadeLemmas::no_parts, crate::proofs::MadeLemmas::values_read, crate::proofs::MadeLemmas::numbers_read))]
 fn group_in(alloc: Global, value: &Value) -> Result<Group, AllocError>
+    requires { IsSome (group_at (view value.now)) }
     ensures read { IfOk result (λ group. group_at (view value.now) ≡ Some group) }
     ensures words { IfOk result HasWords }
 {
     let Some(row) = parts_of(value) else {
-        return Err(AllocError);
+        unreachable!()
     };
     let values = values_in(alloc, row.values)?;
     let numbers = numbers_in(alloc, row.numbers)?;
@@ -236,8 +241,9 @@ fn group_in(alloc: Global, value: &Value) -> Result<Group, AllocError>
 }
 
 // The groups that rows tell.
-#[tactic(auto, using(crate::proofs::MadeLemmas::groups_more, crate::proofs::MadeLemmas::groups_last))]
+#[tactic(auto, using(crate::proofs::MadeLemmas::groups_more, crate::proofs::MadeLemmas::groups_last, crate::proofs::MadeLemmas::row_reads))]
 fn groups_in(alloc: Global, values: &[Value]) -> Result<Vec<Group>, AllocError>
+    requires { IsSome (each_of group_at (items_view values.now)) }
     ensures read { IfOk result (λ groups. each_of group_at (items_view values.now) ≡ Some groups.items) }
     ensures words { IfOk result (λ groups. All HasWords groups.items) }
 {
@@ -287,29 +293,58 @@ fn in_order(mut groups: Vec<Group>) -> Option<Vec<Group>>
     }
 }
 
+// The rows of a partial of the query that a value lists. It takes no memory.
+#[tactic(auto, using(crate::proofs::MadeLemmas::no_list, crate::proofs::MadeLemmas::no_such_rows, crate::proofs::MadeLemmas::is_list))]
+pub(crate) fn rows_in<'a>(query: &Query, value: &'a Value) -> Option<&'a [Value]>
+    ensures is { IfSome result (λ rows. view value.now ≡ array (items_view rows.now)) }
+    ensures each { IfSome result (λ rows. AreRows query.now (items_view rows.now)) }
+    ensures none { IfNone result ((rows : List Group) → Lists query.now (view value.now) rows → ⊥) }
+{
+    let rows = value.as_array()?;
+    if are_rows(query, rows) {
+        Some(rows.as_slice())
+    } else {
+        None
+    }
+}
+
+// The partial that rows of the query tell. None where a key stands twice.
+#[tactic(auto, using(crate::proofs::MadeLemmas::rows_read, crate::proofs::MadeLemmas::doubled, crate::proofs::MadeLemmas::told))]
+pub(crate) fn partial_in(
+    alloc: Global,
+    query: &Query,
+    rows: &[Value],
+) -> Result<Option<Partial>, AllocError>
+    requires { AreRows query.now (items_view rows.now) }
+    ensures kinds { IfOk result (λ read. IfSome read (λ p. p.kinds ≡ kinds_of query.now)) }
+    ensures groups { IfOk result (λ read. IfSome read (λ p. TellsGroups query.now (array (items_view rows.now)) p.groups)) }
+    ensures of_query { IfOk result (λ read. IfSome read (IsPartialFor query.now)) }
+    ensures none { IfOk result (λ read. IfNone read
+        ((groups : List Group) → TellsGroups query.now (array (items_view rows.now)) groups → ⊥)) }
+{
+    let kinds = kinds_of(alloc, query)?;
+    let groups = groups_in(alloc, rows)?;
+    match in_order(groups) {
+        Some(groups) => Ok(Some(Partial::new(kinds, groups))),
+        None => Ok(None),
+    }
+}
+
 /// Reads a partial of a query: P2 where the value has another shape than `partial_text` writes, a row has not as many values
 /// and numbers as the query asks, its time is no bucket of the query, a number is no whole number of 64 bits, a count is
 /// null, or two rows have one key. The rows may stand in any order. P9 where memory is refused, which comes before P2 only
 /// where it is for two rows of one key.
-#[tactic(auto, using(crate::proofs::MadeLemmas::no_list, crate::proofs::MadeLemmas::no_such_rows, crate::proofs::MadeLemmas::rows_listed, crate::proofs::MadeLemmas::doubled, crate::proofs::MadeLemmas::told))]
+#[tactic(auto, using(crate::proofs::MadeLemmas::no_rows, crate::proofs::MadeLemmas::rows_listed, crate::proofs::MadeLemmas::not_told, crate::proofs::MadeLemmas::is_told))]
 pub fn read_partial(alloc: Global, query: &Query, value: &Value) -> Result<Partial, PartialFault>
     ensures read { IsRead query.now (view value.now) result }
     ensures of_query { IfOk result (IsPartialFor query.now) }
 {
-    let Some(rows) = value.as_array() else {
+    let Some(rows) = rows_in(query, value) else {
         return Err(PartialFault::Shape);
     };
-    if !are_rows(query, rows) {
-        return Err(PartialFault::Shape);
-    }
-    let Ok(kinds) = kinds_of(alloc, query) else {
-        return Err(PartialFault::Memory);
-    };
-    let Ok(groups) = groups_in(alloc, rows) else {
-        return Err(PartialFault::Memory);
-    };
-    match in_order(groups) {
-        Some(groups) => Ok(Partial::new(kinds, groups)),
-        None => Err(PartialFault::Shape),
+    match partial_in(alloc, query, rows) {
+        Ok(Some(partial)) => Ok(partial),
+        Ok(None) => Err(PartialFault::Shape),
+        Err(_) => Err(PartialFault::Memory),
     }
 }

@@ -21,6 +21,12 @@ const ANSWERS: &str = "[ = P1: not JSON
 {\"missing\":[],\"rows\":[[0,[],[null]]]} = P2: another shape
 {\"missing\":[#],\"rows\":[]} = P2: another shape
 {\"missing\":[@,#],\"rows\":[]} = P2: another shape
+{\"missing\":[#,@],\"rows\":[]} = P2: another shape
+{\"missing\":[@,7],\"rows\":[]} = P2: another shape
+{\"missing\":[@],\"rows\":[[0,[],[1]],[0,[],[2]]]} = P2: another shape
+{\"missing\":[#],\"rows\":[[0,[],[1]],[0,[],[2]]]} = P2: another shape
+{\"missing\":[#],\"rows\":[[0,[],[null]]]} = P2: another shape
+{\"missing\":[7],\"rows\":[[0,[],[1]],[0,[],[2]]]} = P2: another shape
 {\"rows\":[[0,[],[1]]],\"more\":7,\"missing\":[]} = {\"missing\":[],\"rows\":[[0,[],[1]]]}
 {\"missing\":[@],\"rows\":[]} = {\"missing\":[@],\"rows\":[]}
 {\"missing\":[@,@],\"rows\":[[3600000,[],[1]],[0,[],[2]]]} = {\"missing\":[@,@],\"rows\":[[0,[],[2]],[3600000,[],[1]]]}";

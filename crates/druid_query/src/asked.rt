@@ -349,6 +349,13 @@ pub fn asked_values(alloc: Global, asked: &[Asked]) -> Result<Vec<Value>, AllocE
     Ok(all)
 }
 
+/// Whether `read_asked` reads a piece of a segment of that source. It takes no memory.
+pub fn is_asked(source: &Name, value: &Value) -> bool
+    ensures { result ≡ is_some (asked_at source.now (view value.now)) }
+{
+    asked_of(source.as_str(), value).is_some()
+}
+
 /// Reads a piece of a segment of that source: `chunk` and `itvl` texts of intervals, `part` a whole number of 0 to 65,535,
 /// and `ver` a version. None where the value is no such object. Whether the piece lies inside the segment is not judged.
 #[tactic(auto, using(crate::proofs::PieceLemmas::asked_source))]

@@ -23,7 +23,7 @@ mod subquery;
 mod writing;
 
 pub use aggregator::{Aggregator, AggregatorKind};
-pub use asked::{Asked, asked_value, asked_values, read_asked};
+pub use asked::{Asked, asked_value, asked_values, is_asked, read_asked};
 pub use dimension::Dimension;
 pub use fault::QueryFault;
 pub use laws::{

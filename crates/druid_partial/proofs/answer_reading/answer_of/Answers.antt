@@ -1,18 +1,26 @@
-use Rattle.std.proofs.Common.{◌≡◌, List, Some, Err, codes, rules, subst}
-use Rattle.serde_json.specs.Find.{get}
-use Rattle.serde_json.specs.View.{view}
+use Rattle.std.proofs.Common.{List, Option, IfNone, rules, subst}
+use Rattle.serde_json.specs.View.{view, items_view}
+use Rattle.druid_query.specs.Asked.{Asked}
 use Rattle.druid_partial.specs.Groups.{Group}
-use Rattle.druid_partial.specs.Read.{TellsGroups, IsRead}
-use Rattle.druid_query.specs.Query.{Query}
-use Rattle.druid_partial.specs.declared.fault.PartialFault.{PartialFault}
-use Rattle.druid_partial.specs.declared.fault.PartialFault.TheVariants.{Shape}
-use Rattle.druid_partial.proofs.MissedLemmas.{bad_rows}
+use Rattle.druid_partial.specs.Answers.{NodeAnswer}
+use Rattle.druid_partial.specs.Missed.{AreLists, TellBoth}
+use Rattle.druid_partial.proofs.MissedLemmas.{no_lists, not_both, lists_answer}
 use Rattle.druid_partial.proofs.answer_reading.answer_of.Goals as goal
 
-pub returns-in-Err-Shape : goal.returns-in-Err-Shape
-returns-in-Err-Shape c =
-    let rows : Some (view c.in-Some-get.rows.now) ≡ get (codes "rows") (view c.args.value.now) = search rules in
-    let fault : IsRead c.query.result.now (view c.in-Some-get.rows.now) (Err Shape) =
-    subst (λ (f : PartialFault). IsRead c.query.result.now (view c.in-Some-get.rows.now) (Err f)) c.in-Err-Shape.field-0-is c.in-Err-Shape.ensures.read in
-    let none = subst (λ (q : Query). (groups : List Group) → TellsGroups q (view c.in-Some-get.rows.now) groups → ⊥) c.query.ensures fault in
-    bad_rows c.args.sub.now (view c.args.value.now) (view c.in-Some-get.rows.now) rows none
+pub returns-in-Ok-None : goal.returns-in-Ok-None
+returns-in-Ok-None c =
+    let ds = items_view c.in-Some.listed.missing.now in
+    let rs = items_view c.in-Some.listed.rows.now in
+    let lists : AreLists c.args.sub.now (view c.args.value.now) ds rs = search rules in
+    let none = subst (λ (o : Option NodeAnswer). IfNone o ((pieces : List Asked) (groups : List Group) → TellBoth c.args.sub.now ds rs pieces groups → ⊥)) c.in-Ok-None.field-0-is c.in-Ok-None.ensures.none in
+    not_both c.args.sub.now (view c.args.value.now) ds rs lists none
+
+pub returns-in_default : goal.returns-in_default
+returns-in_default c = no_lists c.args.sub.now (view c.args.value.now) c.in_default.ensures.none
+
+pub returns-in-Err : goal.returns-in-Err
+returns-in-Err c =
+    let ds = items_view c.in-Some.listed.missing.now in
+    let rs = items_view c.in-Some.listed.rows.now in
+    let lists : AreLists c.args.sub.now (view c.args.value.now) ds rs = search rules in
+    lists_answer c.args.sub.now (view c.args.value.now) ds rs lists

@@ -1,35 +1,15 @@
-use Rattle.std.proofs.Common.{◌≡◌, All, rules, Some, sym, subst}
-use Rattle.std.specs.List.Sorted.{IsPermutation}
-use Rattle.serde_json.specs.View.{items_view}
-use Rattle.druid_shard.specs.Each.{each_of}
-use Rattle.druid_partial.specs.Groups.{InOrder}
-use Rattle.druid_partial.specs.Rows.{kinds_of, Partial, IsPartialFor}
-use Rattle.druid_partial.specs.Read.{group_at}
-use Rattle.druid_partial.specs.Lent.{AreRows, HasWords}
-use Rattle.druid_partial.proofs.MadeLemmas.{told_for, told_valid}
+use Rattle.std.proofs.Common.{◌≡◌, List, Option, IfNone, rules, subst}
+use Rattle.serde_json.specs.Data.{array}
+use Rattle.serde_json.specs.View.{view, items_view}
+use Rattle.druid_partial.specs.Groups.{Group}
+use Rattle.druid_partial.specs.Rows.{Partial}
+use Rattle.druid_partial.specs.Read.{TellsGroups}
+use Rattle.druid_partial.proofs.MadeLemmas.{not_told}
 use Rattle.druid_partial.proofs.reading.read_partial.Goals as goal
 
-pub new-requires : goal.new-requires
-new-requires c =
-    let items = items_view c.in-Some.rows.now.items in
-    let made = c.in-Ok-groups_in.groups.items in
-    let groups = c.in-Some-in_order.groups.items in
-    let rows : AreRows c.args.query.now items = search rules in
-    let read : each_of group_at items ≡ Some made = search rules in
-    let moved : IsPermutation made groups = search rules in
-    let ordered : InOrder groups = search rules in
-    let is : c.in-Ok.kinds.items ≡ kinds_of c.args.query.now = search rules in
-    let words : All HasWords made = search rules in
-    told_valid c.args.query.now items c.in-Ok.kinds.items made groups rows read moved ordered words is
-
-pub returns-in-Some-in_order-clause-of_query : goal.returns-in-Some-in_order-clause-of_query
-returns-in-Some-in_order-clause-of_query c =
-    let items = items_view c.in-Some.rows.now.items in
-    let made = c.in-Ok-groups_in.groups.items in
-    let groups = c.in-Some-in_order.groups.items in
-    let rows : AreRows c.args.query.now items = search rules in
-    let read : each_of group_at items ≡ Some made = search rules in
-    let moved : IsPermutation made groups = search rules in
-    let is : c.in-Ok.kinds.items ≡ kinds_of c.args.query.now = search rules in
-    let for : IsPartialFor c.args.query.now (record { kinds = c.in-Ok.kinds.items; groups = groups }) = told_for c.args.query.now items c.in-Ok.kinds.items made groups rows read moved is in
-    subst (λ (p : Partial). IsPartialFor c.args.query.now p) (sym c.new.ensures) for
+pub returns-in-Ok-None-clause-read : goal.returns-in-Ok-None-clause-read
+returns-in-Ok-None-clause-read c =
+    let items = items_view c.in-Some.rows.now in
+    let is : view c.args.value.now ≡ array items = search rules in
+    let none = subst (λ (o : Option Partial). IfNone o ((groups : List Group) → TellsGroups c.args.query.now (array items) groups → ⊥)) c.in-Ok-None.field-0-is c.in-Ok-None.ensures.none in
+    not_told c.args.query.now (view c.args.value.now) items is none
