@@ -1,0 +1,7 @@
+pub mod Frame
+pub mod Heads
+pub mod Parts
+pub mod Bodies
+pub mod Messages
+pub mod Told
+pub mod Written

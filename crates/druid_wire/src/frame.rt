@@ -1,0 +1,84 @@
+//! Where the head of a message ends.
+ghost use Rattle.std.specs.Prelude.{◌≡◌, ◌↔◌, ◌≤◌, ◌==◌, length, drop, IsTrue, IfOk, IfSome};
+ghost use Rattle.druid_wire.specs.Frame.{IsBlank};
+ghost use Rattle.druid_wire.specs.Parts.{IsLine, Finds};
+
+use crate::lines::{Part, next_part};
+use std::io;
+use std::io::{BufRead, ErrorKind};
+
+/// The most bytes of a head, from its first line to the end of the empty one.
+pub const MAX_HEAD: usize = 16_384;
+
+/// What reading a head finds.
+#[derive(Clone, Copy, Debug, PartialEq, Eq, Drop)]
+pub(crate) enum Found {
+    // A head, up to its end.
+    Head,
+    // The end of the input.
+    Ended,
+    // More bytes than a head may have.
+    TooLong,
+}
+
+// Whether what stands behind a place is a blank line.
+fn is_blank(head: &[u8], start: usize) -> bool
+    requires { start ≤ length head.now }
+    ensures { IsTrue result ↔ IsBlank (drop start head.now) }
+{
+    let (_, line) = head.split_at(start);
+    matches!(line, [] | [b'\r'])
+}
+
+// Appends the next line, without its line feed, but no more bytes than there is room for.
+#[tactic(auto, using(crate::proofs::LineLemmas::not_grown, crate::proofs::LineLemmas::grown_long, crate::proofs::LineLemmas::part_long, crate::proofs::LineLemmas::line_full))]
+fn read_line<R: BufRead>(reader: &mut R, head: &mut Vec<u8>, room: usize) -> io::Result<Part>
+    ensures { IfOk result (λ part. IsLine part head.old.items head.new.items room
+        (R.remaining reader.old) (R.remaining reader.new)) }
+{
+    let start = head.len();
+    for _ in 0..u64::MAX {
+        let taken = head.len() - start;
+        if room <= taken {
+            return Ok(Part::More);
+        }
+        let part = next_part(reader, head, room - taken)?;
+        match part {
+            Part::More => {}
+            Part::Feed => {
+                if room <= head.len() - start {
+                    return Ok(Part::More);
+                }
+                return Ok(Part::Feed);
+            }
+            Part::Ended => return Ok(Part::Ended),
+        }
+    }
+    Err(ErrorKind::TimedOut.into())
+}
+
+// Reads blank lines, which are not kept, and behind them a head, up to and with the blank line that ends it.
+pub(crate) fn find_head<R: BufRead>(reader: &mut R, head: &mut Vec<u8>) -> io::Result<Found>
+    ensures { IfOk result (λ found. IfSome (R.remaining reader.old)
+        (λ input. Finds found input head.new.items (R.remaining reader.new))) }
+{
+    head.clear();
+    for _ in 0..u64::MAX {
+        let start = head.len();
+        let part = read_line(reader, head, MAX_HEAD - start)?;
+        match part {
+            Part::More => return Ok(Found::TooLong),
+            Part::Ended => return Ok(Found::Ended),
+            Part::Feed => {}
+        }
+        let blank = is_blank(head, start);
+        head.push(b'\n')?;
+        if blank {
+            if start > 0 {
+                return Ok(Found::Head);
+            }
+            head.clear();
+        }
+    }
+    Err(ErrorKind::TimedOut.into())
+}

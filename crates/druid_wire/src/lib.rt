@@ -1,0 +1,21 @@
+//! Messages of HTTP: requests, responses, and their texts.
+#![tactic(auto)]
+
+mod body;
+mod fault;
+mod frame;
+mod head;
+mod interrupted;
+mod length;
+mod lines;
+mod reading;
+mod request;
+mod writing;
+
+pub use fault::WireFault;
+pub use frame::MAX_HEAD;
+pub use head::MAX_FIELDS;
+pub use length::MAX_BODY;
+pub use reading::{read_request, read_response};
+pub use request::Request;
+pub use writing::{write_request, write_response};

@@ -1,0 +1,132 @@
+//! Messages, read.
+ghost use Rattle.std.specs.Prelude.{◌≡◌, ◌⊎◌, ℕ, List, true, Some, OnOk, IfOk, IfErr, IfSome};
+ghost use Rattle.httparse.specs.Spans.{span_bytes};
+ghost use Rattle.druid_wire.specs.Frame.{IsFramed};
+ghost use Rattle.druid_wire.specs.Bodies.{EndsBody};
+ghost use Rattle.druid_wire.specs.Told.{TellsRequest, LacksHead, LacksBody};
+ghost use Rattle.druid_wire.specs.Messages.{IsRequest, IsResponse, HasFault, RequestSays, ResponseSays};
+
+use crate::body::read_body;
+use crate::fault::WireFault;
+use crate::frame::{Found, find_head};
+use crate::head::{RequestTold, request_told, response_told};
+use crate::request::Request;
+use http::method::MethodError;
+use http::{Method, StatusCode};
+use std::alloc::Global;
+use std::io::{BufRead, Error, ErrorKind};
+use std::str;
+
+// What a failed read tells.
+fn read_fault(error: &Error) -> WireFault
+    ensures { (result ≡ WireFault.Read) ⊎ (result ≡ WireFault.Memory) }
+{
+    if error.kind() == ErrorKind::OutOfMemory {
+        WireFault::Memory
+    } else {
+        WireFault::Read
+    }
+}
+
+// Reads a head, and the blank lines before it, which are not kept.
+fn take_head<R: BufRead>(reader: &mut R, head: &mut Vec<u8>) -> Result<(), WireFault>
+    ensures ok { OnOk result (IfSome (R.remaining reader.old)
+        (λ input. (rest : List ℕ) × (R.remaining reader.new ≡ Some rest) × IsFramed input head.new.items rest)) }
+    ensures err { IfErr result (λ fault. IfSome (R.remaining reader.old) (λ input. LacksHead input fault)) }
+{
+    match find_head(reader, head) {
+        Ok(Found::Head) => Ok(()),
+        Ok(Found::Ended) => Err(WireFault::Cut),
+        Ok(Found::TooLong) => Err(WireFault::HeadTooLong),
+        Err(error) => Err(read_fault(&error)),
+    }
+}
+
+// Reads a body of so many bytes, and nothing behind it.
+fn take_body<R: BufRead>(reader: &mut R, body: &mut Vec<u8>, length: usize) -> Result<(), WireFault>
+    ensures ok { OnOk result (IfSome (R.remaining reader.old)
+        (λ input. EndsBody true input length body.new.items (R.remaining reader.new))) }
+    ensures err { IfErr result (λ fault. IfSome (R.remaining reader.old) (λ input. LacksBody input length fault)) }
+{
+    match read_body(reader, body, length) {
+        Ok(true) => Ok(()),
+        Ok(false) => Err(WireFault::Cut),
+        Err(error) => Err(read_fault(&error)),
+    }
+}
+
+// The request of a head that was read, and a body. Nothing but memory can be lacking.
+fn request_of(
+    alloc: Global,
+    head: &[u8],
+    told: RequestTold,
+    body: Vec<u8>,
+) -> Result<Request, WireFault>
+    requires { TellsRequest head.now told }
+    ensures ok { IfOk result (λ request. (request.method ≡ span_bytes head.now told.method)
+        × (request.target ≡ span_bytes head.now told.target) × (request.body ≡ body.items)) }
+    ensures err { IfErr result (λ fault. fault ≡ WireFault.Memory) }
+{
+    let method = match Method::from_bytes(alloc, told.method.of(head)) {
+        Ok(method) => method,
+        Err(MethodError::OutOfMemory) => return Err(WireFault::Memory),
+        Err(MethodError::Invalid) => unreachable!(),
+    };
+    let Ok(target) = str::from_utf8(told.target.of(head)) else {
+        unreachable!()
+    };
+    let target = String::from_str(alloc, target)?;
+    Ok(Request::new(method, target, body))
+}
+
+/// Reads a request: a head of the grammar, behind blank lines, and exactly its body. What follows stays unread. Where it
+/// has several faults, any of them is told: `Cut` where the input ends in it, `HeadTooLong` where its head passes a limit,
+/// `BadHead` where the head is none or names its length twice or badly, `NoLength` where its body is coded or a `POST` names
+/// no length, `BodyTooLong` where the length passes the limit. `Read` where the reader fails, `Memory` where memory is refused.
+pub fn read_request<R: BufRead>(alloc: Global, reader: &mut R) -> Result<Request, WireFault>
+    ensures ok { IfOk result (λ request. IfSome (R.remaining reader.old)
+        (λ input. (rest : List ℕ) × (R.remaining reader.new ≡ Some rest) × IsRequest input request rest)) }
+    ensures err { IfErr result (λ fault. IfSome (R.remaining reader.old) (λ input. HasFault RequestSays input fault)) }
+{
+    let mut head = Vec::new(alloc);
+    match take_head(reader, &mut head) {
+        Ok(()) => {}
+        Err(fault) => return Err(fault),
+    }
+    let told = match request_told(&head) {
+        Ok(told) => told,
+        Err(fault) => return Err(fault),
+    };
+    let mut body = Vec::new(alloc);
+    match take_body(reader, &mut body, told.length) {
+        Ok(()) => {}
+        Err(fault) => return Err(fault),
+    }
+    request_of(alloc, &head, told, body)
+}
+
+/// Reads a response, its status and its body, as `read_request` does a request. A status below 100 is `BadHead`.
+pub fn read_response<R: BufRead>(
+    alloc: Global,
+    reader: &mut R,
+) -> Result<(StatusCode, Vec<u8>), WireFault>
+    ensures ok { IfOk result (λ response. IfSome (R.remaining reader.old)
+        (λ input. (rest : List ℕ) × (R.remaining reader.new ≡ Some rest) × IsResponse input response.0 response.1.items rest)) }
+    ensures err { IfErr result (λ fault. IfSome (R.remaining reader.old) (λ input. HasFault ResponseSays input fault)) }
+{
+    let mut head = Vec::new(alloc);
+    match take_head(reader, &mut head) {
+        Ok(()) => {}
+        Err(fault) => return Err(fault),
+    }
+    let told = match response_told(&head) {
+        Ok(told) => told,
+        Err(fault) => return Err(fault),
+    };
+    let mut body = Vec::new(alloc);
+    match take_body(reader, &mut body, told.length) {
+        Ok(()) => {}
+        Err(fault) => return Err(fault),
+    }
+    Ok((told.status, body))
+}

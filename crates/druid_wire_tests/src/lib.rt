@@ -1,0 +1,10 @@
+//! What no contract says of messages: worked examples, devices that fail, printed texts, and that calls succeed with ample
+//! memory.
+#![tactic(auto)]
+
+#[cfg(test)]
+mod devices;
+#[cfg(test)]
+mod messages;
+#[cfg(test)]
+mod printing;

@@ -1,0 +1,372 @@
+//! Messages, read and written.
+use crate::printing::printed;
+use druid_wire::{Request, read_request, read_response, write_request, write_response};
+use http::{Method, StatusCode};
+use std::alloc::Global;
+use std::test::Fail;
+
+// Texts that are read as requests, and what each is: its method, its target, its body and what is left, or its fault. `|`
+// stands for a carriage return and a line feed, `_` for a line feed and `^` for a carriage return alone, `%` for a control
+// byte, `@` for the byte 127, and `~` for a byte that is no text.
+const REQUESTS: &str = " = X1: the message is cut off
+| = X1: the message is cut off
+GET = X1: the message is cut off
+GET / HTTP/1.1 = X1: the message is cut off
+GET / HTTP/1.1| = X1: the message is cut off
+GET / HTTP/1.1|^ = X1: the message is cut off
+GET / HTTP/1.1|Host: h| = X1: the message is cut off
+GET / HTTP/1.1|| = GET / [] []
+GET / HTTP/1.0|| = GET / [] []
+GET / HTTP/1.1__ = GET / [] []
+GET / HTTP/1.1|_ = GET / [] []
+GET / HTTP/1.1_|x = GET / [] [x]
+||_|GET / HTTP/1.1||GET = GET / [] [GET]
+GET /status/health HTTP/1.1|Host: h|Accept: */*|| = GET /status/health [] []
+GET /a?b=c&d=%25 HTTP/1.1|| = X4: not a head of a message
+GET /a?b=c&d=e HTTP/1.1|A: b_c: d|| = GET /a?b=c&d=e [] []
+GET /é HTTP/1.1|| = GET /é [] []
+GET http://h/ HTTP/1.1|| = GET http://h/ [] []
+GET * HTTP/1.1|| = GET * [] []
+PUT / HTTP/1.1|| = PUT / [] []
+HEAD / HTTP/1.1|| = HEAD / [] []
+BREW /pot HTTP/1.1|| = BREW /pot [] []
+get / HTTP/1.1|| = get / [] []
+A-METHOD-OF-MORE-BYTES / HTTP/1.1|| = A-METHOD-OF-MORE-BYTES / [] []
+POST /q HTTP/1.1|Content-Length: 3||abc = POST /q [abc] []
+POST /q HTTP/1.1|content-length:3||abcdef = POST /q [abc] [def]
+POST /q HTTP/1.1|CONTENT-LENGTH:   3  ||abc = POST /q [abc] []
+POST /q HTTP/1.1|A:|Content-Length: 003|B: ~||a|b = POST /q [a|] [b]
+POST /q HTTP/1.1|Content-Length: 00000000000000000003||abc = POST /q [abc] []
+POST /q HTTP/1.1|Content-Length: 0||abc = POST /q [] [abc]
+GET /q HTTP/1.1|Content-Length: 2||abc = GET /q [ab] [c]
+post / HTTP/1.1|| = post / [] []
+POST /q HTTP/1.1|Content-Length: 4||abc = X1: the message is cut off
+POST /q HTTP/1.1|Content-Length: 16777216||abc = X1: the message is cut off
+POST /q HTTP/1.1|Content-Length: 1|| = X1: the message is cut off
+GET / HTTP/2.0|| = X4: not a head of a message
+GET /|| = X4: not a head of a message
+GET|| = X4: not a head of a message
+x_| = X4: not a head of a message
+GET  / HTTP/1.1|| = X4: not a head of a message
+ GET / HTTP/1.1|| = X4: not a head of a message
+GET / HTTP/1.1 || = X4: not a head of a message
+GET / HTTP/1.1^x|| = X4: not a head of a message
+GET / HTTP/1.1^|| = X4: not a head of a message
+G(T / HTTP/1.1|| = X4: not a head of a message
+GET /a%b HTTP/1.1|| = X4: not a head of a message
+GET /a@b HTTP/1.1|| = X4: not a head of a message
+GET /~ HTTP/1.1|| = X4: not a head of a message
+GET / HTTP/1.1|A|| = X4: not a head of a message
+GET / HTTP/1.1|A : b|| = X4: not a head of a message
+GET / HTTP/1.1|A b: c|| = X4: not a head of a message
+GET / HTTP/1.1|: b|| = X4: not a head of a message
+GET / HTTP/1.1|A: b| c|| = X4: not a head of a message
+GET / HTTP/1.1| A: b|| = X4: not a head of a message
+GET / HTTP/1.1|A: b^c|| = X4: not a head of a message
+GET / HTTP/1.1|A: b%|| = X4: not a head of a message
+GET / HTTP/1.1|A: b@|| = X4: not a head of a message
+HTTP/1.1 200 OK|Content-Length: 0|| = X4: not a head of a message
+GET / HTTP/1.1|Content-Length: 1|Content-Length: 1||a = X4: not a head of a message
+GET / HTTP/1.1|Content-Length: 1|A: b|content-length: 2||ab = X4: not a head of a message
+GET / HTTP/1.1|Content-Length: 000000000000000000003||abc = X4: not a head of a message
+GET / HTTP/1.1|Content-Length:||a = X4: not a head of a message
+GET / HTTP/1.1|Content-Length: +1||a = X4: not a head of a message
+GET / HTTP/1.1|Content-Length: -1||a = X4: not a head of a message
+GET / HTTP/1.1|Content-Length: 0x1||a = X4: not a head of a message
+GET / HTTP/1.1|Content-Length: 1,1||a = X4: not a head of a message
+GET / HTTP/1.1|Content-Length: 1 1||a = X4: not a head of a message
+POST / HTTP/1.1|| = X6: no length of the body
+POST / HTTP/1.1|Transfer-Encoding: chunked||0|| = X6: no length of the body
+POST / HTTP/1.1|Content-Length: 1|TRANSFER-ENCODING: chunked||a = X6: no length of the body
+GET / HTTP/1.1|transfer-encoding: identity|| = X6: no length of the body
+GET / HTTP/1.1|Content-Length: 16777217||a = X7: the body is too long
+GET / HTTP/1.1|Content-Length: 18446744073709551616||a = X7: the body is too long
+GET / HTTP/1.1|Content-Length: 18446744073709551617||a = X7: the body is too long
+GET / HTTP/1.1|Content-Length: 99999999999999999999||a = X7: the body is too long";
+
+// Texts that are read as responses, and what each is: its status, its body and what is left, or its fault.
+const RESPONSES: &str = " = X1: the message is cut off
+HTTP/1.1 200 OK|Content-Length: 4| = X1: the message is cut off
+HTTP/1.1 200 OK|Content-Length: 4||true = 200 [true] []
+|HTTP/1.0 404 Not Found_Content-Length: 0_^_x = 404 [] [x]
+HTTP/1.1 200|Content-Length: 0|| = 200 [] []
+HTTP/1.1 599 |Content-Length: 1||ab = 599 [a] [b]
+HTTP/1.1 999 é~ x|Content-Length: 0|| = 999 [] []
+HTTP/1.1 100 Continue|Content-Length: 0|| = 100 [] []
+HTTP/1.1 200 OK|Content-Length: 3||ab = X1: the message is cut off
+HTTP/1.1 099 Low|Content-Length: 0|| = X4: not a head of a message
+HTTP/1.1 000 None|Content-Length: 0|| = X4: not a head of a message
+HTTP/1.1 20 OK|Content-Length: 0|| = X4: not a head of a message
+HTTP/1.1 2000 OK|Content-Length: 0|| = X4: not a head of a message
+HTTP/1.1 2x0 OK|Content-Length: 0|| = X4: not a head of a message
+HTTP/1.1|Content-Length: 0|| = X4: not a head of a message
+http/1.1 200 OK|Content-Length: 0|| = X4: not a head of a message
+GET / HTTP/1.1|Content-Length: 0|| = X4: not a head of a message
+HTTP/1.1 200 OK|Content-Length: 1|Content-Length: 1||a = X4: not a head of a message
+HTTP/1.1 200 OK|Content-Length: 1x||a = X4: not a head of a message
+HTTP/1.1 200 OK|| = X6: no length of the body
+HTTP/1.1 200 OK|Content-Length: 1|Transfer-Encoding: chunked||a = X6: no length of the body
+HTTP/1.1 200 OK|Content-Length: 16777217||a = X7: the body is too long";
+
+fn push_byte(alloc: Global, out: &mut Vec<u8>, byte: u8) -> Result<(), Fail> {
+    match byte {
+        b'|' => out.extend_from_slice(b"\r\n")?,
+        b'_' => out.push(b'\n')?,
+        b'^' => out.push(b'\r')?,
+        b'%' => out.push(1)?,
+        b'@' => out.push(127)?,
+        b'~' => out.push(255)?,
+        _ => out.push(byte)?,
+    }
+    Ok(())
+}
+
+// The bytes that a text stands for.
+pub(crate) fn spelled(alloc: Global, text: &str) -> Result<Vec<u8>, Fail> {
+    let mut out = Vec::new(alloc);
+    for byte in text.bytes() {
+        push_byte(alloc, &mut out, byte)?;
+    }
+    Ok(out)
+}
+
+// The bytes as a text of a table, which shows a line end as `|`.
+fn shown(alloc: Global, bytes: &[u8]) -> Result<String, Fail> {
+    let text = String::from_utf8_lossy(alloc, bytes)?;
+    Ok(text.as_str().replace(alloc, "\r\n", "|")?)
+}
+
+// What a text is, read as a request.
+fn request_in(alloc: Global, text: &[u8]) -> Result<String, Fail> {
+    let mut rest = text;
+    match read_request(alloc, &mut rest) {
+        Ok(request) => {
+            let method = request.method().as_str();
+            let target = request.target();
+            let body = shown(alloc, request.body())?;
+            let left = shown(alloc, rest)?;
+            Ok(format!(in alloc; "{method} {target} [{body}] [{left}]")?)
+        }
+        Err(fault) => printed(alloc, &fault),
+    }
+}
+
+// What a text is, read as a response.
+fn response_in(alloc: Global, text: &[u8]) -> Result<String, Fail> {
+    let mut rest = text;
+    match read_response(alloc, &mut rest) {
+        Ok((status, body)) => {
+            let code = status.as_u16();
+            let body = shown(alloc, &body)?;
+            let left = shown(alloc, rest)?;
+            Ok(format!(in alloc; "{code} [{body}] [{left}]")?)
+        }
+        Err(fault) => printed(alloc, &fault),
+    }
+}
+
+fn is_request(alloc: Global, row: &str) -> Result<bool, Fail> {
+    let (text, wanted) = row.split_once(" = ").ok_or("no row")?;
+    Ok(request_in(alloc, &spelled(alloc, text)?)?.as_str() == wanted)
+}
+
+fn is_response(alloc: Global, row: &str) -> Result<bool, Fail> {
+    let (text, wanted) = row.split_once(" = ").ok_or("no row")?;
+    Ok(response_in(alloc, &spelled(alloc, text)?)?.as_str() == wanted)
+}
+
+#[test]
+fn ample_memory(rt: HostRuntime) -> Result<(), Fail> {
+    for row in REQUESTS.lines() {
+        assert!(rt; is_request(rt.alloc(), row)?, "{row}");
+    }
+    for row in RESPONSES.lines() {
+        assert!(rt; is_response(rt.alloc(), row)?, "{row}");
+    }
+    Ok(())
+}
+
+// Whether each front of a message that is not the whole is cut, read as a request or as a response.
+fn is_cut_everywhere(alloc: Global, text: &str, is_response: bool) -> Result<bool, Fail> {
+    let whole = spelled(alloc, text)?;
+    for i in 0..whole.len() {
+        let told = if is_response {
+            response_in(alloc, &whole[..i])?
+        } else {
+            request_in(alloc, &whole[..i])?
+        };
+        if told.as_str() != "X1: the message is cut off" {
+            return Ok(false);
+        }
+    }
+    Ok(true)
+}
+
+#[test]
+fn cut_messages(rt: HostRuntime) -> Result<(), Fail> {
+    let request = "|POST /q HTTP/1.1|Host: h|Content-Length: 3||abc";
+    assert!(rt; is_cut_everywhere(rt.alloc(), request, false)?);
+    let response = "HTTP/1.1 200 OK|Content-Length: 4||true";
+    assert!(rt; is_cut_everywhere(rt.alloc(), response, true)?);
+    Ok(())
+}
+
+// A head of so many bytes, with one long field.
+fn long_head(alloc: Global, length: usize) -> Result<Vec<u8>, Fail> {
+    let mut head = spelled(alloc, "GET / HTTP/1.1|A: ")?;
+    for _ in 0..length.saturating_sub(head.len().saturating_add(4)) {
+        head.push(b'x')?;
+    }
+    head.extend_from_slice(b"\r\n\r\n")?;
+    Ok(head)
+}
+
+// A head of so many fields.
+fn wide_head(alloc: Global, count: usize) -> Result<Vec<u8>, Fail> {
+    let mut head = spelled(alloc, "GET / HTTP/1.1|")?;
+    for _ in 0..count {
+        head.extend_from_slice(b"A: b\r\n")?;
+    }
+    head.extend_from_slice(b"\r\n")?;
+    Ok(head)
+}
+
+// Whether a row holds: what is large and how large, how many blank lines stand before it, and what it is read as.
+fn is_within(alloc: Global, row: &str) -> Result<bool, Fail> {
+    let (what, wanted) = row.split_once(" = ").ok_or("no row")?;
+    let mut columns = what.split(' ');
+    let kind = columns.next().ok_or("no kind")?;
+    let size: usize = columns.next().ok_or("no size")?.parse()?;
+    let blank: usize = columns.next().ok_or("no blank lines")?.parse()?;
+    let head = if kind == "bytes" {
+        long_head(alloc, size)?
+    } else {
+        wide_head(alloc, size)?
+    };
+    let mut text = Vec::new(alloc);
+    for _ in 0..blank {
+        text.extend_from_slice(b"\r\n")?;
+    }
+    text.extend_from_slice(&head)?;
+    Ok(request_in(alloc, &text)?.as_str() == wanted)
+}
+
+#[test]
+fn limits(rt: HostRuntime) -> Result<(), Fail> {
+    let rows = "bytes 16383 0 = GET / [] []
+bytes 16384 0 = GET / [] []
+bytes 16384 9000 = GET / [] []
+bytes 16385 0 = X5: the head is too long
+bytes 16386 0 = X5: the head is too long
+bytes 50000 1 = X5: the head is too long
+fields 64 0 = GET / [] []
+fields 65 0 = X5: the head is too long
+fields 200 0 = X5: the head is too long";
+    for row in rows.lines() {
+        assert!(rt; is_within(rt.alloc(), row)?, "{row}");
+    }
+    Ok(())
+}
+
+// Whether a response with that status and body is written so.
+fn is_response_text(alloc: Global, row: &str) -> Result<bool, Fail> {
+    let (what, wanted) = row.split_once(" = ").ok_or("no row")?;
+    let (code, body) = what.split_once(" ").ok_or("no status")?;
+    let Ok(status) = StatusCode::from_u16(code.parse()?) else {
+        return Ok(false);
+    };
+    let mut written = Vec::new(alloc);
+    if write_response(alloc, status, body.as_bytes(), &mut written).is_err() {
+        return Ok(false);
+    }
+    Ok(written.as_slice() == spelled(alloc, wanted)?.as_slice())
+}
+
+// Whether a request of that method, target and body is written so.
+fn is_request_text(alloc: Global, row: &str) -> Result<bool, Fail> {
+    let (what, wanted) = row.split_once(" = ").ok_or("no row")?;
+    let mut columns = what.split(' ');
+    let method = columns.next().ok_or("no method")?;
+    let target = columns.next().ok_or("no target")?;
+    let body = columns.next().ok_or("no body")?;
+    let Ok(method) = Method::from_bytes(alloc, method.as_bytes()) else {
+        return Ok(false);
+    };
+    let mut bytes = Vec::new(alloc);
+    bytes.extend_from_slice(body.as_bytes())?;
+    let request = Request::new(method, String::from_str(alloc, target)?, bytes);
+    let mut written = Vec::new(alloc);
+    if write_request(alloc, &request, &mut written).is_err() {
+        return Ok(false);
+    }
+    Ok(written.as_slice() == spelled(alloc, wanted)?.as_slice())
+}
+
+#[test]
+fn written_texts(rt: HostRuntime) -> Result<(), Fail> {
+    let responses =
+        "200 true = HTTP/1.1 200 OK|Content-Type: application/json|Content-Length: 4|Connection: close||true
+200  = HTTP/1.1 200 OK|Content-Type: application/json|Content-Length: 0|Connection: close||
+400 {} = HTTP/1.1 400 Bad Request|Content-Type: application/json|Content-Length: 2|Connection: close||{}
+404 {} = HTTP/1.1 404 Not Found|Content-Type: application/json|Content-Length: 2|Connection: close||{}
+405 {} = HTTP/1.1 405 Method Not Allowed|Content-Type: application/json|Content-Length: 2|Connection: close||{}
+500 {} = HTTP/1.1 500 Internal Server Error|Content-Type: application/json|Content-Length: 2|Connection: close||{}
+503 {} = HTTP/1.1 503 Service Unavailable|Content-Type: application/json|Content-Length: 2|Connection: close||{}";
+    for row in responses.lines() {
+        assert!(rt; is_response_text(rt.alloc(), row)?, "{row}");
+    }
+    let requests =
+        "GET /status/health  = GET /status/health HTTP/1.1|Host: localhost|Content-Type: application/json|Content-Length: 0|Connection: close||
+POST /q abcdefghijkl = POST /q HTTP/1.1|Host: localhost|Content-Type: application/json|Content-Length: 12|Connection: close||abcdefghijkl";
+    for row in requests.lines() {
+        assert!(rt; is_request_text(rt.alloc(), row)?, "{row}");
+    }
+    Ok(())
+}
+
+// A body of so many bytes.
+fn large(alloc: Global, length: usize) -> Result<Vec<u8>, Fail> {
+    let mut body = Vec::new(alloc);
+    body.resize(length, b'x')?;
+    Ok(body)
+}
+
+// Whether a response with a body of so many bytes is written with that head, and that much of a body.
+fn is_large_response(alloc: Global, length: usize, head: &str, count: usize) -> Result<bool, Fail> {
+    let body = large(alloc, length)?;
+    let mut written = Vec::new(alloc);
+    if write_response(alloc, StatusCode::OK, &body, &mut written).is_err() {
+        return Ok(false);
+    }
+    let head = spelled(alloc, head)?;
+    Ok(written.starts_with(&head) && written.len() == head.len().saturating_add(count))
+}
+
+// What writing a request with a body of so many bytes tells, and how many bytes are written.
+fn large_request(alloc: Global, length: usize) -> Result<String, Fail> {
+    let body = large(alloc, length)?;
+    let Ok(method) = Method::from_bytes(alloc, b"POST") else {
+        return Ok(String::new(alloc));
+    };
+    let request = Request::new(method, String::from_str(alloc, "/")?, body);
+    let mut written = Vec::new(alloc);
+    let told = match write_request(alloc, &request, &mut written) {
+        Ok(()) => String::from_str(alloc, "ok")?,
+        Err(fault) => printed(alloc, &fault)?,
+    };
+    let count = written.len();
+    Ok(format!(in alloc; "{told} {count}")?)
+}
+
+#[test]
+fn large_bodies(rt: HostRuntime) -> Result<(), Fail> {
+    let whole =
+        "HTTP/1.1 200 OK|Content-Type: application/json|Content-Length: 16777216|Connection: close||";
+    assert!(rt; is_large_response(rt.alloc(), 16_777_216, whole, 16_777_216)?);
+    let other =
+        "HTTP/1.1 500 Internal Server Error|Content-Type: application/json|Content-Length: 20|Connection: close||{\"error\":\"TooLarge\"}";
+    assert!(rt; is_large_response(rt.alloc(), 16_777_217, other, 0)?);
+    assert!(rt; large_request(rt.alloc(), 16_777_216)?.as_str() == "ok 16777329");
+    assert!(rt; large_request(rt.alloc(), 16_777_217)?.as_str() == "X7: the body is too long 0");
+    Ok(())
+}
