@@ -5,8 +5,8 @@
 #[cfg(test)]
 mod answers;
 #[cfg(test)]
+mod partial;
+#[cfg(test)]
 mod printing;
 #[cfg(test)]
 mod results;
-#[cfg(test)]
-mod texts;

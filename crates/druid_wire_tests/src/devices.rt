@@ -1,5 +1,5 @@
 //! Readers and writers that fail, that are interrupted, and that take a byte at a time.
-use crate::messages::spelled;
+use crate::wire::spelled;
 use crate::printing::printed;
 use druid_wire::{WireFault, read_request, read_response, write_response};
 use http::StatusCode;

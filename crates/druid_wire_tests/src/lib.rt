@@ -5,6 +5,6 @@
 #[cfg(test)]
 mod devices;
 #[cfg(test)]
-mod messages;
-#[cfg(test)]
 mod printing;
+#[cfg(test)]
+mod wire;
