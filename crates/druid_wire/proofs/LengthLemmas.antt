@@ -17,7 +17,7 @@ use Rattle.std.proofs.lemmas.List.Elements.{filter-append}
 use Rattle.std.proofs.lemmas.List.Folds.{list_any-append, list_any_at}
 use Rattle.druid_wire.specs.Heads.{NameAndValue, is_named, values_of, is_length, length_told, length_said, length_in, is_coded}
 use Rattle.druid_wire.specs.declared.length.Length.TheVariants.{Unsaid, Unclear}
-use Rattle.druid_wire.specs.declared.length.TheConstants.{MAX_BODY}
+use Rattle.druid_wire.specs.declared.length.TheConstants.{MAX_BODY, MAX_DIGITS}
 
 is_digit : (b : ℕ) → is_ascii_digit b ≡ true → (48 ≤ b) × (b ≤ 57)
 is_digit b h = (grind (arith, nat_tests), grind (arith, nat_tests))
@@ -39,11 +39,11 @@ plain (b ∷ more) all e = omega (arith, e, (is_digit b (and_parts _ _ all).0).0
 pub length_numeral : (text : List ℕ) → is_length text ≡ true
     → IsNumeral 10 (without_leading_plus text) × (digits_value 10 (without_leading_plus text) < 2 ^ 128) × (without_leading_plus text ≡ text)
 length_numeral text is =
-    let outer = and_parts (nat_le 1 (length text) && nat_le (length text) 20) (list_all is_ascii_digit text) is in
-    let inner = and_parts (nat_le 1 (length text)) (nat_le (length text) 20) outer.0 in
+    let outer = and_parts (nat_le 1 (length text) && nat_le (length text) MAX_DIGITS) (list_all is_ascii_digit text) is in
+    let inner = and_parts (nat_le 1 (length text)) (nat_le (length text) MAX_DIGITS) outer.0 in
     let all = digits text outer.1 in
     let same = without_leading_plus_none text (plain text outer.1) in
-    let few : 10 ^ length text ≤ 10 ^ 20 = pow-le-pow_right (lit≤ tt) (leb-true (length text) 20 inner.1) in
+    let few : 10 ^ length text ≤ 10 ^ MAX_DIGITS = pow-le-pow_right (lit≤ tt) (leb-true (length text) MAX_DIGITS inner.1) in
     let low = digits_value-lt 10 text all in
     subst (λ (t : List ℕ). IsNumeral 10 t × (digits_value 10 t < 2 ^ 128) × (t ≡ text)) (sym same)
     ((leb-true 1 (length text) inner.0, all), omega (arith, few, low), refl)
@@ -51,7 +51,7 @@ length_numeral text is =
 pub length_text : (text : List ℕ) → is_length text ≡ true → IsUtf8 text
 length_text text is =
     IsUtf8-from_ascii text (IsAscii-from_digits text
-    (digits text (and_parts (nat_le 1 (length text) && nat_le (length text) 20) (list_all is_ascii_digit text) is).1))
+    (digits text (and_parts (nat_le 1 (length text) && nat_le (length text) MAX_DIGITS) (list_all is_ascii_digit text) is).1))
 
 -- ---- fields one by one
 

@@ -5,3 +5,9 @@ pub mod LengthLemmas
 pub mod HeadLemmas
 pub mod MessageLemmas
 pub mod WriteLemmas
+pub mod FramedLemmas
+pub mod GrammarLines
+pub mod GrammarMessages
+pub mod OnceLemmas
+pub mod DecimalLemmas
+pub mod BackLemmas

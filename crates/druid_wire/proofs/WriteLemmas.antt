@@ -1,10 +1,11 @@
 -- A text that is written part by part.
-use Rattle.std.proofs.Common.{◌≡◌, ℕ, ◌<◌, ◌≤◌, ◌⊎◌, inl, inr, codes, List, [], ◌∷◌, ◌++◌, decimal, IfOk, length, append_assoc, append-nil, length-append, Option, None, Some, arith, refl, sym, ap, subst, ◌∙◌, Result, Ok, Err, OnErr}
+use Rattle.std.proofs.Common.{◌≡◌, ℕ, ◌+◌, ◌<◌, ◌≤◌, ◌⊎◌, inl, inr, codes, List, [], ◌++◌, decimal, length, drop, get_or, Bor, append_assoc, append-nil, length-append, Option, None, Some, arith, refl, sym, ap, subst, ◌∙◌, Result, Ok, Err, OnOk, OnErr}
 use Rattle.std.proofs.KnownBytes.{Appends-nil, Appends-trans, Keeps-trans}
 use Rattle.std.specs.Io.KnownBytes.{Appends, Keeps}
 use Rattle.std.proofs.lemmas.Bool.{le-leb, lt-leb}
+use Rattle.std.proofs.lemmas.List.{at_drop_more, at_drop_all}
 use Rattle.druid_wire.specs.Messages.{RequestValue}
-use Rattle.druid_wire.specs.Written.{AppendsFront, LacksRequest, fields_text, phrase_of, request_head, request_text, response_head, response_text, answer_text}
+use Rattle.druid_wire.specs.Written.{AppendsFront, joined, LacksRequest, phrase_of, request_head, request_text, response_head, response_text, answer_text}
 use Rattle.druid_wire.specs.declared.fault.WireFault.{WireFault}
 use Rattle.druid_wire.specs.declared.fault.WireFault.TheVariants.{Write, Memory}
 use Rattle.druid_wire.specs.declared.length.TheConstants.{MAX_BODY}
@@ -73,13 +74,9 @@ err_more (Err e) P Q f h = f h
 pub front_as : (a b : Option (List ℕ)) (text whole : List ℕ) → whole ≡ text → AppendsFront a b text → AppendsFront a b whole
 front_as a b text whole e h = subst (AppendsFront a b) (sym e) h
 
-pub front_of : (a b : Option (List ℕ)) (head bytes body : List ℕ) → bytes ≡ head → AppendsFront a b (bytes ++ body) → AppendsFront a b (head ++ body)
-front_of a b head bytes body e h = front_as a b (bytes ++ body) (head ++ body) (ap (λ (l : List ℕ). l ++ body) (sym e)) h
-
-pub lacks_request : (request : RequestValue) (a b : Option (List ℕ)) (f : WireFault) (bytes body : List ℕ) → bytes ≡ request_head request → body ≡ request.body
-    → length request.body ≤ MAX_BODY → (f ≡ Write) ⊎ (f ≡ Memory) → AppendsFront a b (bytes ++ body) → LacksRequest request a b f
-lacks_request request a b f bytes body e g short told h =
-    let front = front_as a b (bytes ++ body) (request_text request) (ap (λ (l : List ℕ). l ++ request.body) (sym e) ∙ ap (λ (l : List ℕ). bytes ++ l) (sym g)) h in
+pub lacks_request : (request : RequestValue) (a b : Option (List ℕ)) (f : WireFault) → length request.body ≤ MAX_BODY
+    → (f ≡ Write) ⊎ (f ≡ Memory) → AppendsFront a b (request_text request) → LacksRequest request a b f
+lacks_request request a b f short told front =
     elim told [
       | inl w ↦ subst (LacksRequest request a b) (sym w) (short, front)
       | inr m ↦ subst (LacksRequest request a b) (sym m) (short, front)
@@ -91,40 +88,42 @@ answer_short status body short = rw (le-leb (length body) MAX_BODY short) refl
 pub answer_long : (status : ℕ) (body : List ℕ) → MAX_BODY < length body → answer_text status body ≡ response_text 500 (codes "{\"error\":\"TooLarge\"}")
 answer_long status body long = rw (lt-leb (length body) MAX_BODY long) refl
 
--- ---- heads that are made
+-- ---- texts out of their pieces
 
-pub text_as : {T E : Type 0} (bytes_of : T → List ℕ) (r : Result T E) (got wanted : List ℕ) → got ≡ wanted → IfOk r (λ t. bytes_of t ≡ got) → IfOk r (λ t. bytes_of t ≡ wanted)
-text_as bytes_of r got wanted e h = subst (λ (l : List ℕ). IfOk r (λ t. bytes_of t ≡ l)) e h
+pub joined_more : (pieces : List (Bor (List ℕ))) (i : ℕ) (d : Bor (List ℕ)) → i < length pieces → joined (drop i pieces) ≡ (get_or pieces i d).now ++ joined (drop (i + 1) pieces)
+joined_more pieces i d inside = at_drop_more joined pieces i d inside
 
-pub request_parts : (method target : List ℕ) (n : ℕ) (request : RequestValue) → method ≡ request.method → target ≡ request.target → n ≡ length request.body
-    → method ++ (codes " " ++ (target ++ (codes " HTTP/1.1\r\nHost: localhost\r\n" ++ fields_text n))) ≡ request_head request
+pub joined_all : (pieces : List (Bor (List ℕ))) (i : ℕ) → length pieces ≤ i → joined (drop i pieces) ≡ []
+joined_all pieces i past = at_drop_all joined pieces i past
+
+request_again : (method target digits body a b c d : List ℕ)
+    → method ++ (a ++ (target ++ (b ++ (c ++ (digits ++ (d ++ (body ++ []))))))) ≡ (method ++ (a ++ (target ++ (b ++ (c ++ (digits ++ d)))))) ++ body
+request_again method target digits body a b c d = simp (append_assoc, append-nil)
+
+pub request_joined : (method target digits body : List ℕ) (request : RequestValue) → method ≡ request.method → target ≡ request.target
+    → digits ≡ decimal (length request.body) → body ≡ request.body
+    → method ++ (codes " " ++ (target ++ (codes " HTTP/1.1\r\nHost: localhost\r\n" ++ (codes "Content-Type: application/json\r\nContent-Length: " ++ (digits ++ (codes "\r\nConnection: close\r\n\r\n" ++ (body ++ [])))))))
+    ≡ request_text request
 unfolding request_head
-request_parts method target n request e f g =
-    ap (λ (l : List ℕ). l ++ (codes " " ++ (target ++ (codes " HTTP/1.1\r\nHost: localhost\r\n" ++ fields_text n)))) e
-    ∙ ap (λ (l : List ℕ). request.method ++ (codes " " ++ (l ++ (codes " HTTP/1.1\r\nHost: localhost\r\n" ++ fields_text n)))) f
-    ∙ ap (λ (k : ℕ). request.method ++ (codes " " ++ (request.target ++ (codes " HTTP/1.1\r\nHost: localhost\r\n" ++ fields_text k)))) g
+request_joined method target digits body request e f g h =
+    rw (e, f, g, h) (request_again request.method request.target (decimal (length request.body)) request.body (codes " ")
+    (codes " HTTP/1.1\r\nHost: localhost\r\n") (codes "Content-Type: application/json\r\nContent-Length: ") (codes "\r\nConnection: close\r\n\r\n"))
 
-pub response_parts : (code n status : ℕ) (phrase : List ℕ) → code ≡ status → phrase ≡ phrase_of status
-    → codes "HTTP/1.1 " ++ (decimal code ++ (codes " " ++ (phrase ++ (codes "\r\n" ++ fields_text n)))) ≡ response_head status n
+response_again : (code phrase digits body a b c d e : List ℕ)
+    → a ++ (code ++ (b ++ (phrase ++ (c ++ (d ++ (digits ++ (e ++ (body ++ [])))))))) ≡ (a ++ (code ++ (b ++ (phrase ++ (c ++ (d ++ (digits ++ e))))))) ++ body
+response_again code phrase digits body a b c d e = simp (append_assoc, append-nil)
+
+pub response_joined : (code phrase digits body : List ℕ) (status : ℕ) → code ≡ decimal status → phrase ≡ phrase_of status → digits ≡ decimal (length body)
+    → codes "HTTP/1.1 " ++ (code ++ (codes " " ++ (phrase ++ (codes "\r\n" ++ (codes "Content-Type: application/json\r\nContent-Length: " ++ (digits ++ (codes "\r\nConnection: close\r\n\r\n" ++ (body ++ []))))))))
+    ≡ response_text status body
 unfolding response_head
-response_parts code n status phrase e f =
-    ap (λ (k : ℕ). codes "HTTP/1.1 " ++ (decimal k ++ (codes " " ++ (phrase ++ (codes "\r\n" ++ fields_text n))))) e
-    ∙ ap (λ (l : List ℕ). codes "HTTP/1.1 " ++ (decimal status ++ (codes " " ++ (l ++ (codes "\r\n" ++ fields_text n))))) f
+response_joined code phrase digits body status e f g =
+    rw (e, f, g) (response_again (decimal status) (phrase_of status) (decimal (length body)) body (codes "HTTP/1.1 ") (codes " ") (codes "\r\n")
+    (codes "Content-Type: application/json\r\nContent-Length: ") (codes "\r\nConnection: close\r\n\r\n"))
 
-some_behind : (xs r ys : List ℕ) (x : ℕ) → 0 < length ((xs ++ x ∷ r) ++ ys)
-some_behind xs r ys x = omega (arith, length-append (xs ++ x ∷ r) ys, length-append xs (x ∷ r))
+-- a text as it is known by another name
+pub same_end : {T E : Type 0} (r : Result T E) (a b : Option (List ℕ)) (got wanted : List ℕ) → got ≡ wanted → OnOk r (Appends a b got) → OnOk r (Appends a b wanted)
+same_end r a b got wanted e h = subst (λ (l : List ℕ). OnOk r (Appends a b l)) e h
 
-request_some : (request : RequestValue) → 0 < length (request_text request)
-unfolding request_head
-request_some request = some_behind request.method (request.target ++ (codes " HTTP/1.1\r\nHost: localhost\r\n" ++ fields_text (length request.body))) request.body 32
-
-response_some : (status : ℕ) (body : List ℕ) → 0 < length (response_text status body)
-unfolding response_head
-response_some status body = omega arith
-
--- no memory for the head
-pub request_waits : (request : RequestValue) (a : Option (List ℕ)) → length request.body ≤ MAX_BODY → LacksRequest request a a Memory
-request_waits request a short = (short, stops (request_text request) (request_text request) a a (begins (request_text request) a) (request_some request))
-
-pub response_waits : (status : ℕ) (body : List ℕ) (a : Option (List ℕ)) → AppendsFront a a (response_text status body)
-response_waits status body a = stops (response_text status body) (response_text status body) a a (begins (response_text status body) a) (response_some status body)
+pub same_fail : {T E : Type 0} (r : Result T E) (a b : Option (List ℕ)) (got wanted : List ℕ) → got ≡ wanted → OnErr r (AppendsFront a b got) → OnErr r (AppendsFront a b wanted)
+same_fail r a b got wanted e h = subst (λ (l : List ℕ). OnErr r (AppendsFront a b l)) e h

@@ -1,5 +1,7 @@
 -- The texts of messages, and what a writer got of a text.
 use Rattle.std.specs.Prelude.{◌≡◌, ◌<◌, ◌≤◌, ℕ, List, [], ◌++◌, length, codes, decimal, nat_le, unwrap_or, if◌then◌else◌, Option}
+use Rattle.std.specs.List.{flat_map}
+use Rattle.std.specs.Borrow.{Bor}
 use Rattle.std.specs.Io.KnownBytes.{Appends, Keeps}
 use Rattle.http.specs.StatusCode.{reason_phrase}
 use Rattle.druid_wire.specs.Messages.{RequestValue}
@@ -35,6 +37,10 @@ abbrev pub answer_text : ℕ → List ℕ → List ℕ
 answer_text status body =
     if nat_le (length body) MAX_BODY then response_text status body
     else response_text 500 (codes "{\"error\":\"TooLarge\"}")
+
+-- pieces, one behind another
+abbrev pub joined : List (Bor (List ℕ)) → List ℕ
+joined pieces = flat_map (λ piece. piece.now) pieces
 
 -- known bytes grow by some front of the text, which is not the whole
 abbrev pub AppendsFront : Option (List ℕ) → Option (List ℕ) → List ℕ → Type 0

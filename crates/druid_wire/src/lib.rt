@@ -6,6 +6,7 @@ mod fault;
 mod frame;
 mod head;
 mod interrupted;
+mod laws;
 mod length;
 mod lines;
 mod reading;
@@ -15,6 +16,11 @@ mod writing;
 pub use fault::WireFault;
 pub use frame::MAX_HEAD;
 pub use head::MAX_FIELDS;
+pub use laws::{
+    heads_are_framed, messages_are_of_the_grammar, one_head, one_request, one_response,
+    requests_are_read_back, requests_have_no_fault, responses_are_read_back,
+    responses_have_no_fault,
+};
 pub use length::MAX_BODY;
 pub use reading::{read_request, read_response};
 pub use request::Request;

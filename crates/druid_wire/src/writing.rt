@@ -1,16 +1,25 @@
-//! Messages, written.
-ghost use Rattle.std.specs.Prelude.{◌≡◌, ◌≤◌, ◌⊎◌, ◌++◌, length, take, IfOk, IfErr, OnOk, OnErr, string_bytes};
+//! Messages, written. It takes no memory.
+ghost use Rattle.std.specs.Prelude.{◌≡◌, ◌≤◌, ◌⊎◌, length, take, IfOk, IfErr, OnOk, OnErr};
 ghost use Rattle.std.specs.Io.KnownBytes.{Appends, Keeps};
-ghost use Rattle.druid_wire.specs.Written.{AppendsFront, phrase_of, request_head, request_text, response_head, response_text, answer_text, LacksRequest};
+ghost use Rattle.druid_wire.specs.Written.{AppendsFront, joined, phrase_of, request_text, response_text, answer_text, LacksRequest};
 
 use crate::fault::WireFault;
 use crate::interrupted::{MAX_TRIES, is_interrupted};
 use crate::length::MAX_BODY;
 use crate::request::Request;
 use http::StatusCode;
-use std::alloc::{AllocError, Global};
+use itoa::Buffer;
 use std::io;
 use std::io::{Error, ErrorKind, Write};
+
+// What stands before the status of a response.
+const BEFORE_STATUS: &[u8] = b"HTTP/1.1 ";
+
+// What a head has between its first fields and the length of the body.
+const BEFORE_LENGTH: &[u8] = b"Content-Type: application/json\r\nContent-Length: ";
+
+// What it has behind the length, up to the end of the empty line.
+const BEHIND_LENGTH: &[u8] = b"\r\nConnection: close\r\n\r\n";
 
 // Writes a front of a text, of one byte at least, and gives its length.
 #[tactic(auto, using(crate::proofs::WriteLemmas::kept_twice, crate::proofs::WriteLemmas::kept_appends))]
@@ -50,14 +59,16 @@ fn write_text<W: Write>(writer: &mut W, text: &[u8]) -> io::Result<()>
     Ok(())
 }
 
-// Writes a head and the body behind it.
-fn write_both<W: Write>(writer: &mut W, head: &[u8], body: &[u8]) -> io::Result<()>
-    ensures ok { OnOk result (Appends (W.contents writer.old) (W.contents writer.new) (head.now ++ body.now)) }
+// Writes pieces, one behind another, as one text.
+fn write_pieces<W: Write>(writer: &mut W, pieces: &[&[u8]]) -> io::Result<()>
+    ensures ok { OnOk result (Appends (W.contents writer.old) (W.contents writer.new) (joined pieces.now)) }
     ensures err { OnErr result
-        (AppendsFront (W.contents writer.old) (W.contents writer.new) (head.now ++ body.now)) }
+        (AppendsFront (W.contents writer.old) (W.contents writer.new) (joined pieces.now)) }
 {
-    write_text(writer, head)?;
-    write_text(writer, body)
+    for piece in pieces {
+        write_text(writer, piece)?;
+    }
+    Ok(())
 }
 
 // What a failed write tells.
@@ -71,46 +82,70 @@ fn write_fault(error: &Error) -> WireFault
     }
 }
 
-// The head of a request, and the empty line behind it.
-#[tactic(auto, unfolding(crate::specs::Written::request_head))]
-fn request_head(alloc: Global, request: &Request) -> Result<String, AllocError>
-    ensures { IfOk result (λ text. string_bytes text ≡ request_head request.now) }
+// The phrase of a status, which is empty where it has none. It is lent no longer than the status is, so that the pieces of
+// a text are lent alike.
+fn phrase_of(status: &StatusCode) -> &[u8]
+    ensures { result.now ≡ phrase_of status.now }
 {
-    let method = request.method().as_str();
-    let target = request.target();
-    let length = request.body().len();
-    format!(in alloc;
-        "{method} {target} HTTP/1.1\r\nHost: localhost\r\nContent-Type: application/json\r\nContent-Length: {length}\r\nConnection: close\r\n\r\n"
+    status.canonical_reason().unwrap_or("").as_bytes()
+}
+
+// Writes the text of a request, whatever its length.
+fn write_request_text<W: Write>(request: &Request, writer: &mut W) -> io::Result<()>
+    ensures ok { OnOk result (Appends (W.contents writer.old) (W.contents writer.new) (request_text request.now)) }
+    ensures err { OnErr result
+        (AppendsFront (W.contents writer.old) (W.contents writer.new) (request_text request.now)) }
+{
+    let method = request.method().as_str().as_bytes();
+    let target = request.target().as_bytes();
+    let body = request.body();
+    let mut length_digits = Buffer::new();
+    let length = length_digits.format(body.len()).as_bytes();
+    write_pieces(
+        writer,
+        &[
+            method,
+            b" ",
+            target,
+            b" HTTP/1.1\r\nHost: localhost\r\n",
+            BEFORE_LENGTH,
+            length,
+            BEHIND_LENGTH,
+            body,
+        ],
     )
 }
 
-// The head of a response with a body of so many bytes, and the empty line behind it.
-#[tactic(auto, unfolding(crate::specs::Written::response_head))]
-fn response_head(alloc: Global, status: StatusCode, length: usize) -> Result<String, AllocError>
-    ensures { IfOk result (λ text. string_bytes text ≡ response_head status length) }
+// Writes the text of a response, whatever its length.
+fn write_response_text<W: Write>(status: StatusCode, body: &[u8], writer: &mut W) -> io::Result<()>
+    ensures ok { OnOk result (Appends (W.contents writer.old) (W.contents writer.new) (response_text status body.now)) }
+    ensures err { OnErr result
+        (AppendsFront (W.contents writer.old) (W.contents writer.new) (response_text status body.now)) }
 {
-    let code = status.as_u16();
-    let phrase = phrase(status);
-    format!(in alloc;
-        "HTTP/1.1 {code} {phrase}\r\nContent-Type: application/json\r\nContent-Length: {length}\r\nConnection: close\r\n\r\n"
+    let mut code_digits = Buffer::new();
+    let code = code_digits.format(status.as_u16()).as_bytes();
+    let mut length_digits = Buffer::new();
+    let length = length_digits.format(body.len()).as_bytes();
+    write_pieces(
+        writer,
+        &[
+            BEFORE_STATUS,
+            code,
+            b" ",
+            phrase_of(&status),
+            b"\r\n",
+            BEFORE_LENGTH,
+            length,
+            BEHIND_LENGTH,
+            body,
+        ],
     )
 }
 
-// The phrase of a status, which is empty where it has none.
-fn phrase(status: StatusCode) -> &'static str
-    ensures { result.now ≡ phrase_of status }
-{
-    status.canonical_reason().unwrap_or("")
-}
-
-/// Writes a request. `BodyTooLong`, and nothing is written, where its body passes the limit. `Write` where the writer
-/// fails and `Memory` where memory is refused, also to the writer: then it has got some front of the request, and not the
-/// whole. Nothing is flushed.
-pub fn write_request<W: Write>(
-    alloc: Global,
-    request: &Request,
-    writer: &mut W,
-) -> Result<(), WireFault>
+/// Writes a request, and takes no memory. `BodyTooLong`, and nothing is written, where its body passes the limit. `Write`
+/// where the writer fails, and `Memory` where it fails for want of memory: then it has got some front of the request, and
+/// not the whole. Nothing is flushed.
+pub fn write_request<W: Write>(request: &Request, writer: &mut W) -> Result<(), WireFault>
     ensures ok { OnOk result (Appends (W.contents writer.old) (W.contents writer.new) (request_text request.now)) }
     ensures short { OnOk result (length request.now.body ≤ MAX_BODY) }
     ensures err { IfErr result (LacksRequest request.now (W.contents writer.old) (W.contents writer.new)) }
@@ -118,42 +153,28 @@ pub fn write_request<W: Write>(
     if MAX_BODY < request.body().len() {
         return Err(WireFault::BodyTooLong);
     }
-    let head = match request_head(alloc, request) {
-        Ok(head) => head,
-        Err(_) => return Err(WireFault::Memory),
-    };
-    match write_both(writer, head.as_bytes(), request.body()) {
+    match write_request_text(request, writer) {
         Ok(()) => Ok(()),
         Err(error) => Err(write_fault(&error)),
     }
 }
 
 // Writes a response, whatever its length.
-fn write_whole<W: Write>(
-    alloc: Global,
-    status: StatusCode,
-    body: &[u8],
-    writer: &mut W,
-) -> Result<(), WireFault>
+fn write_whole<W: Write>(status: StatusCode, body: &[u8], writer: &mut W) -> Result<(), WireFault>
     ensures ok { OnOk result (Appends (W.contents writer.old) (W.contents writer.new) (response_text status body.now)) }
     ensures err { OnErr result (AppendsFront (W.contents writer.old) (W.contents writer.new) (response_text status body.now)) }
     ensures faults { IfErr result (λ fault. (fault ≡ WireFault.Write) ⊎ (fault ≡ WireFault.Memory)) }
 {
-    let head = match response_head(alloc, status, body.len()) {
-        Ok(head) => head,
-        Err(_) => return Err(WireFault::Memory),
-    };
-    match write_both(writer, head.as_bytes(), body) {
+    match write_response_text(status, body, writer) {
         Ok(()) => Ok(()),
         Err(error) => Err(write_fault(&error)),
     }
 }
 
-/// Writes a response. In place of one whose body passes the limit, status 500 and `{"error":"TooLarge"}` are written.
-/// `Write` where the writer fails and `Memory` where memory is refused, also to the writer: then it has got some front of
-/// the text, and not the whole. Nothing is flushed.
+/// Writes a response, and takes no memory. In place of one whose body passes the limit, status 500 and
+/// `{"error":"TooLarge"}` are written. `Write` where the writer fails, and `Memory` where it fails for want of memory: then
+/// it has got some front of the text, and not the whole. Nothing is flushed.
 pub fn write_response<W: Write>(
-    alloc: Global,
     status: StatusCode,
     body: &[u8],
     writer: &mut W,
@@ -163,10 +184,9 @@ pub fn write_response<W: Write>(
     ensures faults { IfErr result (λ fault. (fault ≡ WireFault.Write) ⊎ (fault ≡ WireFault.Memory)) }
 {
     if body.len() <= MAX_BODY {
-        return write_whole(alloc, status, body, writer);
+        return write_whole(status, body, writer);
     }
     write_whole(
-        alloc,
         StatusCode::INTERNAL_SERVER_ERROR,
         b"{\"error\":\"TooLarge\"}",
         writer,

@@ -1,6 +1,6 @@
 //! Readers and writers that fail, that are interrupted, and that take a byte at a time.
-use crate::wire::spelled;
 use crate::printing::printed;
+use crate::wire::spelled;
 use druid_wire::{WireFault, read_request, read_response, write_response};
 use http::StatusCode;
 use std::alloc::Global;
@@ -15,7 +15,8 @@ struct Plan<'a> {
 }
 
 impl Plan<'_> {
-    // How many bytes the next call takes: `a` all that it can, `1` one, and `0` none; `i` is interrupted, and `f` fails.
+    // How many bytes the next call takes: `a` all that it can, `1` one, and `0` none; `i` is interrupted, `m` fails
+    // for want of memory, and `f` fails.
     fn take(&mut self, most: usize) -> io::Result<usize> {
         let Some((letter, rest)) = self.letters.split_first() else {
             return Ok(most);
@@ -29,6 +30,7 @@ impl Plan<'_> {
             b'1' => Ok(1),
             b'0' => Ok(0),
             b'i' => Err(ErrorKind::Interrupted.into()),
+            b'm' => Err(ErrorKind::OutOfMemory.into()),
             _ => Err(ErrorKind::Other.into()),
         }
     }
@@ -116,6 +118,7 @@ f=X2: the message could not be read=X2: the message could not be read
 af=X2: the message could not be read=X2: the message could not be read
 aaf=X2: the message could not be read=X2: the message could not be read
 aaaf=/q 3=200 4
+aam=X9: out of memory=X9: out of memory
 111110=X1: the message is cut off=X1: the message is cut off
 aa0=X1: the message is cut off=X1: the message is cut off";
     for row in rows.lines() {
@@ -135,7 +138,7 @@ fn written_over(alloc: Global, plan: &str) -> Result<String, Fail> {
         },
         written: Vec::new(alloc),
     };
-    let end = write_response(alloc, StatusCode::OK, b"true", &mut writer);
+    let end = write_response(StatusCode::OK, b"true", &mut writer);
     if !WHOLE.starts_with(&writer.written) {
         return Ok(String::from_str(alloc, "another text")?);
     }
@@ -164,8 +167,11 @@ f=X3: the message could not be written 0
 0=X3: the message could not be written 0
 i=X3: the message could not be written 0
 111f=X3: the message could not be written 3
-af=X3: the message could not be written 89
-a1i=X3: the message could not be written 90";
+m=X9: out of memory 0
+11m=X9: out of memory 2
+af=X3: the message could not be written 9
+aaaaaaaaf=X3: the message could not be written 89
+aaaaaaaa1i=X3: the message could not be written 90";
     for row in rows.lines() {
         assert!(rt; is_written_so(rt.alloc(), row)?, "{row}");
     }
