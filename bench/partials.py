@@ -1,6 +1,7 @@
 #!/usr/bin/env python3
 """Builds the proved program of `bench/partials`, which answers queries over a segment of 100,000 rows, and prints its speed
-beside that of SQLite (in memory, one thread) on the same rows, whose answers are compared.
+beside that of SQLite (in memory, one thread) on the same rows, whose answers are compared. Then hostile texts of 4, 8 and 16
+MiB: how long each is read until it is taken or refused.
 
 It is built in the folder for temporary files, over copies of the crates; the first time that proves them, which takes some
 minutes.
@@ -103,6 +104,56 @@ def same(asked, result, rows):
     return [(row['event'][name], *(row['event'][k] for k in ('n', 's', 'g'))) for row in result] == rows
 
 
+DAY = '1970-01-01T00:00:00.000Z/1970-01-02T00:00:00.000Z'
+PIECE = {'chunk': DAY, 'itvl': DAY, 'part': 0, 'ver': 'v1'}
+SUBQUERY = dict(query('groupBy', 'all', ['d0']), queryIntervals=['1970-01-01/1970-01-02'],
+                intervals={'type': 'segments', 'segments': [PIECE]})
+
+
+def with_filter(text):
+    return json.dumps(SUBQUERY).replace('"filter": null', '"filter": ' + text)
+
+
+def many(part, size):
+    """As many copies of the text as the size holds, with commas between them."""
+    return ','.join([part] * (size // (len(part) + 1)))
+
+
+# Hostile texts of about that size: of a subquery, or of an answer to one.
+HOSTILE = [
+    ('lists in lists', 'subquery', lambda n: '[' * (n // 2) + ']' * (n // 2)),
+    ('127 lists in lists, many', 'subquery', lambda n: '[' + many('[' * 126 + ']' * 126, n) + ']'),
+    ('empty filters', 'subquery', lambda n: with_filter('{"type":"and","fields":[' + many('{"type":"and","fields":[]}', n) + ']}')),
+    ('values of a filter', 'subquery', lambda n: with_filter('{"type":"in","dimension":"d0","values":[' + many('"v"', n) + ']}')),
+    ('doubled keys', 'subquery', lambda n: '{' + many('"queryType":"groupBy"', n) + '}'),
+    ('a long number', 'subquery', lambda n: '9' * n),
+    ('a long text', 'subquery', lambda n: '"' + 'x' * n + '"'),
+    ('overlapping pieces', 'subquery', lambda n: json.dumps(dict(SUBQUERY, intervals={'type': 'segments', 'segments': []}))
+        .replace('"segments": []', '"segments": [' + many(json.dumps(PIECE), n) + ']')),
+    ('one row again and again', 'answer', lambda n: '{"missing":[],"rows":[' + many('[0,["a"],[1,2,3]]', n) + ']}'),
+    ('rows of nothing', 'answer', lambda n: '{"missing":[],"rows":[' + many('[]', n) + ']}'),
+    ('a piece again and again', 'answer', lambda n: '{"missing":[' + many(json.dumps(PIECE), n) + '],"rows":[]}'),
+    ('doubled keys', 'answer', lambda n: '{' + many('"rows":[]', n) + '}'),
+    ('long numbers', 'answer', lambda n: '{"missing":[],"rows":[' + many('[' + '9' * 1000 + ']', n) + ']}'),
+]
+
+
+def hostile(program):
+    print(f'{"hostile text":42}{"4":>10} {"8":>10} {"16 MiB":>10}')
+    texts = {kind: os.path.join(PLACE, f'{kind}.json') for kind in ('subquery', 'answer')}
+    for name, kind, made in HOSTILE:
+        with open(texts['subquery'], 'w') as f:
+            json.dump(SUBQUERY, f)
+        spent = []
+        for size in (4, 8, 16):
+            with open(texts[kind], 'w') as f:
+                f.write(made(size << 20))
+            told, peak = run(program, 'judge', texts['subquery'], texts['answer'])
+            last = list(told)[-1]
+            spent.append(told[last][1] / 1000)
+        print(f'{kind + ": " + name:42}' + ' '.join(f'{it:7.1f} ms' for it in spent) + f'  {last}, {peak:.0f} MiB', flush=True)
+
+
 def main():
     program = build()
     db = table()
@@ -124,6 +175,7 @@ def main():
     for name, (count, spent) in told.items():
         print(f'{name:10} {count:10,} {spent / 1000:10.1f} ms')
     print(f'{peak:.0f} MiB')
+    hostile(program)
 
 
 main()

@@ -16,5 +16,5 @@ pub use laws::{
     cut_files_are_cut, faults_stay, lengths_agree, longer_files_have_trailing_bytes,
     spellings_are_read_back,
 };
-pub use reading::read_segment;
+pub use reading::{read_segment, segment_of};
 pub use writing::write_segment;

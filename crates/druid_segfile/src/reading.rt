@@ -121,8 +121,9 @@ fn short_of(bytes: &[u8]) -> FileFault
     }
 }
 
-// The segment that the bytes spell, all of them. They are judged before memory is asked for.
-fn segment_in(alloc: Global, bytes: &[u8]) -> Result<Segment, FileFault>
+/// The segment that the bytes spell, all of them. They are judged before memory is asked for: the faults are those of
+/// `read_segment`, but `Read` and `Write`, and `Memory` only where the bytes spell a segment.
+pub fn segment_of(alloc: Global, bytes: &[u8]) -> Result<Segment, FileFault>
     ensures found { IfOk result (λ segment. bytes.now ≡ spelling segment) }
     ensures valid { IfOk result IsSegment }
     ensures exact { GivesInMemory result (segment_at bytes.now) }
@@ -157,5 +158,5 @@ pub fn read_segment<R: Read>(alloc: Global, reader: &mut R) -> Result<Segment, F
     ensures no_write { result ≢ Err FileFault.Write }
 {
     let bytes = first_bytes(alloc, reader)?;
-    segment_in(alloc, &bytes)
+    segment_of(alloc, &bytes)
 }

@@ -3,7 +3,7 @@ use Rattle.std.proofs.lemmas.Result.{err_from_is_err_and}
 use Rattle.druid_segfile.specs.Reading.{Cursor}
 use Rattle.druid_segfile.proofs.SegmentLemmas.{judged_err, judged_ok, judged_trails, judged_passes, may_lack_memory, is_spelling}
 use Rattle.druid_segfile.proofs.BuildLemmas.{whole_content, built_is, room_at_cursor}
-use Rattle.druid_segfile.proofs.reading.segment_in.Goals as goal
+use Rattle.druid_segfile.proofs.reading.segment_of.Goals as goal
 
 pub returns-in_err-judged-clause-exact : goal.returns-in_err-judged-clause-exact
 returns-in_err-judged-clause-exact c =

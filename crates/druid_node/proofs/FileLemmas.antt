@@ -1,0 +1,138 @@
+-- What a file gives.
+use Rattle.std.proofs.Common.{◌≡◌, ◌⊎◌, ℕ, true, false, cond, List, Option, Some, None, Result, Ok, Err, IsOk, IfErr, refl, sym, ap, ◌∙◌, subst, inl, inr, bytes_eq}
+use Rattle.std.specs.Bool.{⊤}
+use Rattle.druid_shard.specs.declared.change.Change.TheVariants.{Load}
+use Rattle.druid_rows.specs.Segment.{Segment}
+use Rattle.druid_segfile.specs.Reading.{GivesInMemory, segment_at}
+use Rattle.druid_segfile.specs.declared.fault.FileFault.{FileFault}
+use Rattle.druid_segfile.specs.declared.fault.FileFault.TheVariants as file
+use Rattle.druid_segfile.proofs.FrontLemmas.{within_own}
+use Rattle.druid_rows.specs.Segment.{max_text}
+use Rattle.druid_store.specs.Folder.{faults_at}
+use Rattle.druid_store.specs.declared.fault.StoreFault.{StoreFault}
+use Rattle.druid_store.specs.declared.fault.StoreFault.TheVariants as store
+use Rattle.druid_node.specs.State.{State, Refuses}
+use Rattle.druid_node.specs.Files.{file_name, named, file_at, told_as, RefusesFile, IsOfFile, RefusesBytes, RefusesFound, faults_after_load}
+use Rattle.druid_node.specs.declared.fault.NodeFault.{NodeFault}
+use Rattle.druid_node.specs.declared.fault.NodeFault.TheVariants as faults
+
+-- bytes that are no segment
+pub told_bytes : (name bytes : List ℕ) (fault : FileFault) → GivesInMemory (Err fault) (segment_at bytes) → RefusesBytes name bytes (told_as fault)
+told_bytes name bytes file.Magic gives = gives
+told_bytes name bytes file.Cut gives = gives
+told_bytes name bytes file.Field gives = gives
+told_bytes name bytes file.RowOutside gives = gives
+told_bytes name bytes file.TooLong gives = gives
+told_bytes name bytes file.Trailing gives = gives
+told_bytes name bytes file.Read gives = gives
+told_bytes name bytes file.Write gives = gives
+told_bytes name bytes file.Memory gives = gives
+
+-- a segment under its name, and under another
+pub under_name : (name bytes : List ℕ) (s : Segment) → segment_at bytes ≡ Ok s → bytes_eq name (file_name s.descriptor.id) ≡ true → named name (segment_at bytes) ≡ Ok s
+under_name name bytes s read same = ap (named name) read ∙ ap (λ b. cond b (Ok s) (Err faults.NameDiffers)) same
+
+pub under_other : (name bytes : List ℕ) (s : Segment) → segment_at bytes ≡ Ok s → bytes_eq name (file_name s.descriptor.id) ≡ false → named name (segment_at bytes) ≡ Err faults.NameDiffers
+under_other name bytes s read other = ap (named name) read ∙ ap (λ b. cond b (Ok s) (Err faults.NameDiffers)) other
+
+pub is_read : (bytes : List ℕ) (s : Segment) → segment_at bytes ≡ Ok s → IsOk (segment_at bytes)
+is_read bytes s e = subst IsOk (sym e) refl
+
+-- ---- what loading tells
+
+bytes_refuse : (name bytes : List ℕ) (given : Option (List ℕ)) (state : State) (fault : NodeFault) → Some bytes ≡ given → RefusesBytes name bytes fault → RefusesFile (file_at name given) state fault
+bytes_refuse name bytes given state faults.Device is h = absurd h
+bytes_refuse name bytes given state (faults.File fault) is h = ap (file_at name) (sym is) ∙ ap (named name) h
+bytes_refuse name bytes given state faults.NameDiffers is h = ap (file_at name) (sym is) ∙ h
+bytes_refuse name bytes given state (faults.History fault) is h = absurd h
+bytes_refuse name bytes given state (faults.Wire fault) is h = absurd h
+bytes_refuse name bytes given state faults.NoFile is h = absurd h
+bytes_refuse name bytes given state faults.Memory is h = tt
+
+bytes_own : (name bytes : List ℕ) (fault : NodeFault) → RefusesBytes name bytes fault → IsOfFile fault
+bytes_own name bytes faults.Device h = tt
+bytes_own name bytes (faults.File file.Magic) h = tt
+bytes_own name bytes (faults.File file.Cut) h = tt
+bytes_own name bytes (faults.File file.Field) h = tt
+bytes_own name bytes (faults.File file.RowOutside) h = tt
+bytes_own name bytes (faults.File file.TooLong) h = tt
+bytes_own name bytes (faults.File file.Trailing) h = tt
+bytes_own name bytes (faults.File file.Read) h = within_own max_text bytes file.Read h
+bytes_own name bytes (faults.File file.Write) h = within_own max_text bytes file.Write h
+bytes_own name bytes (faults.File file.Memory) h = within_own max_text bytes file.Memory h
+bytes_own name bytes faults.NameDiffers h = tt
+bytes_own name bytes (faults.History fault) h = absurd h
+bytes_own name bytes (faults.Wire fault) h = absurd h
+bytes_own name bytes faults.NoFile h = absurd h
+bytes_own name bytes faults.Memory h = tt
+
+pub found_refuse : (name : List ℕ) (found given : Option (List ℕ)) (state : State) (fault : NodeFault) → found ≡ given → RefusesFound name found fault → RefusesFile (file_at name given) state fault
+found_refuse name None given state fault is h =
+    subst (λ (f : NodeFault). RefusesFile (file_at name given) state f) (sym h) (ap (file_at name) (sym is))
+found_refuse name (Some bytes) given state fault is h = bytes_refuse name bytes given state fault is h
+
+pub found_own : (name : List ℕ) (found : Option (List ℕ)) (fault : NodeFault) → RefusesFound name found fault → IsOfFile fault
+found_own name None fault h = subst IsOfFile (sym h) tt
+found_own name (Some bytes) fault h = bytes_own name bytes fault h
+
+pub load_refuses : (given : Result Segment NodeFault) (state : State) (s : Segment) (fault : NodeFault) → given ≡ Ok s → Refuses state.history (Load s.descriptor) fault → RefusesFile given state fault
+load_refuses given state s faults.Device is h = absurd h
+load_refuses given state s (faults.File fault) is h = absurd h
+load_refuses given state s faults.NameDiffers is h = absurd h
+load_refuses given state s (faults.History fault) is h = (s, is, h)
+load_refuses given state s (faults.Wire fault) is h = absurd h
+load_refuses given state s faults.NoFile is h = absurd h
+load_refuses given state s faults.Memory is h = tt
+
+pub load_own : (state : State) (s : Segment) (fault : NodeFault) → Refuses state.history (Load s.descriptor) fault → IsOfFile fault
+load_own state s faults.Device h = absurd h
+load_own state s (faults.File fault) h = absurd h
+load_own state s faults.NameDiffers h = absurd h
+load_own state s (faults.History fault) h = tt
+load_own state s (faults.Wire fault) h = absurd h
+load_own state s faults.NoFile h = absurd h
+load_own state s faults.Memory h = tt
+
+-- ---- how often the device has failed
+
+abbrev pub load_told : NodeFault → Result ⊤ NodeFault
+load_told fault = Err fault
+
+bytes_uncounted : (name bytes : List ℕ) (fault : NodeFault) (n : ℕ) → RefusesBytes name bytes fault → faults_after_load (load_told fault) n ≡ n
+bytes_uncounted name bytes faults.Device n h = absurd h
+bytes_uncounted name bytes (faults.File fault) n h = refl
+bytes_uncounted name bytes faults.NameDiffers n h = refl
+bytes_uncounted name bytes (faults.History fault) n h = refl
+bytes_uncounted name bytes (faults.Wire fault) n h = refl
+bytes_uncounted name bytes faults.NoFile n h = refl
+bytes_uncounted name bytes faults.Memory n h = refl
+
+pub found_uncounted : (name : List ℕ) (found : Option (List ℕ)) (fault : NodeFault) (n : ℕ) → RefusesFound name found fault → faults_after_load (load_told fault) n ≡ n
+found_uncounted name None fault n h = ap (λ (f : NodeFault). faults_after_load (load_told f) n) h
+found_uncounted name (Some bytes) fault n h = bytes_uncounted name bytes fault n h
+
+pub load_uncounted : (state : State) (s : Segment) (r : Result ⊤ NodeFault) (n : ℕ) → IfErr r (Refuses state.history (Load s.descriptor)) → faults_after_load r n ≡ n
+load_uncounted state s (Ok x) n h = refl
+load_uncounted state s (Err faults.Device) n h = absurd h
+load_uncounted state s (Err (faults.File fault)) n h = refl
+load_uncounted state s (Err faults.NameDiffers) n h = refl
+load_uncounted state s (Err (faults.History fault)) n h = refl
+load_uncounted state s (Err (faults.Wire fault)) n h = refl
+load_uncounted state s (Err faults.NoFile) n h = refl
+load_uncounted state s (Err faults.Memory) n h = refl
+
+-- the read of the folder failed
+abbrev pub ReadTold : StoreFault → NodeFault → Type 0
+ReadTold fault told = ((fault ≡ store.Device) × (told ≡ faults.Device)) ⊎ ((fault ≡ store.Memory) × (told ≡ faults.Memory))
+
+pub read_refuses : (given : Result Segment NodeFault) (state : State) (fault : StoreFault) (told : NodeFault) → ReadTold fault told → RefusesFile given state told
+read_refuses given state fault told (inl (e, f)) = subst (RefusesFile given state) (sym f) tt
+read_refuses given state fault told (inr (e, f)) = subst (RefusesFile given state) (sym f) tt
+
+pub read_own : (fault : StoreFault) (told : NodeFault) → ReadTold fault told → IsOfFile told
+read_own fault told (inl (e, f)) = subst IsOfFile (sym f) tt
+read_own fault told (inr (e, f)) = subst IsOfFile (sym f) tt
+
+pub read_counted : (fault : StoreFault) (told : NodeFault) (n : ℕ) → ReadTold fault told → faults_at fault n ≡ faults_after_load (load_told told) n
+read_counted fault told n (inl (e, f)) = ap (λ (g : StoreFault). faults_at g n) e ∙ ap (λ (g : NodeFault). faults_after_load (load_told g) n) (sym f)
+read_counted fault told n (inr (e, f)) = ap (λ (g : StoreFault). faults_at g n) e ∙ ap (λ (g : NodeFault). faults_after_load (load_told g) n) (sym f)

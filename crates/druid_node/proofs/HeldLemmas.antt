@@ -1,0 +1,407 @@
+-- Segments in a map by identifier, and in its order.
+use Rattle.std.proofs.Common.{◌≡◌, ◌⊎◌, ◌↔◌, Bool, true, false, not, cond, ◌||◌, List, [], ◌∷◌, map, Option, Some, None, refl, sym, ap, ◌∙◌, subst, arith, inl, inr}
+use Rattle.std.specs.BTreeMap.{insert_entry, is_at}
+use Rattle.std.specs.List.{All, Contains, list_any}
+use Rattle.std.specs.Map.{lookup, remove_entry, values_of}
+use Rattle.std.specs.Option.{is_some, option_map}
+use Rattle.std.specs.Ordering.{is_eq, match_ordering}
+use Rattle.std.specs.declared.cmp.Ordering.{Ordering}
+use Rattle.std.specs.declared.cmp.Ordering.TheVariants.{Less, Equal, Greater}
+use Rattle.std.proofs.lemmas.Bool.{cases_Bool, false≢true}
+use Rattle.std.proofs.lemmas.List.Elements.{All-nil, All-cons, All-head, All-tail}
+use Rattle.std.proofs.lemmas.Option.{same_Some}
+use Rattle.druid_segid.specs.Identifier.{Identifier, same_identifier, identifier_cmp}
+use Rattle.druid_segid.specs.IdentifierLaws.{identifier_cmp-ties, same_identifier-true}
+use Rattle.druid_segid.proofs.EqualLemmas.{same_identifier-decides}
+use Rattle.druid_shard.specs.Described.{Described, IsDescribed, same_described}
+use Rattle.druid_shard.specs.Replay.{IsSegmentSet, shares_identifier, with_segment, without_segment, is_strict, has_room}
+use Rattle.druid_shard.specs.declared.change.Change.TheVariants.{Load, Drop}
+use Rattle.druid_shard.proofs.DescribedLemmas.{same_described-decides}
+use Rattle.druid_shard.proofs.MemberLemmas.{Contains-nil, Contains-cons, Contains-later}
+use Rattle.druid_shard.proofs.ReplayLemmas.{AreInOrder, in_order, after-set}
+use Rattle.druid_changes.specs.Segments.{IsEntry}
+use Rattle.druid_changes.proofs.SetLemmas as sets
+use Rattle.druid_rows.specs.Segment.{Segment}
+use Rattle.druid_node.specs.State.{descriptor_of, descriptors_of, held_at, HoldsMore, HoldsLess}
+use Rattle.druid_node.specs.Held.{IsWhole, IsHeld, Entry, IsAtKey, IsKeyed, with_held, without_held}
+
+-- ---- the map and the list of its values
+
+-- a search for an identifier finds the segments of that identifier
+at_same : (id : Identifier) (e : Entry) → IsAtKey e → is_at (identifier_cmp id) e.0 ≡ same_identifier id e.1.descriptor.id
+at_same id e key = sym (identifier_cmp-ties id e.0) ∙ ap (same_identifier id) key
+
+pub lookup-values : (es : List Entry) (id : Identifier) → All IsAtKey es → lookup (is_at (identifier_cmp id)) es ≡ held_at id (values_of es)
+lookup-values [] id keys = refl
+lookup-values (e ∷ es) id keys =
+    let here = at_same id e (All-head IsAtKey e es keys) in
+    let rest = lookup-values es id (All-tail IsAtKey e es keys) in
+    λ i. cond (here i) (Some e.1) (rest i)
+
+insert_step : (o : Ordering) (id : Identifier) (s : Segment) (e : Entry) (es more : List Entry)
+    → values_of (match_ordering o ((id, s) ∷ e ∷ es) ((e.0, s) ∷ es) (e ∷ more)) ≡ match_ordering o (s ∷ e.1 ∷ values_of es) (s ∷ values_of es) (e.1 ∷ values_of more)
+insert_step Less id s e es more = refl
+insert_step Equal id s e es more = refl
+insert_step Greater id s e es more = refl
+
+inserted-values : (es : List Entry) (id : Identifier) (s : Segment) → id ≡ s.descriptor.id → All IsAtKey es → values_of (insert_entry identifier_cmp es id s) ≡ with_held s (values_of es)
+inserted-values [] id s same keys = refl
+inserted-values (e ∷ es) id s same keys =
+    let key : e.0 ≡ e.1.descriptor.id = All-head IsAtKey e es keys in
+    let rest = inserted-values es id s same (All-tail IsAtKey e es keys) in
+    insert_step (identifier_cmp id e.0) id s e es (insert_entry identifier_cmp es id s)
+    ∙ (λ i. match_ordering (identifier_cmp (same i) (key i)) (s ∷ e.1 ∷ values_of es) (s ∷ values_of es) (e.1 ∷ rest i))
+
+-- two identifiers that tie are one
+tied : (a b : Identifier) → identifier_cmp a b ≡ Equal → a ≡ b
+tied a b e = same_identifier-true a b (identifier_cmp-ties a b ∙ ap is_eq e)
+
+inserted_at : (o : Ordering) (id : Identifier) (s : Segment) (e : Entry) (es more : List Entry) → id ≡ s.descriptor.id → (o ≡ Equal → id ≡ e.0) → All IsAtKey (e ∷ es) → All IsAtKey more
+    → All IsAtKey (match_ordering o ((id, s) ∷ e ∷ es) ((e.0, s) ∷ es) (e ∷ more))
+inserted_at Less id s e es more same level keys rest = All-cons IsAtKey (id, s) (e ∷ es) same keys
+inserted_at Equal id s e es more same level keys rest = All-cons IsAtKey (e.0, s) es (sym (level refl) ∙ same) (All-tail IsAtKey e es keys)
+inserted_at Greater id s e es more same level keys rest = All-cons IsAtKey e more (All-head IsAtKey e es keys) rest
+
+inserted-keys : (es : List Entry) (id : Identifier) (s : Segment) → id ≡ s.descriptor.id → All IsAtKey es → All IsAtKey (insert_entry identifier_cmp es id s)
+inserted-keys [] id s same keys = All-cons IsAtKey (id, s) [] same keys
+inserted-keys (e ∷ es) id s same keys =
+    inserted_at (identifier_cmp id e.0) id s e es (insert_entry identifier_cmp es id s) same (tied id e.0) keys (inserted-keys es id s same (All-tail IsAtKey e es keys))
+
+remove_step : (b : Bool) (e : Entry) (es more : List Entry) → values_of (cond b es (e ∷ more)) ≡ cond b (values_of es) (e.1 ∷ values_of more)
+remove_step true e es more = refl
+remove_step false e es more = refl
+
+removed-values : (es : List Entry) (id : Identifier) → All IsAtKey es → values_of (remove_entry (is_at (identifier_cmp id)) es) ≡ without_held id (values_of es)
+removed-values [] id keys = refl
+removed-values (e ∷ es) id keys =
+    let here = at_same id e (All-head IsAtKey e es keys) in
+    let rest = removed-values es id (All-tail IsAtKey e es keys) in
+    remove_step (is_at (identifier_cmp id) e.0) e es (remove_entry (is_at (identifier_cmp id)) es)
+    ∙ (λ i. cond (here i) (values_of es) (e.1 ∷ rest i))
+
+kept_at : (b : Bool) (e : Entry) (es more : List Entry) → All IsAtKey (e ∷ es) → All IsAtKey more → All IsAtKey (cond b es (e ∷ more))
+kept_at true e es more keys rest = All-tail IsAtKey e es keys
+kept_at false e es more keys rest = All-cons IsAtKey e more (All-head IsAtKey e es keys) rest
+
+removed-keys : (es : List Entry) (test : Identifier → Bool) → All IsAtKey es → All IsAtKey (remove_entry test es)
+removed-keys [] test keys = keys
+removed-keys (e ∷ es) test keys = kept_at (test e.0) e es (remove_entry test es) keys (removed-keys es test (All-tail IsAtKey e es keys))
+
+-- ---- the list and its descriptors
+
+-- the descriptors at their identifiers
+abbrev keyed : List Segment → List sets.Entry
+keyed xs = map (λ s. (s.descriptor.id, s.descriptor)) xs
+
+values-keyed : (xs : List Segment) → values_of (keyed xs) ≡ descriptors_of xs
+values-keyed [] = refl
+values-keyed (x ∷ xs) = ap (λ ds. x.descriptor ∷ ds) (values-keyed xs)
+
+keyed_each : (xs : List Segment) → All IsWhole xs → All IsEntry (keyed xs)
+keyed_each [] each = All-nil IsEntry
+keyed_each (x ∷ xs) each =
+    let whole : IsWhole x = All-head IsWhole x xs each in
+    All-cons IsEntry (x.descriptor.id, x.descriptor) (keyed xs) (refl, whole.described) (keyed_each xs (All-tail IsWhole x xs each))
+
+lookup_step : (b : Bool) (x : Segment) (o : Option Segment) → cond b (Some x.descriptor) (option_map descriptor_of o) ≡ option_map descriptor_of (cond b (Some x) o)
+lookup_step true x o = refl
+lookup_step false x o = refl
+
+lookup-keyed : (xs : List Segment) (id : Identifier) → lookup (is_at (identifier_cmp id)) (keyed xs) ≡ option_map descriptor_of (held_at id xs)
+lookup-keyed [] id = refl
+lookup-keyed (x ∷ xs) id =
+    let here = sym (identifier_cmp-ties id x.descriptor.id) in
+    let rest = lookup-keyed xs id in
+    (λ i. cond (here i) (Some x.descriptor) (rest i)) ∙ lookup_step (same_identifier id x.descriptor.id) x (held_at id xs)
+
+insert_keyed_step : (o : Ordering) (s x : Segment) (xs : List Segment) → (o ≡ Equal → s.descriptor.id ≡ x.descriptor.id)
+    → match_ordering o ((s.descriptor.id, s.descriptor) ∷ (x.descriptor.id, x.descriptor) ∷ keyed xs) ((x.descriptor.id, s.descriptor) ∷ keyed xs) ((x.descriptor.id, x.descriptor) ∷ keyed (with_held s xs))
+    ≡ keyed (match_ordering o (s ∷ x ∷ xs) (s ∷ xs) (x ∷ with_held s xs))
+insert_keyed_step Less s x xs level = refl
+insert_keyed_step Equal s x xs level = λ i. (sym (level refl) i, s.descriptor) ∷ keyed xs
+insert_keyed_step Greater s x xs level = refl
+
+insert-keyed : (xs : List Segment) (s : Segment) → insert_entry identifier_cmp (keyed xs) s.descriptor.id s.descriptor ≡ keyed (with_held s xs)
+insert-keyed [] s = refl
+insert-keyed (x ∷ xs) s =
+    let rest = insert-keyed xs s in
+    let o = identifier_cmp s.descriptor.id x.descriptor.id in
+    (λ i. match_ordering o ((s.descriptor.id, s.descriptor) ∷ (x.descriptor.id, x.descriptor) ∷ keyed xs) ((x.descriptor.id, s.descriptor) ∷ keyed xs) ((x.descriptor.id, x.descriptor) ∷ rest i))
+    ∙ insert_keyed_step o s x xs (tied s.descriptor.id x.descriptor.id)
+
+remove_keyed_step : (b : Bool) (x : Segment) (xs ys : List Segment) → cond b (keyed xs) ((x.descriptor.id, x.descriptor) ∷ keyed ys) ≡ keyed (cond b xs (x ∷ ys))
+remove_keyed_step true x xs ys = refl
+remove_keyed_step false x xs ys = refl
+
+remove-keyed : (xs : List Segment) (id : Identifier) → remove_entry (is_at (identifier_cmp id)) (keyed xs) ≡ keyed (without_held id xs)
+remove-keyed [] id = refl
+remove-keyed (x ∷ xs) id =
+    let here = sym (identifier_cmp-ties id x.descriptor.id) in
+    let rest = remove-keyed xs id in
+    (λ i. cond (here i) (keyed xs) ((x.descriptor.id, x.descriptor) ∷ rest i)) ∙ remove_keyed_step (same_identifier id x.descriptor.id) x xs (without_held id xs)
+
+-- an identifier that is held, by the descriptors
+pub held-shares : (xs : List Segment) (d : Described) → IsDescribed d → All IsWhole xs → is_some (held_at d.id xs) ≡ list_any (λ x. shares_identifier x d) (descriptors_of xs)
+held-shares xs d h each =
+    sym (some_map (held_at d.id xs)) ∙ ap is_some (sym (lookup-keyed xs d.id)) ∙ sets.found-shares (keyed xs) d h (keyed_each xs each)
+    ∙ ap (λ ds. list_any (λ x. shares_identifier x d) ds) (values-keyed xs)
+  where
+    some_map : (o : Option Segment) → is_some (option_map descriptor_of o) ≡ is_some o
+    some_map None = refl
+    some_map (Some x) = refl
+
+-- a segment that is held is among the descriptors
+pub held-strict : (xs : List Segment) (id : Identifier) (s : Segment) → held_at id xs ≡ Some s → is_strict (descriptors_of xs) (Drop s.descriptor) ≡ true
+held-strict [] id s e = absurd (cc)
+held-strict (x ∷ xs) id s e =
+    elim (cases_Bool (same_identifier id x.descriptor.id)) [
+      | inl here ↦
+          let found : Some x ≡ Some s = sym (ap (λ b. cond b (Some x) (held_at id xs)) here) ∙ e in
+          let one : same_described x.descriptor s.descriptor ≡ true = (same_described-decides x.descriptor s.descriptor).1 (ap descriptor_of (same_Some x s found)) in
+          or_first (same_described x.descriptor s.descriptor) (list_any (λ y. same_described y s.descriptor) (descriptors_of xs)) one
+      | inr apart ↦
+          let later = held-strict xs id s (sym (ap (λ b. cond b (Some x) (held_at id xs)) apart) ∙ e) in
+          or_later (same_described x.descriptor s.descriptor) (list_any (λ y. same_described y s.descriptor) (descriptors_of xs)) later
+    ]
+  where
+    or_first : (a b : Bool) → a ≡ true → (a || b) ≡ true
+    or_first true b h = refl
+    or_first false b h = absurd (false≢true h)
+
+    or_later : (a b : Bool) → b ≡ true → (a || b) ≡ true
+    or_later true b h = refl
+    or_later false b h = h
+
+-- none is held
+pub not_some : (o : Option Segment) → is_some o ≡ false → o ≡ None
+not_some None e = refl
+not_some (Some x) e = absurd (false≢true (sym e))
+
+not_on : (b : Bool) → not b ≡ true → b ≡ false
+not_on true e = absurd (false≢true e)
+not_on false e = refl
+
+pub absent : (xs : List Segment) (d : Described) → IsDescribed d → All IsWhole xs → is_strict (descriptors_of xs) (Load d) ≡ true → held_at d.id xs ≡ None
+absent xs d h each strict = not_some (held_at d.id xs) (held-shares xs d h each ∙ not_on (list_any (λ x. shares_identifier x d) (descriptors_of xs)) strict)
+
+pub with_held-descriptors : (xs : List Segment) (s : Segment) → IsDescribed s.descriptor → All IsWhole xs → held_at s.descriptor.id xs ≡ None
+    → descriptors_of (with_held s xs) ≡ with_segment s.descriptor (descriptors_of xs)
+with_held-descriptors xs s h each none =
+    let d = s.descriptor in
+    let entries = keyed_each xs each in
+    let apart : list_any (λ x. shares_identifier x d) (values_of (keyed xs)) ≡ false =
+    ap (λ ds. list_any (λ x. shares_identifier x d) ds) (values-keyed xs) ∙ sym (held-shares xs d h each) ∙ ap is_some none in
+    sym (values-keyed (with_held s xs)) ∙ ap values_of (sym (insert-keyed xs s)) ∙ sets.inserted-values (keyed xs) d h entries apart ∙ ap (with_segment d) (values-keyed xs)
+
+pub without_held-descriptors : (xs : List Segment) (id : Identifier) (s : Segment) → IsHeld xs → IsDescribed s.descriptor → id ≡ s.descriptor.id → held_at id xs ≡ Some s
+    → descriptors_of (without_held id xs) ≡ without_segment s.descriptor (descriptors_of xs)
+without_held-descriptors xs id s held h same found =
+    let d = s.descriptor in
+    let entries = keyed_each xs held.each in
+    let order : AreInOrder (values_of (keyed xs)) = subst AreInOrder (sym (values-keyed xs)) (in_order (descriptors_of xs) held.set.sorted) in
+    let there : list_any (λ x. same_described x d) (values_of (keyed xs)) ≡ true = ap (λ ds. list_any (λ x. same_described x d) ds) (values-keyed xs) ∙ held-strict xs id s found in
+    let removed : remove_entry (sets.at_id d) (keyed xs) ≡ keyed (without_held id xs) = ap (λ (k : Identifier). remove_entry (is_at (identifier_cmp k)) (keyed xs)) (sym same) ∙ remove-keyed xs id in
+    sym (values-keyed (without_held id xs)) ∙ ap values_of (sym removed) ∙ sets.removed-values (keyed xs) d h entries order there ∙ ap (without_segment d) (values-keyed xs)
+
+-- ---- what holds of each
+
+pub All-with_held : (P : Segment → Type 0) (s : Segment) (xs : List Segment) → P s → All P xs → All P (with_held s xs)
+All-with_held P s [] here all = All-cons P s [] here all
+All-with_held P s (x ∷ xs) here all = by_order (All-with_held P s xs here (All-tail P x xs all)) (identifier_cmp s.descriptor.id x.descriptor.id) where
+  by_order : All P (with_held s xs) → (o : Ordering) → All P (match_ordering o (s ∷ x ∷ xs) (s ∷ xs) (x ∷ with_held s xs))
+  by_order rest Less = All-cons P s (x ∷ xs) here all
+  by_order rest Equal = All-cons P s xs here (All-tail P x xs all)
+  by_order rest Greater = All-cons P x (with_held s xs) (All-head P x xs all) rest
+
+pub All-without_held : (P : Segment → Type 0) (id : Identifier) (xs : List Segment) → All P xs → All P (without_held id xs)
+All-without_held P id [] all = all
+All-without_held P id (x ∷ xs) all = by_test (All-without_held P id xs (All-tail P x xs all)) (same_identifier id x.descriptor.id) where
+  by_test : All P (without_held id xs) → (b : Bool) → All P (cond b xs (x ∷ without_held id xs))
+  by_test rest true = All-tail P x xs all
+  by_test rest false = All-cons P x (without_held id xs) (All-head P x xs all) rest
+
+-- ---- members
+
+-- what is not found is not there
+pub not_there : (xs : List Segment) (id : Identifier) (y : Segment) → held_at id xs ≡ None → Contains xs y → y.descriptor.id ≡ id → ⊥
+not_there [] id y none there same = Contains-nil y there
+not_there (x ∷ xs) id y none there same =
+    elim (cases_Bool (same_identifier id x.descriptor.id)) [
+      | inl here ↦ let found : Some x ≡ None = sym (ap (λ b. cond b (Some x) (held_at id xs)) here) ∙ none in absurd (cc)
+      | inr apart ↦ elim (Contains-cons x xs y there) [
+        | inl first ↦
+            let level : same_identifier id x.descriptor.id ≡ true = (same_identifier-decides id x.descriptor.id).1 (sym same ∙ ap (λ (s : Segment). s.descriptor.id) (sym first)) in
+            false≢true (sym apart ∙ level)
+        | inr later ↦ not_there xs id y (sym (ap (λ b. cond b (Some x) (held_at id xs)) apart) ∙ none) later same
+      ]
+    ]
+
+-- an identifier that is not held is apart from the first, and not held behind it
+absent_parts : (x : Segment) (xs : List Segment) (id : Identifier) → held_at id (x ∷ xs) ≡ None → (same_identifier id x.descriptor.id ≡ false) × (held_at id xs ≡ None)
+absent_parts x xs id none = by_test (same_identifier id x.descriptor.id) none where
+  by_test : (b : Bool) → cond b (Some x) (held_at id xs) ≡ None → (b ≡ false) × (held_at id xs ≡ None)
+  by_test true e = absurd (cc)
+  by_test false e = (refl, e)
+
+not_level : (a b : Identifier) (o : Ordering) → identifier_cmp a b ≡ o → same_identifier a b ≡ false → o ≡ Equal → ⊥
+not_level a b o is apart level = false≢true (sym apart ∙ identifier_cmp-ties a b ∙ ap is_eq (is ∙ level))
+
+members-with_held : (xs : List Segment) (s y : Segment) → held_at s.descriptor.id xs ≡ None → Contains (with_held s xs) y ↔ ((y ≡ s) ⊎ Contains xs y)
+members-with_held [] s y none = (
+  λ there. elim (Contains-cons s [] y there) [ inl here ↦ inl (sym here) | inr later ↦ absurd (Contains-nil y later) ],
+  λ either. elim either [ inl same ↦ (0, omega arith, sym same) | inr later ↦ absurd (Contains-nil y later) ],
+)
+members-with_held (x ∷ xs) s y none =
+    let parts = absent_parts x xs s.descriptor.id none in
+    by_order (members-with_held xs s y parts.1) (identifier_cmp s.descriptor.id x.descriptor.id) (λ o e. not_level s.descriptor.id x.descriptor.id o e parts.0) refl
+  where
+    front : (zs : List Segment) → Contains (s ∷ zs) y ↔ ((y ≡ s) ⊎ Contains zs y)
+    front zs = (
+      λ there. elim (Contains-cons s zs y there) [ inl here ↦ inl (sym here) | inr later ↦ inr later ],
+      λ either. elim either [ inl same ↦ (0, omega arith, sym same) | inr later ↦ Contains-later s zs y later ],
+    )
+
+    behind : Contains (with_held s xs) y ↔ ((y ≡ s) ⊎ Contains xs y) → Contains (x ∷ with_held s xs) y ↔ ((y ≡ s) ⊎ Contains (x ∷ xs) y)
+    behind rest = (
+      λ there. elim (Contains-cons x (with_held s xs) y there) [
+        | inl here ↦ inr (0, omega arith, here)
+        | inr later ↦ elim (rest.0 later) [ inl same ↦ inl same | inr old ↦ inr (Contains-later x xs y old) ]
+      ],
+      λ either. elim either [
+        | inl same ↦ Contains-later x (with_held s xs) y (rest.1 (inl same))
+        | inr there ↦ elim (Contains-cons x xs y there) [
+          | inl here ↦ (0, omega arith, here)
+          | inr later ↦ Contains-later x (with_held s xs) y (rest.1 (inr later))
+        ]
+      ],
+    )
+
+    by_order : Contains (with_held s xs) y ↔ ((y ≡ s) ⊎ Contains xs y) → (o : Ordering) → ((p : Ordering) → o ≡ p → p ≡ Equal → ⊥) → o ≡ o
+        → Contains (match_ordering o (s ∷ x ∷ xs) (s ∷ xs) (x ∷ with_held s xs)) y ↔ ((y ≡ s) ⊎ Contains (x ∷ xs) y)
+    by_order rest Less apart same = front (x ∷ xs)
+    by_order rest Equal apart same = absurd (apart Equal refl refl)
+    by_order rest Greater apart same = behind rest
+
+pub holds_more : (xs : List Segment) (s : Segment) → held_at s.descriptor.id xs ≡ None → HoldsMore xs (with_held s xs) s
+holds_more xs s none = record { absent = none; members = λ y. members-with_held xs s y none }
+
+was_there : (xs : List Segment) (id : Identifier) (y : Segment) → Contains (without_held id xs) y → Contains xs y
+was_there [] id y there = there
+was_there (x ∷ xs) id y there = by_test (was_there xs id y) (same_identifier id x.descriptor.id) there where
+  by_test : (Contains (without_held id xs) y → Contains xs y) → (b : Bool) → Contains (cond b xs (x ∷ without_held id xs)) y → Contains (x ∷ xs) y
+  by_test rest true there = Contains-later x xs y there
+  by_test rest false there =
+      elim (Contains-cons x (without_held id xs) y there) [ inl here ↦ (0, omega arith, here) | inr later ↦ Contains-later x xs y (rest later) ]
+
+is_kept : (xs : List Segment) (id : Identifier) (y : Segment) → (y.descriptor.id ≡ id → ⊥) → Contains xs y → Contains (without_held id xs) y
+is_kept [] id y other there = there
+is_kept (x ∷ xs) id y other there = by_test (is_kept xs id y other) (same_identifier id x.descriptor.id) refl where
+  by_test : (Contains xs y → Contains (without_held id xs) y) → (b : Bool) → same_identifier id x.descriptor.id ≡ b → Contains (cond b xs (x ∷ without_held id xs)) y
+  by_test rest true e =
+      elim (Contains-cons x xs y there) [
+        | inl here ↦ absurd (other (ap (λ (s : Segment). s.descriptor.id) (sym here) ∙ sym (same_identifier-true id x.descriptor.id e)))
+        | inr later ↦ later
+      ]
+  by_test rest false e =
+      elim (Contains-cons x xs y there) [ inl here ↦ (0, omega arith, here) | inr later ↦ Contains-later x (without_held id xs) y (rest later) ]
+
+pub holds_less : (xs : List Segment) (id : Identifier) → held_at id (without_held id xs) ≡ None → HoldsLess xs (without_held id xs) id
+holds_less xs id gone = record {
+  members = λ y. (λ there. (not_there (without_held id xs) id y gone there, was_there xs id y there), λ both. is_kept xs id y both.0 both.1);
+}
+
+-- a segment that was put at its place, and is taken out again
+pub undone : (xs : List Segment) (s : Segment) → held_at s.descriptor.id xs ≡ None → without_held s.descriptor.id (with_held s xs) ≡ xs
+undone [] s none = front [] s where
+  front : (zs : List Segment) (s : Segment) → without_held s.descriptor.id (s ∷ zs) ≡ zs
+  front zs s = let same : same_identifier s.descriptor.id s.descriptor.id ≡ true = (same_identifier-decides s.descriptor.id s.descriptor.id).1 refl in rw same refl
+undone (x ∷ xs) s none =
+    let parts = absent_parts x xs s.descriptor.id none in
+    by_order (undone xs s parts.1) parts.0 (identifier_cmp s.descriptor.id x.descriptor.id) (λ o e. not_level s.descriptor.id x.descriptor.id o e parts.0)
+  where
+    by_order : without_held s.descriptor.id (with_held s xs) ≡ xs → same_identifier s.descriptor.id x.descriptor.id ≡ false → (o : Ordering) → ((p : Ordering) → o ≡ p → p ≡ Equal → ⊥)
+        → without_held s.descriptor.id (match_ordering o (s ∷ x ∷ xs) (s ∷ xs) (x ∷ with_held s xs)) ≡ x ∷ xs
+    by_order rest other Less apart =
+        let same : same_identifier s.descriptor.id s.descriptor.id ≡ true = (same_identifier-decides s.descriptor.id s.descriptor.id).1 refl in rw same refl
+    by_order rest other Equal apart = absurd (apart Equal refl refl)
+    by_order rest other Greater apart = rw other (ap (λ zs. x ∷ zs) rest)
+
+-- it is found
+pub found_there : (xs : List Segment) (s : Segment) → held_at s.descriptor.id xs ≡ None → is_some (held_at s.descriptor.id (with_held s xs)) ≡ true
+found_there [] s none = let same : same_identifier s.descriptor.id s.descriptor.id ≡ true = (same_identifier-decides s.descriptor.id s.descriptor.id).1 refl in rw same refl
+found_there (x ∷ xs) s none =
+    let parts = absent_parts x xs s.descriptor.id none in
+    by_order (found_there xs s parts.1) parts.0 (identifier_cmp s.descriptor.id x.descriptor.id)
+  where
+    by_order : is_some (held_at s.descriptor.id (with_held s xs)) ≡ true → same_identifier s.descriptor.id x.descriptor.id ≡ false → (o : Ordering)
+        → is_some (held_at s.descriptor.id (match_ordering o (s ∷ x ∷ xs) (s ∷ xs) (x ∷ with_held s xs))) ≡ true
+    by_order rest other Less = let same : same_identifier s.descriptor.id s.descriptor.id ≡ true = (same_identifier-decides s.descriptor.id s.descriptor.id).1 refl in rw same refl
+    by_order rest other Equal = let same : same_identifier s.descriptor.id s.descriptor.id ≡ true = (same_identifier-decides s.descriptor.id s.descriptor.id).1 refl in rw same refl
+    by_order rest other Greater = rw other rest
+
+-- what is found has the identifier, and what holds of each holds of it
+pub found_id : (xs : List Segment) (id : Identifier) (s : Segment) → held_at id xs ≡ Some s → id ≡ s.descriptor.id
+found_id [] id s e = absurd (cc)
+found_id (x ∷ xs) id s e =
+    elim (cases_Bool (same_identifier id x.descriptor.id)) [
+      | inl here ↦
+          let found : Some x ≡ Some s = sym (ap (λ b. cond b (Some x) (held_at id xs)) here) ∙ e in
+          same_identifier-true id x.descriptor.id here ∙ ap (λ (z : Segment). z.descriptor.id) (same_Some x s found)
+      | inr apart ↦ found_id xs id s (sym (ap (λ b. cond b (Some x) (held_at id xs)) apart) ∙ e)
+    ]
+
+pub found_each : (P : Segment → Type 0) (xs : List Segment) (id : Identifier) (s : Segment) → All P xs → held_at id xs ≡ Some s → P s
+found_each P [] id s all e = absurd (cc)
+found_each P (x ∷ xs) id s all e =
+    elim (cases_Bool (same_identifier id x.descriptor.id)) [
+      | inl here ↦
+          let found : Some x ≡ Some s = sym (ap (λ b. cond b (Some x) (held_at id xs)) here) ∙ e in
+          subst P (same_Some x s found) (All-head P x xs all)
+      | inr apart ↦ found_each P xs id s (All-tail P x xs all) (sym (ap (λ b. cond b (Some x) (held_at id xs)) apart) ∙ e)
+    ]
+
+-- ---- in the steps of the code
+
+pub inserted-held : (xs : List Segment) (s : Segment) → IsWhole s → IsHeld xs → is_strict (descriptors_of xs) (Load s.descriptor) ≡ true → has_room (descriptors_of xs) (Load s.descriptor) ≡ true
+    → IsHeld (with_held s xs)
+inserted-held xs s whole held strict room =
+    let none = absent xs s.descriptor whole.described held.each strict in
+    record {
+      set = subst IsSegmentSet (sym (with_held-descriptors xs s whole.described held.each none)) (after-set (descriptors_of xs) (Load s.descriptor) held.set strict room);
+      each = All-with_held IsWhole s xs whole held.each;
+    }
+
+pub insert-is : (es new : List Entry) (s : Segment) (id : Identifier) (vs : List Segment) → id ≡ s.descriptor.id → IsWhole s → IsKeyed es → values_of es ≡ vs → new ≡ insert_entry identifier_cmp es id s
+    → is_strict (descriptors_of vs) (Load s.descriptor) ≡ true → has_room (descriptors_of vs) (Load s.descriptor) ≡ true → IsKeyed new × (values_of new ≡ with_held s vs)
+insert-is es new s id vs same whole kept view e strict room =
+    let values : values_of new ≡ with_held s vs = ap values_of e ∙ inserted-values es id s same kept.keys ∙ ap (with_held s) view in
+    let held : IsHeld (with_held s vs) = inserted-held vs s whole (subst IsHeld view kept.held) strict room in
+    (record { keys = subst (All IsAtKey) (sym e) (inserted-keys es id s same kept.keys); held = subst IsHeld (sym values) held }, values)
+
+some_is : (o : Option Segment) → is_some o ≡ true → (s : Segment) × (o ≡ Some s)
+some_is None e = absurd (false≢true e)
+some_is (Some s) e = (s, refl)
+
+pub removed-held : (xs : List Segment) (id : Identifier) → IsHeld xs → is_some (held_at id xs) ≡ true → IsHeld (without_held id xs)
+removed-held xs id held there =
+    let found = some_is (held_at id xs) there in
+    let whole : IsWhole found.0 = found_each IsWhole xs id found.0 held.each found.1 in
+    let strict = held-strict xs id found.0 found.1 in
+    let made = without_held-descriptors xs id found.0 held whole.described (found_id xs id found.0 found.1) found.1 in
+    record {
+      set = subst IsSegmentSet (sym made) (after-set (descriptors_of xs) (Drop found.0.descriptor) held.set strict refl);
+      each = All-without_held IsWhole id xs held.each;
+    }
+
+pub remove-is : (es new : List Entry) (id : Identifier) (vs : List Segment) → IsKeyed es → values_of es ≡ vs → new ≡ remove_entry (is_at (identifier_cmp id)) es → is_some (held_at id vs) ≡ true
+    → IsKeyed new × (values_of new ≡ without_held id vs)
+remove-is es new id vs kept view e there =
+    let values : values_of new ≡ without_held id vs = ap values_of e ∙ removed-values es id kept.keys ∙ ap (without_held id) view in
+    let held : IsHeld (without_held id vs) = removed-held vs id (subst IsHeld view kept.held) there in
+    (record { keys = subst (All IsAtKey) (sym e) (removed-keys es (is_at (identifier_cmp id)) kept.keys); held = subst IsHeld (sym values) held }, values)
+
+pub gone-is : (new : List Entry) (id : Identifier) → IsKeyed new → lookup (is_at (identifier_cmp id)) new ≡ None → held_at id (values_of new) ≡ None
+gone-is new id kept none = sym (lookup-values new id kept.keys) ∙ none
+
+pub find-is : (es : List Entry) (id : Identifier) (vs : List Segment) (o : Option Segment) → IsKeyed es → values_of es ≡ vs → o ≡ lookup (is_at (identifier_cmp id)) es → o ≡ held_at id vs
+find-is es id vs o kept view e = e ∙ lookup-values es id kept.keys ∙ ap (held_at id) view

@@ -1,0 +1,7 @@
+pub mod HeldLemmas
+pub mod StateLemmas
+pub mod AnswerLemmas
+pub mod RespondLemmas
+pub mod ServeLemmas
+pub mod FileLemmas
+pub mod RowLemmas

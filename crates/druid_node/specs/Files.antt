@@ -1,0 +1,85 @@
+-- What a file gives a node.
+use Rattle.std.specs.Prelude.{◌≡◌, ◌++◌, ⊤, ℕ, List, codes, bytes_eq, Option, Some, None, Result, Ok, Err, IsOk, if◌then◌else◌}
+use Rattle.druid_segid.specs.Identifier.{Identifier, identifier_text}
+use Rattle.druid_shard.specs.declared.change.Change.TheVariants.{Load}
+use Rattle.druid_rows.specs.Segment.{Segment}
+use Rattle.druid_changes.specs.Kept.{refusal}
+use Rattle.druid_segfile.specs.Reading.{segment_at}
+use Rattle.druid_segfile.specs.declared.fault.FileFault.{FileFault}
+use Rattle.druid_segfile.specs.declared.fault.FileFault.TheVariants as file
+use Rattle.druid_store.specs.Folder.{faults_at}
+use Rattle.druid_store.specs.declared.fault.StoreFault.TheVariants as store
+use Rattle.druid_node.specs.State.{State, Takes}
+use Rattle.druid_node.specs.declared.fault.NodeFault.{NodeFault}
+use Rattle.druid_node.specs.declared.fault.NodeFault.TheVariants as faults
+
+-- the name that a segment gives its file
+abbrev pub file_name : Identifier → List ℕ
+file_name id = identifier_text id ++ codes ".seg"
+
+-- a segment that was read under that name
+abbrev pub named : List ℕ → Result Segment FileFault → Result Segment NodeFault
+named name (Err fault) = Err (faults.File fault)
+named name (Ok s) = if bytes_eq name (file_name s.descriptor.id) then Ok s else Err faults.NameDiffers
+
+-- what a file of that name gives
+abbrev pub file_at : List ℕ → Option (List ℕ) → Result Segment NodeFault
+file_at name None = Err faults.NoFile
+file_at name (Some bytes) = named name (segment_at bytes)
+
+-- the file gave a segment, which was loaded
+abbrev pub TakesFile : Result Segment NodeFault → State → State → Type 0
+TakesFile given old new = (s : Segment) × (given ≡ Ok s) × Takes old new s
+
+-- why a file was not loaded: what it gives, or what the history refuses its segment for; the device and memory are no matter
+-- of the file
+abbrev pub RefusesFile : Result Segment NodeFault → State → NodeFault → Type 0
+RefusesFile given state faults.Device = ⊤
+RefusesFile given state (faults.File fault) = given ≡ Err (faults.File fault)
+RefusesFile given state faults.NameDiffers = given ≡ Err faults.NameDiffers
+RefusesFile given state (faults.History fault) =
+    (s : Segment) × (given ≡ Ok s) × (refusal state.history (Load s.descriptor) ≡ Some fault)
+RefusesFile given state (faults.Wire fault) = ⊥
+RefusesFile given state faults.NoFile = given ≡ Err faults.NoFile
+RefusesFile given state faults.Memory = ⊤
+
+-- a fault that loading a file tells: of a file's own faults those that its bytes decide
+abbrev pub IsOfFile : NodeFault → Type 0
+IsOfFile (faults.File file.Read) = ⊥
+IsOfFile (faults.File file.Write) = ⊥
+IsOfFile (faults.File file.Memory) = ⊥
+IsOfFile (faults.Wire fault) = ⊥
+IsOfFile other = ⊤
+
+-- the fault that tells what a file's bytes are: want of memory is told as that
+abbrev pub told_as : FileFault → NodeFault
+told_as file.Magic = faults.File file.Magic
+told_as file.Cut = faults.File file.Cut
+told_as file.Field = faults.File file.Field
+told_as file.RowOutside = faults.File file.RowOutside
+told_as file.TooLong = faults.File file.TooLong
+told_as file.Trailing = faults.File file.Trailing
+told_as file.Read = faults.File file.Read
+told_as file.Write = faults.File file.Write
+told_as file.Memory = faults.Memory
+
+-- why bytes that were read are not taken; want of memory comes only where they spell a segment
+abbrev pub RefusesBytes : List ℕ → List ℕ → NodeFault → Type 0
+RefusesBytes name bytes faults.Device = ⊥
+RefusesBytes name bytes (faults.File fault) = segment_at bytes ≡ Err fault
+RefusesBytes name bytes faults.NameDiffers = named name (segment_at bytes) ≡ Err faults.NameDiffers
+RefusesBytes name bytes (faults.History fault) = ⊥
+RefusesBytes name bytes (faults.Wire fault) = ⊥
+RefusesBytes name bytes faults.NoFile = ⊥
+RefusesBytes name bytes faults.Memory = IsOk (segment_at bytes)
+
+-- the same where there may be no file
+abbrev pub RefusesFound : List ℕ → Option (List ℕ) → NodeFault → Type 0
+RefusesFound name None fault = fault ≡ faults.NoFile
+RefusesFound name (Some bytes) fault = RefusesBytes name bytes fault
+
+-- how often the device has failed after a load: a failure counts
+abbrev pub faults_after_load : Result ⊤ NodeFault → ℕ → ℕ
+faults_after_load (Ok x) n = n
+faults_after_load (Err faults.Device) n = faults_at store.Device n
+faults_after_load (Err other) n = n

@@ -1,0 +1,6 @@
+pub mod State
+pub mod Held
+pub mod Answers
+pub mod Routes
+pub mod Served
+pub mod Files

@@ -1,0 +1,17 @@
+//! A data node: the segments that it holds, its history, and what it answers over HTTP.
+#![tactic(auto)]
+
+mod answering;
+mod data_node;
+mod fault;
+mod held;
+mod laws;
+mod responding;
+mod routes;
+mod serving;
+mod state;
+
+pub use data_node::DataNode;
+pub use fault::NodeFault;
+pub use laws::rows_are_told_once;
+pub use state::NodeState;
