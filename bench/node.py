@@ -19,7 +19,7 @@ def build():
         kept = [line for line in f if line.split(':')[0] in CRATES]
     with open(os.path.join(PLACE, 'crates.txt'), 'w') as f:
         f.writelines(kept)
-        f.write('node: druid_node druid_segfile druid_store druid_rows druid_shard druid_segid druid_time anyhow\n')
+        f.write('node: druid_node druid_segfile druid_store druid_wire druid_partial druid_query druid_rows druid_shard druid_segid druid_time anyhow\n')
     for name in CRATES:
         shutil.copytree(os.path.join(TOP, 'crates', name), os.path.join(PLACE, 'crates', name), dirs_exist_ok=True)
     crate = os.path.join(PLACE, 'crates', 'node')
@@ -44,7 +44,12 @@ def main():
     size = sum(os.path.getsize(os.path.join(folder, name)) for name in os.listdir(folder)) / 2**20
     told, peak = run(program, 'serve', folder)
     for name, count, spent, bytes in told:
-        print(f'{name:10} {count / spent * 1e6:12,.1f} a second  {bytes // count:10,} bytes each', flush=True)
+        if ':' not in name:
+            print(f'{name:12} {count / spent * 1e6:12,.1f} a second  {bytes // count:10,} bytes each', flush=True)
+    for kind in ('one', 'all'):
+        parts = [(name.split(':')[1], spent / count) for name, count, spent, _ in told if name.startswith(kind + ':')]
+        whole = sum(spent for _, spent in parts)
+        print(f'{kind:12} ' + ', '.join(f'{name} {spent:,.1f} us ({spent / whole:.1%})' for name, spent in parts))
     print(f'{size:.0f} MiB of files, {peak:.0f} MiB of memory')
 
 

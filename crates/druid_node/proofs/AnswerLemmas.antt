@@ -9,7 +9,8 @@ use Rattle.druid_query.specs.declared.aggregator.AggregatorKind.{AggregatorKind}
 use Rattle.druid_partial.specs.Groups.{Group, IsResult, IsMerge}
 use Rattle.druid_partial.specs.Rows.{Partial, kinds_of, IsPartialFor}
 use Rattle.druid_partial.proofs.GroupLemmas.{merge_of_results}
-use Rattle.druid_node.specs.Answers.{told_of, told, is_missing, missing}
+use Rattle.druid_node.specs.Answers.{is_missing, missing}
+use Rattle.druid_partial.specs.Once.{told_of, told}
 
 -- a partial of the query, of these rows
 pub record IsPartialOf (query : Query) (rows : List Group) (p : Partial) : Type 0 where

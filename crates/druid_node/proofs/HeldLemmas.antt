@@ -22,7 +22,8 @@ use Rattle.druid_shard.proofs.ReplayLemmas.{AreInOrder, in_order, after-set}
 use Rattle.druid_changes.specs.Segments.{IsEntry}
 use Rattle.druid_changes.proofs.SetLemmas as sets
 use Rattle.druid_rows.specs.Segment.{Segment}
-use Rattle.druid_node.specs.State.{descriptor_of, descriptors_of, held_at, HoldsMore, HoldsLess}
+use Rattle.druid_node.specs.State.{descriptor_of, descriptors_of, HoldsMore, HoldsLess}
+use Rattle.druid_partial.specs.Once.{segment_named}
 use Rattle.druid_node.specs.Held.{IsWhole, IsHeld, Entry, IsAtKey, IsKeyed, with_held, without_held}
 
 -- ---- the map and the list of its values
@@ -31,7 +32,7 @@ use Rattle.druid_node.specs.Held.{IsWhole, IsHeld, Entry, IsAtKey, IsKeyed, with
 at_same : (id : Identifier) (e : Entry) → IsAtKey e → is_at (identifier_cmp id) e.0 ≡ same_identifier id e.1.descriptor.id
 at_same id e key = sym (identifier_cmp-ties id e.0) ∙ ap (same_identifier id) key
 
-pub lookup-values : (es : List Entry) (id : Identifier) → All IsAtKey es → lookup (is_at (identifier_cmp id)) es ≡ held_at id (values_of es)
+pub lookup-values : (es : List Entry) (id : Identifier) → All IsAtKey es → lookup (is_at (identifier_cmp id)) es ≡ segment_named id (values_of es)
 lookup-values [] id keys = refl
 lookup-values (e ∷ es) id keys =
     let here = at_same id e (All-head IsAtKey e es keys) in
@@ -107,12 +108,12 @@ lookup_step : (b : Bool) (x : Segment) (o : Option Segment) → cond b (Some x.d
 lookup_step true x o = refl
 lookup_step false x o = refl
 
-lookup-keyed : (xs : List Segment) (id : Identifier) → lookup (is_at (identifier_cmp id)) (keyed xs) ≡ option_map descriptor_of (held_at id xs)
+lookup-keyed : (xs : List Segment) (id : Identifier) → lookup (is_at (identifier_cmp id)) (keyed xs) ≡ option_map descriptor_of (segment_named id xs)
 lookup-keyed [] id = refl
 lookup-keyed (x ∷ xs) id =
     let here = sym (identifier_cmp-ties id x.descriptor.id) in
     let rest = lookup-keyed xs id in
-    (λ i. cond (here i) (Some x.descriptor) (rest i)) ∙ lookup_step (same_identifier id x.descriptor.id) x (held_at id xs)
+    (λ i. cond (here i) (Some x.descriptor) (rest i)) ∙ lookup_step (same_identifier id x.descriptor.id) x (segment_named id xs)
 
 insert_keyed_step : (o : Ordering) (s x : Segment) (xs : List Segment) → (o ≡ Equal → s.descriptor.id ≡ x.descriptor.id)
     → match_ordering o ((s.descriptor.id, s.descriptor) ∷ (x.descriptor.id, x.descriptor) ∷ keyed xs) ((x.descriptor.id, s.descriptor) ∷ keyed xs) ((x.descriptor.id, x.descriptor) ∷ keyed (with_held s xs))
@@ -141,9 +142,9 @@ remove-keyed (x ∷ xs) id =
     (λ i. cond (here i) (keyed xs) ((x.descriptor.id, x.descriptor) ∷ rest i)) ∙ remove_keyed_step (same_identifier id x.descriptor.id) x xs (without_held id xs)
 
 -- an identifier that is held, by the descriptors
-pub held-shares : (xs : List Segment) (d : Described) → IsDescribed d → All IsWhole xs → is_some (held_at d.id xs) ≡ list_any (λ x. shares_identifier x d) (descriptors_of xs)
+pub held-shares : (xs : List Segment) (d : Described) → IsDescribed d → All IsWhole xs → is_some (segment_named d.id xs) ≡ list_any (λ x. shares_identifier x d) (descriptors_of xs)
 held-shares xs d h each =
-    sym (some_map (held_at d.id xs)) ∙ ap is_some (sym (lookup-keyed xs d.id)) ∙ sets.found-shares (keyed xs) d h (keyed_each xs each)
+    sym (some_map (segment_named d.id xs)) ∙ ap is_some (sym (lookup-keyed xs d.id)) ∙ sets.found-shares (keyed xs) d h (keyed_each xs each)
     ∙ ap (λ ds. list_any (λ x. shares_identifier x d) ds) (values-keyed xs)
   where
     some_map : (o : Option Segment) → is_some (option_map descriptor_of o) ≡ is_some o
@@ -151,16 +152,16 @@ held-shares xs d h each =
     some_map (Some x) = refl
 
 -- a segment that is held is among the descriptors
-pub held-strict : (xs : List Segment) (id : Identifier) (s : Segment) → held_at id xs ≡ Some s → is_strict (descriptors_of xs) (Drop s.descriptor) ≡ true
+pub held-strict : (xs : List Segment) (id : Identifier) (s : Segment) → segment_named id xs ≡ Some s → is_strict (descriptors_of xs) (Drop s.descriptor) ≡ true
 held-strict [] id s e = absurd (cc)
 held-strict (x ∷ xs) id s e =
     elim (cases_Bool (same_identifier id x.descriptor.id)) [
       | inl here ↦
-          let found : Some x ≡ Some s = sym (ap (λ b. cond b (Some x) (held_at id xs)) here) ∙ e in
+          let found : Some x ≡ Some s = sym (ap (λ b. cond b (Some x) (segment_named id xs)) here) ∙ e in
           let one : same_described x.descriptor s.descriptor ≡ true = (same_described-decides x.descriptor s.descriptor).1 (ap descriptor_of (same_Some x s found)) in
           or_first (same_described x.descriptor s.descriptor) (list_any (λ y. same_described y s.descriptor) (descriptors_of xs)) one
       | inr apart ↦
-          let later = held-strict xs id s (sym (ap (λ b. cond b (Some x) (held_at id xs)) apart) ∙ e) in
+          let later = held-strict xs id s (sym (ap (λ b. cond b (Some x) (segment_named id xs)) apart) ∙ e) in
           or_later (same_described x.descriptor s.descriptor) (list_any (λ y. same_described y s.descriptor) (descriptors_of xs)) later
     ]
   where
@@ -181,10 +182,10 @@ not_on : (b : Bool) → not b ≡ true → b ≡ false
 not_on true e = absurd (false≢true e)
 not_on false e = refl
 
-pub absent : (xs : List Segment) (d : Described) → IsDescribed d → All IsWhole xs → is_strict (descriptors_of xs) (Load d) ≡ true → held_at d.id xs ≡ None
-absent xs d h each strict = not_some (held_at d.id xs) (held-shares xs d h each ∙ not_on (list_any (λ x. shares_identifier x d) (descriptors_of xs)) strict)
+pub absent : (xs : List Segment) (d : Described) → IsDescribed d → All IsWhole xs → is_strict (descriptors_of xs) (Load d) ≡ true → segment_named d.id xs ≡ None
+absent xs d h each strict = not_some (segment_named d.id xs) (held-shares xs d h each ∙ not_on (list_any (λ x. shares_identifier x d) (descriptors_of xs)) strict)
 
-pub with_held-descriptors : (xs : List Segment) (s : Segment) → IsDescribed s.descriptor → All IsWhole xs → held_at s.descriptor.id xs ≡ None
+pub with_held-descriptors : (xs : List Segment) (s : Segment) → IsDescribed s.descriptor → All IsWhole xs → segment_named s.descriptor.id xs ≡ None
     → descriptors_of (with_held s xs) ≡ with_segment s.descriptor (descriptors_of xs)
 with_held-descriptors xs s h each none =
     let d = s.descriptor in
@@ -193,7 +194,7 @@ with_held-descriptors xs s h each none =
     ap (λ ds. list_any (λ x. shares_identifier x d) ds) (values-keyed xs) ∙ sym (held-shares xs d h each) ∙ ap is_some none in
     sym (values-keyed (with_held s xs)) ∙ ap values_of (sym (insert-keyed xs s)) ∙ sets.inserted-values (keyed xs) d h entries apart ∙ ap (with_segment d) (values-keyed xs)
 
-pub without_held-descriptors : (xs : List Segment) (id : Identifier) (s : Segment) → IsHeld xs → IsDescribed s.descriptor → id ≡ s.descriptor.id → held_at id xs ≡ Some s
+pub without_held-descriptors : (xs : List Segment) (id : Identifier) (s : Segment) → IsHeld xs → IsDescribed s.descriptor → id ≡ s.descriptor.id → segment_named id xs ≡ Some s
     → descriptors_of (without_held id xs) ≡ without_segment s.descriptor (descriptors_of xs)
 without_held-descriptors xs id s held h same found =
     let d = s.descriptor in
@@ -223,30 +224,30 @@ All-without_held P id (x ∷ xs) all = by_test (All-without_held P id xs (All-ta
 -- ---- members
 
 -- what is not found is not there
-pub not_there : (xs : List Segment) (id : Identifier) (y : Segment) → held_at id xs ≡ None → Contains xs y → y.descriptor.id ≡ id → ⊥
+pub not_there : (xs : List Segment) (id : Identifier) (y : Segment) → segment_named id xs ≡ None → Contains xs y → y.descriptor.id ≡ id → ⊥
 not_there [] id y none there same = Contains-nil y there
 not_there (x ∷ xs) id y none there same =
     elim (cases_Bool (same_identifier id x.descriptor.id)) [
-      | inl here ↦ let found : Some x ≡ None = sym (ap (λ b. cond b (Some x) (held_at id xs)) here) ∙ none in absurd (cc)
+      | inl here ↦ let found : Some x ≡ None = sym (ap (λ b. cond b (Some x) (segment_named id xs)) here) ∙ none in absurd (cc)
       | inr apart ↦ elim (Contains-cons x xs y there) [
         | inl first ↦
             let level : same_identifier id x.descriptor.id ≡ true = (same_identifier-decides id x.descriptor.id).1 (sym same ∙ ap (λ (s : Segment). s.descriptor.id) (sym first)) in
             false≢true (sym apart ∙ level)
-        | inr later ↦ not_there xs id y (sym (ap (λ b. cond b (Some x) (held_at id xs)) apart) ∙ none) later same
+        | inr later ↦ not_there xs id y (sym (ap (λ b. cond b (Some x) (segment_named id xs)) apart) ∙ none) later same
       ]
     ]
 
 -- an identifier that is not held is apart from the first, and not held behind it
-absent_parts : (x : Segment) (xs : List Segment) (id : Identifier) → held_at id (x ∷ xs) ≡ None → (same_identifier id x.descriptor.id ≡ false) × (held_at id xs ≡ None)
+absent_parts : (x : Segment) (xs : List Segment) (id : Identifier) → segment_named id (x ∷ xs) ≡ None → (same_identifier id x.descriptor.id ≡ false) × (segment_named id xs ≡ None)
 absent_parts x xs id none = by_test (same_identifier id x.descriptor.id) none where
-  by_test : (b : Bool) → cond b (Some x) (held_at id xs) ≡ None → (b ≡ false) × (held_at id xs ≡ None)
+  by_test : (b : Bool) → cond b (Some x) (segment_named id xs) ≡ None → (b ≡ false) × (segment_named id xs ≡ None)
   by_test true e = absurd (cc)
   by_test false e = (refl, e)
 
 not_level : (a b : Identifier) (o : Ordering) → identifier_cmp a b ≡ o → same_identifier a b ≡ false → o ≡ Equal → ⊥
 not_level a b o is apart level = false≢true (sym apart ∙ identifier_cmp-ties a b ∙ ap is_eq (is ∙ level))
 
-members-with_held : (xs : List Segment) (s y : Segment) → held_at s.descriptor.id xs ≡ None → Contains (with_held s xs) y ↔ ((y ≡ s) ⊎ Contains xs y)
+members-with_held : (xs : List Segment) (s y : Segment) → segment_named s.descriptor.id xs ≡ None → Contains (with_held s xs) y ↔ ((y ≡ s) ⊎ Contains xs y)
 members-with_held [] s y none = (
   λ there. elim (Contains-cons s [] y there) [ inl here ↦ inl (sym here) | inr later ↦ absurd (Contains-nil y later) ],
   λ either. elim either [ inl same ↦ (0, omega arith, sym same) | inr later ↦ absurd (Contains-nil y later) ],
@@ -282,7 +283,7 @@ members-with_held (x ∷ xs) s y none =
     by_order rest Equal apart same = absurd (apart Equal refl refl)
     by_order rest Greater apart same = behind rest
 
-pub holds_more : (xs : List Segment) (s : Segment) → held_at s.descriptor.id xs ≡ None → HoldsMore xs (with_held s xs) s
+pub holds_more : (xs : List Segment) (s : Segment) → segment_named s.descriptor.id xs ≡ None → HoldsMore xs (with_held s xs) s
 holds_more xs s none = record { absent = none; members = λ y. members-with_held xs s y none }
 
 was_there : (xs : List Segment) (id : Identifier) (y : Segment) → Contains (without_held id xs) y → Contains xs y
@@ -305,13 +306,13 @@ is_kept (x ∷ xs) id y other there = by_test (is_kept xs id y other) (same_iden
   by_test rest false e =
       elim (Contains-cons x xs y there) [ inl here ↦ (0, omega arith, here) | inr later ↦ Contains-later x (without_held id xs) y (rest later) ]
 
-pub holds_less : (xs : List Segment) (id : Identifier) → held_at id (without_held id xs) ≡ None → HoldsLess xs (without_held id xs) id
+pub holds_less : (xs : List Segment) (id : Identifier) → segment_named id (without_held id xs) ≡ None → HoldsLess xs (without_held id xs) id
 holds_less xs id gone = record {
   members = λ y. (λ there. (not_there (without_held id xs) id y gone there, was_there xs id y there), λ both. is_kept xs id y both.0 both.1);
 }
 
 -- a segment that was put at its place, and is taken out again
-pub undone : (xs : List Segment) (s : Segment) → held_at s.descriptor.id xs ≡ None → without_held s.descriptor.id (with_held s xs) ≡ xs
+pub undone : (xs : List Segment) (s : Segment) → segment_named s.descriptor.id xs ≡ None → without_held s.descriptor.id (with_held s xs) ≡ xs
 undone [] s none = front [] s where
   front : (zs : List Segment) (s : Segment) → without_held s.descriptor.id (s ∷ zs) ≡ zs
   front zs s = let same : same_identifier s.descriptor.id s.descriptor.id ≡ true = (same_identifier-decides s.descriptor.id s.descriptor.id).1 refl in rw same refl
@@ -327,37 +328,37 @@ undone (x ∷ xs) s none =
     by_order rest other Greater apart = rw other (ap (λ zs. x ∷ zs) rest)
 
 -- it is found
-pub found_there : (xs : List Segment) (s : Segment) → held_at s.descriptor.id xs ≡ None → is_some (held_at s.descriptor.id (with_held s xs)) ≡ true
+pub found_there : (xs : List Segment) (s : Segment) → segment_named s.descriptor.id xs ≡ None → is_some (segment_named s.descriptor.id (with_held s xs)) ≡ true
 found_there [] s none = let same : same_identifier s.descriptor.id s.descriptor.id ≡ true = (same_identifier-decides s.descriptor.id s.descriptor.id).1 refl in rw same refl
 found_there (x ∷ xs) s none =
     let parts = absent_parts x xs s.descriptor.id none in
     by_order (found_there xs s parts.1) parts.0 (identifier_cmp s.descriptor.id x.descriptor.id)
   where
-    by_order : is_some (held_at s.descriptor.id (with_held s xs)) ≡ true → same_identifier s.descriptor.id x.descriptor.id ≡ false → (o : Ordering)
-        → is_some (held_at s.descriptor.id (match_ordering o (s ∷ x ∷ xs) (s ∷ xs) (x ∷ with_held s xs))) ≡ true
+    by_order : is_some (segment_named s.descriptor.id (with_held s xs)) ≡ true → same_identifier s.descriptor.id x.descriptor.id ≡ false → (o : Ordering)
+        → is_some (segment_named s.descriptor.id (match_ordering o (s ∷ x ∷ xs) (s ∷ xs) (x ∷ with_held s xs))) ≡ true
     by_order rest other Less = let same : same_identifier s.descriptor.id s.descriptor.id ≡ true = (same_identifier-decides s.descriptor.id s.descriptor.id).1 refl in rw same refl
     by_order rest other Equal = let same : same_identifier s.descriptor.id s.descriptor.id ≡ true = (same_identifier-decides s.descriptor.id s.descriptor.id).1 refl in rw same refl
     by_order rest other Greater = rw other rest
 
 -- what is found has the identifier, and what holds of each holds of it
-pub found_id : (xs : List Segment) (id : Identifier) (s : Segment) → held_at id xs ≡ Some s → id ≡ s.descriptor.id
+pub found_id : (xs : List Segment) (id : Identifier) (s : Segment) → segment_named id xs ≡ Some s → id ≡ s.descriptor.id
 found_id [] id s e = absurd (cc)
 found_id (x ∷ xs) id s e =
     elim (cases_Bool (same_identifier id x.descriptor.id)) [
       | inl here ↦
-          let found : Some x ≡ Some s = sym (ap (λ b. cond b (Some x) (held_at id xs)) here) ∙ e in
+          let found : Some x ≡ Some s = sym (ap (λ b. cond b (Some x) (segment_named id xs)) here) ∙ e in
           same_identifier-true id x.descriptor.id here ∙ ap (λ (z : Segment). z.descriptor.id) (same_Some x s found)
-      | inr apart ↦ found_id xs id s (sym (ap (λ b. cond b (Some x) (held_at id xs)) apart) ∙ e)
+      | inr apart ↦ found_id xs id s (sym (ap (λ b. cond b (Some x) (segment_named id xs)) apart) ∙ e)
     ]
 
-pub found_each : (P : Segment → Type 0) (xs : List Segment) (id : Identifier) (s : Segment) → All P xs → held_at id xs ≡ Some s → P s
+pub found_each : (P : Segment → Type 0) (xs : List Segment) (id : Identifier) (s : Segment) → All P xs → segment_named id xs ≡ Some s → P s
 found_each P [] id s all e = absurd (cc)
 found_each P (x ∷ xs) id s all e =
     elim (cases_Bool (same_identifier id x.descriptor.id)) [
       | inl here ↦
-          let found : Some x ≡ Some s = sym (ap (λ b. cond b (Some x) (held_at id xs)) here) ∙ e in
+          let found : Some x ≡ Some s = sym (ap (λ b. cond b (Some x) (segment_named id xs)) here) ∙ e in
           subst P (same_Some x s found) (All-head P x xs all)
-      | inr apart ↦ found_each P xs id s (All-tail P x xs all) (sym (ap (λ b. cond b (Some x) (held_at id xs)) apart) ∙ e)
+      | inr apart ↦ found_each P xs id s (All-tail P x xs all) (sym (ap (λ b. cond b (Some x) (segment_named id xs)) apart) ∙ e)
     ]
 
 -- ---- in the steps of the code
@@ -382,9 +383,9 @@ some_is : (o : Option Segment) → is_some o ≡ true → (s : Segment) × (o �
 some_is None e = absurd (false≢true e)
 some_is (Some s) e = (s, refl)
 
-pub removed-held : (xs : List Segment) (id : Identifier) → IsHeld xs → is_some (held_at id xs) ≡ true → IsHeld (without_held id xs)
+pub removed-held : (xs : List Segment) (id : Identifier) → IsHeld xs → is_some (segment_named id xs) ≡ true → IsHeld (without_held id xs)
 removed-held xs id held there =
-    let found = some_is (held_at id xs) there in
+    let found = some_is (segment_named id xs) there in
     let whole : IsWhole found.0 = found_each IsWhole xs id found.0 held.each found.1 in
     let strict = held-strict xs id found.0 found.1 in
     let made = without_held-descriptors xs id found.0 held whole.described (found_id xs id found.0 found.1) found.1 in
@@ -393,15 +394,15 @@ removed-held xs id held there =
       each = All-without_held IsWhole id xs held.each;
     }
 
-pub remove-is : (es new : List Entry) (id : Identifier) (vs : List Segment) → IsKeyed es → values_of es ≡ vs → new ≡ remove_entry (is_at (identifier_cmp id)) es → is_some (held_at id vs) ≡ true
+pub remove-is : (es new : List Entry) (id : Identifier) (vs : List Segment) → IsKeyed es → values_of es ≡ vs → new ≡ remove_entry (is_at (identifier_cmp id)) es → is_some (segment_named id vs) ≡ true
     → IsKeyed new × (values_of new ≡ without_held id vs)
 remove-is es new id vs kept view e there =
     let values : values_of new ≡ without_held id vs = ap values_of e ∙ removed-values es id kept.keys ∙ ap (without_held id) view in
     let held : IsHeld (without_held id vs) = removed-held vs id (subst IsHeld view kept.held) there in
     (record { keys = subst (All IsAtKey) (sym e) (removed-keys es (is_at (identifier_cmp id)) kept.keys); held = subst IsHeld (sym values) held }, values)
 
-pub gone-is : (new : List Entry) (id : Identifier) → IsKeyed new → lookup (is_at (identifier_cmp id)) new ≡ None → held_at id (values_of new) ≡ None
+pub gone-is : (new : List Entry) (id : Identifier) → IsKeyed new → lookup (is_at (identifier_cmp id)) new ≡ None → segment_named id (values_of new) ≡ None
 gone-is new id kept none = sym (lookup-values new id kept.keys) ∙ none
 
-pub find-is : (es : List Entry) (id : Identifier) (vs : List Segment) (o : Option Segment) → IsKeyed es → values_of es ≡ vs → o ≡ lookup (is_at (identifier_cmp id)) es → o ≡ held_at id vs
-find-is es id vs o kept view e = e ∙ lookup-values es id kept.keys ∙ ap (held_at id) view
+pub find-is : (es : List Entry) (id : Identifier) (vs : List Segment) (o : Option Segment) → IsKeyed es → values_of es ≡ vs → o ≡ lookup (is_at (identifier_cmp id)) es → o ≡ segment_named id vs
+find-is es id vs o kept view e = e ∙ lookup-values es id kept.keys ∙ ap (segment_named id) view

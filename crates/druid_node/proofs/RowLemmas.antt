@@ -1,24 +1,13 @@
--- Pieces that stand apart tell each row once.
-use Rattle.std.proofs.Common.{Option, ◌≡◌, ◌||◌, ◌&&◌, Bool, true, false, not, cond, List, [], ◌∷◌, ◌++◌, map, Some, None, refl, sym, ap, ◌∙◌, subst, inl, inr, append_assoc}
-use Rattle.std.specs.Bool.{nat_le, nat_lt}
-use Rattle.std.specs.Cmp.{first_so, second_so}
-use Rattle.std.specs.List.{filter, list_any}
-use Rattle.std.proofs.lemmas.Bool.{false≢true, or_cases, leb-true, ltb-true}
-use Rattle.std.proofs.lemmas.List.Elements.{filter_agree}
-use Rattle.druid_time.specs.Extent.{Extent, Has}
-use Rattle.druid_segid.specs.Identifier.{Identifier, same_identifier}
-use Rattle.druid_segid.specs.IdentifierLaws.{same_identifier-true}
-use Rattle.druid_rows.specs.Rows.{Row}
+-- What a node holds has no identifier twice, so its pieces tell each row once.
+use Rattle.std.proofs.Common.{Option, ◌≡◌, List, [], ◌∷◌, Some, None, refl, ap}
 use Rattle.druid_rows.specs.Segment.{Segment}
-use Rattle.druid_rows.specs.Filters.{value_in}
 use Rattle.druid_query.specs.Query.{Query}
-use Rattle.druid_query.specs.Asked.{Asked, do_overlap, stand_apart, StandApart}
-use Rattle.druid_query.proofs.AskedLemmas.{overlap_told, apart_told}
-use Rattle.druid_query.specs.declared.aggregator.AggregatorKind.{AggregatorKind}
+use Rattle.druid_query.specs.Asked.{Asked, StandApart}
 use Rattle.druid_partial.specs.Groups.{Group, IsResult}
-use Rattle.druid_partial.specs.Rows.{kinds_of, is_asked, tells, told_by, passes_if}
-use Rattle.druid_partial.proofs.GroupLemmas.{Alike, result_alike, alike_append, alike_swap, alike_itself}
-use Rattle.druid_node.specs.State.{descriptor_of, descriptors_of, held_at}
+use Rattle.druid_partial.specs.Rows.{kinds_of}
+use Rattle.druid_partial.proofs.OnceLemmas as once
+use Rattle.druid_node.specs.State.{descriptor_of, descriptors_of}
+use Rattle.druid_partial.specs.Once.{segment_named, HaveOwnSegments}
 use Rattle.druid_node.proofs.HeldLemmas.{found_each, found_id}
 use Rattle.druid_shard.specs.Reply.{IsBefore}
 use Rattle.druid_shard.specs.Replay.{IsSegmentSet}
@@ -26,157 +15,21 @@ use Rattle.druid_shard.proofs.MemberLemmas.{Contains-map_back}
 use Rattle.druid_shard.proofs.ReplayLemmas.{AreInOrder, in_order, first_before, rest_in_order}
 use Rattle.druid_shard.proofs.SortedLemmas.{not_before_itself}
 use Rattle.druid_segid.specs.Identifier.{identifier_text}
-use Rattle.std.specs.Bool.{⊤}
 use Rattle.std.specs.List.{Contains}
 use Rattle.std.proofs.lemmas.List.Elements.{All-contains, All-contains_itself}
-use Rattle.druid_node.specs.Answers.{told_in, told_of, told, is_told, told_by_some, told_once}
-
--- no identifier stands twice
-abbrev HaveOwn : List Segment → Type 0
-HaveOwn [] = ⊤
-HaveOwn (s ∷ more) = (held_at s.descriptor.id more ≡ None) × HaveOwn more
+use Rattle.druid_partial.specs.Once.{told, told_once}
 
 -- in the order of their identifiers none stands twice
-have_own : (held : List Segment) → AreInOrder (descriptors_of held) → HaveOwn held
+have_own : (held : List Segment) → AreInOrder (descriptors_of held) → HaveOwnSegments held
 have_own [] order = tt
-have_own (s ∷ more) order = (by_found (held_at s.descriptor.id more) refl, have_own more (rest_in_order s.descriptor (descriptors_of more) order)) where
-  by_found : (o : Option Segment) → held_at s.descriptor.id more ≡ o → held_at s.descriptor.id more ≡ None
+have_own (s ∷ more) order = (by_found (segment_named s.descriptor.id more) refl, have_own more (rest_in_order s.descriptor (descriptors_of more) order)) where
+  by_found : (o : Option Segment) → segment_named s.descriptor.id more ≡ o → segment_named s.descriptor.id more ≡ None
   by_found None e = e
   by_found (Some t) e =
       let there : Contains more t = found_each (Contains more) more s.descriptor.id t (All-contains_itself more) e in
       let before = All-contains (IsBefore s.descriptor) (descriptors_of more) t.descriptor (first_before s.descriptor (descriptors_of more) order) (Contains-map_back descriptor_of more t there) in
       absurd (not_before_itself s.descriptor t.descriptor before (ap identifier_text (found_id more s.descriptor.id t e)))
 
--- ---- rows that tell the same
-
-trans : (kinds : List AggregatorKind) (a b c : List Group) → Alike kinds a b → Alike kinds b c → Alike kinds a c
-trans kinds a b c p q = record {
-  to = λ key o. q.to key (p.to key o);
-  back = λ key o. p.back key (q.back key o);
-  same = λ place kind k key. p.same place kind k key ∙ q.same place kind k key;
-}
-
-equal : (kinds : List AggregatorKind) (a b : List Group) → a ≡ b → Alike kinds a b
-equal kinds a b e = subst (Alike kinds a) e (alike_itself kinds a)
-
--- the second of three lists put first
-second_first : (kinds : List AggregatorKind) (a b c : List Group) → Alike kinds (a ++ (b ++ c)) (b ++ (a ++ c))
-second_first kinds a b c =
-    trans kinds (a ++ (b ++ c)) ((b ++ a) ++ c) (b ++ (a ++ c))
-    (trans kinds (a ++ (b ++ c)) ((a ++ b) ++ c) ((b ++ a) ++ c) (equal kinds (a ++ (b ++ c)) ((a ++ b) ++ c) (sym (append_assoc a b c)))
-    (alike_append kinds (a ++ b) (b ++ a) c c (alike_swap kinds a b) (alike_itself kinds c)))
-    (equal kinds ((b ++ a) ++ c) (b ++ (a ++ c)) (append_assoc b a c))
-
--- rows that pass one of two tests, where none passes both
-module _ (kinds : List AggregatorKind) (f : Row → Group) (p q : Row → Bool) where
-  either_rows : (rows : List Row) → ((row : Row) → p row ≡ true → q row ≡ true → ⊥)
-      → Alike kinds (map f (filter p rows) ++ map f (filter q rows)) (map f (filter (λ row. p row || q row) rows))
-  either_rows [] apart = alike_itself kinds []
-  either_rows (r ∷ rs) apart = by_tests (either_rows rs apart) (p r) (q r) (apart r) where
-    by_tests : Alike kinds (map f (filter p rs) ++ map f (filter q rs)) (map f (filter (λ row. p row || q row) rs)) → (a b : Bool) → (a ≡ true → b ≡ true → ⊥)
-        → Alike kinds (map f (cond a (r ∷ filter p rs) (filter p rs)) ++ map f (cond b (r ∷ filter q rs) (filter q rs))) (map f (cond (a || b) (r ∷ filter (λ row. p row || q row) rs) (filter (λ row. p row || q row) rs)))
-    by_tests rest true true none = absurd (none refl refl)
-    by_tests rest true false none =
-        alike_append kinds (f r ∷ []) (f r ∷ []) (map f (filter p rs) ++ map f (filter q rs)) (map f (filter (λ row. p row || q row) rs)) (alike_itself kinds (f r ∷ [])) rest
-    by_tests rest false true none =
-        trans kinds (map f (filter p rs) ++ (f r ∷ map f (filter q rs))) (f r ∷ (map f (filter p rs) ++ map f (filter q rs))) (f r ∷ map f (filter (λ row. p row || q row) rs))
-        (second_first kinds (map f (filter p rs)) (f r ∷ []) (map f (filter q rs)))
-        (alike_append kinds (f r ∷ []) (f r ∷ []) (map f (filter p rs) ++ map f (filter q rs)) (map f (filter (λ row. p row || q row) rs)) (alike_itself kinds (f r ∷ [])) rest)
-    by_tests rest false false none = rest
-
--- ---- one piece more
-
--- a row of a segment is not asked for by a piece and by others that stand apart from it
-clash : (query : Query) (a : Asked) (s : Segment) (row : Row) (more : List Asked) → list_any (do_overlap a) more ≡ false → same_identifier a.0 s.descriptor.id ≡ true
-    → is_asked query a.1 s.fields row ≡ true → is_told query more s row ≡ true → ⊥
-clash query a s row [] none here asked some = false≢true some
-clash query a s row (b ∷ more) none here asked some =
-    elim (or_cases (same_identifier b.0 s.descriptor.id && is_asked query b.1 s.fields row) (is_told query more s row) some) [
-      | inl first ↦
-          let same : a.0 ≡ b.0 = same_identifier-true a.0 s.descriptor.id here ∙ sym (same_identifier-true b.0 s.descriptor.id (first_so _ _ first)) in
-          let mine = lies_in a.1 asked in
-          let other = lies_in b.1 (second_so _ _ first) in
-          let level = overlap_told a b (same, (row.time, mine, other)) in
-          false≢true (sym none ∙ ap (λ t. t || list_any (do_overlap a) more) level)
-      | inr later ↦ clash query a s row more (none_later (do_overlap a b) none) here asked later
-    ]
-  where
-    lies_in : (e : Extent) → is_asked query e s.fields row ≡ true → Has e row.time
-    lies_in e h =
-        let both = first_so (nat_le e.start row.time && nat_lt row.time e.end) (passes_if (value_in s.fields.dimensions row.dimensions) query.filter) h in
-        (leb-true e.start row.time (first_so (nat_le e.start row.time) (nat_lt row.time e.end) both), ltb-true row.time e.end (second_so (nat_le e.start row.time) (nat_lt row.time e.end) both))
-
-    none_later : (t : Bool) → (t || list_any (do_overlap a) more) ≡ false → list_any (do_overlap a) more ≡ false
-    none_later true e = absurd (false≢true (sym e))
-    none_later false e = e
-
-rows_same : (query : Query) (s : Segment) (p q : Row → Bool) → ((row : Row) → p row ≡ q row) → map (tells query s.fields) (filter p s.rows) ≡ map (tells query s.fields) (filter q s.rows)
-rows_same query s p q agree = ap (λ rows. map (tells query s.fields) rows) (filter_agree p q agree s.rows)
-
--- a piece of another segment
-other_segment : (query : Query) (a : Asked) (more : List Asked) (s : Segment) → same_identifier a.0 s.descriptor.id ≡ false → told_by_some query more s ≡ told_by_some query (a ∷ more) s
-other_segment query a more s apart =
-    rows_same query s (is_told query more s) (is_told query (a ∷ more) s) (λ row. sym (ap (λ b. (b && is_asked query a.1 s.fields row) || is_told query more s row) apart))
-
-not_held : (query : Query) (a : Asked) (more : List Asked) (held : List Segment) → held_at a.0 held ≡ None → told_once query more held ≡ told_once query (a ∷ more) held
-not_held query a more [] none = refl
-not_held query a more (s ∷ rest) none = by_test (not_held query a more rest) (same_identifier a.0 s.descriptor.id) refl none where
-  by_test : (held_at a.0 rest ≡ None → told_once query more rest ≡ told_once query (a ∷ more) rest) → (b : Bool) → same_identifier a.0 s.descriptor.id ≡ b → cond b (Some s) (held_at a.0 rest) ≡ None
-      → told_once query more (s ∷ rest) ≡ told_once query (a ∷ more) (s ∷ rest)
-  by_test later true e found = absurd (cc)
-  by_test later false e found = λ i. other_segment query a more s e i ++ later found i
-
-one_more : (query : Query) (a : Asked) (more : List Asked) (held : List Segment) → HaveOwn held → list_any (do_overlap a) more ≡ false
-    → Alike (kinds_of query) (told_of query held a ++ told_once query more held) (told_once query (a ∷ more) held)
-one_more query a more [] own none = alike_itself (kinds_of query) []
-one_more query a more (s ∷ rest) own none = by_test (one_more query a more rest own.1 none) (same_identifier a.0 s.descriptor.id) refl where
-  by_test : Alike (kinds_of query) (told_of query rest a ++ told_once query more rest) (told_once query (a ∷ more) rest) → (b : Bool) → same_identifier a.0 s.descriptor.id ≡ b
-      → Alike (kinds_of query) (told_of query (s ∷ rest) a ++ told_once query more (s ∷ rest)) (told_once query (a ∷ more) (s ∷ rest))
-  by_test later true e =
-      let kinds = kinds_of query in
-      let x = told_by_some query more s in
-      let y = told_once query more rest in
-      let front : told_of query (s ∷ rest) a ≡ told_by query s a.1 = ap (λ t. told_in query a.1 (cond t (Some s) (held_at a.0 rest))) e in
-      let gone : held_at a.0 rest ≡ None = subst (λ (k : Identifier). held_at k rest ≡ None) (sym (same_identifier-true a.0 s.descriptor.id e)) own.0 in
-      let either = either_rows kinds (tells query s.fields) (is_asked query a.1 s.fields) (is_told query more s) s.rows (λ row asked some. clash query a s row more none e asked some) in
-      let same = rows_same query s (λ row. is_asked query a.1 s.fields row || is_told query more s row) (is_told query (a ∷ more) s) (λ row. sym (ap (λ b. (b && is_asked query a.1 s.fields row) || is_told query more s row) e)) in
-      let rows = subst (Alike kinds (told_by query s a.1 ++ x)) same either in
-      trans kinds (told_of query (s ∷ rest) a ++ (x ++ y)) ((told_by query s a.1 ++ x) ++ y) (told_by_some query (a ∷ more) s ++ told_once query (a ∷ more) rest)
-      (equal kinds (told_of query (s ∷ rest) a ++ (x ++ y)) ((told_by query s a.1 ++ x) ++ y) ((λ i. front i ++ (x ++ y)) ∙ sym (append_assoc (told_by query s a.1) x y)))
-      (alike_append kinds (told_by query s a.1 ++ x) (told_by_some query (a ∷ more) s) y (told_once query (a ∷ more) rest) rows (equal kinds y (told_once query (a ∷ more) rest) (not_held query a more rest gone)))
-  by_test later false e =
-      let kinds = kinds_of query in
-      let x = told_by_some query more s in
-      let y = told_once query more rest in
-      let t = told_of query rest a in
-      let front : told_of query (s ∷ rest) a ≡ t = ap (λ b. told_in query a.1 (cond b (Some s) (held_at a.0 rest))) e in
-      trans kinds (told_of query (s ∷ rest) a ++ (x ++ y)) (x ++ (t ++ y)) (told_by_some query (a ∷ more) s ++ told_once query (a ∷ more) rest)
-      (trans kinds (told_of query (s ∷ rest) a ++ (x ++ y)) (t ++ (x ++ y)) (x ++ (t ++ y)) (equal kinds (told_of query (s ∷ rest) a ++ (x ++ y)) (t ++ (x ++ y)) (λ i. front i ++ (x ++ y))) (second_first kinds t x y))
-      (alike_append kinds x (told_by_some query (a ∷ more) s) (t ++ y) (told_once query (a ∷ more) rest) (equal kinds x (told_by_some query (a ∷ more) s) (other_segment query a more s e)) later)
-
-none_pass : (rows : List Row) → filter (λ row. false) rows ≡ []
-none_pass [] = refl
-none_pass (r ∷ rs) = none_pass rs
-
-nothing_told : (query : Query) (held : List Segment) → [] ≡ told_once query [] held
-nothing_told query [] = refl
-nothing_told query (s ∷ rest) = nothing_told query rest ∙ (λ i. map (tells query s.fields) (sym (none_pass s.rows) i) ++ told_once query [] rest)
-
-not_on : (b : Bool) → not b ≡ true → b ≡ false
-not_on true e = absurd (false≢true e)
-not_on false e = refl
-
-told_alike : (query : Query) (held : List Segment) (asked : List Asked) → HaveOwn held → stand_apart asked ≡ true → Alike (kinds_of query) (told query held asked) (told_once query asked held)
-told_alike query held [] own apart = equal (kinds_of query) [] (told_once query [] held) (nothing_told query held)
-told_alike query held (a ∷ more) own apart =
-    let kinds = kinds_of query in
-    trans kinds (told_of query held a ++ told query held more) (told_of query held a ++ told_once query more held) (told_once query (a ∷ more) held)
-    (alike_append kinds (told_of query held a) (told_of query held a) (told query held more) (told_once query more held) (alike_itself kinds (told_of query held a))
-    (told_alike query held more own (second_so (not (list_any (do_overlap a) more)) (stand_apart more) apart)))
-    (one_more query a more held own (not_on (list_any (do_overlap a) more) (first_so (not (list_any (do_overlap a) more)) (stand_apart more) apart)))
-
 pub rows_once : (query : Query) (held : List Segment) (asked : List Asked) (groups : List Group) → IsSegmentSet (descriptors_of held) → StandApart asked → IsResult (kinds_of query) (told query held asked) groups
     → IsResult (kinds_of query) (told_once query asked held) groups
-rows_once query held asked groups set apart result =
-    let own = have_own held (in_order (descriptors_of held) set.sorted) in
-    result_alike (kinds_of query) (told query held asked) (told_once query asked held) groups (told_alike query held asked own (apart_told asked apart)) result
+rows_once query held asked groups set apart result = once.rows_once query held asked groups (have_own held (in_order (descriptors_of held) set.sorted)) apart result

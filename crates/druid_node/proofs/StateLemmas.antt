@@ -17,7 +17,8 @@ use Rattle.druid_changes.specs.declared.fault.HistoryFault.{HistoryFault}
 use Rattle.druid_changes.specs.declared.fault.HistoryFault.TheVariants.{Served, NotServed, Full, CountAtEnd, Memory}
 use Rattle.druid_changes.proofs.HistoryLemmas.{no_refusal, stands-more}
 use Rattle.druid_rows.specs.Segment.{Segment, IsSegment}
-use Rattle.druid_node.specs.State.{State, IsState, descriptor_of, descriptors_of, held_at, HoldsMore, HoldsLess, Records, Takes, Leaves, RefusesToDrop}
+use Rattle.druid_node.specs.State.{State, IsState, descriptor_of, descriptors_of, HoldsMore, HoldsLess, Records, Takes, Leaves, RefusesToDrop}
+use Rattle.druid_partial.specs.Once.{segment_named}
 use Rattle.druid_node.specs.Held.{IsWhole, IsHeld, with_held, without_held}
 use Rattle.druid_node.specs.declared.fault.NodeFault.TheVariants as faults
 use Rattle.druid_node.proofs.HeldLemmas.{held-shares, held-strict, absent, with_held-descriptors, without_held-descriptors, All-with_held, All-without_held, holds_more, holds_less, undone, found_id, found_each, found_there}
@@ -47,15 +48,15 @@ pub record IsLookedAt (state now : State) (d : Described) (held : Bool) : Type 0
   pub valid : IsState state
   pub set : IsHeld state.held
   pub described : IsDescribed d
-  pub found : held ≡ is_some (held_at d.id state.held)
+  pub found : held ≡ is_some (segment_named d.id state.held)
 
-pub looked : (state now : State) (d : Described) (id : Identifier) (held : Bool) → state ≡ now → IsState state → IsHeld state.held → IsDescribed d → id ≡ d.id → held ≡ is_some (held_at id state.held) → IsLookedAt state now d held
+pub looked : (state now : State) (d : Described) (id : Identifier) (held : Bool) → state ≡ now → IsState state → IsHeld state.held → IsDescribed d → id ≡ d.id → held ≡ is_some (segment_named id state.held) → IsLookedAt state now d held
 looked state now d id held view valid set described same found = record {
   view = view;
   valid = valid;
   set = set;
   described = described;
-  found = found ∙ ap (λ (k : Identifier). is_some (held_at k state.held)) same;
+  found = found ∙ ap (λ (k : Identifier). is_some (segment_named k state.held)) same;
 }
 
 shared_is : (state now : State) (d : Described) (held : Bool) → IsLookedAt state now d held → list_any (λ x. shares_identifier x d) state.history.set ≡ held
@@ -155,10 +156,10 @@ loaded-takes state now s new held ready whole is recorded =
     record { records = records state now (Load s.descriptor) new ready recorded; holds = subst (λ (t : State). HoldsMore t.held held s) ready.view more }
 
 -- the segment is there to be taken out again
-pub loaded-there : (state now : State) (s : Segment) (id : Identifier) (held : List Segment) → IsReady state now (Load s.descriptor) → IsWhole s → held ≡ with_held s state.held → id ≡ s.descriptor.id → is_some (held_at id held) ≡ true
+pub loaded-there : (state now : State) (s : Segment) (id : Identifier) (held : List Segment) → IsReady state now (Load s.descriptor) → IsWhole s → held ≡ with_held s state.held → id ≡ s.descriptor.id → is_some (segment_named id held) ≡ true
 loaded-there state now s id held ready whole is same =
     let none = absent state.held s.descriptor whole.described ready.set.each (ready_strict state now (Load s.descriptor) ready) in
-    (λ i. is_some (held_at (same i) (is i))) ∙ found_there state.held s none
+    (λ i. is_some (segment_named (same i) (is i))) ∙ found_there state.held s none
 
 pub loaded-undone : (state now : State) (s : Segment) (id : Identifier) (held back : List Segment) → IsReady state now (Load s.descriptor) → IsWhole s → held ≡ with_held s state.held → id ≡ s.descriptor.id → back ≡ without_held id held
     → back ≡ state.held
@@ -180,26 +181,26 @@ state_stays state history held valid e f =
 pub drop_none : (kept : Kept) (o : Option Segment) → None ≡ o → RefusesToDrop kept o (faults.History NotServed)
 drop_none kept o none = subst (λ (found : Option Segment). RefusesToDrop kept found (faults.History NotServed)) none refl
 
-pub found_now : (state now : State) (id : Identifier) (s : Segment) → state ≡ now → Some s ≡ held_at id state.held → held_at id now.held ≡ Some s
-found_now state now id s view found = ap (λ (t : State). held_at id t.held) (sym view) ∙ sym found
+pub found_now : (state now : State) (id : Identifier) (s : Segment) → state ≡ now → Some s ≡ segment_named id state.held → segment_named id now.held ≡ Some s
+found_now state now id s view found = ap (λ (t : State). segment_named id t.held) (sym view) ∙ sym found
 
-drop_told : (state now : State) (id : Identifier) (s : Segment) (count : ℕ) (end : Bool) → state ≡ now → IsState state → Some s ≡ held_at id state.held → count ≡ state.history.count → nat_le last_count count ≡ end
+drop_told : (state now : State) (id : Identifier) (s : Segment) (count : ℕ) (end : Bool) → state ≡ now → IsState state → Some s ≡ segment_named id state.held → count ≡ state.history.count → nat_le last_count count ≡ end
     → refusal now.history (Drop s.descriptor) ≡ cond end (Some CountAtEnd) None
 drop_told state now id s count end view valid found is last =
     let strict : is_strict state.history.set (Drop s.descriptor) ≡ true = ap (λ ds. is_strict ds (Drop s.descriptor)) (sym valid.serves) ∙ held-strict state.held id s (sym found) in
     ap (λ (t : State). refusal t.history (Drop s.descriptor)) (sym view) ∙ refusal-drop state.history s.descriptor end strict (ap (nat_le last_count) (sym is) ∙ last)
 
-pub drop_at_end : (state now : State) (id : Identifier) (s : Segment) (count : ℕ) → state ≡ now → IsState state → Some s ≡ held_at id state.held → count ≡ state.history.count → count ≡ last_count
-    → RefusesToDrop now.history (held_at id now.held) (faults.History CountAtEnd)
+pub drop_at_end : (state now : State) (id : Identifier) (s : Segment) (count : ℕ) → state ≡ now → IsState state → Some s ≡ segment_named id state.held → count ≡ state.history.count → count ≡ last_count
+    → RefusesToDrop now.history (segment_named id now.held) (faults.History CountAtEnd)
 drop_at_end state now id s count view valid found is last =
     subst (λ (o : Option Segment). RefusesToDrop now.history o (faults.History CountAtEnd)) (sym (found_now state now id s view found))
     (drop_told state now id s count true view valid found is (le-leb last_count count (omega arith)))
 
-pub drop_taken : (state now : State) (id : Identifier) (s : Segment) (count : ℕ) → state ≡ now → IsState state → Some s ≡ held_at id state.held → count ≡ state.history.count → count < last_count
+pub drop_taken : (state now : State) (id : Identifier) (s : Segment) (count : ℕ) → state ≡ now → IsState state → Some s ≡ segment_named id state.held → count ≡ state.history.count → count < last_count
     → refusal now.history (Drop s.descriptor) ≡ None
 drop_taken state now id s count view valid found is more = drop_told state now id s count false view valid found is (lt-leb last_count count more)
 
-pub drop_wants : (state now : State) (id : Identifier) (s : Segment) → state ≡ now → Some s ≡ held_at id state.held → refusal now.history (Drop s.descriptor) ≡ None → RefusesToDrop now.history (held_at id now.held) faults.Memory
+pub drop_wants : (state now : State) (id : Identifier) (s : Segment) → state ≡ now → Some s ≡ segment_named id state.held → refusal now.history (Drop s.descriptor) ≡ None → RefusesToDrop now.history (segment_named id now.held) faults.Memory
 drop_wants state now id s view found taken =
     subst (λ (o : Option Segment). RefusesToDrop now.history o faults.Memory) (sym (found_now state now id s view found)) taken
 
@@ -216,7 +217,7 @@ drop_recorded kept c Full none a b d e m = let h = d refl in absurd (cc)
 drop_recorded kept c CountAtEnd none a b d e m = let h = e refl in absurd (cc)
 drop_recorded kept c Memory none a b d e m = m refl
 
-pub dropped-state : (state now : State) (id : Identifier) (s : Segment) (new : Kept) (held : List Segment) → IsReady state now (Drop s.descriptor) → Some s ≡ held_at id state.held → held ≡ without_held id state.held
+pub dropped-state : (state now : State) (id : Identifier) (s : Segment) (new : Kept) (held : List Segment) → IsReady state now (Drop s.descriptor) → Some s ≡ segment_named id state.held → held ≡ without_held id state.held
     → IsRecorded state.history new (Drop s.descriptor) → IsState (record { history = new; held = held })
 dropped-state state now id s new held ready found is recorded =
     let whole : IsWhole s = found_each IsWhole state.held id s ready.set.each (sym found) in
@@ -227,11 +228,11 @@ dropped-state state now id s new held ready found is recorded =
       each = subst (All IsSegment) (sym is) (All-without_held IsSegment id state.held ready.valid.each);
     }
 
-pub dropped-leaves : (state now : State) (id : Identifier) (s : Segment) (new : Kept) (held : List Segment) → IsReady state now (Drop s.descriptor) → Some s ≡ held_at id state.held → held ≡ without_held id state.held
-    → held_at id held ≡ None → IsRecorded state.history new (Drop s.descriptor) → (t : Segment) × (held_at id now.held ≡ Some t) × Leaves now (record { history = new; held = held }) t
+pub dropped-leaves : (state now : State) (id : Identifier) (s : Segment) (new : Kept) (held : List Segment) → IsReady state now (Drop s.descriptor) → Some s ≡ segment_named id state.held → held ≡ without_held id state.held
+    → segment_named id held ≡ None → IsRecorded state.history new (Drop s.descriptor) → (t : Segment) × (segment_named id now.held ≡ Some t) × Leaves now (record { history = new; held = held }) t
 dropped-leaves state now id s new held ready found is gone recorded =
     let same = found_id state.held id s (sym found) in
-    let none : held_at id (without_held id state.held) ≡ None = ap (held_at id) (sym is) ∙ gone in
+    let none : segment_named id (without_held id state.held) ≡ None = ap (segment_named id) (sym is) ∙ gone in
     let less = subst (λ (l : List Segment). HoldsLess state.held l id) (sym is) (holds_less state.held id none) in
     let less_now : HoldsLess now.held held id = subst (λ (t : State). HoldsLess t.held held id) ready.view less in (
       s,

@@ -2,5 +2,4 @@ pub mod State
 pub mod Held
 pub mod Answers
 pub mod Routes
-pub mod Served
 pub mod Files

@@ -1,8 +1,5 @@
 -- What a node answers to a request.
-use Rattle.std.specs.Prelude.{◌≡◌, ◌⊎◌, ℕ, Bool, true, false, List, codes, bytes_eq, Option, Some, None, Ok, Err, ◌==◌, if◌then◌else◌}
-use Rattle.std.specs.List.{before_first, after_first}
-use Rattle.serde_json.specs.Data.{Data, object, member, no_members, string}
-use Rattle.serde_json.specs.Written.{compact_text}
+use Rattle.std.specs.Prelude.{◌≡◌, ◌≢◌, ◌⊎◌, ℕ, List, codes, bytes_eq, Option, Some, None, Ok, Err, if◌then◌else◌}
 use Rattle.druid_shard.specs.declared.change.Ask.{Ask}
 use Rattle.druid_shard.specs.declared.change.Change.{Change}
 use Rattle.druid_shard.specs.declared.reply.Body.{Body}
@@ -14,21 +11,15 @@ use Rattle.druid_rows.specs.Segment.{Segment}
 use Rattle.druid_query.specs.Read.{IsReadBy}
 use Rattle.druid_query.specs.SubQuery.{SubQuery, subquery_at}
 use Rattle.druid_query.specs.declared.fault.QueryFault.{QueryFault}
-use Rattle.druid_query.specs.declared.fault.QueryFault.TheVariants as query
+use Rattle.druid_query.specs.declared.fault.QueryFault.TheVariants.{Memory}
+use Rattle.druid_query.specs.Refused.{refusal_text}
 use Rattle.druid_partial.specs.Answers.{NodeAnswer, answer_text}
 use Rattle.druid_wire.specs.Messages.{RequestValue}
+use Rattle.druid_wire.specs.Served.{path_of, parameters_of, Tells, Allows}
 use Rattle.druid_node.specs.State.{State}
 use Rattle.druid_node.specs.Answers.{IsAnswerOf}
 use Rattle.druid_node.specs.declared.routes.Route.{Route}
 use Rattle.druid_node.specs.declared.routes.Route.TheVariants.{Health, Segments, Query, Nowhere}
-
--- what stands before the first `?` of a target
-abbrev pub path_of : List ℕ → List ℕ
-path_of target = before_first (λ b. b == 63) target
-
--- what stands behind it, and nothing where there is none
-abbrev pub parameters_of : List ℕ → List ℕ
-parameters_of target = after_first (λ b. b == 63) target
 
 abbrev pub route_of : List ℕ → Route
 route_of path =
@@ -36,16 +27,6 @@ route_of path =
     else (if bytes_eq path (codes "/druid-internal/v1/segments") then Segments
     else (if bytes_eq path (codes "/druid/v2") then Query
     else (if bytes_eq path (codes "/druid/v2/") then Query else Nowhere)))
-
--- the answer has this status and this body
-pub record Tells (wanted : ℕ) (text : List ℕ) (status : ℕ) (body : List ℕ) : Type 0 where
-  pub status_is : status ≡ wanted
-  pub body_is : body ≡ text
-
--- an answer where the method is the one that the path takes
-abbrev pub Allows : Bool → (ℕ → List ℕ → Type 0) → ℕ → List ℕ → Type 0
-Allows true P status body = P status body
-Allows false P status body = Tells 405 (codes "{\"error\":\"Method\"}") status body
 
 -- ---- what it serves
 
@@ -64,19 +45,6 @@ AnswersAsk kept parameters status body = AnswersFound kept (ask_at parameters) s
 
 -- ---- queries
 
--- the field of that key has another shape
-unfoldable pub field_data : List ℕ → Data
-field_data key = object (member (codes "error") (string (codes "Q3")) (member (codes "field") (string key) no_members))
-
-abbrev pub RefusesQuery : QueryFault → ℕ → List ℕ → Type 0
-RefusesQuery query.NotJson status body = Tells 400 (codes "{\"error\":\"Q1\"}") status body
-RefusesQuery query.UnknownType status body = Tells 400 (codes "{\"error\":\"Q2\"}") status body
-RefusesQuery (query.Field key) status body = Tells 400 (compact_text (field_data key.now)) status body
-RefusesQuery query.BadInterval status body = Tells 400 (codes "{\"error\":\"Q4\"}") status body
-RefusesQuery query.LimitPassed status body = Tells 400 (codes "{\"error\":\"Q5\"}") status body
-RefusesQuery query.DoubledName status body = Tells 400 (codes "{\"error\":\"Q6\"}") status body
-RefusesQuery query.Memory status body = ⊥
-
 abbrev pub AnswersSub : List Segment → SubQuery → ℕ → List ℕ → Type 0
 AnswersSub held sub status body = (a : NodeAnswer) × IsAnswerOf held sub a × Tells 200 (answer_text a) status body
 
@@ -84,7 +52,7 @@ AnswersSub held sub status body = (a : NodeAnswer) × IsAnswerOf held sub a × T
 abbrev pub AnswersQuery : List Segment → List ℕ → ℕ → List ℕ → Type 0
 AnswersQuery held bytes status body =
     ((sub : SubQuery) × IsReadBy subquery_at bytes (Ok sub) × AnswersSub held sub status body)
-    ⊎ ((fault : QueryFault) × IsReadBy subquery_at bytes (Err fault) × RefusesQuery fault status body)
+    ⊎ ((fault : QueryFault) × (fault ≢ Memory) × IsReadBy subquery_at bytes (Err fault) × Tells 400 (refusal_text fault) status body)
 
 -- ---- the whole
 
@@ -100,3 +68,8 @@ AnswersAt Nowhere state request status body = Tells 404 (codes "{\"error\":\"NoR
 -- what a node in that state answers to the request
 abbrev pub Responds : State → RequestValue → ℕ → List ℕ → Type 0
 Responds state request status body = AnswersAt (route_of (path_of request.target)) state request status body
+
+-- want of memory is told in the place of the answer
+abbrev pub RespondsInTurn : State → RequestValue → ℕ → List ℕ → Type 0
+RespondsInTurn state request status body =
+    Responds state request status body ⊎ Tells 500 (codes "{\"error\":\"Memory\"}") status body

@@ -1,10 +1,11 @@
 -- What a node keeps: its history, and the segments that it holds.
-use Rattle.std.specs.Prelude.{◌≡◌, ◌⊎◌, ◌↔◌, ◌++◌, List, [], ◌∷◌, map, All, Contains, Option, Some, None, if◌then◌else◌}
-use Rattle.druid_segid.specs.Identifier.{Identifier, same_identifier}
+use Rattle.std.specs.Prelude.{◌≡◌, ◌⊎◌, ◌↔◌, ◌++◌, List, [], ◌∷◌, map, All, Contains, Option, Some, None}
+use Rattle.druid_segid.specs.Identifier.{Identifier}
 use Rattle.druid_shard.specs.Described.{Described}
 use Rattle.druid_shard.specs.declared.change.Change.{Change}
 use Rattle.druid_shard.specs.declared.change.Change.TheVariants.{Load, Drop}
 use Rattle.druid_rows.specs.Segment.{Segment, IsSegment}
+use Rattle.druid_partial.specs.Once.{segment_named}
 use Rattle.druid_changes.specs.Kept.{Kept, StandsFor, refusal}
 use Rattle.druid_changes.specs.declared.fault.HistoryFault.TheVariants.{NotServed}
 use Rattle.druid_node.specs.declared.fault.NodeFault.{NodeFault}
@@ -27,14 +28,9 @@ pub record IsState (state : State) : Type 0 where
   pub serves : descriptors_of state.held ≡ state.history.set
   pub each : All IsSegment state.held
 
--- the segment of that identifier
-abbrev pub held_at : Identifier → List Segment → Option Segment
-held_at id [] = None
-held_at id (s ∷ more) = if same_identifier id s.descriptor.id then Some s else held_at id more
-
 -- the new ones are the old ones and the segment, whose identifier none of them has
 pub record HoldsMore (old new : List Segment) (segment : Segment) : Type 0 where
-  pub absent : held_at segment.descriptor.id old ≡ None
+  pub absent : segment_named segment.descriptor.id old ≡ None
   pub members : (s : Segment) → Contains new s ↔ ((s ≡ segment) ⊎ Contains old s)
 
 -- the new ones are the old ones but that of the identifier

@@ -3,7 +3,8 @@ ghost use Rattle.std.specs.Prelude.{◌≡◌, IfOk};
 ghost use Rattle.druid_query.specs.Asked.{Asked};
 ghost use Rattle.druid_partial.specs.Groups.{IsResult};
 ghost use Rattle.druid_partial.specs.Rows.{kinds_of, IsPartialFor};
-ghost use Rattle.druid_node.specs.Answers.{told_of, told, missing, IsAnswerOf};
+ghost use Rattle.druid_node.specs.Answers.{missing, IsAnswerOf};
+ghost use Rattle.druid_partial.specs.Once.{told_of, told};
 
 use crate::held::Held;
 use druid_partial::{NodeAnswer, Partial, merge, partial_of};

@@ -2,7 +2,8 @@ ghost use Rattle.std.specs.Prelude.{◌≡◌, ◌⊎◌, Some, Ok, IfOk, IfErr,
 ghost use Rattle.druid_rows.specs.Segment.{Segment};
 ghost use Rattle.druid_store.specs.Folder.{IsOwnFault, read_part, bytes_read};
 ghost use Rattle.druid_segfile.specs.Reading.{segment_at};
-ghost use Rattle.druid_node.specs.State.{Leaves, RefusesToDrop, held_at};
+ghost use Rattle.druid_node.specs.State.{Leaves, RefusesToDrop};
+ghost use Rattle.druid_partial.specs.Once.{segment_named};
 ghost use Rattle.druid_node.specs.Files.{file_name, named, file_at, told_as, TakesFile, RefusesFile, IsOfFile, RefusesBytes, RefusesFound, faults_after_load};
 
 use crate::{NodeFault, NodeState};
@@ -139,8 +140,8 @@ impl DataNode {
 
     /// Drops a segment, as `NodeState::drop_segment` does.
     pub fn drop_segment(&mut self, id: &SegmentId) -> Result<(), NodeFault>
-        ensures ok { OnOk result ((s : Segment) × (held_at id.now self.old.held ≡ Some s) × Leaves self.old self.new s) }
-        ensures err { IfErr result (RefusesToDrop self.old.history (held_at id.now self.old.held)) }
+        ensures ok { OnOk result ((s : Segment) × (segment_named id.now self.old.held ≡ Some s) × Leaves self.old self.new s) }
+        ensures err { IfErr result (RefusesToDrop self.old.history (segment_named id.now self.old.held)) }
         ensures unchanged { OnErr result (self.new ≡ self.old) }
     {
         self.state.drop_segment(id)

@@ -3,7 +3,8 @@ ghost use Rattle.std.specs.Prelude.{◌≡◌, [], length, None, IsTrue, IsSome,
 ghost use Rattle.std.specs.Option.{option_copied, is_some};
 ghost use Rattle.druid_shard.specs.Replay.{is_strict, has_room};
 ghost use Rattle.druid_shard.specs.declared.change.Change.TheVariants.{Load};
-ghost use Rattle.druid_node.specs.State.{descriptors_of, held_at};
+ghost use Rattle.druid_node.specs.State.{descriptors_of};
+ghost use Rattle.druid_partial.specs.Once.{segment_named};
 ghost use Rattle.druid_node.specs.Held.{IsHeld, with_held, without_held};
 
 use druid_rows::Segment;
@@ -51,14 +52,14 @@ impl Held {
 
     // The segment of that identifier.
     pub(crate) fn find(&self, id: &SegmentId) -> Option<&Segment>
-        ensures { option_copied result ≡ held_at id.now self.now }
+        ensures { option_copied result ≡ segment_named id.now self.now }
     {
         self.entries.get(id)
     }
 
     // Whether there is a segment of that identifier.
     pub(crate) fn holds(&self, id: &SegmentId) -> bool
-        ensures { result ≡ is_some (held_at id.now self.now) }
+        ensures { result ≡ is_some (segment_named id.now self.now) }
     {
         self.entries.contains_key(id)
     }
@@ -78,9 +79,9 @@ impl Held {
 
     // Takes the segment of that identifier out.
     pub(crate) fn remove(&mut self, id: &SegmentId)
-        requires { IsSome (held_at id.now self.old) }
+        requires { IsSome (segment_named id.now self.old) }
         ensures removed { self.new ≡ without_held id.now self.old }
-        ensures gone { held_at id.now self.new ≡ None }
+        ensures gone { segment_named id.now self.new ≡ None }
     {
         self.entries.remove(id);
     }

@@ -7,7 +7,7 @@ ghost use Rattle.druid_partial.specs.Groups.{Group, IsResult};
 ghost use Rattle.druid_partial.specs.Rows.{kinds_of};
 ghost use Rattle.druid_shard.specs.Replay.{IsSegmentSet};
 ghost use Rattle.druid_node.specs.State.{descriptors_of};
-ghost use Rattle.druid_node.specs.Answers.{told, told_once};
+ghost use Rattle.druid_partial.specs.Once.{told, told_once};
 
 /// Where no two pieces of one segment overlap, what a node answers is the result over the rows of the segments that it holds
 /// and that lie in some piece, each row once, however the pieces cut the segments.

@@ -1,19 +1,18 @@
 //! What a node answers to requests.
-ghost use Rattle.std.specs.Prelude.{◌≡◌, Some, codes, bytes_eq, string_bytes, IfOk, IfErr};
-ghost use Rattle.serde_json.specs.View.{view};
-ghost use Rattle.serde_json.specs.Written.{compact_text};
-ghost use Rattle.druid_node.specs.Routes.{Tells, field_data, RefusesQuery, AnswersFound, AnswersAsk, AnswersSub, AnswersQuery, AnswersAt, Responds};
+ghost use Rattle.std.specs.Prelude.{◌≡◌, ◌≢◌, Some, codes, IfOk, IfErr};
+ghost use Rattle.druid_query.specs.Refused.{refusal_text};
+ghost use Rattle.druid_wire.specs.Served.{Tells};
+ghost use Rattle.druid_node.specs.Routes.{AnswersFound, AnswersAsk, AnswersSub, AnswersQuery, AnswersAt, Responds};
 
-use crate::routes::{Route, parts_of, route_of};
+use crate::routes::{Route, route_of};
 use crate::{NodeFault, NodeState};
 use druid_partial::node_answer_text;
-use druid_query::{QueryFault, SubQuery, read_subquery};
+use druid_query::{QueryFault, SubQuery, read_subquery, refusal_text};
 use druid_shard::Ask;
 use druid_sync::{read_ask, reply_text};
 use druid_wire::Request;
 use http::StatusCode;
-use serde_json::{Value, json};
-use std::alloc::{AllocError, Global};
+use std::alloc::Global;
 
 // An answer of that status and body.
 fn plain(alloc: Global, status: StatusCode, text: &str) -> Result<(StatusCode, Vec<u8>), NodeFault>
@@ -37,56 +36,18 @@ fn other_method(alloc: Global) -> Result<(StatusCode, Vec<u8>), NodeFault>
     )
 }
 
-#[tactic(auto, unfolding(crate::specs::Routes::field_data))]
-fn field_value(alloc: Global, key: &str) -> Result<Value, AllocError>
-    ensures { IfOk result (λ v. view v ≡ field_data key.now) }
-{
-    json!(in alloc; {
-        "error": "Q3",
-        "field": key,
-    })
-}
-
-#[tactic(auto, using(crate::proofs::RespondLemmas::field_plain))]
-fn field_text(alloc: Global, key: &str) -> Result<String, AllocError>
-    ensures { IfOk result (λ text. string_bytes text ≡ compact_text (field_data key.now)) }
-{
-    field_value(alloc, key)?.to_string(alloc)
-}
-
-// The answer where the field of that key has another shape.
-fn bad_field(alloc: Global, key: &str) -> Result<(StatusCode, Vec<u8>), NodeFault>
-    ensures ok { IfOk result (λ r. Tells 400 (compact_text (field_data key.now)) r.0 r.1.items) }
-    ensures err { IfErr result (λ fault. fault ≡ NodeFault.Memory) }
-{
-    match field_text(alloc, key) {
-        Ok(text) => Ok((StatusCode::BAD_REQUEST, text.into_bytes())),
-        Err(_) => Err(NodeFault::Memory),
-    }
-}
-
 // The answer to what is no subquery.
 fn refuse(alloc: Global, fault: QueryFault) -> Result<(StatusCode, Vec<u8>), NodeFault>
-    ensures ok { IfOk result (λ r. RefusesQuery fault r.0 r.1.items) }
+    ensures ok { IfOk result (λ r. (fault ≢ QueryFault.Memory) × Tells 400 (refusal_text fault) r.0 r.1.items) }
     ensures err { IfErr result (λ fault. fault ≡ NodeFault.Memory) }
 {
-    let status = StatusCode::BAD_REQUEST;
     match fault {
-        QueryFault::NotJson => plain(alloc, status, "{\"error\":\"Q1\"}"),
-        QueryFault::UnknownType => plain(alloc, status, "{\"error\":\"Q2\"}"),
-        QueryFault::Field(key) => bad_field(alloc, key),
-        QueryFault::BadInterval => plain(alloc, status, "{\"error\":\"Q4\"}"),
-        QueryFault::LimitPassed => plain(alloc, status, "{\"error\":\"Q5\"}"),
-        QueryFault::DoubledName => plain(alloc, status, "{\"error\":\"Q6\"}"),
         QueryFault::Memory => Err(NodeFault::Memory),
+        fault => match refusal_text(alloc, fault) {
+            Ok(text) => Ok((StatusCode::BAD_REQUEST, text.into_bytes())),
+            Err(_) => Err(NodeFault::Memory),
+        },
     }
-}
-
-// Whether the request has that method.
-fn has_method(request: &Request, method: &str) -> bool
-    ensures { result ≡ bytes_eq request.now.method method.now }
-{
-    request.method().as_str() == method
 }
 
 impl NodeState {
@@ -142,7 +103,7 @@ impl NodeState {
         ensures ok { IfOk result (λ r. AnswersAt Route.Health self.now request.now r.0 r.1.items) }
         ensures err { IfErr result (λ fault. fault ≡ NodeFault.Memory) }
     {
-        if !has_method(request, "GET") {
+        if !request.has_method("GET") {
             return other_method(self.alloc());
         }
         plain(self.alloc(), StatusCode::OK, "true")
@@ -152,18 +113,17 @@ impl NodeState {
         ensures ok { IfOk result (λ r. AnswersAt Route.Segments self.now request.now r.0 r.1.items) }
         ensures err { IfErr result (λ fault. fault ≡ NodeFault.Memory) }
     {
-        if !has_method(request, "GET") {
+        if !request.has_method("GET") {
             return other_method(self.alloc());
         }
-        let (_, parameters) = parts_of(request.target());
-        self.answer_parameters(parameters)
+        self.answer_parameters(request.parameters())
     }
 
     fn query(&self, request: &Request) -> Result<(StatusCode, Vec<u8>), NodeFault>
         ensures ok { IfOk result (λ r. AnswersAt Route.Query self.now request.now r.0 r.1.items) }
         ensures err { IfErr result (λ fault. fault ≡ NodeFault.Memory) }
     {
-        if !has_method(request, "POST") {
+        if !request.has_method("POST") {
             return other_method(self.alloc());
         }
         self.answer_query(request.body())
@@ -193,7 +153,6 @@ impl NodeState {
         ensures ok { IfOk result (λ r. Responds self.now request.now r.0 r.1.items) }
         ensures err { IfErr result (λ fault. fault ≡ NodeFault.Memory) }
     {
-        let (path, _) = parts_of(request.target());
-        self.answer_at(route_of(path), request)
+        self.answer_at(route_of(request.path()), request)
     }
 }

@@ -1,6 +1,6 @@
 //! Where requests go.
 ghost use Rattle.std.specs.Prelude.{◌≡◌};
-ghost use Rattle.druid_node.specs.Routes.{path_of, parameters_of, route_of};
+ghost use Rattle.druid_node.specs.Routes.{route_of};
 
 /// What a path names.
 #[derive(Clone, Copy, Debug, PartialEq, Eq, Drop)]
@@ -13,17 +13,6 @@ pub(crate) enum Route {
     Query,
     // Nothing.
     Nowhere,
-}
-
-// The path of a target, and its parameters.
-pub(crate) fn parts_of(target: &str) -> (&str, &str)
-    ensures path { result.0.now ≡ path_of target.now }
-    ensures parameters { result.1.now ≡ parameters_of target.now }
-{
-    match target.split_once('?') {
-        Some(parts) => parts,
-        None => (target, ""),
-    }
 }
 
 // Where a path leads.

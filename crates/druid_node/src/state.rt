@@ -5,7 +5,8 @@ ghost use Rattle.druid_shard.specs.declared.change.Change.TheVariants.{Load};
 ghost use Rattle.druid_rows.specs.Segment.{Segment};
 ghost use Rattle.druid_changes.specs.Kept.{StandsFor, IsKept, refusal};
 ghost use Rattle.druid_changes.specs.Answer.{answer, HasCopies, mark_behind};
-ghost use Rattle.druid_node.specs.State.{State, IsState, Takes, Leaves, Refuses, RefusesToDrop, held_at};
+ghost use Rattle.druid_node.specs.State.{State, IsState, Takes, Leaves, Refuses, RefusesToDrop};
+ghost use Rattle.druid_partial.specs.Once.{segment_named};
 ghost use Rattle.druid_node.specs.Answers.{IsAnswerOf};
 
 use crate::NodeFault;
@@ -122,8 +123,8 @@ impl NodeState {
     /// Drops the segment of that identifier, and records it. N4 where the history refuses that: H2 where no such segment is
     /// held, then H4 at a count of 2^64 - 1. Then N9 where memory was refused. A refused drop leaves all as it was.
     pub fn drop_segment(&mut self, id: &SegmentId) -> Result<(), NodeFault>
-        ensures ok { OnOk result ((s : Segment) × (held_at id.now self.old.held ≡ Some s) × Leaves self.old self.new s) }
-        ensures err { IfErr result (RefusesToDrop self.old.history (held_at id.now self.old.held)) }
+        ensures ok { OnOk result ((s : Segment) × (segment_named id.now self.old.held ≡ Some s) × Leaves self.old self.new s) }
+        ensures err { IfErr result (RefusesToDrop self.old.history (segment_named id.now self.old.held)) }
         ensures unchanged { OnErr result (self.new ≡ self.old) }
     {
         // Read for the proof: the reader tells what its type keeps.

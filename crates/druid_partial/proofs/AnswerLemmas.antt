@@ -3,14 +3,14 @@ use Rattle.std.proofs.Common.{◌≡◌, ℕ, ◌+◌, ◌<◌, ◌≤◌, arith
 use Rattle.std.proofs.lemmas.List.{drop_more}
 use Rattle.json.specs.Token.{Token, begin_array, end_array, begin_object, end_object, key, string, number}
 use Rattle.json.specs.Print.{print}
-use Rattle.serde_json.specs.Data.{array}
+use Rattle.serde_json.specs.Data.{Data, array}
 use Rattle.serde_json.proofs.Texts.{print-outline}
 use Rattle.druid_time.specs.Texts.{extent_text}
 use Rattle.druid_query.specs.Asked.{Asked, asked_data}
 use Rattle.druid_query.specs.SubQuery.{pieces_data}
 use Rattle.druid_partial.specs.Groups.{Group}
 use Rattle.druid_partial.specs.Written.{partial_data}
-use Rattle.druid_partial.specs.Answers.{NodeAnswer, answer_data, answer_text}
+use Rattle.druid_partial.specs.Answers.{NodeAnswer, answer_data, answer_text, shortfall_of}
 use Rattle.std.specs.List.{AllWithin}
 use Rattle.std.proofs.lemmas.List.Elements.{at_read}
 use borrow.Author.Count.{below_more}
@@ -66,3 +66,17 @@ answer_printed a = print-outline (answer_data a.missing a.partial.groups)
 pub within_more : (asked : List Asked) (i : ℕ) (a : Asked) → i < length asked → a ≡ get_or asked i a → IsOfSegment a → AllWithin IsOfSegment asked 0 i → AllWithin IsOfSegment asked 0 (i + 1)
 within_more asked i a h is one before k d low below =
     below_more (λ (n : ℕ). (e : Asked) → IsOfSegment (get_or asked n e)) i (λ n l e. before n e (omega arith) l) (at_read asked IsOfSegment i a h is one) k below d
+
+-- ---- what is told where pieces are missing
+
+shortfall_joined : (t : List Token) (b k s m r e : Token) (p g : List Token)
+    → (((((((t ++ b ∷ []) ++ k ∷ []) ++ s ∷ []) ++ m ∷ []) ++ p) ++ r ∷ []) ++ g) ++ e ∷ [] ≡ t ++ b ∷ k ∷ s ∷ m ∷ (p ++ r ∷ (g ++ e ∷ []))
+shortfall_joined t b k s m r e p g = simp append_assoc
+
+pub shortfall_steps : (missing : List Asked) (rows : Data) (t0 t1 t2 t3 t4 t5 t6 t7 t8 : List Token) → t1 ≡ t0 ++ begin_object ∷ [] → t2 ≡ t1 ++ key (codes "error") ∷ []
+    → t3 ≡ t2 ++ string (codes "SegmentsMissing") ∷ [] → t4 ≡ t3 ++ key (codes "missing") ∷ [] → t5 ≡ t4 ++ tokens_of (array (pieces_data missing))
+    → t6 ≡ t5 ++ key (codes "partial") ∷ [] → t7 ≡ t6 ++ tokens_of rows → t8 ≡ t7 ++ end_object ∷ [] → t8 ≡ t0 ++ tokens_of (shortfall_of missing rows)
+shortfall_steps missing rows t0 t1 t2 t3 t4 t5 t6 t7 t8 e1 e2 e3 e4 e5 e6 e7 e8 =
+    rw (e8, e7, e6, e5, e4, e3, e2, e1)
+    (shortfall_joined t0 begin_object (key (codes "error")) (string (codes "SegmentsMissing")) (key (codes "missing")) (key (codes "partial")) end_object
+    (tokens_of (array (pieces_data missing))) (tokens_of rows))

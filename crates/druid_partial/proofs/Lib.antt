@@ -19,3 +19,4 @@ pub mod ReadBackLemmas
 pub mod AnswerLemmas
 pub mod MissedLemmas
 pub mod AnswerTextLemmas
+pub mod OnceLemmas

@@ -9,10 +9,12 @@ use Rattle.serde_json.specs.View.{items_of}
 use Rattle.serde_json.specs.Written.{compact_text}
 use Rattle.serde_json.proofs.Texts.{print-outline}
 use Rattle.druid_query.specs.Query.{Query}
+use Rattle.druid_query.specs.Asked.{Asked}
 use Rattle.druid_query.specs.declared.query_type.QueryType.{QueryType}
 use Rattle.druid_partial.specs.Groups.{Group}
 use Rattle.druid_partial.specs.Rows.{IsGroupFor}
 use Rattle.druid_partial.specs.Written.{kinded_row, row_data, result_text}
+use Rattle.druid_partial.specs.Answers.{shortfall_of, shortfall_text}
 use Rattle.druid_partial.specs.Tokens.{tokens_of, rest_of}
 use Rattle.druid_partial.specs.Named.{TellsBy, row_by, rows_by}
 use Rattle.druid_partial.specs.declared.results.Column.{Column}
@@ -50,3 +52,8 @@ pub result_printed : (q : Query) (es : List (String Global × Column)) (groups :
     → print (tokens_of (rows_by q.kind es groups)) ≡ result_text q groups
 result_printed q es groups tells each =
     print-outline (rows_by q.kind es groups) ∙ ap (λ ds. compact_text (array ds)) (rows_told q es groups tells each)
+
+pub shortfall_printed : (q : Query) (missing : List Asked) (es : List (String Global × Column)) (groups : List Group) → TellsBy q es → All (IsGroupFor q) groups
+    → print (tokens_of (shortfall_of missing (rows_by q.kind es groups))) ≡ shortfall_text q missing groups
+shortfall_printed q missing es groups tells each =
+    print-outline (shortfall_of missing (rows_by q.kind es groups)) ∙ ap (λ ds. compact_text (shortfall_of missing (array ds))) (rows_told q es groups tells each)

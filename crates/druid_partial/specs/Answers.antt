@@ -1,17 +1,18 @@
 -- Answers of nodes: their text, and how they are read.
 use Rattle.std.specs.Prelude.{◌≡◌, ℕ, List, codes, Contains, Option, Some, Result, Ok, Err, ⊤, option_and_then}
-use Rattle.serde_json.specs.Data.{Data, array, object, no_members, member}
+use Rattle.serde_json.specs.Data.{Data, string, array, object, no_members, member}
 use Rattle.serde_json.specs.Find.{get, as_array}
 use Rattle.serde_json.specs.Written.{compact_text}
 use Rattle.druid_time.specs.Extent.{IsExtent}
 use Rattle.druid_segid.specs.Identifier.{IsIdentifier}
 use Rattle.druid_shard.specs.Each.{each_of}
+use Rattle.druid_query.specs.Query.{Query}
 use Rattle.druid_query.specs.Asked.{Asked, asked_at}
 use Rattle.druid_query.specs.SubQuery.{SubQuery, pieces_data}
 use Rattle.druid_query.specs.Read.{ReadsAs}
 use Rattle.druid_partial.specs.Groups.{Group}
 use Rattle.druid_partial.specs.Rows.{Partial, kinds_of}
-use Rattle.druid_partial.specs.Written.{partial_data}
+use Rattle.druid_partial.specs.Written.{partial_data, result_data}
 use Rattle.druid_partial.specs.Read.{Lists, TellsGroups}
 use Rattle.druid_partial.specs.declared.fault.PartialFault.{PartialFault}
 use Rattle.druid_partial.specs.declared.fault.PartialFault.TheVariants as faults
@@ -31,6 +32,16 @@ answer_data missing groups =
 -- the text of an answer: its JSON, compact
 abbrev pub answer_text : NodeAnswer → List ℕ
 answer_text a = compact_text (answer_data a.missing a.partial.groups)
+
+-- what a client is told where pieces are missing: these pieces, and the rows of a result without them
+abbrev pub shortfall_of : List Asked → Data → Data
+shortfall_of missing rows =
+    object (member (codes "error") (string (codes "SegmentsMissing"))
+    (member (codes "missing") (array (pieces_data missing))
+    (member (codes "partial") rows no_members)))
+
+abbrev pub shortfall_text : Query → List Asked → List Group → List ℕ
+shortfall_text query missing groups = compact_text (shortfall_of missing (result_data query groups))
 
 -- ---- read
 

@@ -15,3 +15,4 @@ pub mod Named
 pub mod Answers
 pub mod Missed
 pub mod PieceOrder
+pub mod Once

@@ -35,9 +35,13 @@ fn push_asked(alloc: Global, out: &mut Writer, asked: &Asked) -> Result<(), Allo
     out.end_object()
 }
 
-// Writes pieces of segments.
+/// Writes pieces of segments.
 #[tactic(auto, using(crate::proofs::AnswerLemmas::piece_next, crate::proofs::AnswerLemmas::pieces_first, crate::proofs::AnswerLemmas::pieces_last))]
-fn push_pieces(alloc: Global, out: &mut Writer, asked: &[Asked]) -> Result<(), AllocError>
+pub(crate) fn push_pieces(
+    alloc: Global,
+    out: &mut Writer,
+    asked: &[Asked],
+) -> Result<(), AllocError>
     ensures ok { OnOk result (out.new.tokens ≡ out.old.tokens ++ tokens_of (array (pieces_data asked.now))) }
     ensures before { out.new.before ≡ out.old.before }
     ensures held { OnOk result (All IsOfSegment asked.now) }

@@ -19,6 +19,7 @@ mod node_answer;
 mod partial;
 mod reading;
 mod results;
+mod shortfall;
 mod telling;
 mod test;
 mod text_laws;
@@ -30,13 +31,15 @@ pub use answer_writing::node_answer_text;
 pub use fault::PartialFault;
 pub use group::Group;
 pub use laws::{
-    merge_is_the_result_of_both, merges_commute, merges_regroup, no_rows_change_nothing, one_result,
+    merge_is_the_result_of_both, merges_commute, merges_regroup, no_rows_change_nothing,
+    one_result, rows_are_told_once,
 };
 pub use merging::{MergeRefused, merge};
 pub use node_answer::NodeAnswer;
 pub use partial::Partial;
 pub use reading::read_partial;
 pub use results::result_text;
+pub use shortfall::shortfall_text;
 pub use telling::partial_of;
 pub use text_laws::{node_answers_are_read_back, one_reading, partials_are_read_back};
 pub use writing::partial_text;

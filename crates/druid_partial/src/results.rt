@@ -20,13 +20,13 @@ use std::collections::BTreeMap;
 
 // What stands at a name in each row of a result: the value or the number at that place of a group.
 #[derive(Drop)]
-enum Column {
+pub(crate) enum Column {
     Value(usize),
     Number(usize),
 }
 
 // What stands at each name, by name.
-type Columns = BTreeMap<String, Column>;
+pub(crate) type Columns = BTreeMap<String, Column>;
 
 // Sets what stands at a name.
 fn set_column(
@@ -76,7 +76,7 @@ fn set_numbers(
 }
 
 // What stands at each name in a row of a result of the query.
-fn columns_of(alloc: Global, query: &Query) -> Result<Columns, AllocError>
+pub(crate) fn columns_of(alloc: Global, query: &Query) -> Result<Columns, AllocError>
     ensures { IfOk result (λ columns. TellsBy query.now columns.entries) }
 {
     let mut columns = BTreeMap::new(alloc);
@@ -182,7 +182,7 @@ fn push_row(
 
 // Writes the rows of a result.
 #[tactic(auto, using(crate::proofs::ResultLemmas::row_next, crate::proofs::ResultLemmas::rows_first, crate::proofs::ResultLemmas::rows_last))]
-fn push_rows(
+pub(crate) fn push_rows(
     out: &mut Writer,
     kind: QueryType,
     columns: &Columns,

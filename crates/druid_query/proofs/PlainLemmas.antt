@@ -7,6 +7,7 @@ use Rattle.druid_rows.specs.Filters.{Condition, has, has_among, all_of, any_of, 
 use Rattle.druid_query.specs.Query.{Query, Dimension, Aggregator}
 use Rattle.druid_query.specs.Written.{value_data, selector_data, among_data, fields_data, not_data, filter_data, filters_data, wanted_data, interval_data, dimension_data, counting_data, of_field_data, fielded_data, aggregator_data, aggregator_text, timeseries_data, group_by_data, intervals_data, kinded_data, query_data}
 use Rattle.druid_query.specs.Asked.{Asked, asked_data}
+use Rattle.druid_query.specs.Refused.{field_data}
 use Rattle.druid_query.specs.SubQuery.{SubQuery, segments_data, sub_timeseries_data, sub_group_by_data, kinded_sub_data, subquery_data}
 use Rattle.druid_query.specs.declared.query_type.QueryType.{QueryType}
 use Rattle.druid_query.specs.declared.query_type.QueryType.TheVariants.{Timeseries, GroupBy}
@@ -104,3 +105,7 @@ kinded_sub_plain GroupBy q segments plain =
 
 pub subquery_plain : (sub : SubQuery) → has_float (subquery_data sub) ≡ false
 subquery_plain sub = kinded_sub_plain sub.query.kind sub.query (segments_data sub.asked) (segments_plain sub.asked)
+
+pub field_plain : (key : List ℕ) → has_float (field_data key) ≡ false
+unfolding field_data
+field_plain key = refl

@@ -9,3 +9,4 @@ pub mod Lent
 pub mod Written
 pub mod AskedOrder
 pub mod SubQuery
+pub mod Refused

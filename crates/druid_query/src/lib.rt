@@ -16,6 +16,7 @@ mod names;
 mod query;
 mod query_type;
 mod reading;
+mod refusal;
 mod sub_checks;
 mod sub_reading;
 mod sub_writing;
@@ -37,6 +38,7 @@ pub use limits::{
 pub use query::Query;
 pub use query_type::QueryType;
 pub use reading::{query_of, read_query};
+pub use refusal::refusal_text;
 pub use sub_reading::{read_subquery, subquery_of};
 pub use sub_writing::{subquery_text, subquery_value};
 pub use subquery::SubQuery;

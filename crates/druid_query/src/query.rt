@@ -1,4 +1,4 @@
-ghost use Rattle.std.specs.Prelude.{◌≡◌, option_map};
+ghost use Rattle.std.specs.Prelude.{◌≡◌, IfOk, option_map};
 ghost use Rattle.druid_rows.specs.Filters.{says};
 ghost use Rattle.druid_query.specs.Query.{query_of};
 ghost use Rattle.druid_query.specs.Read.{IsQuery};
@@ -7,11 +7,13 @@ use crate::{Aggregator, Dimension, QueryType};
 use druid_rows::Filter;
 use druid_segid::Name;
 use druid_time::{Granularity, Interval};
+use std::alloc::{AllocError, Global};
 use std::marker::Model;
+use std::sync::Arc;
 
-/// A query, as it was read.
+// The parts of a query.
 #[derive(Debug, Drop)]
-pub struct Query {
+struct Parts {
     kind: QueryType,
     source: Name,
     granularity: Granularity,
@@ -21,7 +23,7 @@ pub struct Query {
     aggregations: Vec<Aggregator>,
 }
 
-impl Model for Query {
+impl Model for Parts {
     ghost use Rattle.std.specs.Prelude.{option_map};
     ghost use Rattle.std.specs.Coded.{codes};
     ghost use Rattle.druid_rows.specs.FilterCode.{coded_condition};
@@ -38,9 +40,29 @@ impl Model for Query {
     ghost invariant = { λ a. IsQuery (query_of a.kind a.source a.granularity a.intervals.items (option_map says a.filter) a.dimensions.items a.aggregations.items) };
 }
 
+/// A query, as it was read. Copies share its parts.
+#[derive(Debug, Drop)]
+pub struct Query {
+    parts: Arc<Parts, Global>,
+}
+
+impl Model for Query {
+    ghost use Rattle.std.specs.Arc.{arc_value};
+    ghost use Rattle.std.specs.Coded.{codes};
+    ghost use Rattle.druid_rows.specs.FilterCode.{coded_condition};
+    ghost use Rattle.druid_query.specs.Query.{Query};
+
+    ghost Value = { Query };
+
+    ghost coded = { Prim.hlevel (codes, coded_condition) };
+
+    ghost view = { λ a. arc_value a.parts };
+}
+
 impl Query {
     // The query of these parts, which some JSON reads as.
     pub(crate) fn new(
+        alloc: Global,
         kind: QueryType,
         source: Name,
         granularity: Granularity,
@@ -48,11 +70,12 @@ impl Query {
         filter: Option<Filter>,
         dimensions: Vec<Dimension>,
         aggregations: Vec<Aggregator>,
-    ) -> Query
+    ) -> Result<Query, AllocError>
         requires { IsQuery (query_of kind source granularity intervals.items (option_map says filter) dimensions.items aggregations.items) }
-        ensures { result ≡ query_of kind source granularity intervals.items (option_map says filter) dimensions.items aggregations.items }
+        ensures { IfOk result (λ query. query
+            ≡ query_of kind source granularity intervals.items (option_map says filter) dimensions.items aggregations.items) }
     {
-        Query {
+        let parts = Parts {
             kind,
             source,
             granularity,
@@ -60,7 +83,10 @@ impl Query {
             filter,
             dimensions,
             aggregations,
-        }
+        };
+        Ok(Query {
+            parts: Arc::new(alloc, parts)?,
+        })
     }
 
     /// How it groups rows.
@@ -68,48 +94,58 @@ impl Query {
         ensures value { result ≡ self.now.kind }
         ensures read { IsQuery self.now }
     {
-        self.kind
+        self.parts.kind
     }
 
     /// The data source.
     pub fn source(&self) -> &Name
         ensures { result.now ≡ self.now.source }
     {
-        &self.source
+        &self.parts.source
     }
 
     /// How long its buckets are.
     pub fn granularity(&self) -> Granularity
         ensures { result ≡ self.now.granularity }
     {
-        self.granularity
+        self.parts.granularity
     }
 
     /// The intervals, as they stand in the query. They may overlap, and mean their union.
     pub fn intervals(&self) -> &[Interval]
         ensures { result.now ≡ self.now.intervals }
     {
-        &self.intervals
+        &self.parts.intervals
     }
 
     /// Which rows it asks for; all where there is none.
     pub fn filter(&self) -> Option<&Filter>
         ensures { option_map (λ filter. says filter.now) result ≡ self.now.filter }
     {
-        self.filter.as_ref()
+        self.parts.filter.as_ref()
     }
 
     /// The dimensions that rows are grouped by. None in a `timeseries`.
     pub fn dimensions(&self) -> &[Dimension]
         ensures { result.now ≡ self.now.dimensions }
     {
-        &self.dimensions
+        &self.parts.dimensions
     }
 
     /// What is told of each group.
     pub fn aggregations(&self) -> &[Aggregator]
         ensures { result.now ≡ self.now.aggregations }
     {
-        &self.aggregations
+        &self.parts.aggregations
+    }
+}
+
+impl Clone for Query {
+    ghost is_clone = { λ query copy. copy ≡ query };
+
+    fn clone(&self) -> Result<Query, AllocError> {
+        Ok(Query {
+            parts: Arc::try_clone(&self.parts)?,
+        })
     }
 }

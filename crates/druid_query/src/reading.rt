@@ -28,7 +28,8 @@ fn built(alloc: Global, value: &Value) -> Result<Query, AllocError>
     let filter = filter_field_of(alloc, value)?;
     let dimensions = dimensions_of(alloc, kind, value)?;
     let aggregations = aggregations_of(alloc, value)?;
-    Ok(Query::new(
+    let query = Query::new(
+        alloc,
         kind,
         source,
         granularity,
@@ -36,7 +37,8 @@ fn built(alloc: Global, value: &Value) -> Result<Query, AllocError>
         filter,
         dimensions,
         aggregations,
-    ))
+    )?;
+    Ok(query)
 }
 
 /// Reads a query. Q2 where the value is no object or no query of a known type; then field by field, in the order

@@ -54,6 +54,7 @@ fn built(alloc: Global, value: &Value) -> Result<SubQuery, AllocError>
     let dimensions = dimensions_of(alloc, kind, value)?;
     let aggregations = aggregations_of(alloc, value)?;
     let query = Query::new(
+        alloc,
         kind,
         source,
         granularity,
@@ -61,7 +62,7 @@ fn built(alloc: Global, value: &Value) -> Result<SubQuery, AllocError>
         filter,
         dimensions,
         aggregations,
-    );
+    )?;
     Ok(SubQuery::new(query, asked))
 }
 

@@ -56,14 +56,14 @@ line_more old mid room a b c h w fits text = record {
     all = append_assoc (text_of h.blank) (text_of h.lines) (w.front ++ 10 ∷ []) ∙ ap (λ l. text_of h.blank ++ l) (sym (text_of-push h.lines w.front))
 
 -- no bytes are no lines
-none_of : (lines : List (List ℕ)) → length (text_of lines) ≡ 0 → text_of lines ≡ []
+pub none_of : (lines : List (List ℕ)) → length (text_of lines) ≡ 0 → text_of lines ≡ []
 none_of lines e = nil (text_of lines) e
   where
     nil : (l : List ℕ) → length l ≡ 0 → l ≡ []
     nil [] h = refl
     nil (x ∷ l) h = absurd (omega (arith, h))
 
-some_of : (lines : List (List ℕ)) → 0 < length (text_of lines) → 0 < length lines
+pub some_of : (lines : List (List ℕ)) → 0 < length (text_of lines) → 0 < length lines
 some_of [] h = absurd (omega (arith, h))
 some_of (l ∷ ls) h = omega arith
 

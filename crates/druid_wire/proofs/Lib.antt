@@ -1,13 +1,16 @@
 pub mod LineLemmas
 pub mod FrameLemmas
+pub mod SplitLemmas
 pub mod BodyLemmas
 pub mod LengthLemmas
 pub mod HeadLemmas
 pub mod MessageLemmas
 pub mod WriteLemmas
+pub mod ServeLemmas
 pub mod FramedLemmas
 pub mod GrammarLines
 pub mod GrammarMessages
 pub mod OnceLemmas
+pub mod ResponseLemmas
 pub mod DecimalLemmas
 pub mod BackLemmas

@@ -6,3 +6,6 @@ pub mod Messages
 pub mod Grammar
 pub mod Told
 pub mod Written
+pub mod Links
+pub mod MemoryLinks
+pub mod Served

@@ -97,3 +97,15 @@ pub record IsResponse (input : List ℕ) (status : ℕ) (body rest : List ℕ) :
   pub reads : IsResponseHead bytes head
   pub code : status ≡ status_code head
   pub whole : response_length head ≡ Ok (length body)
+
+-- a fault of the bytes alone: no device failed, and no memory was refused
+abbrev pub IsOfBytes : WireFault → Type 0
+IsOfBytes Cut = Unit {0}
+IsOfBytes Read = ⊥
+IsOfBytes Write = ⊥
+IsOfBytes BadHead = Unit {0}
+IsOfBytes HeadTooLong = Unit {0}
+IsOfBytes NoLength = Unit {0}
+IsOfBytes BodyTooLong = Unit {0}
+IsOfBytes Connect = ⊥
+IsOfBytes Memory = ⊥

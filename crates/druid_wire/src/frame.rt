@@ -22,7 +22,7 @@ pub(crate) enum Found {
 }
 
 // Whether what stands behind a place is a blank line.
-fn is_blank(head: &[u8], start: usize) -> bool
+pub(crate) fn is_blank(head: &[u8], start: usize) -> bool
     requires { start ≤ length head.now }
     ensures { IsTrue result ↔ IsBlank (drop start head.now) }
 {

@@ -4,13 +4,18 @@
 mod body;
 mod fault;
 mod frame;
+mod framed;
 mod head;
 mod interrupted;
 mod laws;
 mod length;
 mod lines;
+mod link;
+mod memory_link;
 mod reading;
 mod request;
+mod response;
+mod serving;
 mod writing;
 
 pub use fault::WireFault;
@@ -22,6 +27,10 @@ pub use laws::{
     responses_have_no_fault,
 };
 pub use length::MAX_BODY;
+pub use link::{Link, MAX_EXCHANGE};
+pub use memory_link::MemoryLink;
 pub use reading::{read_request, read_response};
 pub use request::Request;
-pub use writing::{write_request, write_response};
+pub use response::response_of;
+pub use serving::{refuse_request, send_response};
+pub use writing::{request_bytes, write_request, write_response};

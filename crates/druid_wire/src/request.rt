@@ -1,5 +1,6 @@
 //! Requests.
-ghost use Rattle.std.specs.Prelude.{◌≡◌, string_bytes};
+ghost use Rattle.std.specs.Prelude.{◌≡◌, bytes_eq, string_bytes};
+ghost use Rattle.druid_wire.specs.Served.{path_of, parameters_of};
 
 use http::Method;
 use std::marker::Model;
@@ -19,6 +20,17 @@ impl Model for Request {
     ghost Value = { RequestValue };
 
     ghost view = { λ a. record { method = a.method; target = string_bytes a.target; body = a.body.items } };
+}
+
+// The path of a target, and its parameters.
+fn parts_of(target: &str) -> (&str, &str)
+    ensures path { result.0.now ≡ path_of target.now }
+    ensures parameters { result.1.now ≡ parameters_of target.now }
+{
+    match target.split_once('?') {
+        Some(parts) => parts,
+        None => (target, ""),
+    }
 }
 
 impl Request {
@@ -47,6 +59,29 @@ impl Request {
         ensures { result.now ≡ self.now.target }
     {
         self.target.as_str()
+    }
+
+    /// What stands before the first `?` of its target.
+    pub fn path(&self) -> &str
+        ensures { result.now ≡ path_of self.now.target }
+    {
+        let (path, _) = parts_of(self.target());
+        path
+    }
+
+    /// What stands behind the first `?` of its target; nothing where there is none.
+    pub fn parameters(&self) -> &str
+        ensures { result.now ≡ parameters_of self.now.target }
+    {
+        let (_, parameters) = parts_of(self.target());
+        parameters
+    }
+
+    /// Whether that is its method. Letters of another case are other letters.
+    pub fn has_method(&self, method: &str) -> bool
+        ensures { result ≡ bytes_eq self.now.method method.now }
+    {
+        self.method.as_str() == method
     }
 
     /// Its body.

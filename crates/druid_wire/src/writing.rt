@@ -1,5 +1,5 @@
-//! Messages, written. It takes no memory.
-ghost use Rattle.std.specs.Prelude.{◌≡◌, ◌≤◌, ◌⊎◌, length, take, IfOk, IfErr, OnOk, OnErr};
+//! Messages, written to a writer, which takes no memory, and the bytes of requests.
+ghost use Rattle.std.specs.Prelude.{◌≡◌, ◌≤◌, ◌⊎◌, length, take, decimal, IfOk, IfErr, OnOk, OnErr};
 ghost use Rattle.std.specs.Io.KnownBytes.{Appends, Keeps};
 ghost use Rattle.druid_wire.specs.Written.{AppendsFront, joined, phrase_of, request_text, response_text, answer_text, LacksRequest};
 
@@ -9,6 +9,7 @@ use crate::length::MAX_BODY;
 use crate::request::Request;
 use http::StatusCode;
 use itoa::Buffer;
+use std::alloc::{AllocError, Global};
 use std::io;
 use std::io::{Error, ErrorKind, Write};
 
@@ -90,30 +91,32 @@ fn phrase_of(status: &StatusCode) -> &[u8]
     status.canonical_reason().unwrap_or("").as_bytes()
 }
 
+// The pieces of a request's text, with the length of its body in digits.
+fn request_pieces<'a>(request: &'a Request, digits: &'a str) -> [&'a [u8]; 8]
+    requires { digits.now ≡ decimal (length request.now.body) }
+    ensures { joined result ≡ request_text request.now }
+{
+    [
+        request.method().as_str().as_bytes(),
+        b" ",
+        request.target().as_bytes(),
+        b" HTTP/1.1\r\nHost: localhost\r\n",
+        BEFORE_LENGTH,
+        digits.as_bytes(),
+        BEHIND_LENGTH,
+        request.body(),
+    ]
+}
+
 // Writes the text of a request, whatever its length.
 fn write_request_text<W: Write>(request: &Request, writer: &mut W) -> io::Result<()>
     ensures ok { OnOk result (Appends (W.contents writer.old) (W.contents writer.new) (request_text request.now)) }
     ensures err { OnErr result
         (AppendsFront (W.contents writer.old) (W.contents writer.new) (request_text request.now)) }
 {
-    let method = request.method().as_str().as_bytes();
-    let target = request.target().as_bytes();
-    let body = request.body();
-    let mut length_digits = Buffer::new();
-    let length = length_digits.format(body.len()).as_bytes();
-    write_pieces(
-        writer,
-        &[
-            method,
-            b" ",
-            target,
-            b" HTTP/1.1\r\nHost: localhost\r\n",
-            BEFORE_LENGTH,
-            length,
-            BEHIND_LENGTH,
-            body,
-        ],
-    )
+    let mut digits = Buffer::new();
+    let pieces = request_pieces(request, digits.format(request.body().len()));
+    write_pieces(writer, &pieces)
 }
 
 // Writes the text of a response, whatever its length.
@@ -140,6 +143,30 @@ fn write_response_text<W: Write>(status: StatusCode, body: &[u8], writer: &mut W
             body,
         ],
     )
+}
+
+// Pieces, one behind another, in room for all of them.
+fn join_pieces(alloc: Global, pieces: &[&[u8]]) -> Result<Vec<u8>, AllocError>
+    ensures { IfOk result (λ bytes. bytes.items ≡ joined pieces.now) }
+{
+    let mut room: usize = 0;
+    for piece in pieces {
+        room = room.saturating_add(piece.len());
+    }
+    let mut bytes = Vec::with_capacity(alloc, room)?;
+    for piece in pieces {
+        bytes.extend_from_slice(piece)?;
+    }
+    Ok(bytes)
+}
+
+/// The text of a request, whatever the length of its body.
+pub fn request_bytes(alloc: Global, request: &Request) -> Result<Vec<u8>, AllocError>
+    ensures { IfOk result (λ bytes. bytes.items ≡ request_text request.now) }
+{
+    let mut digits = Buffer::new();
+    let pieces = request_pieces(request, digits.format(request.body().len()));
+    join_pieces(alloc, &pieces)
 }
 
 /// Writes a request, and takes no memory. `BodyTooLong`, and nothing is written, where its body passes the limit. `Write`

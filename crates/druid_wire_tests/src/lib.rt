@@ -5,6 +5,10 @@
 #[cfg(test)]
 mod devices;
 #[cfg(test)]
+mod links;
+#[cfg(test)]
 mod printing;
+#[cfg(test)]
+mod serving;
 #[cfg(test)]
 mod wire;

@@ -1,6 +1,9 @@
 //! Messages, read and written.
 use crate::printing::printed;
-use druid_wire::{Request, read_request, read_response, write_request, write_response};
+use druid_wire::{
+    Request, read_request, read_response, request_bytes, response_of, send_response, write_request,
+    write_response,
+};
 use http::{Method, StatusCode};
 use std::alloc::Global;
 use std::test::Fail;
@@ -175,6 +178,18 @@ fn response_in(alloc: Global, text: &[u8]) -> Result<String, Fail> {
     }
 }
 
+// What the response is that stands in these bytes.
+fn found_in(alloc: Global, text: &[u8]) -> Result<String, Fail> {
+    match response_of(text) {
+        Ok((status, body)) => {
+            let code = status.as_u16();
+            let body = shown(alloc, body)?;
+            Ok(format!(in alloc; "{code} [{body}]")?)
+        }
+        Err(fault) => printed(alloc, &fault),
+    }
+}
+
 fn is_request(alloc: Global, row: &str) -> Result<bool, Fail> {
     let (text, wanted) = row.split_once(" = ").ok_or("no row")?;
     Ok(request_in(alloc, &spelled(alloc, text)?)?.as_str() == wanted)
@@ -185,6 +200,12 @@ fn is_response(alloc: Global, row: &str) -> Result<bool, Fail> {
     Ok(response_in(alloc, &spelled(alloc, text)?)?.as_str() == wanted)
 }
 
+// Whether the same response is found where its bytes are at hand. What follows it is not told.
+fn is_found(alloc: Global, row: &str) -> Result<bool, Fail> {
+    let (text, wanted) = row.split_once(" = ").ok_or("no row")?;
+    Ok(wanted.starts_with(found_in(alloc, &spelled(alloc, text)?)?.as_str()))
+}
+
 #[test]
 fn ample_memory(rt: HostRuntime) -> Result<(), Fail> {
     for row in REQUESTS.lines() {
@@ -192,9 +213,12 @@ fn ample_memory(rt: HostRuntime) -> Result<(), Fail> {
     }
     for row in RESPONSES.lines() {
         assert!(rt; is_response(rt.alloc(), row)?, "{row}");
+        assert!(rt; is_found(rt.alloc(), row)?, "{row}");
     }
     Ok(())
 }
+
+const CUT: &str = "X1: the message is cut off";
 
 // Whether each front of a message that is not the whole is cut, read as a request or as a response.
 fn is_cut_everywhere(alloc: Global, text: &str, is_response: bool) -> Result<bool, Fail> {
@@ -205,7 +229,10 @@ fn is_cut_everywhere(alloc: Global, text: &str, is_response: bool) -> Result<boo
         } else {
             request_in(alloc, &whole[..i])?
         };
-        if told.as_str() != "X1: the message is cut off" {
+        if told.as_str() != CUT {
+            return Ok(false);
+        }
+        if is_response && found_in(alloc, &whole[..i])?.as_str() != CUT {
             return Ok(false);
         }
     }
@@ -221,9 +248,15 @@ fn cut_messages(rt: HostRuntime) -> Result<(), Fail> {
     Ok(())
 }
 
+// How the head of a request begins, and how that of a response does.
+const REQUEST_LINE: &str = "GET / HTTP/1.1|";
+
+const RESPONSE_LINES: &str = "HTTP/1.1 200 OK|Content-Length: 0|";
+
 // A head of so many bytes, with one long field.
-fn long_head(alloc: Global, length: usize) -> Result<Vec<u8>, Fail> {
-    let mut head = spelled(alloc, "GET / HTTP/1.1|A: ")?;
+fn long_head(alloc: Global, lines: &str, length: usize) -> Result<Vec<u8>, Fail> {
+    let mut head = spelled(alloc, lines)?;
+    head.extend_from_slice(b"A: ")?;
     for _ in 0..length.saturating_sub(head.len().saturating_add(4)) {
         head.push(b'x')?;
     }
@@ -231,9 +264,9 @@ fn long_head(alloc: Global, length: usize) -> Result<Vec<u8>, Fail> {
     Ok(head)
 }
 
-// A head of so many fields.
-fn wide_head(alloc: Global, count: usize) -> Result<Vec<u8>, Fail> {
-    let mut head = spelled(alloc, "GET / HTTP/1.1|")?;
+// A head of so many fields more.
+fn wide_head(alloc: Global, lines: &str, count: usize) -> Result<Vec<u8>, Fail> {
+    let mut head = spelled(alloc, lines)?;
     for _ in 0..count {
         head.extend_from_slice(b"A: b\r\n")?;
     }
@@ -241,29 +274,42 @@ fn wide_head(alloc: Global, count: usize) -> Result<Vec<u8>, Fail> {
     Ok(head)
 }
 
-// Whether a row holds: what is large and how large, how many blank lines stand before it, and what it is read as.
-fn is_within(alloc: Global, row: &str) -> Result<bool, Fail> {
-    let (what, wanted) = row.split_once(" = ").ok_or("no row")?;
+// What is large in a row and how large, behind these lines, and how many blank lines stand before it.
+fn large_head(alloc: Global, lines: &str, what: &str) -> Result<Vec<u8>, Fail> {
     let mut columns = what.split(' ');
     let kind = columns.next().ok_or("no kind")?;
     let size: usize = columns.next().ok_or("no size")?.parse()?;
     let blank: usize = columns.next().ok_or("no blank lines")?.parse()?;
     let head = if kind == "bytes" {
-        long_head(alloc, size)?
+        long_head(alloc, lines, size)?
     } else {
-        wide_head(alloc, size)?
+        wide_head(alloc, lines, size)?
     };
     let mut text = Vec::new(alloc);
     for _ in 0..blank {
         text.extend_from_slice(b"\r\n")?;
     }
     text.extend_from_slice(&head)?;
+    Ok(text)
+}
+
+// Whether a large head is read as a request so.
+fn is_within(alloc: Global, row: &str) -> Result<bool, Fail> {
+    let (what, wanted) = row.split_once(" = ").ok_or("no row")?;
+    let text = large_head(alloc, REQUEST_LINE, what)?;
     Ok(request_in(alloc, &text)?.as_str() == wanted)
+}
+
+// Whether a response with a large head is found so.
+fn is_found_within(alloc: Global, row: &str) -> Result<bool, Fail> {
+    let (what, wanted) = row.split_once(" = ").ok_or("no row")?;
+    let text = large_head(alloc, RESPONSE_LINES, what)?;
+    Ok(found_in(alloc, &text)?.as_str() == wanted)
 }
 
 #[test]
 fn limits(rt: HostRuntime) -> Result<(), Fail> {
-    let rows = "bytes 16383 0 = GET / [] []
+    let requests = "bytes 16383 0 = GET / [] []
 bytes 16384 0 = GET / [] []
 bytes 16384 9000 = GET / [] []
 bytes 16385 0 = X5: the head is too long
@@ -272,8 +318,18 @@ bytes 50000 1 = X5: the head is too long
 fields 64 0 = GET / [] []
 fields 65 0 = X5: the head is too long
 fields 200 0 = X5: the head is too long";
-    for row in rows.lines() {
+    for row in requests.lines() {
         assert!(rt; is_within(rt.alloc(), row)?, "{row}");
+    }
+    let responses = "bytes 16384 0 = 200 []
+bytes 16384 9000 = 200 []
+bytes 16385 0 = X5: the head is too long
+bytes 16386 0 = X5: the head is too long
+bytes 50000 1 = X5: the head is too long
+fields 63 0 = 200 []
+fields 64 0 = X5: the head is too long";
+    for row in responses.lines() {
+        assert!(rt; is_found_within(rt.alloc(), row)?, "{row}");
     }
     Ok(())
 }
@@ -309,7 +365,9 @@ fn is_request_text(alloc: Global, row: &str) -> Result<bool, Fail> {
     if write_request(&request, &mut written).is_err() {
         return Ok(false);
     }
-    Ok(written.as_slice() == spelled(alloc, wanted)?.as_slice())
+    let wanted = spelled(alloc, wanted)?;
+    let bytes = request_bytes(alloc, &request)?;
+    Ok(written.as_slice() == wanted.as_slice() && bytes.as_slice() == wanted.as_slice())
 }
 
 #[test]
@@ -335,7 +393,7 @@ POST /q abcdefghijkl = POST /q HTTP/1.1|Host: localhost|Content-Type: applicatio
 }
 
 // A body of so many bytes.
-fn large(alloc: Global, length: usize) -> Result<Vec<u8>, Fail> {
+pub(crate) fn large(alloc: Global, length: usize) -> Result<Vec<u8>, Fail> {
     let mut body = Vec::new(alloc);
     body.resize(length, b'x')?;
     Ok(body)
@@ -352,7 +410,14 @@ fn is_large_response(alloc: Global, length: usize, head: &str, count: usize) -> 
     Ok(written.starts_with(&head) && written.len() == head.len().saturating_add(count))
 }
 
-// What writing a request with a body of so many bytes tells, and how many bytes are written.
+// The status that is written with a body of so many bytes; 0 where none is.
+fn large_status(alloc: Global, length: usize) -> Result<u16, Fail> {
+    let body = large(alloc, length)?;
+    let mut written = Vec::new(alloc);
+    Ok(send_response(StatusCode::OK, &body, &mut written).unwrap_or(0))
+}
+
+// What writing a request with a body of so many bytes tells, how many bytes are written, and how many its text has.
 fn large_request(alloc: Global, length: usize) -> Result<String, Fail> {
     let body = large(alloc, length)?;
     let Ok(method) = Method::from_bytes(alloc, b"POST") else {
@@ -365,7 +430,8 @@ fn large_request(alloc: Global, length: usize) -> Result<String, Fail> {
         Err(fault) => printed(alloc, &fault)?,
     };
     let count = written.len();
-    Ok(format!(in alloc; "{told} {count}")?)
+    let text = request_bytes(alloc, &request)?.len();
+    Ok(format!(in alloc; "{told} {count} {text}")?)
 }
 
 #[test]
@@ -376,7 +442,11 @@ fn large_bodies(rt: HostRuntime) -> Result<(), Fail> {
     let other =
         "HTTP/1.1 500 Internal Server Error|Content-Type: application/json|Content-Length: 20|Connection: close||{\"error\":\"TooLarge\"}";
     assert!(rt; is_large_response(rt.alloc(), 16_777_217, other, 0)?);
-    assert!(rt; large_request(rt.alloc(), 16_777_216)?.as_str() == "ok 16777329");
-    assert!(rt; large_request(rt.alloc(), 16_777_217)?.as_str() == "X7: the body is too long 0");
+    assert!(rt; large_status(rt.alloc(), 16_777_216)? == 200);
+    assert!(rt; large_status(rt.alloc(), 16_777_217)? == 500);
+    let request = large_request(rt.alloc(), 16_777_216)?;
+    assert!(rt; request.as_str() == "ok 16777329 16777329");
+    let request = large_request(rt.alloc(), 16_777_217)?;
+    assert!(rt; request.as_str() == "X7: the body is too long 0 16777330");
     Ok(())
 }

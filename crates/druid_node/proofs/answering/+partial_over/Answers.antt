@@ -1,4 +1,4 @@
-use Rattle.druid_node.specs.Answers.{told}
+use Rattle.druid_partial.specs.Once.{told}
 use Rattle.druid_node.proofs.AnswerLemmas.{IsPartialOf, both_told}
 use Rattle.druid_node.proofs.answering.+partial_over.Goals as goal
 

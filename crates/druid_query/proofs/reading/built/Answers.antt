@@ -19,4 +19,4 @@ returns c =
     (option_map says c.in_ok-filter.filter) c.in_ok-dimensions.dimensions.items c.in_ok-aggregations.aggregations.items
     c.requires c.in-Some.ensures c.in_ok-source.ensures c.in-Some-granularity_field.ensures c.in_ok-intervals.ensures c.in_ok-filter.ensures
     c.in_ok-dimensions.ensures c.in_ok-aggregations.ensures
-    ∙ ap Ok (sym c.new.ensures)
+    ∙ ap Ok (sym c.in_ok-query.ensures)

@@ -6,8 +6,8 @@ use Rattle.druid_query.proofs.SubLemmas.{subquery_made, apart_made}
 use Rattle.druid_query.proofs.SubBackLemmas.{sub_query}
 use Rattle.druid_query.proofs.sub_reading.built.Goals as goal
 
-pub new-query-requires : goal.new-query-requires
-new-query-requires c =
+pub new-requires : goal.new-requires
+new-requires c =
     let d = view c.args.value.now in
     let s = c.in_ok-source.source in
     let apart = apart_made s d c.in_ok-asked.asked.items (sub_apart_ok d s c.requires c.in_ok-source.ensures) c.in_ok-asked.ensures in
@@ -26,5 +26,5 @@ returns c =
     (option_map says c.in_ok-filter.filter) c.in_ok-dimensions.dimensions.items c.in_ok-aggregations.aggregations.items
     c.requires c.in-Some.ensures c.in_ok-source.ensures c.in-Some-granularity_field.ensures apart c.in_ok-intervals.ensures c.in_ok-filter.ensures
     c.in_ok-dimensions.ensures c.in_ok-aggregations.ensures
-    ∙ ap (λ q. Ok (record { query = q; asked = c.in_ok-asked.asked.items })) (sym c.new-query.ensures)
-    ∙ ap Ok (sym c.new.ensures)
+    ∙ ap (λ q. Ok (record { query = q; asked = c.in_ok-asked.asked.items })) (sym c.in_ok-query.ensures)
+    ∙ ap Ok (sym c.new-2.ensures)

@@ -5,14 +5,15 @@ use Rattle.druid_shard.specs.Described.{Described}
 use Rattle.druid_shard.specs.Mark.{Point}
 use Rattle.druid_shard.specs.declared.change.Change.TheVariants.{Drop}
 use Rattle.druid_changes.specs.Kept.{refusal, last_count}
-use Rattle.druid_node.specs.State.{State, held_at}
+use Rattle.druid_node.specs.State.{State}
+use Rattle.druid_partial.specs.Once.{segment_named}
 use Rattle.druid_node.proofs.StateLemmas.{IsReady, dropped_as, drop_none, drop_at_end, drop_taken, drop_wants, drop_recorded, dropped-state, dropped-leaves}
 use Rattle.druid_node.proofs.state.NodeState.drop_segment.Goals as goal
 
 pub returns-in_default-clause-err : goal.returns-in_default-clause-err
 returns-in_default-clause-err c =
-    let none = sym (ap option_copied c.in_default.is) ∙ c.find.ensures ∙ ap (λ (t : State). held_at c.args.id.now t.held) c.self.view_is in
-    drop_none c.args.self.now.history (held_at c.args.id.now c.args.self.now.held) none
+    let none = sym (ap option_copied c.in_default.is) ∙ c.find.ensures ∙ ap (λ (t : State). segment_named c.args.id.now t.held) c.self.view_is in
+    drop_none c.args.self.now.history (segment_named c.args.id.now c.args.self.now.held) none
 
 pub returns-then-count-clause-err : goal.returns-then-count-clause-err
 returns-then-count-clause-err c =

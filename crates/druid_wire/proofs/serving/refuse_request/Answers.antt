@@ -2,17 +2,17 @@ use Rattle.std.proofs.Common.{ap, sym, ◌∙◌, inl, inr, refl}
 use Rattle.std.specs.Option.{option_map}
 use Rattle.std.proofs.lemmas.Result.{IfOk-weaker, IfErr-weaker}
 use Rattle.std.proofs.KnownBytes.{Keeps-refl}
-use Rattle.druid_node.proofs.serving.refuse.Goals as goal
+use Rattle.druid_wire.proofs.serving.refuse_request.Goals as goal
 
 pub returns-in-Some-clause-ok : goal.returns-in-Some-clause-ok
 returns-in-Some-clause-ok g c =
     let text = sym c.refusal_text.ensures ∙ ap (option_map (λ t. t.now)) c.in-Some.is in
-    IfOk-weaker c.send.result _ _ (λ sent is. (c.in-Some.text.now, text, is)) c.send.ensures.ok
+    IfOk-weaker c.send_response.result _ _ (λ sent is. (c.in-Some.text.now, text, is)) c.send_response.ensures.ok
 
 pub returns-in-Some-clause-err : goal.returns-in-Some-clause-err
 returns-in-Some-clause-err g c =
     let text = sym c.refusal_text.ensures ∙ ap (option_map (λ t. t.now)) c.in-Some.is in
-    IfErr-weaker c.send.result _ _ (λ told is. inr (c.in-Some.text.now, text, is)) c.send.ensures.err
+    IfErr-weaker c.send_response.result _ _ (λ told is. inr (c.in-Some.text.now, text, is)) c.send_response.ensures.err
 
 pub returns-in-None-clause-err : goal.returns-in-None-clause-err
 returns-in-None-clause-err g c =

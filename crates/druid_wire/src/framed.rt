@@ -1,0 +1,56 @@
+//! The head of a message, in bytes that are at hand.
+ghost use Rattle.std.specs.Prelude.{◌≡◌, ◌∷◌, ◌++◌, IfSome, IfNone, IfOk, IfErr};
+ghost use Rattle.druid_wire.specs.Frame.{IsPlain, IsFramed};
+ghost use Rattle.druid_wire.specs.Messages.{IsOfBytes};
+ghost use Rattle.druid_wire.specs.Told.{LacksHead};
+
+use crate::fault::WireFault;
+use crate::frame::{MAX_HEAD, is_blank};
+
+// The first line, without its line feed, and what stands behind it; or none where no line ends.
+#[tactic(auto, using(crate::proofs::SplitLemmas::parted))]
+fn split_line(bytes: &[u8]) -> Option<(&[u8], &[u8])>
+    ensures some { IfSome result (λ parts. IsPlain parts.0.now × (bytes.now ≡ parts.0.now ++ 10 ∷ parts.1.now)) }
+    ensures none { IfNone result (IsPlain bytes.now) }
+{
+    for i in 0..bytes.len() {
+        if bytes[i] == b'\n' {
+            let (line, _) = bytes.split_at(i);
+            let (_, behind) = bytes.split_at(i + 1);
+            return Some((line, behind));
+        }
+    }
+    None
+}
+
+// The head, behind blank lines, and what stands behind it.
+pub(crate) fn split_head(bytes: &[u8]) -> Result<(&[u8], &[u8]), WireFault>
+    ensures ok { IfOk result (λ parts. IsFramed bytes.now parts.0.now parts.1.now) }
+    ensures err { IfErr result (LacksHead bytes.now) }
+    ensures never { IfErr result IsOfBytes }
+{
+    // The bytes from the head on, and those behind the lines of it that were passed.
+    let mut text = bytes;
+    let mut rest = bytes;
+    while let Some((line, behind)) = split_line(rest) {
+        let taken = text.len() - rest.len();
+        let end = text.len() - behind.len();
+        if MAX_HEAD < end {
+            return Err(WireFault::HeadTooLong);
+        }
+        if !is_blank(line, 0) {
+            rest = behind;
+            continue;
+        }
+        if taken > 0 {
+            let (head, _) = text.split_at(end);
+            return Ok((head, behind));
+        }
+        text = behind;
+        rest = behind;
+    }
+    if text.len() < MAX_HEAD {
+        return Err(WireFault::Cut);
+    }
+    Err(WireFault::HeadTooLong)
+}

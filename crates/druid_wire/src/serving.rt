@@ -1,0 +1,69 @@
+//! What all servers write.
+ghost use Rattle.std.specs.Prelude.{◌≡◌, ◌⊎◌, ℕ, List, Some, None, IfOk, IfErr, nat_le, if◌then◌else◌, option_map};
+ghost use Rattle.std.specs.Io.KnownBytes.{Keeps};
+ghost use Rattle.druid_wire.specs.Served.{refusal_text, IsSent, IsCutShort};
+
+use crate::fault::WireFault;
+use crate::length::MAX_BODY;
+use crate::writing::write_response;
+use http::StatusCode;
+use std::io::Write;
+
+// The status that is written with a body of so many bytes.
+fn status_sent(status: StatusCode, count: usize) -> u16
+    ensures { result ≡ (if nat_le count MAX_BODY then status else 500) }
+{
+    if count <= MAX_BODY {
+        status.as_u16()
+    } else {
+        500
+    }
+}
+
+/// Writes a response as `write_response` does, and gives the status that was written.
+pub fn send_response<W: Write>(
+    status: StatusCode,
+    body: &[u8],
+    writer: &mut W,
+) -> Result<u16, WireFault>
+    ensures ok { IfOk result (IsSent (W.contents writer.old) (W.contents writer.new) status body.now) }
+    ensures err { IfErr result (IsCutShort (W.contents writer.old) (W.contents writer.new) status body.now) }
+{
+    match write_response(status, body, writer) {
+        Ok(()) => Ok(status_sent(status, body.len())),
+        Err(fault) => Err(fault),
+    }
+}
+
+// The text that is answered where no request was read.
+fn refusal_text(fault: WireFault) -> Option<&'static [u8]>
+    ensures { option_map (λ text. text.now) result ≡ refusal_text fault }
+{
+    match fault {
+        WireFault::BadHead => Some(b"{\"error\":\"X4\"}"),
+        WireFault::HeadTooLong => Some(b"{\"error\":\"X5\"}"),
+        WireFault::NoLength => Some(b"{\"error\":\"X6\"}"),
+        WireFault::BodyTooLong => Some(b"{\"error\":\"X7\"}"),
+        WireFault::Cut => None,
+        WireFault::Read => None,
+        WireFault::Write => None,
+        WireFault::Connect => None,
+        WireFault::Memory => None,
+    }
+}
+
+/// Answers where no request was read, and gives the status that was written: X4 to X7 are answered 400 with their number. Of
+/// any other fault nothing is written, and it is given back. `Write` or `Memory` where the writer fails.
+pub fn refuse_request<W: Write>(fault: WireFault, writer: &mut W) -> Result<u16, WireFault>
+    ensures ok { IfOk result (λ sent. (text : List ℕ) × (refusal_text fault ≡ Some text)
+        × IsSent (W.contents writer.old) (W.contents writer.new) 400 text sent) }
+    ensures err { IfErr result (λ told.
+        ((told ≡ fault) × (refusal_text fault ≡ None) × Keeps (W.contents writer.old) (W.contents writer.new))
+        ⊎ ((text : List ℕ) × (refusal_text fault ≡ Some text)
+        × IsCutShort (W.contents writer.old) (W.contents writer.new) 400 text told)) }
+{
+    match refusal_text(fault) {
+        Some(text) => send_response(StatusCode::BAD_REQUEST, text, writer),
+        None => Err(fault),
+    }
+}

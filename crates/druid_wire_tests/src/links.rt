@@ -1,0 +1,73 @@
+//! Links in memory.
+use crate::printing::printed;
+use crate::wire::large;
+use druid_wire::{Link, MAX_EXCHANGE, MemoryLink};
+use std::alloc::Global;
+use std::test::Fail;
+
+// A link that gives two replies, and fails from that exchange on.
+fn two_replies(alloc: Global, fuse: u64) -> Result<MemoryLink, Fail> {
+    let mut replies = Vec::new(alloc);
+    replies.push(b"one".as_slice().to_vec(alloc)?)?;
+    replies.push(b"two".as_slice().to_vec(alloc)?)?;
+    Ok(MemoryLink::new(replies, fuse))
+}
+
+// What an exchange gives.
+fn exchanged<L: Link>(alloc: Global, link: &mut L) -> Result<String, Fail> {
+    match link.exchange(alloc, b"GET / HTTP/1.1\r\n\r\n") {
+        Ok(bytes) => Ok(String::from_utf8_lossy(alloc, &bytes)?),
+        Err(fault) => printed(alloc, &fault),
+    }
+}
+
+// What four exchanges give, and how often the device has failed then.
+fn four_exchanges<L: Link>(alloc: Global, link: &mut L) -> Result<String, Fail> {
+    let mut told = String::new(alloc);
+    for _ in 0..4 {
+        told.push_str(exchanged(alloc, link)?.as_str())?;
+        told.push_str(", ")?;
+    }
+    told.push_str(printed(alloc, &link.faults())?.as_str())?;
+    Ok(told)
+}
+
+fn is_exchanged(alloc: Global, row: &str) -> Result<bool, Fail> {
+    let (fuse, wanted) = row.split_once(" = ").ok_or("no row")?;
+    let mut link = two_replies(alloc, fuse.parse()?)?;
+    Ok(four_exchanges(alloc, &mut link)?.as_str() == wanted)
+}
+
+#[test]
+fn links_in_memory(rt: HostRuntime) -> Result<(), Fail> {
+    let rows = "9 = one, two, , , 0
+4 = one, two, , , 0
+3 = one, two, , X2: the message could not be read, 1
+1 = one, X2: the message could not be read, X2: the message could not be read, X2: the message could not be read, 3
+0 = X2: the message could not be read, X2: the message could not be read, X2: the message could not be read, X2: the message could not be read, 4";
+    for row in rows.lines() {
+        assert!(rt; is_exchanged(rt.alloc(), row)?, "{row}");
+    }
+    Ok(())
+}
+
+// How many bytes a reply gives that has so many more than an exchange may give, or its fault; and what comes behind it.
+fn large_reply(alloc: Global, more: usize) -> Result<String, Fail> {
+    let mut replies = Vec::new(alloc);
+    replies.push(large(alloc, MAX_EXCHANGE.saturating_add(more))?)?;
+    replies.push(b"two".as_slice().to_vec(alloc)?)?;
+    let mut link = MemoryLink::new(replies, 9);
+    let told = match link.exchange(alloc, b"") {
+        Ok(bytes) => printed(alloc, &bytes.len())?,
+        Err(fault) => printed(alloc, &fault)?,
+    };
+    let next = exchanged(alloc, &mut link)?;
+    Ok(format!(in alloc; "{told}, {next}")?)
+}
+
+#[test]
+fn large_replies(rt: HostRuntime) -> Result<(), Fail> {
+    assert!(rt; large_reply(rt.alloc(), 0)?.as_str() == "16793600, two");
+    assert!(rt; large_reply(rt.alloc(), 1)?.as_str() == "X7: the body is too long, two");
+    Ok(())
+}
