@@ -1,0 +1,41 @@
+-- Which requests use links.
+use Rattle.std.proofs.Common.{◌≡◌, ◌⊎◌, ℕ, Bool, true, false, List, codes, bytes_eq, Option, Some, None, IfSome, refl, inl, inr}
+use Rattle.druid_inventory.specs.Entry.{Entry}
+use Rattle.druid_wire.specs.Links.{Came}
+use Rattle.druid_wire.specs.Messages.{RequestValue, IsRequest}
+use Rattle.druid_wire.specs.Served.{path_of}
+use Rattle.druid_wire.proofs.ServeLemmas.{WasRead}
+use Rattle.druid_broker.specs.Routes.{Route, health, query, sources, load_status, entry, nowhere, route_of, AnswersPost, AnswersAt, Responds, KeepsLinks}
+
+module _ {L : Type 0} (step : L → List ℕ → Came → L → Type 0) (inventory : List Entry) (old new : List L) where
+  posted : (b : Bool) (bytes : List ℕ) (status : ℕ) (body : List ℕ) → AnswersPost step b inventory bytes old new status body → (new ≡ old) ⊎ (b ≡ true)
+  posted true bytes status body h = inr refl
+  posted false bytes status body h = inl h.1
+
+  abbrev IsPosted : Route → RequestValue → Type 0
+  IsPosted route request = (route ≡ query) × (bytes_eq request.method (codes "POST") ≡ true)
+
+  of_query : (request : RequestValue) → (new ≡ old) ⊎ (bytes_eq request.method (codes "POST") ≡ true) → (new ≡ old) ⊎ IsPosted query request
+  of_query request (inl same) = inl same
+  of_query request (inr is) = inr (refl, is)
+
+  at_route : (route : Route) (request : RequestValue) (status : ℕ) (body : List ℕ) → AnswersAt step route inventory old new request status body
+      → (new ≡ old) ⊎ IsPosted route request
+  at_route health request status body h = inl h.1
+  at_route query request status body h = of_query request (posted (bytes_eq request.method (codes "POST")) request.body status body h)
+  at_route sources request status body h = inl h.1
+  at_route load_status request status body h = inl h.1
+  at_route (entry node) request status body h = inl h.1
+  at_route nowhere request status body h = inl h.1
+
+  kept : (input : List ℕ) (request : RequestValue) (rest : List ℕ) → IsRequest input request rest
+      → (new ≡ old) ⊎ IsPosted (route_of (path_of request.target)) request → KeepsLinks old new input
+  kept input request rest is (inl same) = inl same
+  kept input request rest is (inr (route, method)) = inr (request, rest, is, route, method)
+
+  -- the links after an answer
+  pub keeps_links : (before after : Option (List ℕ)) (request : RequestValue) (status : ℕ) (body : List ℕ) → WasRead before after request
+      → Responds step inventory old new request status body → IfSome before (KeepsLinks old new)
+  keeps_links None after request status body read answer = tt
+  keeps_links (Some input) after request status body (rest, after_is, is) answer =
+      kept input request rest is (at_route (route_of (path_of request.target)) request status body answer)

@@ -1,0 +1,5 @@
+pub mod Queries
+pub mod Routes
+pub mod Turns
+pub mod Lent
+pub mod Rows

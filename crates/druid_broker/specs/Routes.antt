@@ -1,0 +1,131 @@
+-- What a broker answers to a request.
+use Rattle.std.specs.Prelude.{◌≡◌, ◌⊎◌, ◌&&◌, ◌==◌, ℕ, Bool, true, false, List, length, take, drop, map, codes, bytes_eq, nat_le, nat_lt, not, slice_get, Contains, ◌↔◌, Option, Some, None, if◌then◌else◌}
+use Rattle.std.specs.List.{list_all, list_any}
+use Rattle.std.specs.List.Sorted.{IsStrictlySortedBy}
+use Rattle.std.specs.Ordering.{nat_cmp}
+use Rattle.std.specs.Cmp.Lexicographic.{slice_cmp}
+use Rattle.serde_json.specs.Data.{Data, array, string}
+use Rattle.serde_json.specs.View.{items_of}
+use Rattle.serde_json.specs.Written.{compact_text}
+use Rattle.druid_segid.specs.Numbers.{number_at}
+use Rattle.druid_shard.specs.declared.reply.Body.{Body}
+use Rattle.druid_sync.specs.Written.{reply_text}
+use Rattle.druid_inventory.specs.Entry.{Entry, IsUnsynced, IsEntryOf}
+use Rattle.druid_inventory.specs.Sources.{HasSource}
+use Rattle.druid_wire.specs.Links.{Came}
+use Rattle.druid_wire.specs.Messages.{RequestValue, IsRequest}
+use Rattle.druid_wire.specs.Served.{path_of, Tells, Allows}
+use Rattle.druid_broker.specs.Queries.{AnswersQuery, WantsMemory}
+
+-- where requests go
+pub data Route : Type 0 where
+  health : Route
+  query : Route
+  sources : Route
+  load_status : Route
+  entry : (node : List ℕ) → Route
+  nowhere : Route
+
+-- the part behind `/druid-internal/v1/inventory/`, where it is one, and not empty
+abbrev pub entry_front : List ℕ
+entry_front = codes "/druid-internal/v1/inventory/"
+
+abbrev pub is_part : List ℕ → Bool
+is_part text = nat_lt 0 (length text) && not (list_any (λ b. b == 47) text)
+
+abbrev pub entry_route : List ℕ → Route
+entry_route path =
+    if bytes_eq (take (length entry_front) path) entry_front && is_part (drop (length entry_front) path)
+    then entry (drop (length entry_front) path) else nowhere
+
+abbrev pub route_of : List ℕ → Route
+route_of path =
+    if bytes_eq path (codes "/status/health") then health
+    else (if bytes_eq path (codes "/druid/v2") then query
+    else (if bytes_eq path (codes "/druid/v2/") then query
+    else (if bytes_eq path (codes "/druid/v2/datasources") then sources
+    else (if bytes_eq path (codes "/druid/broker/v1/loadstatus") then load_status
+    else entry_route path))))
+
+-- ---- want of memory
+
+-- memory was refused for the answer
+abbrev pub IsOutOfMemory : ℕ → List ℕ → Type 0
+IsOutOfMemory status body = Tells 500 (codes "{\"error\":\"Memory\"}") status body
+
+-- an answer that takes memory
+abbrev pub OrOutOfMemory : (ℕ → List ℕ → Type 0) → ℕ → List ℕ → Type 0
+OrOutOfMemory P status body = P status body ⊎ IsOutOfMemory status body
+
+-- ---- what the inventory tells
+
+-- the data sources that it has, in order
+abbrev pub names_data : List (List ℕ) → Data
+names_data names = array (items_of (map string names))
+
+pub record AnswersSources (inventory : List Entry) (status : ℕ) (body : List ℕ) : Type 0 where
+  pub names : List (List ℕ)
+  pub all : (source : List ℕ) → Contains names source ↔ HasSource inventory source
+  pub ordered : IsStrictlySortedBy (slice_cmp nat_cmp) names
+  pub told : Tells 200 (compact_text (names_data names)) status body
+
+-- each node was synced
+abbrev pub is_loaded : List Entry → Bool
+is_loaded inventory = list_all (λ e. nat_le 1 e.mark.incarnation) inventory
+
+abbrev pub loaded_text : Bool → List ℕ
+loaded_text true = codes "{\"inventoryInitialized\":true}"
+loaded_text false = codes "{\"inventoryInitialized\":false}"
+
+-- what is known of a node
+abbrev pub AnswersNode : List Entry → ℕ → ℕ → List ℕ → Type 0
+AnswersNode inventory node status body =
+    ((slice_get inventory node ≡ None) × Tells 404 (codes "{\"error\":\"V2\"}") status body)
+    ⊎ (IsUnsynced inventory node × Tells 404 (codes "{\"error\":\"V3\"}") status body)
+    ⊎ ((reply : Body) × IsEntryOf inventory node reply × OrOutOfMemory (Tells 200 (reply_text reply)) status body)
+
+-- of the node with that number
+abbrev pub AnswersEntry : List Entry → Option ℕ → ℕ → List ℕ → Type 0
+AnswersEntry inventory None status body = Tells 404 (codes "{\"error\":\"V2\"}") status body
+AnswersEntry inventory (Some node) status body = AnswersNode inventory node status body
+
+-- ---- the whole
+
+abbrev pub Gets : RequestValue → (ℕ → List ℕ → Type 0) → ℕ → List ℕ → Type 0
+Gets request P status body = Allows (bytes_eq request.method (codes "GET")) P status body
+
+-- what is answered on a route without asking a node
+abbrev pub TellsAt : Route → List Entry → RequestValue → ℕ → List ℕ → Type 0
+TellsAt health inventory request status body = Gets request (Tells 200 (codes "true")) status body
+TellsAt query inventory request status body = ⊥
+TellsAt sources inventory request status body = Gets request (OrOutOfMemory (AnswersSources inventory)) status body
+TellsAt load_status inventory request status body = Gets request (Tells 200 (loaded_text (is_loaded inventory))) status body
+TellsAt (entry node) inventory request status body = Gets request (AnswersEntry inventory (number_at node)) status body
+TellsAt nowhere inventory request status body = Tells 404 (codes "{\"error\":\"NoRoute\"}") status body
+
+-- the answer to a query that is posted; another method uses no link
+abbrev pub AnswersPost : {L : Type 0} → (L → List ℕ → Came → L → Type 0) → Bool → List Entry → List ℕ → List L → List L → ℕ → List ℕ → Type 0
+AnswersPost step true inventory bytes old new status body =
+    AnswersQuery step inventory bytes old new status body ⊎ (WantsMemory step bytes old new × IsOutOfMemory status body)
+AnswersPost step false inventory bytes old new status body = Tells 405 (codes "{\"error\":\"Method\"}") status body × (new ≡ old)
+
+-- the answer on a route, and what the links become: only queries use them
+abbrev pub AnswersAt : {L : Type 0} → (L → List ℕ → Came → L → Type 0) → Route → List Entry → List L → List L → RequestValue → ℕ → List ℕ → Type 0
+AnswersAt step query inventory old new request status body =
+    AnswersPost step (bytes_eq request.method (codes "POST")) inventory request.body old new status body
+AnswersAt step route inventory old new request status body =
+    TellsAt route inventory request status body × (new ≡ old)
+
+-- what a broker that knows the inventory answers, and what its links become
+abbrev pub Responds : {L : Type 0} → (L → List ℕ → Came → L → Type 0) → List Entry → List L → List L → RequestValue → ℕ → List ℕ → Type 0
+Responds step inventory old new request status body = AnswersAt step (route_of (path_of request.target)) inventory old new request status body
+
+-- the input is a query that is posted
+abbrev pub IsPostedQuery : List ℕ → Type 0
+IsPostedQuery input =
+    (request : RequestValue) × (rest : List ℕ) × IsRequest input request rest × (route_of (path_of request.target) ≡ query)
+    × (bytes_eq request.method (codes "POST") ≡ true)
+
+-- the links are as they were, unless the input is a query that is posted
+abbrev pub KeepsLinks : {L : Type 0} → List L → List L → List ℕ → Type 0
+KeepsLinks old new input = (new ≡ old) ⊎ IsPostedQuery input

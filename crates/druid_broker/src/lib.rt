@@ -1,0 +1,16 @@
+//! The front of a broker: how it follows the nodes, and what it answers over HTTP.
+#![tactic(auto)]
+
+mod fault;
+mod knowing;
+mod querying;
+mod responding;
+mod response;
+mod routes;
+mod serving;
+mod turns;
+
+pub use fault::TurnFault;
+pub use routes::Routes;
+pub use serving::serve_one;
+pub use turns::{fetch, fetch_entry, seed_turn, sync_turn};

@@ -1,0 +1,95 @@
+//! What is answered to queries.
+ghost use Rattle.std.specs.Prelude.{◌≡◌, ◌≢◌, ◌↔◌, ◌≤◌, ◌⊎◌, true, IsTrue, List, length, IfOk, OnErr};
+ghost use Rattle.druid_partial.specs.Rows.{IsPartialFor};
+ghost use Rattle.druid_query.specs.Refused.{refusal_text};
+ghost use Rattle.druid_scatter.specs.Gathered.{Exchange, AreMade};
+ghost use Rattle.druid_wire.specs.Served.{Tells};
+ghost use Rattle.druid_broker.specs.Queries.{TellsRows, AnswersRows};
+ghost use Rattle.druid_broker.specs.Routes.{IsOutOfMemory, AnswersPost};
+
+use crate::response::Response;
+use druid_inventory::Inventory;
+use druid_partial::{result_text, shortfall_text};
+use druid_query::{Query, QueryFault, read_query, refusal_text};
+use druid_scatter::{Answer, Pick, gather, plan};
+use druid_wire::Link;
+use http::StatusCode;
+use std::alloc::{AllocError, Global};
+
+fn is_memory(fault: &QueryFault) -> bool
+    ensures { IsTrue result ↔ (fault.now ≡ QueryFault.Memory) }
+{
+    matches!(fault, QueryFault::Memory)
+}
+
+// The answer to what is no query.
+fn refuse(alloc: Global, fault: QueryFault) -> Response
+    ensures { ((fault ≢ QueryFault.Memory) × Tells 400 (refusal_text fault) result.status result.body)
+        ⊎ IsOutOfMemory result.status result.body }
+{
+    if is_memory(&fault) {
+        return Response::out_of_memory();
+    }
+    match refusal_text(alloc, fault) {
+        Ok(text) => Response::made(StatusCode::BAD_REQUEST, text),
+        Err(_) => Response::out_of_memory(),
+    }
+}
+
+// What is told of what was gathered.
+fn tell_rows(alloc: Global, query: &Query, answer: &Answer) -> Result<Response, AllocError>
+    requires { IsPartialFor query.now answer.now.partial }
+    ensures { IfOk result (λ r. TellsRows query.now answer.now.missing answer.now.partial.groups r.status r.body) }
+{
+    let (missing, partial) = (answer.missing(), answer.partial());
+    if missing.is_empty() {
+        let text = result_text(alloc, query, partial)?;
+        return Ok(Response::made(StatusCode::OK, text));
+    }
+    let text = shortfall_text(alloc, query, missing, partial)?;
+    Ok(Response::made(StatusCode::SERVICE_UNAVAILABLE, text))
+}
+
+// The rows of a query.
+fn answer_rows<P: Pick, L: Link>(
+    alloc: Global,
+    inventory: &Inventory,
+    query: &Query,
+    turn: u64,
+    pick: &P,
+    links: &mut [L],
+) -> Result<Response, AllocError>
+    requires { length inventory.now ≤ length links.old }
+    ensures ok { IfOk result (λ r. AnswersRows L.exchanges inventory.now query.now links.old links.new r.status r.body) }
+    ensures err { OnErr result ((links.new ≡ links.old)
+        ⊎ ((exchanges : List Exchange) × AreMade L.exchanges query.now exchanges links.old links.new)) }
+{
+    let Ok(pairs) = plan(alloc, inventory, query) else {
+        return Err(AllocError);
+    };
+    let Ok(gathered) = gather(alloc, query, &pairs, turn, pick, links) else {
+        return Err(AllocError);
+    };
+    tell_rows(alloc, query, &gathered)
+}
+
+/// The answer to a query that is posted: its rows, of what the nodes of the inventory serve, gathered over their links.
+pub(crate) fn answer_query<P: Pick, L: Link>(
+    alloc: Global,
+    inventory: &Inventory,
+    body: &[u8],
+    turn: u64,
+    pick: &P,
+    links: &mut [L],
+) -> Response
+    requires { length inventory.now ≤ length links.old }
+    ensures { AnswersPost L.exchanges true inventory.now body.now links.old links.new result.status result.body }
+{
+    match read_query(alloc, body) {
+        Ok(query) => match answer_rows(alloc, inventory, &query, turn, pick, links) {
+            Ok(response) => response,
+            Err(_) => Response::out_of_memory(),
+        },
+        Err(fault) => refuse(alloc, fault),
+    }
+}

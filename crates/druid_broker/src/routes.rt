@@ -1,0 +1,91 @@
+//! Where requests go.
+ghost use Rattle.std.specs.Prelude.{◌≡◌, IfOk, length, drop};
+ghost use Rattle.druid_broker.specs.Lent.{lent_route};
+ghost use Rattle.druid_broker.specs.Routes.{route_of, entry_front};
+ghost use Rattle.druid_broker.specs.Rows.{the_rows};
+
+use matchit::{InsertError, Router};
+use std::alloc::Global;
+
+// What a row of the router names.
+#[derive(Clone, Copy)]
+enum Place {
+    Health,
+    Query,
+    Sources,
+    LoadStatus,
+    Entry,
+}
+
+/// What a path names.
+#[derive(Clone, Copy)]
+pub(crate) enum Route<'a> {
+    // Whether the broker is there.
+    Health,
+    // Queries.
+    Query,
+    // The data sources.
+    Sources,
+    // Whether each node was synced.
+    LoadStatus,
+    // What is known of the node of this number.
+    Entry(&'a [u8]),
+    // Nothing.
+    Nowhere,
+}
+
+// The router, with a row for each path.
+fn router(alloc: Global) -> Result<Router<Place>, InsertError>
+    ensures { IfOk result (λ router. router ≡ the_rows) }
+{
+    let mut router = Router::new(alloc);
+    router.insert("/status/health", Place::Health)?;
+    router.insert("/druid/v2", Place::Query)?;
+    router.insert("/druid/v2/", Place::Query)?;
+    router.insert("/druid/v2/datasources", Place::Sources)?;
+    router.insert("/druid/broker/v1/loadstatus", Place::LoadStatus)?;
+    router.insert("/druid-internal/v1/inventory/{node}", Place::Entry)?;
+    Ok(router)
+}
+
+// What stands behind the front of such a path.
+#[tactic(auto, using(crate::proofs::RouteLemmas::front_end))]
+fn behind_front(path: &[u8]) -> &[u8]
+    ensures { result.now ≡ drop (length entry_front) path.now }
+{
+    let front = b"/druid-internal/v1/inventory/".len();
+    let (_, part) = path.split_at(path.len().min(front));
+    part
+}
+
+/// The routes of a broker.
+#[derive(Drop)]
+pub struct Routes {
+    router: Router<Place>,
+    ghost rows: { router ≡ the_rows },
+}
+
+impl Routes {
+    /// The routes of a broker, which serve any number of requests.
+    pub fn new(alloc: Global) -> Result<Routes, InsertError> {
+        Ok(Routes {
+            router: router(alloc)?,
+        })
+    }
+
+    // Where a path leads. It takes no memory.
+    pub(crate) fn route_of<'a>(&self, path: &'a str) -> Route<'a>
+        ensures { lent_route result ≡ route_of path.now }
+    {
+        let Ok(found) = self.router.at(path) else {
+            return Route::Nowhere;
+        };
+        match found.value {
+            Place::Health => Route::Health,
+            Place::Query => Route::Query,
+            Place::Sources => Route::Sources,
+            Place::LoadStatus => Route::LoadStatus,
+            Place::Entry => Route::Entry(behind_front(path.as_bytes())),
+        }
+    }
+}

@@ -1,0 +1,4 @@
+pub mod HeadlineLemmas
+pub mod TextLemmas
+pub mod WordLemmas
+pub mod HonestLemmas

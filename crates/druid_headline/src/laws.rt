@@ -1,0 +1,56 @@
+//! The sentences that a user of a broker relies on.
+ghost use Rattle.std.specs.Prelude.{◌≡◌, ◌↔◌, ℕ, Bool, List, [], Some, Ok, All, Contains};
+ghost use Rattle.druid_timeline.specs.Holding.{Held};
+ghost use Rattle.druid_inventory.specs.Entry.{Entry};
+ghost use Rattle.druid_rows.specs.Rows.{Row};
+ghost use Rattle.druid_rows.specs.Segment.{Segment};
+ghost use Rattle.druid_query.specs.Query.{Query};
+ghost use Rattle.druid_query.specs.Read.{IsQuery};
+ghost use Rattle.druid_query.specs.Asked.{Asked};
+ghost use Rattle.druid_query.specs.SubQuery.{IsAsked};
+ghost use Rattle.druid_partial.specs.Groups.{Group, IsResult};
+ghost use Rattle.druid_partial.specs.Rows.{kinds_of};
+ghost use Rattle.druid_partial.specs.Once.{segment_named};
+ghost use Rattle.druid_partial.specs.Written.{result_text};
+ghost use Rattle.druid_wire.specs.Written.{answer_text};
+ghost use Rattle.druid_node.specs.State.{State};
+ghost use Rattle.druid_node.specs.Routes.{RespondsInTurn};
+ghost use Rattle.druid_scatter.specs.Gathered.{Exchange, request_for};
+ghost use Rattle.druid_scatter.specs.Exact.{IsHonest, Sees, told_visible};
+ghost use Rattle.druid_broker.specs.Queries.{AnswersRows};
+ghost use Rattle.druid_world.specs.World.{Life, IsInventoryOf, marks_of};
+ghost use Rattle.druid_headline.specs.Headline.{IsHeldAt, AreServedAt, HasWords};
+
+use druid_wire::Link;
+
+/// A broker that stands at some marks in a world answers a query with what is defined over the world at these marks: where each
+/// answer that counted was honest over the segments that nodes serve there, the rows of its answer are the result over the rows
+/// that are visible there, asked for and in no missing piece, each once. It answers 200 exactly where nothing is missing, and
+/// then with the text of that result.
+pub fn queries_are_exact<L: Link>()
+    ensures rows { (world : List Life) (inventory : List Entry) (query : Query) (old new : List L) (status : ℕ) (body : List ℕ)
+        (answer : AnswersRows L.exchanges inventory query old new status body)
+        (segments : List Segment) (held : List Held) (sees : Segment → Row → Bool)
+        → IsInventoryOf world inventory
+        → AreServedAt world (marks_of inventory) query.source segments
+        → IsHeldAt world (marks_of inventory) query.source held → Sees query held segments sees
+        → ((e : Exchange) → Contains answer.exchanges e → IsHonest query segments e)
+        → IsResult (kinds_of query) (told_visible query sees answer.missing segments) answer.groups }
+    ensures whole { (inventory : List Entry) (query : Query) (old new : List L) (status : ℕ) (body : List ℕ)
+        (answer : AnswersRows L.exchanges inventory query old new status body)
+        → (status ≡ 200) ↔ (answer.missing ≡ []) }
+    ensures text { (inventory : List Entry) (query : Query) (old new : List L) (status : ℕ) (body : List ℕ)
+        (answer : AnswersRows L.exchanges inventory query old new status body)
+        → status ≡ 200 → body ≡ result_text query answer.groups }
+{}
+
+/// What a data node of ours answers to a request for pieces is honest, want of memory included, over any list of segments in
+/// which each segment that it holds of the query's source stands under its identifier. The numbers of the rows that it holds are of 64 bits, as those of
+/// each segment are.
+pub fn nodes_are_honest()
+    ensures { (state : State) (query : Query) (asked : List Asked) (node : ℕ) (status : ℕ) (body : List ℕ) (segments : List Segment)
+        → All HasWords state.held → IsQuery query → IsAsked query.source asked
+        → RespondsInTurn state (request_for query asked) status body
+        → ((s : Segment) → Contains state.held s → s.descriptor.id.source ≡ query.source → segment_named s.descriptor.id segments ≡ Some s)
+        → IsHonest query segments (record { node = node; asked = asked; came = Ok (answer_text status body) }) }
+{}

@@ -1,0 +1,7 @@
+//! The sentences that a user of a cluster relies on, over the definitions of all crates. They are facts about definitions, and no
+//! code stands on them.
+#![tactic(auto)]
+
+mod laws;
+
+pub use laws::{nodes_are_honest, queries_are_exact};

@@ -1,0 +1,10 @@
+pub mod RoundLemmas
+pub mod StepLemmas
+pub mod PlanLemmas
+pub mod WaitLemmas
+pub mod TellLemmas
+pub mod MadeLemmas
+pub mod StateLemmas
+pub mod GatherLemmas
+pub mod LawLemmas
+pub mod ExactLemmas

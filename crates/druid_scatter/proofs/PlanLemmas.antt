@@ -1,0 +1,263 @@
+-- The pieces of a plan are all that are wanted, once each and in order.
+use Rattle.std.proofs.Common.{◌≡◌, ◌∙◌, ◌↔◌, inl, inr, ℕ, suc, ◌+◌, ◌<◌, ◌≤◌, List, [], ◌∷◌, ◌++◌, length, get_or, map, take, All, Contains, append_assoc, refl, sym, ap, subst, arith}
+use Rattle.std.specs.List.{AllByRecursion}
+use Rattle.std.specs.List.Sorted.{IsStrictlyIncreasing, IsStrictlySortedBy}
+use Rattle.std.specs.Ordering.{nat_cmp, ordering_then, MatchOrdering}
+use Rattle.std.proofs.lemmas.List.Kept.{AllPairs-from_increasing}
+use Rattle.std.specs.declared.cmp.Ordering.{Ordering}
+use Rattle.std.specs.declared.cmp.Ordering.TheVariants.{Less, Equal, Greater}
+use Rattle.std.proofs.lemmas.Cmp.{ranked}
+use Rattle.std.proofs.lemmas.List.Elements.{All-weaker, Contains-get_or, Contains-append_cases, All-contains, All-head, All-tail, All-from_recursion}
+use Rattle.std.proofs.lemmas.List.{map_push, map_more, take_more, take_all, flat_map_more}
+use Rattle.druid_time.specs.Extent.{Extent, AnyHas, SameInstants}
+use Rattle.druid_segid.specs.Group.{Group, group_of}
+use Rattle.druid_segid.specs.Identifier.{Identifier}
+use Rattle.druid_shard.specs.Described.{Described}
+use Rattle.druid_shard.specs.Members.{HasPartition}
+use Rattle.druid_shard.proofs.MemberLemmas.{Contains-map, Contains-map_back, Contains-flat_map, Contains-flat_map_back, Contains-cons, Contains-later, Contains-nil}
+use Rattle.druid_timeline.specs.Holding.{Held, Serving, held_of, members_of, IsServed}
+use Rattle.druid_timeline.specs.Pieces.{Shown, Told, shown_of, AreRuns, ArePiecesIn, ArePartitions}
+use Rattle.druid_timeline.specs.Visible.{IsVisible}
+use Rattle.druid_timeline.proofs.RunsLemmas.{AreRuns-first, AreRuns-rest}
+use Rattle.druid_inventory.specs.Entry.{Entry}
+use Rattle.druid_inventory.specs.Sources.{Serves, HasSource, IsHoldingOf}
+use Rattle.druid_query.specs.Query.{Query}
+use Rattle.druid_query.specs.Asked.{Asked}
+use Rattle.druid_scatter.specs.Plan.{Pair, asked_of, IsWanted, AreReplicas, place_cmp, IsPlanOf}
+use Rattle.druid_scatter.specs.Planned.{asked_at, asked_for, asked_in, IsServedBy}
+
+-- ---- order
+
+pub each_less : {K : Type 0} (R : K → K → Ordering) (x : K) (ys : List K) → ((y : K) → Contains ys y → R x y ≡ Less) → AllByRecursion (λ y. R x y ≡ Less) ys
+each_less R x [] below = tt
+each_less R x (y ∷ ys) below = (below y (0, omega arith, refl), each_less R x ys (λ z c. below z (Contains-later y ys z c)))
+
+pub less_each : {K : Type 0} (R : K → K → Ordering) (x : K) (ys : List K) → AllByRecursion (λ y. R x y ≡ Less) ys → (y : K) → Contains ys y → R x y ≡ Less
+less_each R x ys s y c = All-contains (λ y. R x y ≡ Less) ys y (All-from_recursion (λ y. R x y ≡ Less) ys s) c
+
+pub sorted_append : {K : Type 0} (R : K → K → Ordering) (xs ys : List K) → IsStrictlySortedBy R xs → IsStrictlySortedBy R ys → ((x y : K) → Contains xs x → Contains ys y → R x y ≡ Less) → IsStrictlySortedBy R (xs ++ ys)
+unfolding IsStrictlySortedBy
+sorted_append R [] ys s t below = t
+sorted_append R (x ∷ xs) ys s t below = (
+  each_less R x (xs ++ ys)
+      (λ y c. elim (Contains-append_cases xs ys y c) [ inl front ↦ less_each R x xs s.0 y front | inr back ↦ below x y (0, omega arith, refl) back ]),
+  sorted_append R xs ys s.1 t (λ a b c e. below a b (Contains-later x xs a c) e),
+)
+
+is_less : (a b : ℕ) (r : Ordering) → MatchOrdering r (a < b) (a ≡ b) (b < a) → a < b → r ≡ Less
+is_less a b Less m h = refl
+is_less a b Equal m h = absurd (omega arith)
+is_less a b Greater m h = absurd (omega arith)
+
+pub is_less_nat : (a b : ℕ) → a < b → nat_cmp a b ≡ Less
+is_less_nat a b h = is_less a b (nat_cmp a b) (ranked a b (nat_cmp a b) refl) h
+
+is_equal : (a b : ℕ) (r : Ordering) → MatchOrdering r (a < b) (a ≡ b) (b < a) → a ≡ b → r ≡ Equal
+is_equal a b Less m h = absurd (omega arith)
+is_equal a b Equal m h = refl
+is_equal a b Greater m h = absurd (omega arith)
+
+-- a piece that starts earlier stands before
+pub starts_before : (a b : Asked) → a.1.start < b.1.start → place_cmp a b ≡ Less
+starts_before a b h =
+    ap (λ (o : Ordering). ordering_then o (nat_cmp a.0.partition b.0.partition)) (is_less a.1.start b.1.start (nat_cmp a.1.start b.1.start) (ranked a.1.start b.1.start (nat_cmp a.1.start b.1.start) refl) h)
+
+-- of one start, one of a lower partition
+pub lower_before : (a b : Asked) → a.1.start ≡ b.1.start → a.0.partition < b.0.partition → place_cmp a b ≡ Less
+lower_before a b e h =
+    ap (λ (o : Ordering). ordering_then o (nat_cmp a.0.partition b.0.partition)) (is_equal a.1.start b.1.start (nat_cmp a.1.start b.1.start) (ranked a.1.start b.1.start (nat_cmp a.1.start b.1.start) refl) e)
+    ∙ is_less a.0.partition b.0.partition (nat_cmp a.0.partition b.0.partition) (ranked a.0.partition b.0.partition (nat_cmp a.0.partition b.0.partition) refl) h
+
+pub rest_rises : (p : ℕ) (parts : List ℕ) → IsStrictlyIncreasing (p ∷ parts) → IsStrictlyIncreasing parts
+rest_rises p parts h = λ k within. let e : suc k + 1 ≡ suc (k + 1) = omega arith in
+    subst (λ (n : ℕ). get_or (p ∷ parts) (suc k) 0 < get_or (p ∷ parts) n 0) e (h (suc k) (omega arith))
+
+pub first_below : (p : ℕ) (parts : List ℕ) → IsStrictlyIncreasing (p ∷ parts) → (q : ℕ) → Contains parts q → p < q
+first_below p parts h q c =
+    let up = AllPairs-from_increasing (p ∷ parts) h 0 (suc c.0) q (omega arith) (omega (arith, c.1)) in
+    subst (λ (n : ℕ). p < n) c.2 up
+
+-- the partitions of a piece
+part_order : (source : List ℕ) (t : Told) (parts : List ℕ) → IsStrictlyIncreasing parts → IsStrictlySortedBy place_cmp (map (asked_at source t) parts)
+unfolding IsStrictlySortedBy
+part_order source t [] h = tt
+part_order source t (p ∷ parts) h = (
+  each_less place_cmp (asked_at source t p) (map (asked_at source t) parts)
+      (λ y c. let of = Contains-map (asked_at source t) parts y c in
+      subst (λ (b : Asked). place_cmp (asked_at source t p) b ≡ Less) of.2 (lower_before (asked_at source t p) (asked_at source t of.0) refl (first_below p parts h of.0 of.1))),
+  part_order source t parts (rest_rises p parts h),
+)
+
+-- each run behind the first starts where that ends, or later
+pub runs_behind : (a : Shown) (more : List Shown) → AreRuns (a ∷ more) → (s : Shown) → Contains more s → a.interval.end ≤ s.interval.start
+runs_behind a [] r s c = absurd (Contains-nil s c)
+runs_behind a (b ∷ more) r s c =
+    elim (Contains-cons b more s c) [
+      | inl same ↦ subst (λ (x : Shown). a.interval.end ≤ x.interval.start) same r.1
+      | inr there ↦ let first = AreRuns-first b more r.3 in let behind = runs_behind b more r.3 s there in omega arith
+    ]
+
+-- what stands in a plan starts with its piece
+starts_at : (source : List ℕ) (told : List Told) (a : Asked) → Contains (asked_in source told) a → (t : Told) × Contains told t × Contains (asked_for source t) a × (a.1 ≡ t.interval)
+starts_at source told a c =
+    let of = Contains-flat_map (asked_for source) told a c in
+    let at = Contains-map (asked_at source of.0) of.0.parts a of.2 in
+    (of.0, of.1, of.2, ap (λ (b : Asked). b.1) (sym at.2))
+
+pub in_order : (source : List ℕ) (told : List Told) → AreRuns (map shown_of told) → All (λ t. IsStrictlyIncreasing t.parts) told → IsStrictlySortedBy place_cmp (asked_in source told)
+unfolding IsStrictlySortedBy
+in_order source [] r up = tt
+in_order source (t ∷ told) r up =
+    sorted_append place_cmp (asked_for source t) (asked_in source told) (part_order source t t.parts (All-head (λ t. IsStrictlyIncreasing t.parts) t told up))
+    (in_order source told (AreRuns-rest (shown_of t) (map shown_of told) r) (All-tail (λ t. IsStrictlyIncreasing t.parts) t told up))
+    (λ x y c d.
+    let at = Contains-map (asked_at source t) t.parts x c in
+    let of = starts_at source told y d in
+    let behind = runs_behind (shown_of t) (map shown_of told) r (shown_of of.0) (Contains-map_back shown_of told of.0 of.1) in
+    let stretch = AreRuns-first (shown_of t) (map shown_of told) r in
+    let from : x.1.start ≡ t.interval.start = ap (λ (b : Asked). b.1.start) (sym at.2) in
+    let to : y.1.start ≡ of.0.interval.start = ap (λ (e : Extent). e.start) of.3 in
+    starts_before x y (omega arith))
+
+-- ---- what is wanted
+
+pub wanted : (source : List ℕ) (held : List Held) (told : List Told) → All (λ t. ArePartitions (members_of held t.group) t.parts) told → (a : Asked)
+    → Contains (asked_in source told) a ↔ IsWanted source held (map shown_of told) a
+wanted source held told parts a = (
+  λ c. let of = Contains-flat_map (asked_for source) told a c in
+      let at = Contains-map (asked_at source of.0) of.0.parts a of.2 in
+      subst (IsWanted source held (map shown_of told)) at.2 (record {
+        of_source = refl;
+        shown = Contains-map_back shown_of told of.0 of.1;
+        member = ((All-contains (λ t. ArePartitions (members_of held t.group) t.parts) told of.0 parts of.1).all at.0).0 at.1;
+      }),
+  λ w. let of = Contains-map shown_of told (record { interval = a.1; group = group_of a.0 }) w.shown in
+      let group : of.0.group ≡ group_of a.0 = ap (λ (s : Shown). s.group) of.2 in
+      let interval : of.0.interval ≡ a.1 = ap (λ (s : Shown). s.interval) of.2 in
+      let there = ((All-contains (λ t. ArePartitions (members_of held t.group) t.parts) told of.0 parts of.1).all a.0.partition).1
+      (subst (λ (g : Group). HasPartition (members_of held g) a.0.partition) (sym group) w.member) in
+      let same : asked_at source of.0 a.0.partition ≡ a =
+      λ i. (record { source = sym w.of_source i; interval = (group i).interval; version = (group i).version; partition = a.0.partition }, interval i) in
+      subst (Contains (asked_in source told)) same
+      (Contains-flat_map_back (asked_for source) told of.0 (asked_at source of.0 a.0.partition) of.1
+      (Contains-map_back (asked_at source of.0) of.0.parts a.0.partition there)),
+)
+
+-- ---- replicas
+
+pub served_new : (serving : Serving) (p : Pair) (a : Asked) (nodes : List ℕ) → p ≡ record { asked = a; nodes = nodes } → IsStrictlyIncreasing nodes
+    → ((n : ℕ) → Contains nodes n ↔ IsServed serving n a.0) → IsServedBy serving p
+served_new serving p a nodes e up all = subst (IsServedBy serving) (sym e) (record { rising = up; all = all })
+
+pub same_id : (d : Described) (id : Identifier) → d.id.source ≡ id.source → group_of d.id ≡ group_of id → d.id.partition ≡ id.partition → d.id ≡ id
+same_id d id s g p i = record { source = s i; interval = (g i).interval; version = (g i).version; partition = p i }
+
+pub replicas_of : (inventory : List Entry) (serving : Serving) (source : List ℕ) → serving.source ≡ source → IsHoldingOf inventory source serving.held
+    → (p : Pair) → p.asked.0.source ≡ source → IsServedBy serving p → AreReplicas inventory p.asked.0 p.nodes
+replicas_of inventory serving source e held p of_source s = record {
+  rising = s.rising;
+  all = λ n. (
+    λ c. let is = (s.all n).0 c in let h = is.1 in let from = (held h.0).0 h.1 in
+        let node : n ≡ from.0 = sym h.4 ∙ ap (λ (x : Held). x.member.node) from.4 in
+        let group : group_of from.1.id ≡ group_of p.asked.0 = ap (λ (x : Held). x.group) (sym from.4) ∙ h.2 in
+        let partition : from.1.id.partition ≡ p.asked.0.partition = ap (λ (x : Held). x.member.partition) (sym from.4) ∙ h.3 in
+        (from.1, subst (λ (k : ℕ). Serves inventory k from.1) (sym node) from.2, same_id from.1 p.asked.0 (from.3 ∙ sym of_source) group partition),
+    λ r. let d = r.0 in
+        (s.all n).1 (
+          of_source ∙ sym e,
+          (
+            held_of n d,
+            (held (held_of n d)).1 (n, d, r.1, ap (λ (id : Identifier). id.source) r.2 ∙ of_source, refl),
+            ap group_of r.2,
+            ap (λ (id : Identifier). id.partition) r.2,
+            refl,
+          ),
+        ),
+  );
+}
+
+-- ---- plans
+
+pub nothing_sorted : (pairs : List Pair) → pairs ≡ [] → IsStrictlySortedBy place_cmp (asked_of pairs)
+unfolding IsStrictlySortedBy
+nothing_sorted pairs e = subst (λ (ps : List Pair). IsStrictlySortedBy place_cmp (asked_of ps)) (sym e) tt
+
+pub pairs_sorted : (source : List ℕ) (held : List Held) (set : ℕ → Type 0) (told : List Told) (pairs : List Pair) → asked_of pairs ≡ asked_in source told → ArePiecesIn set held (map shown_of told)
+    → All (λ t. ArePartitions (members_of held t.group) t.parts) told → IsStrictlySortedBy place_cmp (asked_of pairs)
+pairs_sorted source held set told pairs e pieces parts =
+    subst (IsStrictlySortedBy place_cmp) (sym e)
+    (in_order source told pieces.runs (All-weaker (λ (t : Told). ArePartitions (members_of held t.group) t.parts) (λ t. IsStrictlyIncreasing t.parts) (λ t h. h.rising) told parts))
+
+nothing_visible : (t : ℕ) (g : Group) → IsVisible [] t g → ⊥
+nothing_visible t g v = Contains-nil v.candidate.complete.some.0 v.candidate.complete.some.1
+
+-- of a source that no node serves nothing is asked for
+pub nothing_planned : (inventory : List Entry) (query : Query) (pairs : List Pair) → (HasSource inventory query.source → ⊥) → pairs ≡ [] → IsPlanOf inventory query pairs
+nothing_planned inventory query pairs none e = subst (IsPlanOf inventory query) (sym e) (record {
+  held = [];
+  pieces = [];
+  holding = λ x. (λ c. absurd (Contains-nil x c), λ h. absurd (none (h.0, h.1, h.2, h.3)));
+  visible = record { runs = tt; shows = λ t g. (λ s. absurd s, λ v. absurd (nothing_visible t g v.1)) };
+  paired = record {
+    all = λ a. (λ c. absurd (Contains-nil a c), λ w. absurd (Contains-nil (record { interval = a.1; group = group_of a.0 }) w.shown));
+    replicas = λ k d within. absurd (omega arith);
+    ordered = nothing_sorted [] refl;
+  };
+})
+
+any_same : (set intervals : List Extent) (held : List Held) (pieces : List Shown) → SameInstants set intervals → ArePiecesIn (AnyHas set) held pieces → ArePiecesIn (AnyHas intervals) held pieces
+any_same set intervals held pieces same p = record {
+  runs = p.runs;
+  shows = λ t g. (λ s. let is = (p.shows t g).0 s in ((same t).0 is.0, is.1), λ v. (p.shows t g).1 ((same t).1 v.0, v.1));
+}
+
+pub planned : (inventory : List Entry) (query : Query) (serving : Serving) (source : List ℕ) (set : List Extent) (told : List Told) (pairs : List Pair) → source ≡ query.source → serving.source ≡ source
+    → IsHoldingOf inventory source serving.held → SameInstants set query.intervals → ArePiecesIn (AnyHas set) serving.held (map shown_of told)
+    → All (λ t. ArePartitions (members_of serving.held t.group) t.parts) told → asked_of pairs ≡ asked_in source told → All (IsServedBy serving) pairs → IsPlanOf inventory query pairs
+planned inventory query serving source set told pairs s e holding instants pieces parts asked served = record {
+  held = serving.held;
+  pieces = map shown_of told;
+  holding = subst (λ (n : _). IsHoldingOf inventory n serving.held) s holding;
+  visible = any_same set query.intervals serving.held (map shown_of told) instants pieces;
+  paired = record {
+    all = λ a. subst (λ (xs : _). Contains xs a ↔ IsWanted query.source serving.held (map shown_of told) a) (sym asked)
+        (subst (λ (n : _). Contains (asked_in source told) a ↔ IsWanted n serving.held (map shown_of told) a) s (wanted source serving.held told parts a));
+    replicas = each_replica;
+    ordered = pairs_sorted source serving.held (AnyHas set) told pairs asked pieces parts;
+  };
+}
+  where
+    of_source : (p : Pair) → Contains pairs p → p.asked.0.source ≡ source
+    of_source p c =
+        let in_it : Contains (asked_in source told) p.asked = subst (λ (xs : _). Contains xs p.asked) asked (Contains-map_back (λ (q : Pair). q.asked) pairs p c) in
+        ((wanted source serving.held told parts p.asked).0 in_it).of_source
+
+    each_replica : All (λ p. AreReplicas inventory p.asked.0 p.nodes) pairs
+    each_replica = λ k d within.
+        let there = Contains-get_or pairs k d within in
+        replicas_of inventory serving source e holding (get_or pairs k d) (of_source (get_or pairs k d) there) (served k d within)
+
+-- ---- loops
+
+pub one_more_asked : (source : List ℕ) (t : Told) (old new : List Pair) (p : Pair) (front : List Asked) (k part d : ℕ) (parts : List ℕ) → parts ≡ t.parts → new ≡ old ++ p ∷ [] → p.asked ≡ asked_at source t part → k < length parts
+    → part ≡ get_or parts k d → asked_of old ≡ front ++ map (asked_at source t) (take k t.parts) → asked_of new ≡ front ++ map (asked_at source t) (take (k + 1) t.parts)
+one_more_asked source t old new p front k part d parts same e is within at so_far =
+    let there : part ≡ get_or t.parts k d = at ∙ ap (λ (ps : List ℕ). get_or ps k d) same in
+    let below : k < length t.parts = subst (λ (ps : List ℕ). k < length ps) same within in
+    ap asked_of e ∙ map_push (λ (q : Pair). q.asked) old p ∙ ap (λ xs. xs ++ p.asked ∷ []) so_far ∙ append_assoc front (map (asked_at source t) (take k t.parts)) (p.asked ∷ [])
+    ∙ ap (λ xs. front ++ xs) (ap (λ (a : Asked). map (asked_at source t) (take k t.parts) ++ a ∷ []) (is ∙ ap (asked_at source t) there)
+    ∙ sym (map_more (asked_at source t) t.parts k d below))
+
+pub one_more_piece : (source : List ℕ) (told : List Told) (old new : List Pair) (t : Told) (k : ℕ) → k < length told → t ≡ get_or told k t → asked_of new ≡ asked_of old ++ asked_for source t
+    → asked_of old ≡ asked_in source (take k told) → asked_of new ≡ asked_in source (take (k + 1) told)
+one_more_piece source told old new t k within at e so_far =
+    e ∙ ap (λ xs. xs ++ asked_for source t) so_far ∙ ap (λ (u : Told). asked_in source (take k told) ++ asked_for source u) at
+    ∙ more (get_or told k t) ∙ ap (asked_in source) (sym (take_more told k t within))
+  where
+    more : (u : Told) → asked_in source (take k told) ++ asked_for source u ≡ asked_in source (take k told ++ u ∷ [])
+    more u = flat_map_more (asked_for source) [] (take k told) u
+
+pub all_asked : (source : List ℕ) (t : Told) (old : List Pair) (front : List Asked) (k : ℕ) (parts : List ℕ) → parts ≡ t.parts → length parts ≤ k
+    → asked_of old ≡ front ++ map (asked_at source t) (take k t.parts) → asked_of old ≡ front ++ asked_for source t
+all_asked source t old front k parts same within so_far =
+    so_far ∙ ap (λ (ps : List ℕ). front ++ map (asked_at source t) ps) (take_all k t.parts (subst (λ (ps : List ℕ). length ps ≤ k) same within))

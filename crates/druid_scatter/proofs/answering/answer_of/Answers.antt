@@ -1,0 +1,8 @@
+use Rattle.std.proofs.Common.{ap}
+use Rattle.druid_wire.specs.Links.{came_of}
+use Rattle.druid_scatter.proofs.TellLemmas.{lost_of}
+use Rattle.druid_scatter.proofs.answering.answer_of.Goals as goal
+
+pub returns-in-Ok-clause-none : goal.returns-in-Ok-clause-none
+returns-in-Ok-clause-none c =
+    lost_of c.args.sub.now c.in-Ok.bytes.items c.deref.result.now (came_of c.args.came.now) c.answer_in.result c.deref.ensures.value (ap came_of c.in-Ok.is) c.answer_in.ensures.none

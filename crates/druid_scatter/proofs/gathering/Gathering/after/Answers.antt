@@ -1,0 +1,34 @@
+use Rattle.std.proofs.Common.{ℕ, ◌≡◌}
+use Rattle.druid_partial.specs.Rows.{kinds_of}
+use Rattle.druid_wire.specs.Links.{came_of}
+use Rattle.druid_scatter.specs.Gathered.{Answers, IsLost}
+use Rattle.druid_scatter.specs.Waiting.{exchange_of}
+use Rattle.druid_scatter.proofs.StateLemmas.{at_some, at_none, took_of, partial_told, lost_kept}
+use Rattle.druid_scatter.proofs.gathering.Gathering.after.Goals as goal
+
+pub returns-in-Some-clause-took : goal.returns-in-Some-clause-took
+returns-in-Some-clause-took c =
+    let sub = c.args.sub.now in
+    let came = came_of c.args.came.now in
+    let answer = c.in-Some.answer in
+    took_of sub.query c.args.round c.args.node c.args.self (exchange_of sub came c.args.node) answer.missing answer.partial c.told.result c.requires.kinds
+    (at_some c.in_ok-answer.field-0 answer (λ a. a.partial.kinds ≡ kinds_of sub.query) c.in-Some.is c.in_ok-answer.ensures.kinds)
+    (at_some c.in_ok-answer.field-0 answer (λ a. (node : ℕ) → Answers sub.query (exchange_of sub came node) a.missing a.partial.groups) c.in-Some.is c.in_ok-answer.ensures.some c.args.node)
+    c.told.ensures.kept c.told.ensures.merged c.told.ensures.itself
+
+pub returns-in-Some-clause-of_query : goal.returns-in-Some-clause-of_query
+returns-in-Some-clause-of_query c =
+    let sub = c.args.sub.now in
+    let came = came_of c.args.came.now in
+    let answer = c.in-Some.answer in
+    c.told.ensures.of_query sub.query c.requires
+    (partial_told sub.query (exchange_of sub came c.args.node) answer.missing answer.partial
+    (at_some c.in_ok-answer.field-0 answer (λ a. (node : ℕ) → Answers sub.query (exchange_of sub came node) a.missing a.partial.groups) c.in-Some.is c.in_ok-answer.ensures.some c.args.node)
+    (at_some c.in_ok-answer.field-0 answer (λ a. a.partial.kinds ≡ kinds_of sub.query) c.in-Some.is c.in_ok-answer.ensures.kinds))
+
+pub returns-in-None-clause-took : goal.returns-in-None-clause-took
+returns-in-None-clause-took c =
+    let sub = c.args.sub.now in
+    let came = came_of c.args.came.now in
+    lost_kept sub.query c.args.round c.args.node c.args.self (exchange_of sub came c.args.node)
+    (at_none c.in_ok-answer.field-0 ((node : ℕ) → IsLost sub.query (exchange_of sub came node)) c.in-None.is c.in_ok-answer.ensures.none c.args.node)

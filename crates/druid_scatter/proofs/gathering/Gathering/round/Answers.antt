@@ -1,0 +1,42 @@
+use Rattle.std.proofs.Common.{◌∙◌, sym, ap, map, option_map, length}
+use Rattle.druid_wire.specs.Links.{came_of}
+use Rattle.druid_scatter.specs.Waiting.{sub_if, wanted_of, made_from}
+use Rattle.druid_scatter.proofs.StateLemmas.{as_many_subs, subs_again, round_ok, made_by, made_err, answered_there}
+use Rattle.druid_scatter.proofs.MadeLemmas.{matched}
+use Rattle.druid_scatter.proofs.gathering.Gathering.round.Goals as goal
+
+pub ask-requires : goal.ask-requires
+ask-requires g c =
+    sym (ap length c.deref.ensures.value
+    ∙ as_many_subs (λ node. sub_if c.args.query.now (wanted_of c.args.round c.args.self.waiting node)) c.in_ok-subs.subs.items (length c.args.links.now) c.in_ok-subs.ensures)
+
+pub settled-requires-clause-subs : goal.settled-requires-clause-subs
+settled-requires-clause-subs g c =
+    subs_again (λ node. sub_if c.args.query.now (wanted_of c.args.round c.args.self.waiting node)) c.in_ok-subs.subs.items c.deref-2.result.now (length c.args.links.now)
+    c.deref-2.ensures.value c.in_ok-subs.ensures
+
+pub settled-requires-clause-matched : goal.settled-requires-clause-matched
+settled-requires-clause-matched g c =
+    matched g.L.Link.exchanges c.args.links.now c.deref-2.result.now (map (option_map came_of) c.deref-3.result.now) c.ask.new.links
+    (answered_there g.L.Link.exchanges (option_map came_of) c.args.links.now c.ask.new.links c.deref.result.now c.deref-2.result.now c.in_ok-came.came.items c.deref-3.result.now
+    (c.deref.ensures.value ∙ sym c.deref-2.ensures.value) c.deref-3.ensures.value c.in_ok-came.ensures.ok)
+
+pub returns-clause-ok : goal.returns-clause-ok
+returns-clause-ok g c =
+    let wanted = wanted_of c.args.round c.args.self.waiting in
+    round_ok g.L.Link.exchanges c.args.query.now c.args.round c.args.links.now c.ask.new.links c.args.self c.settled.result c.in_ok-subs.subs.items c.deref-2.result.now
+    (map (option_map came_of) c.deref-3.result.now) c.deref-2.ensures.value c.in_ok-subs.ensures
+    (made_by g.L.Link.exchanges c.args.query.now wanted c.args.links.now c.ask.new.links c.in_ok-subs.subs.items c.deref-2.result.now (map (option_map came_of) c.deref-3.result.now)
+    c.deref-2.ensures.value c.in_ok-subs.ensures
+    (answered_there g.L.Link.exchanges (option_map came_of) c.args.links.now c.ask.new.links c.deref.result.now c.deref-2.result.now c.in_ok-came.came.items c.deref-3.result.now
+    (c.deref.ensures.value ∙ sym c.deref-2.ensures.value) c.deref-3.ensures.value c.in_ok-came.ensures.ok))
+    c.settled.ensures.goes
+
+pub returns-clause-err : goal.returns-clause-err
+returns-clause-err g c =
+    let wanted = wanted_of c.args.round c.args.self.waiting in
+    made_err g.L.Link.exchanges c.args.query.now c.args.links.now c.ask.new.links c.settled.result (made_from wanted 0 (map (option_map came_of) c.deref-3.result.now))
+    (made_by g.L.Link.exchanges c.args.query.now wanted c.args.links.now c.ask.new.links c.in_ok-subs.subs.items c.deref-2.result.now (map (option_map came_of) c.deref-3.result.now)
+    c.deref-2.ensures.value c.in_ok-subs.ensures
+    (answered_there g.L.Link.exchanges (option_map came_of) c.args.links.now c.ask.new.links c.deref.result.now c.deref-2.result.now c.in_ok-came.came.items c.deref-3.result.now
+    (c.deref.ensures.value ∙ sym c.deref-2.ensures.value) c.deref-3.ensures.value c.in_ok-came.ensures.ok))

@@ -1,0 +1,176 @@
+//! What was gathered so far.
+ghost use Rattle.std.specs.Prelude.{◌≡◌, List, IfOk, OnErr, IfSome, Option, length, map, option_map, is_some};
+ghost use Rattle.std.specs.List.{range_with_len, AllZip};
+ghost use Rattle.druid_query.specs.Query.{Query};
+ghost use Rattle.druid_partial.specs.Groups.{IsMerge, IsResult};
+ghost use Rattle.druid_partial.specs.Rows.{IsPartialFor};
+ghost use Rattle.druid_wire.specs.Links.{Came, came_of};
+ghost use Rattle.druid_scatter.specs.Gathered.{Exchange, AreMade};
+ghost use Rattle.druid_scatter.specs.Waiting.{Keeps, Took, TookIf, Goes, pieces_of, sub_if, wanted_of, made_from, exchange_of};
+
+use crate::answering::answer_of;
+use crate::requests::{ask, subs_for};
+use crate::waiting::{Waiting, into_pieces, keep_missing};
+use crate::{Answer, GatherFault};
+use druid_partial::{NodeAnswer, Partial, merge};
+use druid_query::{Query, SubQuery};
+use druid_wire::{Link, WireFault};
+use std::alloc::{AllocError, Global};
+use std::marker::Model;
+
+// The pieces that wait for an answer, and what was told of the others.
+#[derive(Debug, Drop)]
+pub(crate) struct Gathering {
+    waiting: Vec<Waiting>,
+    partial: Partial,
+}
+
+impl Model for Gathering {
+    ghost use Rattle.druid_scatter.specs.Waiting.{State};
+
+    ghost Value = { State };
+
+    ghost view = { λ a. record { waiting = a.waiting.items; partial = a.partial } };
+}
+
+impl Gathering {
+    // These pieces wait, and that was told.
+    pub(crate) fn new(waiting: Vec<Waiting>, partial: Partial) -> Gathering
+        ensures { result ≡ record { waiting = waiting.items; partial = partial } }
+    {
+        Gathering { waiting, partial }
+    }
+
+    // After an answer of a node.
+    fn told(
+        self,
+        alloc: Global,
+        round: usize,
+        node: usize,
+        answer: NodeAnswer,
+    ) -> Result<Gathering, GatherFault>
+        requires { self.partial.kinds ≡ answer.partial.kinds }
+        ensures kept { IfOk result (λ new. Keeps round node answer.missing self.waiting new.waiting) }
+        ensures merged { IfOk result (λ new. IsMerge self.partial.kinds self.partial.groups answer.partial.groups new.partial.groups) }
+        ensures itself { IfOk result (λ _. IsResult answer.partial.kinds answer.partial.groups answer.partial.groups) }
+        ensures of_query { (query : Query) → IsPartialFor query self.partial → IsPartialFor query answer.partial
+            → IfOk result (λ new. IsPartialFor query new.partial) }
+    {
+        let (told, missing) = answer.into_parts();
+        // Read for the proof: the reader tells what its type keeps.
+        let _ = told.groups();
+        let waiting = keep_missing(alloc, self.waiting, round, node, &missing)?;
+        match merge(alloc, self.partial, told) {
+            Ok(partial) => Ok(Gathering { waiting, partial }),
+            Err(_) => Err(GatherFault::Memory),
+        }
+    }
+
+    // After an exchange with a node.
+    fn after(
+        self,
+        alloc: Global,
+        round: usize,
+        node: usize,
+        sub: &SubQuery,
+        came: &Result<Vec<u8>, WireFault>,
+    ) -> Result<Gathering, GatherFault>
+        requires { IsPartialFor sub.now.query self.partial }
+        ensures took { IfOk result (λ new. Took sub.now.query round node self new (exchange_of sub.now (came_of came.now) node)) }
+        ensures of_query { IfOk result (λ new. IsPartialFor sub.now.query new.partial) }
+    {
+        match answer_of(alloc, sub, came)? {
+            Some(answer) => self.told(alloc, round, node, answer),
+            None => Ok(self),
+        }
+    }
+
+    // The same, if there was an exchange.
+    fn after_if(
+        self,
+        alloc: Global,
+        query: &Query,
+        round: usize,
+        node: usize,
+        sub: &Option<SubQuery>,
+        came: &Option<Result<Vec<u8>, WireFault>>,
+    ) -> Result<Gathering, GatherFault>
+        requires of_query { IsPartialFor query.now self.partial }
+        requires query { IfSome sub.now (λ s. s.query ≡ query.now) }
+        ensures took { IfOk result (λ new. TookIf round node self new sub.now (option_map came_of came.now)) }
+        ensures of_query { IfOk result (λ new. IsPartialFor query.now new.partial) }
+    {
+        match sub {
+            None => Ok(self),
+            Some(sub) => match came {
+                None => Ok(self),
+                Some(came) => self.after(alloc, round, node, sub, came),
+            },
+        }
+    }
+
+    // After the exchanges of a round.
+    fn settled(
+        self,
+        alloc: Global,
+        query: &Query,
+        round: usize,
+        subs: &[Option<SubQuery>],
+        came: &[Option<Result<Vec<u8>, WireFault>>],
+    ) -> Result<Gathering, GatherFault>
+        requires of_query { IsPartialFor query.now self.partial }
+        requires subs { subs.now ≡ map (λ node. sub_if query.now (wanted_of round self.waiting node)) (range_with_len 0 (length subs.now)) }
+        requires matched { AllZip (λ s c. is_some s ≡ is_some c) subs.now (map (option_map came_of) came.now) }
+        ensures goes { IfOk result (λ new. Goes query.now round 0 (length subs.now) self new
+            (made_from (wanted_of round self.waiting) 0 (map (option_map came_of) came.now))) }
+        ensures of_query { IfOk result (λ new. IsPartialFor query.now new.partial) }
+    {
+        let mut gathering = self;
+        for node in 0..subs.len() {
+            gathering = gathering.after_if(alloc, query, round, node, &subs[node], &came[node])?;
+        }
+        Ok(gathering)
+    }
+
+    // The subqueries of a round to so many nodes, place by place.
+    fn wanted_subs(
+        &self,
+        alloc: Global,
+        query: &Query,
+        round: usize,
+        count: usize,
+    ) -> Result<Vec<Option<SubQuery>>, AllocError>
+        ensures { IfOk result (λ subs. subs.items
+            ≡ map (λ node. sub_if query.now (wanted_of round self.now.waiting node)) (range_with_len 0 count)) }
+    {
+        subs_for(alloc, query, &self.waiting, round, count)
+    }
+
+    // After a round: each piece that waits is asked of the next node in its order.
+    pub(crate) fn round<L: Link>(
+        self,
+        alloc: Global,
+        query: &Query,
+        round: usize,
+        links: &mut [L],
+    ) -> Result<Gathering, GatherFault>
+        requires { IsPartialFor query.now self.partial }
+        ensures ok { IfOk result (λ new. (more : List Exchange) × AreMade L.exchanges query.now more links.old links.new
+            × Goes query.now round 0 (length links.old) self new more) }
+        ensures of_query { IfOk result (λ new. IsPartialFor query.now new.partial) }
+        ensures err { OnErr result ((more : List Exchange) × AreMade L.exchanges query.now more links.old links.new) }
+    {
+        let subs = self.wanted_subs(alloc, query, round, links.len())?;
+        let came = ask(alloc, &subs, links)?;
+        self.settled(alloc, query, round, &subs, &came)
+    }
+
+    // What was gathered.
+    pub(crate) fn into_answer(self, alloc: Global) -> Result<Answer, GatherFault>
+        ensures missing { IfOk result (λ answer. answer.missing ≡ pieces_of self.waiting) }
+        ensures partial { IfOk result (λ answer. answer.partial ≡ self.partial) }
+    {
+        let missing = into_pieces(alloc, self.waiting)?;
+        Ok(Answer::new(self.partial, missing))
+    }
+}

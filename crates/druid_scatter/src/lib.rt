@@ -1,0 +1,24 @@
+//! Queries spread over data nodes: plans, orders of replicas, and what is gathered.
+#![tactic(auto)]
+
+mod answer;
+mod answering;
+mod fault;
+mod gathering;
+mod laws;
+mod pairs;
+mod pick;
+mod planning;
+mod requests;
+mod round;
+mod scatter;
+mod waiting;
+
+pub use answer::Answer;
+pub use fault::GatherFault;
+pub use laws::{gathered_rows_are_exact, one_plan, plans_may_be_asked};
+pub use pairs::{Pair, Plan};
+pub use pick::{Pick, Rotate};
+pub use planning::plan;
+pub use round::ask_round;
+pub use scatter::gather;

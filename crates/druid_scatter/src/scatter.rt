@@ -1,0 +1,39 @@
+//! Queries, asked of data nodes.
+ghost use Rattle.std.specs.Prelude.{List, IfOk, OnErr, length};
+ghost use Rattle.druid_partial.specs.Rows.{IsPartialFor};
+ghost use Rattle.druid_scatter.specs.Gathered.{Exchange, AreMade, IsGathered};
+ghost use Rattle.druid_scatter.specs.Rounds.{AreLinked};
+
+use crate::gathering::Gathering;
+use crate::waiting::{most_nodes, waiting_for};
+use crate::{Answer, GatherFault, Pick, Plan};
+use druid_partial::Partial;
+use druid_query::Query;
+use druid_wire::Link;
+use std::alloc::Global;
+
+/// Answers a query from the pieces of a plan. Each piece is asked of one node after another, in the order that `pick` gives
+/// them, until one gives it; a round sends each node one request for all that is asked of it. A piece that no node gave is
+/// missing. G9 where memory was refused, also by a link: then too each exchange was one of the query, over its node's link.
+pub fn gather<P: Pick, L: Link>(
+    alloc: Global,
+    query: &Query,
+    plan: &Plan,
+    turn: u64,
+    pick: &P,
+    links: &mut [L],
+) -> Result<Answer, GatherFault>
+    requires { AreLinked (length links.old) plan.now }
+    ensures ok { IfOk result (λ answer. (exchanges : List Exchange) × AreMade L.exchanges query.now exchanges links.old links.new
+        × IsGathered query.now plan.now exchanges answer.missing answer.partial.groups) }
+    ensures of_query { IfOk result (λ answer. IsPartialFor query.now answer.partial) }
+    ensures err { OnErr result ((exchanges : List Exchange) × AreMade L.exchanges query.now exchanges links.old links.new) }
+{
+    let waiting = waiting_for(alloc, plan, turn, pick)?;
+    let rounds = most_nodes(&waiting);
+    let mut gathering = Gathering::new(waiting, Partial::empty(alloc, query)?);
+    for round in 0..rounds {
+        gathering = gathering.round(alloc, query, round, links)?;
+    }
+    gathering.into_answer(alloc)
+}
