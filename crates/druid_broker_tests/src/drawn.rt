@@ -1,0 +1,166 @@
+//! Drawn clusters: what a broker answers is what a plain computation over all rows gives.
+ghost use Rattle.std.specs.Prelude.{◌<◌};
+
+use crate::broker::is_answered_by;
+use crate::plain::{HOURS, Plain, PlainChunk, PlainQuery, PlainRow, PlainSegment, query_text};
+use std::alloc::Global;
+use std::test::Fail;
+
+const CLUSTERS: u64 = 300;
+
+// Numbers that look random, the same in each run of the test.
+#[derive(Drop)]
+struct Draws {
+    state: u64,
+}
+
+impl Draws {
+    // A number below a bound.
+    fn below(&mut self, bound: usize) -> usize
+        requires { 0 < bound }
+        ensures { result < bound }
+    {
+        self.state = self
+            .state
+            .wrapping_mul(6364136223846793005)
+            .wrapping_add(1442695040888963407);
+        (self.state >> 33) as usize % bound
+    }
+
+    fn is_one_in(&mut self, bound: usize) -> bool
+        requires { 0 < bound }
+    {
+        self.below(bound) == 0
+    }
+}
+
+// The hours of chunks, which overlap in many ways.
+fn hours_of(kind: usize) -> (usize, usize) {
+    match kind {
+        0 => (0, 12),
+        1 => (0, 6),
+        2 => (6, 12),
+        3 => (3, 9),
+        4 => (2, 4),
+        _ => (4, 11),
+    }
+}
+
+fn drawn_number(draws: &mut Draws) -> Option<i64> {
+    match draws.below(6) {
+        0 => None,
+        1 => Some(i64::MAX),
+        2 => Some(-1),
+        3 => Some(i64::MIN),
+        n => Some(n as i64),
+    }
+}
+
+fn drawn_row(draws: &mut Draws, chunk: PlainChunk) -> PlainRow {
+    let length = chunk.end.saturating_sub(chunk.start).max(1);
+    PlainRow {
+        hour: chunk.start.saturating_add(draws.below(length)),
+        late: draws.is_one_in(2),
+        value: draws.below(4),
+        number: drawn_number(draws),
+    }
+}
+
+fn drawn_segment(
+    alloc: Global,
+    draws: &mut Draws,
+    place: usize,
+    chunk: PlainChunk,
+    partition: u16,
+) -> Result<PlainSegment, Fail> {
+    let mut nodes = [draws.is_one_in(2), draws.is_one_in(2), draws.is_one_in(2)];
+    nodes[draws.below(3)] = true;
+    let mut rows = Vec::new(alloc);
+    for _ in 0..draws.below(5) {
+        rows.push(drawn_row(draws, chunk))?;
+    }
+    Ok(PlainSegment {
+        chunk: place,
+        partition,
+        nodes,
+        rows,
+    })
+}
+
+// A chunk that is not there yet.
+fn drawn_chunk(draws: &mut Draws, chunks: &[PlainChunk]) -> Option<PlainChunk> {
+    let (start, end) = hours_of(draws.below(6));
+    let version = draws.below(3) as u64;
+    if chunks.iter().any(|c| c.version == version && c.start == start && c.end == end) {
+        return None;
+    }
+    Some(PlainChunk {
+        version,
+        start,
+        end,
+        core: draws.below(4) as u16,
+    })
+}
+
+// A cluster. Now and then a core partition of a chunk is not there.
+fn drawn_cluster(alloc: Global, draws: &mut Draws) -> Result<Plain, Fail> {
+    let mut plain = Plain {
+        chunks: Vec::new(alloc),
+        segments: Vec::new(alloc),
+        failing: [false; 3],
+    };
+    for _ in 0..5 {
+        if let Some(chunk) = drawn_chunk(draws, &plain.chunks) {
+            let place = plain.chunks.len();
+            plain.chunks.push(chunk)?;
+            for partition in 0..4_u16 {
+                if partition < chunk.core && !draws.is_one_in(12) || draws.is_one_in(4) {
+                    let segment = drawn_segment(alloc, draws, place, chunk, partition)?;
+                    plain.segments.push(segment)?;
+                }
+            }
+        }
+    }
+    plain.failing[draws.below(3)] = true;
+    if draws.is_one_in(2) {
+        plain.failing[draws.below(3)] = true;
+    }
+    Ok(plain)
+}
+
+fn drawn_query(draws: &mut Draws) -> PlainQuery {
+    let start = draws.below(HOURS);
+    let left = HOURS.saturating_sub(start).max(1);
+    PlainQuery {
+        start,
+        end: start.saturating_add(1).saturating_add(draws.below(left)),
+        by_hour: draws.is_one_in(2),
+        by_value: draws.is_one_in(2),
+    }
+}
+
+// Whether a broker over a drawn cluster answers as it should, and whether something was missing.
+fn drawn_answer(alloc: Global, seed: u64) -> Result<(bool, bool), Fail> {
+    let mut draws = Draws { state: seed };
+    let plain = drawn_cluster(alloc, &mut draws)?;
+    let query = drawn_query(&mut draws);
+    let wanted = plain.answer(alloc, query)?;
+    let asked = query_text(alloc, query)?;
+    let text = plain.text(alloc)?;
+    let same = is_answered_by(alloc, text.as_str(), asked.as_str(), wanted.as_str(), seed)?;
+    Ok((same, wanted.as_str().starts_with("503")))
+}
+
+#[test]
+fn drawn_clusters(rt: HostRuntime) -> Result<(), Fail> {
+    let mut short = 0_u64;
+    for seed in 0..CLUSTERS {
+        let (same, missing) = drawn_answer(rt.alloc(), seed)?;
+        assert!(rt; same, "at {seed}");
+        if missing {
+            short = short.wrapping_add(1);
+        }
+    }
+    assert!(rt; short > 30 && short < 270);
+    Ok(())
+}

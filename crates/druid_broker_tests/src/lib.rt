@@ -1,0 +1,18 @@
+//! What no contract says of brokers: worked examples over clusters of data nodes in memory, drawn clusters beside a plain
+//! computation over all rows, printed texts, and that calls succeed with ample memory. A module tells what it tests.
+#![tactic(auto)]
+
+#[cfg(test)]
+mod broker;
+#[cfg(test)]
+mod cluster;
+#[cfg(test)]
+mod drawn;
+#[cfg(test)]
+mod plain;
+#[cfg(test)]
+mod printing;
+#[cfg(test)]
+mod scatter;
+#[cfg(test)]
+mod turns;
