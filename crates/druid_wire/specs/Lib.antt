@@ -8,4 +8,5 @@ pub mod Told
 pub mod Written
 pub mod Links
 pub mod MemoryLinks
+pub mod TcpLinks
 pub mod Served

@@ -16,6 +16,8 @@ mod reading;
 mod request;
 mod response;
 mod serving;
+mod tcp_link;
+mod watch;
 mod writing;
 
 pub use fault::WireFault;
@@ -33,4 +35,5 @@ pub use reading::{read_request, read_response};
 pub use request::Request;
 pub use response::response_of;
 pub use serving::{refuse_request, send_response};
+pub use tcp_link::{EXCHANGE_SECONDS, TcpLink};
 pub use writing::{request_bytes, write_request, write_response};

@@ -11,4 +11,6 @@ mod printing;
 #[cfg(test)]
 mod serving;
 #[cfg(test)]
+mod tcp_links;
+#[cfg(test)]
 mod wire;

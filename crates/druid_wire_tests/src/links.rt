@@ -14,7 +14,7 @@ fn two_replies(alloc: Global, fuse: u64) -> Result<MemoryLink, Fail> {
 }
 
 // What an exchange gives.
-fn exchanged<L: Link>(alloc: Global, link: &mut L) -> Result<String, Fail> {
+pub(crate) fn exchanged<L: Link>(alloc: Global, link: &mut L) -> Result<String, Fail> {
     match link.exchange(alloc, b"GET / HTTP/1.1\r\n\r\n") {
         Ok(bytes) => Ok(String::from_utf8_lossy(alloc, &bytes)?),
         Err(fault) => printed(alloc, &fault),
