@@ -6,7 +6,6 @@ pub mod LengthLemmas
 pub mod HeadLemmas
 pub mod MessageLemmas
 pub mod WriteLemmas
-pub mod TcpLemmas
 pub mod ServeLemmas
 pub mod FramedLemmas
 pub mod GrammarLines

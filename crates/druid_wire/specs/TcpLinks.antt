@@ -1,27 +1,29 @@
--- Links over sockets.
-use Rattle.std.specs.Prelude.{◌≡◌, ℕ, List}
-use Rattle.druid_wire.specs.Links.{Came, faults_after}
-use Rattle.druid_wire.specs.declared.fault.WireFault.{WireFault}
-use Rattle.druid_wire.specs.declared.fault.WireFault.TheVariants.{Cut, Read, Write, BadHead, HeadTooLong, NoLength, BodyTooLong, Connect, Memory}
+-- A link over sockets, and what comes back over it.
+use Rattle.std.specs.Prelude.{◌≡◌, ◌≤◌, ℕ, List, length, IfOk, IfErr}
+use Rattle.std.specs.declared.time.Duration.{Duration}
+use Rattle.druid_wire.specs.Links.{Came, IsLinkFault, faults_after}
+use Rattle.druid_wire.specs.declared.link.TheConstants.{MAX_EXCHANGE}
+use Rattle.druid_wire.specs.declared.tcp_link.TheConstants.{EXCHANGE_SECONDS}
 
--- where its server is, how many nanoseconds an exchange may take, and how often the device has failed
+-- the text of its address, the longest that an exchange may take, and how many exchanges failed (at 2^64 - 1 it stays)
 pub record TcpLinkValue : Type 0 where
   pub address : List ℕ
-  pub limit : ℕ
+  pub limit : Duration
   pub failed : ℕ
 
--- whatever comes back over a socket, the link keeps its address and its limit, and counts its failures
-abbrev pub ExchangesOverSockets : TcpLinkValue → List ℕ → Came → TcpLinkValue → Type 0
-ExchangesOverSockets before request came after = after ≡ record before { failed = faults_after came before.failed }
+-- no exchange was made
+abbrev pub fresh_tcp_link : List ℕ → TcpLinkValue
+fresh_tcp_link address = record { address = address; limit = record { secs = EXCHANGE_SECONDS; nanos = 0 }; failed = 0 }
 
--- what the receiving of an answer may fail for
-abbrev pub IsReceiveFault : WireFault → Type 0
-IsReceiveFault Cut = ⊥
-IsReceiveFault Read = Unit {0}
-IsReceiveFault Write = ⊥
-IsReceiveFault BadHead = ⊥
-IsReceiveFault HeadTooLong = ⊥
-IsReceiveFault NoLength = ⊥
-IsReceiveFault BodyTooLong = Unit {0}
-IsReceiveFault Connect = ⊥
-IsReceiveFault Memory = Unit {0}
+-- the same link with another limit
+abbrev pub limited : TcpLinkValue → Duration → TcpLinkValue
+limited link limit = record link { limit = limit }
+
+-- the link after an exchange which gave this
+abbrev pub over_tcp : TcpLinkValue → Came → TcpLinkValue
+over_tcp link came = record link { failed = faults_after came link.failed }
+
+-- an exchange may give whatever a link may give: of sockets nothing else is claimed
+abbrev pub ExchangesOverTcp : TcpLinkValue → List ℕ → Came → TcpLinkValue → Type 0
+ExchangesOverTcp before request came after =
+    (after ≡ over_tcp before came) × IfOk came (λ bytes. length bytes ≤ MAX_EXCHANGE) × IfErr came IsLinkFault

@@ -17,7 +17,6 @@ mod request;
 mod response;
 mod serving;
 mod tcp_link;
-mod watch;
 mod writing;
 
 pub use fault::WireFault;

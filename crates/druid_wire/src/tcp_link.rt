@@ -1,144 +1,92 @@
 //! Links over sockets.
-ghost use Rattle.std.specs.Prelude.{◌≡◌, ◌≤◌, ◌*◌, length, string_bytes, vec_len, IfOk, IfErr};
-ghost use Rattle.std.specs.Duration.{as_nanos};
+ghost use Rattle.std.specs.Prelude.{◌≡◌, ◌≤◌, ◌<◌, ◌⊎◌, length, take, string_bytes, IfOk, IfErr, IfSome, OnOk};
+ghost use Rattle.std.specs.Io.KnownBytes.{Appends, Consumes, IsAtEnd};
 ghost use Rattle.druid_wire.specs.Links.{IsLinkFault, faults_at};
-ghost use Rattle.druid_wire.specs.TcpLinks.{IsReceiveFault};
+ghost use Rattle.druid_wire.specs.TcpLinks.{fresh_tcp_link, limited};
 
 use crate::interrupted::{MAX_TRIES, is_interrupted};
-use crate::watch::Watch;
-use crate::writing::write_some;
 use crate::{Link, MAX_EXCHANGE, WireFault};
 use std::alloc::Global;
-use std::io;
-use std::io::{ErrorKind, Read, Write};
+use std::io::{Read, Write};
 use std::marker::Model;
 use std::net::{Net, OpenStream, SocketAddr, TcpStream};
-use std::time::{Clock, Duration};
+use std::time::{Clock, Duration, Instant};
 
-/// How long an exchange may take, from before the server is called until it has closed, where no other limit is given.
+/// The longest that an exchange may take, in seconds, connecting included; then it fails.
 pub const EXCHANGE_SECONDS: u64 = 30;
 
-// How many bytes are taken from a socket at once.
-const BUFFER: usize = 16_384;
+// How many bytes are read at once.
+const PART: usize = 16_384;
 
-/// A link to the server at an address, such as `127.0.0.1:8082`, which it calls anew in each exchange.
-///
-/// `Connect` where the address is none, nobody listens there, or the call takes longer than the limit; `Write` and `Read` where
-/// the socket fails, or the rest of the exchange takes longer. What comes over a socket is not known before: nothing is claimed
-/// of it but its length.
+/// A link to the server at an address, as `127.0.0.1:8082`. Each exchange makes a connection of its own, which is closed
+/// behind it. `Connect` where the text is no address of a socket, where no connection is made, or where the clock cannot be
+/// read before; `Write` where the request is not sent whole; `Read` where the answer cannot be read to its end. All of them
+/// together may take no longer than the limit. Of what the server gives nothing is claimed but how much it is.
 #[derive(Drop)]
-pub struct TcpLink<N: Net + Clock + Drop> {
+pub struct TcpLink<N: Net + Clock> {
     net: N,
     address: String,
     limit: Duration,
+    // How many exchanges failed.
     failed: u64,
 }
 
-impl<N: Net + Clock + Drop> Model for TcpLink<N> {
+impl<N: Net + Clock> Model for TcpLink<N> {
     ghost use Rattle.std.specs.Prelude.{string_bytes};
-    ghost use Rattle.std.specs.Duration.{as_nanos};
     ghost use Rattle.druid_wire.specs.TcpLinks.{TcpLinkValue};
 
     ghost Value = { TcpLinkValue };
 
-    ghost view = { λ a. record { address = string_bytes a.address; limit = as_nanos a.limit; failed = a.failed } };
+    ghost view = { λ a. record { address = string_bytes a.address; limit = a.limit; failed = a.failed } };
 }
 
-// A socket that is connected to the address.
-fn connected<N: Net + Clock>(
-    net: &N,
-    watch: &Watch<'_, N>,
-    address: &str,
-) -> io::Result<N::Stream> {
-    let Ok(address) = address.parse::<SocketAddr>() else {
-        return Err(ErrorKind::InvalidInput.into());
-    };
-    TcpStream::connect_timeout(net, &address, watch.left()?)
-}
-
-// Sends a request, whole.
-fn send<C: Clock, S: Write + OpenStream>(
-    watch: &Watch<'_, C>,
-    stream: &mut S,
-    request: &[u8],
-) -> io::Result<()> {
-    let mut rest = request;
-    while !rest.is_empty() {
-        stream.set_write_timeout(Some(watch.left()?))?;
-        let written = write_some(stream, rest)?;
-        let (_, left) = rest.split_at(written);
-        rest = left;
+impl<N: Net + Clock> TcpLink<N> {
+    /// A link to the server at this address, whose exchanges may take `EXCHANGE_SECONDS`.
+    pub fn new(net: N, address: String) -> TcpLink<N>
+        ensures { result ≡ fresh_tcp_link (string_bytes address) }
+    {
+        TcpLink {
+            net,
+            address,
+            limit: Duration::from_secs(EXCHANGE_SECONDS),
+            failed: 0,
+        }
     }
-    Ok(())
+
+    /// The same link, whose exchanges may take so long.
+    pub fn with_limit(self, limit: Duration) -> TcpLink<N>
+        ensures { result ≡ limited self limit }
+    {
+        let mut link = self;
+        link.limit = limit;
+        link
+    }
 }
 
-// Takes what has come, into a buffer; 0 where the other side has closed.
-fn read_some<C: Clock, S: Read + OpenStream>(
-    watch: &Watch<'_, C>,
-    stream: &mut S,
-    buffer: &mut [u8],
-) -> io::Result<usize>
-    ensures count { IfOk result (λ n. n ≤ length buffer.new) }
-    ensures same { length buffer.new ≡ length buffer.old }
-{
-    for _ in 0..MAX_TRIES {
-        stream.set_read_timeout(Some(watch.left()?))?;
-        match stream.read(buffer) {
-            Ok(count) => return Ok(count),
-            Err(error) => {
-                if !is_interrupted(&error) {
-                    return Err(error);
-                }
+impl<N: Net + Clock> Link for TcpLink<N> {
+    ghost use Rattle.druid_wire.specs.TcpLinks.{ExchangesOverTcp};
+
+    ghost exchanges = { ExchangesOverTcp };
+
+    ghost faults = { λ link. link.failed };
+
+    fn exchange(&mut self, alloc: Global, request: &[u8]) -> Result<Vec<u8>, WireFault> {
+        match ask(alloc, &self.net, self.address.as_str(), self.limit, request) {
+            Ok(bytes) => Ok(bytes),
+            Err(fault) => {
+                self.failed = faults_at(fault, self.failed);
+                Err(fault)
             }
         }
     }
-    Err(ErrorKind::Interrupted.into())
-}
 
-// Appends what has come. False where the other side has closed.
-fn take_some<C: Clock, S: Read + OpenStream>(
-    watch: &Watch<'_, C>,
-    stream: &mut S,
-    buffer: &mut [u8],
-    bytes: &mut Vec<u8>,
-) -> Result<bool, WireFault>
-    requires { vec_len bytes.old ≤ MAX_EXCHANGE }
-    ensures bound { vec_len bytes.new ≤ MAX_EXCHANGE }
-    ensures err { IfErr result IsReceiveFault }
-{
-    let Ok(count) = read_some(watch, stream, buffer) else {
-        return Err(WireFault::Read);
-    };
-    if MAX_EXCHANGE - bytes.len() < count {
-        return Err(WireFault::BodyTooLong);
-    }
-    match bytes.extend_from_slice(&buffer[..count]) {
-        Ok(()) => Ok(count != 0),
-        Err(_) => Err(WireFault::Memory),
+    fn faults(&self) -> u64 {
+        self.failed
     }
 }
 
-// Takes all that comes until the other side closes, with memory for what has come.
-fn receive<C: Clock, S: Read + OpenStream>(
-    alloc: Global,
-    watch: &Watch<'_, C>,
-    stream: &mut S,
-) -> Result<Vec<u8>, WireFault>
-    ensures bound { IfOk result (λ bytes. vec_len bytes ≤ MAX_EXCHANGE) }
-    ensures err { IfErr result IsReceiveFault }
-{
-    let mut buffer = [0; BUFFER];
-    let mut bytes = Vec::new(alloc);
-    for _ in 0..u64::MAX {
-        if !take_some(watch, stream, &mut buffer, &mut bytes)? {
-            return Ok(bytes);
-        }
-    }
-    Err(WireFault::Read)
-}
-
-// The failures of a device, after a fault.
-fn counted(fault: WireFault, failed: u64) -> u64
+// How often the device has failed, after a fault.
+fn faults_at(fault: WireFault, failed: u64) -> u64
     ensures { result ≡ faults_at fault failed }
 {
     match fault {
@@ -152,68 +100,173 @@ fn counted(fault: WireFault, failed: u64) -> u64
     }
 }
 
-impl<N: Net + Clock + Drop> TcpLink<N> {
-    /// A link to that address, with the limit `EXCHANGE_SECONDS`. Nobody is called before the first exchange.
-    pub fn new(net: N, address: String) -> TcpLink<N>
-        ensures { result ≡ record { address = string_bytes address; limit = EXCHANGE_SECONDS * 1_000_000_000; failed = 0 } }
-    {
-        TcpLink {
-            net,
-            address,
-            limit: Duration::from_secs(EXCHANGE_SECONDS),
-            failed: 0,
-        }
-    }
+// The time that an exchange has, from its start.
+#[derive(Clone, Copy)]
+struct Timer {
+    start: Instant,
+    limit: Duration,
+}
 
-    /// The same link, with another limit for each exchange.
-    pub fn with_limit(self, limit: Duration) -> TcpLink<N>
-        ensures { result ≡ record self { limit = as_nanos limit } }
-    {
-        TcpLink {
-            net: self.net,
-            address: self.address,
-            limit,
-            failed: self.failed,
-        }
-    }
-
-    // One exchange, whose failures are not counted yet.
-    #[tactic(auto, using(crate::proofs::TcpLemmas::received))]
-    fn exchanged(&self, alloc: Global, request: &[u8]) -> Result<Vec<u8>, WireFault>
-        ensures bound { IfOk result (λ bytes. vec_len bytes ≤ MAX_EXCHANGE) }
-        ensures err { IfErr result IsLinkFault }
-    {
-        let Ok(watch) = Watch::start(&self.net, self.limit) else {
-            return Err(WireFault::Connect);
+impl Timer {
+    // What is left of it, which is not zero. `None` once it is over, or where the clock cannot be read.
+    fn left<C: Clock>(&self, clock: &C) -> Option<Duration> {
+        let Ok(elapsed) = self.start.elapsed(clock) else {
+            return None;
         };
-        let Ok(mut stream) = connected(&self.net, &watch, &self.address) else {
-            return Err(WireFault::Connect);
-        };
-        let Ok(()) = send(&watch, &mut stream, request) else {
-            return Err(WireFault::Write);
-        };
-        receive(alloc, &watch, &mut stream)
+        let left = self.limit.checked_sub(elapsed)?;
+        if left.is_zero() { None } else { Some(left) }
     }
 }
 
-impl<N: Net + Clock + Drop> Link for TcpLink<N> {
-    ghost use Rattle.druid_wire.specs.TcpLinks.{ExchangesOverSockets};
+// One exchange.
+fn ask<N: Net + Clock>(
+    alloc: Global,
+    net: &N,
+    address: &str,
+    limit: Duration,
+    request: &[u8],
+) -> Result<Vec<u8>, WireFault>
+    ensures bound { IfOk result (λ bytes. length bytes.items ≤ MAX_EXCHANGE) }
+    ensures fault { IfErr result IsLinkFault }
+{
+    let Ok(start) = Instant::now(net) else {
+        return Err(WireFault::Connect);
+    };
+    let timer = Timer { start, limit };
+    let Some(mut stream) = connected(net, &timer, address) else {
+        return Err(WireFault::Connect);
+    };
+    match send_all(net, &timer, &mut stream, request) {
+        Ok(()) => {}
+        Err(fault) => return Err(fault),
+    }
+    receive_all(alloc, net, &timer, &mut stream)
+}
 
-    ghost exchanges = { ExchangesOverSockets };
+// A connection to the server at an address, made within the time.
+fn connected<N: Net + Clock>(net: &N, timer: &Timer, address: &str) -> Option<N::Stream> {
+    let Ok(address) = address.parse::<SocketAddr>() else {
+        return None;
+    };
+    let left = timer.left(net)?;
+    TcpStream::connect_timeout(net, &address, left).ok()
+}
 
-    ghost faults = { λ link. link.failed };
-
-    fn exchange(&mut self, alloc: Global, request: &[u8]) -> Result<Vec<u8>, WireFault> {
-        match self.exchanged(alloc, request) {
-            Ok(bytes) => Ok(bytes),
-            Err(fault) => {
-                self.failed = counted(fault, self.failed);
-                Err(fault)
+// Writes a front of a text, of one byte at least, within the time, and gives its length.
+#[tactic(auto, using(crate::proofs::WriteLemmas::kept_twice, crate::proofs::WriteLemmas::kept_appends))]
+fn send_some<C: Clock, S: Write + OpenStream>(
+    clock: &C,
+    timer: &Timer,
+    stream: &mut S,
+    text: &[u8],
+) -> Result<usize, WireFault>
+    ensures bound { IfOk result (λ n. n ≤ length text.now) }
+    ensures progress { IfOk result (λ n. 1 ≤ n) }
+    ensures ok { IfOk result
+        (λ n. Appends (S.contents stream.old) (S.contents stream.new) (take n text.now)) }
+    ensures err { IfErr result (λ fault. fault ≡ WireFault.Write) }
+{
+    for _ in 0..MAX_TRIES {
+        let Some(left) = timer.left(clock) else {
+            return Err(WireFault::Write);
+        };
+        if stream.set_write_timeout(Some(left)).is_err() {
+            return Err(WireFault::Write);
+        }
+        match stream.write(text) {
+            Ok(0) => return Err(WireFault::Write),
+            Ok(written) => return Ok(written),
+            Err(error) => {
+                if !is_interrupted(&error) {
+                    return Err(WireFault::Write);
+                }
             }
         }
     }
+    Err(WireFault::Write)
+}
 
-    fn faults(&self) -> u64 {
-        self.failed
+// Writes a text within the time.
+fn send_all<C: Clock, S: Write + OpenStream>(
+    clock: &C,
+    timer: &Timer,
+    stream: &mut S,
+    text: &[u8],
+) -> Result<(), WireFault>
+    ensures ok { OnOk result (Appends (S.contents stream.old) (S.contents stream.new) text.now) }
+    ensures err { IfErr result (λ fault. fault ≡ WireFault.Write) }
+{
+    let mut rest = text;
+    while !rest.is_empty() {
+        let written = match send_some(clock, timer, stream, rest) {
+            Ok(written) => written,
+            Err(fault) => return Err(fault),
+        };
+        let (_, left) = rest.split_at(written);
+        rest = left;
     }
+    Ok(())
+}
+
+// Reads what comes next, within the time: no bytes where the other side closed.
+fn receive_some<C: Clock, S: Read + OpenStream>(
+    clock: &C,
+    timer: &Timer,
+    stream: &mut S,
+    part: &mut [u8],
+) -> Result<usize, WireFault>
+    ensures ok { IfOk result (λ n. n ≤ length part.new) }
+    ensures room { length part.new ≡ length part.old }
+    ensures taken { IfOk result
+        (λ n. Consumes (S.remaining stream.old) (S.remaining stream.new) (take n part.new)) }
+    ensures end { IfOk result (λ n. n ≡ 0 → 0 < length part.old → IsAtEnd (S.remaining stream.new)) }
+    ensures err { IfErr result (λ fault. fault ≡ WireFault.Read) }
+{
+    for _ in 0..MAX_TRIES {
+        let Some(left) = timer.left(clock) else {
+            return Err(WireFault::Read);
+        };
+        if stream.set_read_timeout(Some(left)).is_err() {
+            return Err(WireFault::Read);
+        }
+        match stream.read(part) {
+            Ok(count) => return Ok(count),
+            Err(error) => {
+                if !is_interrupted(&error) {
+                    return Err(WireFault::Read);
+                }
+            }
+        }
+    }
+    Err(WireFault::Read)
+}
+
+// Reads all bytes until the other side closes, within the time. Each turn reads one byte at least.
+fn receive_all<C: Clock, S: Read + OpenStream>(
+    alloc: Global,
+    clock: &C,
+    timer: &Timer,
+    stream: &mut S,
+) -> Result<Vec<u8>, WireFault>
+    ensures bound { IfOk result (λ bytes. length bytes.items ≤ MAX_EXCHANGE) }
+    ensures whole { IfOk result (λ bytes. IfSome (S.remaining stream.old) (λ left. bytes.items ≡ left)) }
+    ensures err { IfErr result
+        (λ fault. (fault ≡ WireFault.Read) ⊎ (fault ≡ WireFault.BodyTooLong) ⊎ (fault ≡ WireFault.Memory)) }
+{
+    let mut bytes = Vec::new(alloc);
+    let mut part = [0u8; PART];
+    for _ in 0..=MAX_EXCHANGE {
+        let count = match receive_some(clock, timer, stream, &mut part) {
+            Ok(count) => count,
+            Err(fault) => return Err(fault),
+        };
+        if count == 0 {
+            return Ok(bytes);
+        }
+        if MAX_EXCHANGE - bytes.len() < count {
+            return Err(WireFault::BodyTooLong);
+        }
+        bytes.extend_from_slice(&part[..count])?;
+    }
+    Err(WireFault::BodyTooLong)
 }

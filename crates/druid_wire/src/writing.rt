@@ -24,7 +24,7 @@ const BEHIND_LENGTH: &[u8] = b"\r\nConnection: close\r\n\r\n";
 
 // Writes a front of a text, of one byte at least, and gives its length.
 #[tactic(auto, using(crate::proofs::WriteLemmas::kept_twice, crate::proofs::WriteLemmas::kept_appends))]
-pub(crate) fn write_some<W: Write>(writer: &mut W, text: &[u8]) -> io::Result<usize>
+fn write_some<W: Write>(writer: &mut W, text: &[u8]) -> io::Result<usize>
     ensures bound { IfOk result (λ n. n ≤ length text.now) }
     ensures progress { IfOk result (λ n. 1 ≤ n) }
     ensures ok { IfOk result
