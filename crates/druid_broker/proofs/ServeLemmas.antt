@@ -1,11 +1,13 @@
 -- Which requests use links.
-use Rattle.std.proofs.Common.{◌≡◌, ◌⊎◌, ℕ, Bool, true, false, List, codes, bytes_eq, Option, Some, None, IfSome, refl, inl, inr}
+use Rattle.std.proofs.Common.{◌≡◌, ◌⊎◌, ℕ, Bool, true, false, List, [], codes, bytes_eq, Option, Some, None, IfSome, refl, inl, inr}
+use Rattle.druid_shard.specs.Mark.{Point}
 use Rattle.druid_inventory.specs.Entry.{Entry}
 use Rattle.druid_wire.specs.Links.{Came}
 use Rattle.druid_wire.specs.Messages.{RequestValue, IsRequest}
 use Rattle.druid_wire.specs.Served.{path_of}
 use Rattle.druid_wire.proofs.ServeLemmas.{WasRead}
 use Rattle.druid_broker.specs.Routes.{Route, health, query, sources, load_status, entry, nowhere, route_of, AnswersPost, AnswersAt, Responds, KeepsLinks}
+use Rattle.druid_broker.specs.Views.{RespondsBy, KeepsView}
 
 module _ {L : Type 0} (step : L → List ℕ → Came → L → Type 0) (inventory : List Entry) (old new : List L) where
   posted : (b : Bool) (bytes : List ℕ) (status : ℕ) (body : List ℕ) → AnswersPost step b inventory bytes old new status body → (new ≡ old) ⊎ (b ≡ true)
@@ -39,3 +41,17 @@ module _ {L : Type 0} (step : L → List ℕ → Came → L → Type 0) (invento
   keeps_links None after request status body read answer = tt
   keeps_links (Some input) after request status body (rest, after_is, is) answer =
       kept input request rest is (at_route (route_of (path_of request.target)) request status body answer)
+
+-- the links and the view after an answer by way of a view
+module _ {L : Type 0} (step : L → List ℕ → Came → L → Type 0) (names : List (List ℕ)) (floor after : List Point) (old new : List L) where
+  pub keeps_links_by : (before rest : Option (List ℕ)) (request : RequestValue) (status : ℕ) (body : List ℕ) → WasRead before rest request
+      → RespondsBy step names floor after old new request status body → IfSome before (KeepsLinks old new)
+  keeps_links_by None rest request status body read answer = tt
+  keeps_links_by (Some input) rest request status body read (inl (inventory, reads, answer)) = keeps_links step inventory old new (Some input) rest request status body read answer
+  keeps_links_by (Some input) rest request status body read (inr (inl (answer, same))) = keeps_links step [] old new (Some input) rest request status body read (answer [])
+  keeps_links_by (Some input) rest request status body read (inr (inr (takes, told, same, links))) = inl links
+
+  pub keeps_view : (request : RequestValue) (status : ℕ) (body : List ℕ) → RespondsBy step names floor after old new request status body → KeepsView names floor after
+  keeps_view request status body (inl (inventory, reads, answer)) = inr (inventory, reads)
+  keeps_view request status body (inr (inl (answer, same))) = inl same
+  keeps_view request status body (inr (inr (takes, told, same, links))) = inl same

@@ -7,11 +7,12 @@ use druid_node::{DataNode, NodeState};
 use druid_rows::{Row, Schema, Segment};
 use druid_scatter::Rotate;
 use druid_segid::{Name, SegmentId, Version};
-use druid_shard::Descriptor;
+use druid_shard::{Descriptor, Mark};
 use druid_time::{Instant, Interval};
 use druid_wire::{Link, MAX_EXCHANGE, WireFault, response_of};
 use std::alloc::Global;
 use std::str;
+use std::sync::Wait;
 use std::test::Fail;
 
 /// What stands behind a link.
@@ -27,20 +28,29 @@ pub(crate) enum Behind {
 
 /// A link of a test. It counts its exchanges.
 #[derive(Drop)]
-pub(crate) struct TestLink {
+pub(crate) struct TestLink<R: Wait + Drop> {
+    rt: R,
     behind: Behind,
+    // What was seen of the node behind it.
+    seen: Mark,
     made: u64,
     faults: u64,
 }
 
 // What a data node writes for a request. What was written before a fault comes back all the same.
-fn answer_of(alloc: Global, node: &DataNode, request: &[u8]) -> Result<Vec<u8>, WireFault>
+fn answer_of(
+    rt: &impl Wait,
+    alloc: Global,
+    node: &DataNode,
+    request: &[u8],
+    seen: &mut Mark,
+) -> Result<Vec<u8>, WireFault>
     ensures bound { IfOk result (λ bytes. length bytes.items ≤ MAX_EXCHANGE) }
     ensures fault { IfErr result (λ fault. fault ≡ WireFault.BodyTooLong) }
 {
     let mut reader = request;
     let mut written = Vec::new(alloc);
-    drop(node.serve_one(&mut reader, &mut written));
+    drop(node.serve_one(rt, &mut reader, &mut written, seen));
     if MAX_EXCHANGE < written.len() {
         return Err(WireFault::BodyTooLong);
     }
@@ -58,7 +68,7 @@ fn copy_of(alloc: Global, bytes: &[u8]) -> Result<Vec<u8>, WireFault>
     Ok(bytes.to_vec(alloc)?)
 }
 
-impl Link for TestLink {
+impl<R: Wait + Drop> Link for TestLink<R> {
     ghost exchanges = { λ link request came next. Unit {0} };
 
     ghost faults = { λ link. link.faults };
@@ -66,7 +76,7 @@ impl Link for TestLink {
     fn exchange(&mut self, alloc: Global, request: &[u8]) -> Result<Vec<u8>, WireFault> {
         self.made = self.made.saturating_add(1);
         match &self.behind {
-            Behind::Node(node) => answer_of(alloc, node, request),
+            Behind::Node(node) => answer_of(&self.rt, alloc, node, request, &mut self.seen),
             Behind::Bytes(bytes) => copy_of(alloc, bytes),
             Behind::Nothing => {
                 self.faults = self.faults.saturating_add(1);
@@ -80,11 +90,13 @@ impl Link for TestLink {
     }
 }
 
-impl TestLink {
+impl<R: Wait + Drop> TestLink<R> {
     /// A link to that.
-    pub(crate) fn new(behind: Behind) -> TestLink {
+    pub(crate) fn new(rt: R, behind: Behind) -> TestLink<R> {
         TestLink {
+            rt,
             behind,
+            seen: Mark::never(),
             made: 0,
             faults: 0,
         }
@@ -93,6 +105,7 @@ impl TestLink {
     /// Puts something else behind it.
     pub(crate) fn set(&mut self, behind: Behind) {
         self.behind = behind;
+        self.seen = Mark::never();
     }
 
     /// How many exchanges were made since the last time that this was asked.
@@ -105,9 +118,9 @@ impl TestLink {
 
 /// A broker, and link k to node k of its list.
 #[derive(Drop)]
-pub(crate) struct Cluster {
+pub(crate) struct Cluster<R: Wait + Drop> {
     pub(crate) inventory: Inventory,
-    pub(crate) links: Vec<TestLink>,
+    pub(crate) links: Vec<TestLink<R>>,
 }
 
 // An instant of the first day of 2024, by its milliseconds.
@@ -202,7 +215,7 @@ fn node(alloc: Global, text: &str) -> Result<DataNode, Fail> {
 }
 
 // Follows the first nodes.
-fn follow(alloc: Global, cluster: &mut Cluster, count: usize) -> Result<(), Fail> {
+fn follow<R: Wait + Drop>(alloc: Global, cluster: &mut Cluster<R>, count: usize) -> Result<(), Fail> {
     for node in 0..64_u16 {
         let place = node as usize;
         if place >= count || place >= cluster.links.len() {
@@ -229,14 +242,15 @@ fn inventory(alloc: Global, count: usize) -> Result<Inventory, Fail> {
 }
 
 /// A cluster of nodes, between which `|` stands, and a broker that has followed the first of them.
-pub(crate) fn followed_cluster(
+pub(crate) fn followed_cluster<R: Wait + Copy + Drop>(
+    rt: &R,
     alloc: Global,
     text: &str,
     followed: usize,
-) -> Result<Cluster, Fail> {
+) -> Result<Cluster<R>, Fail> {
     let mut links = Vec::new(alloc);
     for one in text.split(" | ") {
-        links.push(TestLink::new(Behind::Node(node(alloc, one)?)))?;
+        links.push(TestLink::new(*rt, Behind::Node(node(alloc, one)?)))?;
     }
     let inventory = inventory(alloc, links.len())?;
     let mut cluster = Cluster { inventory, links };
@@ -245,9 +259,9 @@ pub(crate) fn followed_cluster(
 }
 
 // What the broker writes for a message, at a turn.
-fn written(
+fn written<R: Wait + Drop>(
     alloc: Global,
-    cluster: &mut Cluster,
+    cluster: &mut Cluster<R>,
     turn: u64,
     message: &[u8],
 ) -> Result<Vec<u8>, Fail> {
@@ -273,9 +287,9 @@ fn written(
 }
 
 /// What the broker answers to a message, at a turn: `200 true`.
-pub(crate) fn answered(
+pub(crate) fn answered<R: Wait + Drop>(
     alloc: Global,
-    cluster: &mut Cluster,
+    cluster: &mut Cluster<R>,
     turn: u64,
     message: &[u8],
 ) -> Result<String, Fail> {
@@ -289,9 +303,9 @@ pub(crate) fn answered(
 }
 
 /// What it answers to a query.
-pub(crate) fn posted(
+pub(crate) fn posted<R: Wait + Drop>(
     alloc: Global,
-    cluster: &mut Cluster,
+    cluster: &mut Cluster<R>,
     turn: u64,
     query: &str,
 ) -> Result<String, Fail> {
@@ -303,7 +317,7 @@ pub(crate) fn posted(
 }
 
 /// Puts something else behind a link.
-pub(crate) fn set(cluster: &mut Cluster, place: usize, behind: Behind) -> Result<(), Fail> {
+pub(crate) fn set<R: Wait + Drop>(cluster: &mut Cluster<R>, place: usize, behind: Behind) -> Result<(), Fail> {
     match cluster.links.get_mut(place) {
         Some(link) => {
             link.set(behind);
@@ -314,7 +328,7 @@ pub(crate) fn set(cluster: &mut Cluster, place: usize, behind: Behind) -> Result
 }
 
 /// How many exchanges a link made since the last time that this was asked.
-pub(crate) fn made_by(cluster: &mut Cluster, place: usize) -> Result<u64, Fail> {
+pub(crate) fn made_by<R: Wait + Drop>(cluster: &mut Cluster<R>, place: usize) -> Result<u64, Fail> {
     match cluster.links.get_mut(place) {
         Some(link) => Ok(link.take_made()),
         None => Err("no such link".into()),
