@@ -1,5 +1,5 @@
 -- What was fetched, where it is no reply.
-use Rattle.std.proofs.Common.{◌≡◌, ◌≢◌, ℕ, List, slice_get, None, Result, Err, inl, inr, refl, absurd, ⊥}
+use Rattle.std.proofs.Common.{◌≡◌, ◌≢◌, ℕ, List, slice_get, None, Result, Err, inl, inr, refl}
 use Rattle.druid_shard.specs.declared.change.Ask.{Ask}
 use Rattle.druid_shard.specs.declared.change.Ask.TheVariants.{Whole}
 use Rattle.druid_shard.specs.declared.reply.Body.{Body}

@@ -1,10 +1,12 @@
 //! What a broker answers to requests.
-ghost use Rattle.std.specs.Prelude.{◌≡◌, ◌≤◌, true, false, List, codes, length};
+ghost use Rattle.std.specs.Prelude.{◌≡◌, ◌≤◌, ◌⊎◌, ℕ, true, false, List, codes, length};
 ghost use Rattle.druid_inventory.specs.Entry.{Entry};
+ghost use Rattle.druid_shard.specs.Mark.{Point};
+ghost use Rattle.druid_published.specs.Told.{TellsRead};
 ghost use Rattle.druid_wire.specs.Served.{Tells};
 ghost use Rattle.druid_broker.specs.Lent.{lent_route};
-ghost use Rattle.druid_broker.specs.Routes.{OrOutOfMemory, Gets, AnswersSources, AnswersAt};
-ghost use Rattle.druid_broker.specs.Views.{takes_inventory, RespondsBy};
+ghost use Rattle.druid_broker.specs.Routes.{IsOutOfMemory, OrOutOfMemory, Gets, AnswersSources, AnswersAt};
+ghost use Rattle.druid_broker.specs.Views.{takes_inventory, AnswersStale, RespondsBy};
 
 use crate::knowing::{tell_entry, tell_load_status, tell_sources};
 use crate::querying::answer_query;
@@ -92,6 +94,18 @@ fn answer_known<T: Threads + Sync, P: Pick, L: Link + Send>(
     }
 }
 
+// What is answered where nothing was read. A read applies no reply.
+fn answer_unread(fault: PublishFault) -> Response
+    ensures { (names : List (List ℕ)) (floor : List Point) → TellsRead names floor fault
+        → AnswersStale names floor result.status result.body ⊎ IsOutOfMemory result.status result.body }
+{
+    match fault {
+        PublishFault::Stale { .. } => Response::stale(),
+        PublishFault::Memory => Response::out_of_memory(),
+        PublishFault::Apply(_) => Response::out_of_memory(),
+    }
+}
+
 /// What a broker answers to a request by way of a view. The view is read where the answer takes the inventory, and only there.
 pub(crate) fn respond<T: Threads + Wait + Sync, N: NodeList, P: Pick, L: Link + Send>(
     rt: &T,
@@ -112,8 +126,6 @@ pub(crate) fn respond<T: Threads + Wait + Sync, N: NodeList, P: Pick, L: Link + 
     }
     match view.read(rt) {
         Ok(inventory) => answer_known(rt, alloc, &route, &inventory, request, turn, pick, links),
-        Err(PublishFault::Stale { .. }) => Response::stale(),
-        Err(PublishFault::Memory) => Response::out_of_memory(),
-        Err(PublishFault::Apply(_)) => unreachable!(),
+        Err(fault) => answer_unread(fault),
     }
 }

@@ -26,7 +26,14 @@ use std::thread::Threads;
 ///
 /// X4 to X7 of the request are answered 400 with their number. X1, X2 or X9 where no request was read, and nothing was written;
 /// X3 or X9 where the writer failed, which then has some front of the answer, and not the whole. Nothing is flushed.
-pub fn serve_one<T: Threads + Wait + Sync, R: BufRead, W: Write, N: NodeList, P: Pick, L: Link + Send>(
+pub fn serve_one<
+    T: Threads + Wait + Sync,
+    R: BufRead,
+    W: Write,
+    N: NodeList,
+    P: Pick,
+    L: Link + Send,
+>(
     rt: &T,
     alloc: Global,
     routes: &Routes,

@@ -1,9 +1,11 @@
 //! Clusters in memory: data nodes, each behind a link of its own, and a broker that follows them.
 ghost use Rattle.std.specs.Prelude.{◌≡◌, ◌⊎◌, ◌≤◌, length, IfOk, IfErr};
+ghost use Rattle.druid_inventory.specs.Join.{names_of};
 
 use druid_broker::{Routes, serve_one, sync_turn};
 use druid_inventory::{Inventory, MAX_NODES};
 use druid_node::{DataNode, NodeState};
+use druid_published::{NodeList, Publisher, View, open};
 use druid_rows::{Row, Schema, Segment};
 use druid_scatter::Rotate;
 use druid_segid::{Name, SegmentId, Version};
@@ -14,6 +16,12 @@ use std::alloc::Global;
 use std::str;
 use std::sync::Wait;
 use std::test::Fail;
+use std::thread::Threads;
+
+/// What clusters do with the handle.
+pub(crate) trait Handle: Wait + Threads + Copy + Send + Sync {}
+
+impl<R: Wait + Threads + Copy + Send + Sync> Handle for R {}
 
 /// What stands behind a link.
 #[derive(Drop)]
@@ -28,7 +36,7 @@ pub(crate) enum Behind {
 
 /// A link of a test. It counts its exchanges.
 #[derive(Drop)]
-pub(crate) struct TestLink<R: Wait + Drop> {
+pub(crate) struct TestLink<R: Handle> {
     rt: R,
     behind: Behind,
     // What was seen of the node behind it.
@@ -57,8 +65,8 @@ fn answer_of(
     Ok(written)
 }
 
-// A copy of bytes.
-fn copy_of(alloc: Global, bytes: &[u8]) -> Result<Vec<u8>, WireFault>
+/// A copy of bytes, as a link gives them.
+pub(crate) fn copy_of(alloc: Global, bytes: &[u8]) -> Result<Vec<u8>, WireFault>
     ensures bound { IfOk result (λ bytes. length bytes.items ≤ MAX_EXCHANGE) }
     ensures fault { IfErr result (λ fault. (fault ≡ WireFault.BodyTooLong) ⊎ (fault ≡ WireFault.Memory)) }
 {
@@ -68,7 +76,7 @@ fn copy_of(alloc: Global, bytes: &[u8]) -> Result<Vec<u8>, WireFault>
     Ok(bytes.to_vec(alloc)?)
 }
 
-impl<R: Wait + Drop> Link for TestLink<R> {
+impl<R: Handle> Link for TestLink<R> {
     ghost exchanges = { λ link request came next. Unit {0} };
 
     ghost faults = { λ link. link.faults };
@@ -90,7 +98,7 @@ impl<R: Wait + Drop> Link for TestLink<R> {
     }
 }
 
-impl<R: Wait + Drop> TestLink<R> {
+impl<R: Handle> TestLink<R> {
     /// A link to that.
     pub(crate) fn new(rt: R, behind: Behind) -> TestLink<R> {
         TestLink {
@@ -116,10 +124,19 @@ impl<R: Wait + Drop> TestLink<R> {
     }
 }
 
-/// A broker, and link k to node k of its list.
+/// What a cluster is made of: an inventory of its nodes, and link k to node k.
 #[derive(Drop)]
-pub(crate) struct Cluster<R: Wait + Drop> {
+pub(crate) struct Setup<R: Handle> {
     pub(crate) inventory: Inventory,
+    pub(crate) links: Vec<TestLink<R>>,
+}
+
+/// A broker, a view of what it publishes, and link k to node k of its list.
+#[derive(Drop)]
+pub(crate) struct Cluster<R: Handle, N: NodeList> {
+    pub(crate) rt: R,
+    pub(crate) publisher: Publisher<N>,
+    pub(crate) view: View<N>,
     pub(crate) links: Vec<TestLink<R>>,
 }
 
@@ -214,18 +231,24 @@ fn node(alloc: Global, text: &str) -> Result<DataNode, Fail> {
     Ok(DataNode::new(state))
 }
 
-// Follows the first nodes.
-fn follow<R: Wait + Drop>(alloc: Global, cluster: &mut Cluster<R>, count: usize) -> Result<(), Fail> {
+// Follows the first nodes, and tells the view of it.
+fn follow<R: Handle, N: NodeList>(
+    alloc: Global,
+    cluster: &mut Cluster<R, N>,
+    count: usize,
+) -> Result<(), Fail> {
+    let rt = cluster.rt;
     for node in 0..64_u16 {
         let place = node as usize;
         if place >= count || place >= cluster.links.len() {
             return Ok(());
         }
-        if node >= cluster.inventory.node_count() {
+        if node >= cluster.publisher.inventory().node_count() {
             return Err("more links than nodes".into());
         }
         let link = &mut cluster.links[place];
-        sync_turn(alloc, node, link, &mut cluster.inventory)?;
+        let (_, receipt) = sync_turn(&rt, alloc, node, link, &mut cluster.publisher)?;
+        cluster.view.learn(&receipt);
     }
     Ok(())
 }
@@ -241,44 +264,60 @@ fn inventory(alloc: Global, count: usize) -> Result<Inventory, Fail> {
     Ok(Inventory::new(alloc, names)?)
 }
 
-/// A cluster of nodes, between which `|` stands, and a broker that has followed the first of them.
-pub(crate) fn followed_cluster<R: Wait + Copy + Drop>(
-    rt: &R,
-    alloc: Global,
-    text: &str,
-    followed: usize,
-) -> Result<Cluster<R>, Fail> {
+/// The parts of a cluster of nodes, between which `|` stands.
+pub(crate) fn set_up<R: Handle>(rt: R, alloc: Global, text: &str) -> Result<Setup<R>, Fail> {
     let mut links = Vec::new(alloc);
     for one in text.split(" | ") {
-        links.push(TestLink::new(*rt, Behind::Node(node(alloc, one)?)))?;
+        links.push(TestLink::new(rt, Behind::Node(node(alloc, one)?)))?;
     }
     let inventory = inventory(alloc, links.len())?;
-    let mut cluster = Cluster { inventory, links };
-    follow(alloc, &mut cluster, followed)?;
+    Ok(Setup { inventory, links })
+}
+
+/// A cluster of these parts, whose broker has followed the first nodes.
+pub(crate) fn followed<R: Handle, N: NodeList>(
+    rt: R,
+    alloc: Global,
+    setup: Setup<R>,
+    count: usize,
+) -> Result<Cluster<R, N>, Fail>
+    requires { names_of setup.inventory ≡ N.names }
+{
+    let (publisher, mut views) = open::<N>(alloc, setup.inventory, 1)?;
+    let view = views.pop().ok_or("no view")?;
+    let mut cluster = Cluster {
+        rt,
+        publisher,
+        view,
+        links: setup.links,
+    };
+    follow(alloc, &mut cluster, count)?;
     Ok(cluster)
 }
 
 // What the broker writes for a message, at a turn.
-fn written<R: Wait + Drop>(
+fn written<R: Handle, N: NodeList>(
     alloc: Global,
-    cluster: &mut Cluster<R>,
+    cluster: &mut Cluster<R, N>,
     turn: u64,
     message: &[u8],
 ) -> Result<Vec<u8>, Fail> {
     let mut reader = message;
     let mut written = Vec::new(alloc);
-    if cluster.links.len() < cluster.inventory.node_count() as usize {
+    if cluster.links.len() < cluster.publisher.inventory().node_count() as usize {
         return Err("fewer links than nodes".into());
     }
     let Ok(routes) = Routes::new(alloc) else {
         return Err("no routes".into());
     };
+    let rt = cluster.rt;
     serve_one(
+        &rt,
         alloc,
         &routes,
         &mut reader,
         &mut written,
-        &cluster.inventory,
+        &mut cluster.view,
         turn,
         &Rotate,
         &mut cluster.links,
@@ -287,9 +326,9 @@ fn written<R: Wait + Drop>(
 }
 
 /// What the broker answers to a message, at a turn: `200 true`.
-pub(crate) fn answered<R: Wait + Drop>(
+pub(crate) fn answered<R: Handle, N: NodeList>(
     alloc: Global,
-    cluster: &mut Cluster<R>,
+    cluster: &mut Cluster<R, N>,
     turn: u64,
     message: &[u8],
 ) -> Result<String, Fail> {
@@ -303,9 +342,9 @@ pub(crate) fn answered<R: Wait + Drop>(
 }
 
 /// What it answers to a query.
-pub(crate) fn posted<R: Wait + Drop>(
+pub(crate) fn posted<R: Handle, N: NodeList>(
     alloc: Global,
-    cluster: &mut Cluster<R>,
+    cluster: &mut Cluster<R, N>,
     turn: u64,
     query: &str,
 ) -> Result<String, Fail> {
@@ -317,7 +356,11 @@ pub(crate) fn posted<R: Wait + Drop>(
 }
 
 /// Puts something else behind a link.
-pub(crate) fn set<R: Wait + Drop>(cluster: &mut Cluster<R>, place: usize, behind: Behind) -> Result<(), Fail> {
+pub(crate) fn set<R: Handle, N: NodeList>(
+    cluster: &mut Cluster<R, N>,
+    place: usize,
+    behind: Behind,
+) -> Result<(), Fail> {
     match cluster.links.get_mut(place) {
         Some(link) => {
             link.set(behind);
@@ -328,7 +371,10 @@ pub(crate) fn set<R: Wait + Drop>(cluster: &mut Cluster<R>, place: usize, behind
 }
 
 /// How many exchanges a link made since the last time that this was asked.
-pub(crate) fn made_by<R: Wait + Drop>(cluster: &mut Cluster<R>, place: usize) -> Result<u64, Fail> {
+pub(crate) fn made_by<R: Handle, N: NodeList>(
+    cluster: &mut Cluster<R, N>,
+    place: usize,
+) -> Result<u64, Fail> {
     match cluster.links.get_mut(place) {
         Some(link) => Ok(link.take_made()),
         None => Err("no such link".into()),

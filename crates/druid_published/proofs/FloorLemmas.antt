@@ -1,8 +1,11 @@
 -- Floors, mark by mark, and the names after a write.
-use Rattle.std.proofs.Common.{◌≡◌, ◌≢◌, ◌+◌, ◌<◌, ℕ, zero, suc, List, [], ◌∷◌, ◌++◌, length, map, set, take, Some, None, refl, sym, ap, ◌∙◌, arith}
-use Rattle.std.specs.List.{slice_get, zip}
-use Rattle.std.proofs.lemmas.Option.{same_Some, none-some}
-use Rattle.druid_shard.specs.Mark.{Point}
+use Rattle.std.proofs.Common.{◌≡◌, ◌+◌, ◌<◌, ℕ, zero, suc, false, List, [], ◌∷◌, ◌++◌, length, get_or, set, take, Some, refl, sym, ap, ◌∙◌, inl, inr, arith}
+use Rattle.std.specs.List.{slice_get}
+use Rattle.std.specs.Ordering.{is_lt}
+use Rattle.std.proofs.lemmas.Bool.{false≢true, cases_order}
+use Rattle.std.proofs.lemmas.List.{length-map}
+use Rattle.std.proofs.lemmas.Option.{same_Some, none-some, slice_get-get_or, slice_get_within}
+use Rattle.druid_shard.specs.Mark.{Point, mark_cmp}
 use Rattle.druid_shard.specs.declared.reply.Body.{Body}
 use Rattle.druid_shard.specs.declared.reply.Body.TheVariants as bodies
 use Rattle.druid_inventory.specs.Entry.{Entry}
@@ -10,7 +13,7 @@ use Rattle.druid_inventory.specs.Join.{names_of}
 use Rattle.druid_inventory.specs.Step.{Steps, StepsAt}
 use Rattle.druid_inventory.specs.declared.fault.Outcome.{Outcome}
 use Rattle.druid_inventory.specs.declared.fault.Outcome.TheVariants.{Moved, AlreadyHave, AskWhole}
-use Rattle.druid_published.specs.Floor.{marks_of, later_mark, later_marks}
+use Rattle.druid_published.specs.Floor.{marks_of, later_mark, later_marks, IsStaleAt, NoneStale}
 
 -- the first marks made of both, the others of the first list
 pub blend : (Point → Point → Point) → ℕ → List Point → List Point → List Point
@@ -29,12 +32,22 @@ blend_more f (suc k) [] b x y e g = absurd (none-some x e)
 blend_more f (suc k) (v ∷ a) [] x y e g = absurd (none-some y g)
 blend_more f (suc k) (v ∷ a) (w ∷ b) x y e g = ap (λ r. f v w ∷ r) (blend_more f k a b x y e g)
 
-pub blend_length : (f : Point → Point → Point) (k : ℕ) (a b : List Point) → length (blend f k a b) ≡ length a
+-- nothing is made yet
+pub blend_none : (f : Point → Point → Point) (a b : List Point) → a ≡ blend f 0 a b
 unfolding blend
-blend_length f zero a b = refl
-blend_length f (suc k) [] b = refl
-blend_length f (suc k) (x ∷ a) [] = refl
-blend_length f (suc k) (x ∷ a) (y ∷ b) = ap suc (blend_length f k a b)
+blend_none f a b = refl
+
+-- one mark more, by what was read and written
+pub blend_step : (f : Point → Point → Point) (k : ℕ) (a b now : List Point) (x y z : Point) → now ≡ blend f k a b → slice_get now k ≡ Some x → slice_get b k ≡ Some y
+    → z ≡ f x y → set now k z ≡ blend f (k + 1) a b
+blend_step f k a b now x y z is e g made =
+    let more : suc k ≡ k + 1 = omega arith in
+    (λ i. set (is i) k (made i)) ∙ blend_more f k a b x y (ap (λ (m : List Point). slice_get m k) (sym is) ∙ e) g ∙ ap (λ n. blend f n a b) more
+
+-- one mark more is copied
+pub copy_step : (k : ℕ) (a b now : List Point) (y : Point) → now ≡ blend (λ p q. q) k a b → k < length now → slice_get b k ≡ Some y
+    → set now k y ≡ blend (λ p q. q) (k + 1) a b
+copy_step k a b now y is l g = blend_step (λ p q. q) k a b now (get_or now k y) y y is (slice_get-get_or now k y l) g refl
 
 pub names_set : (inventory : List Entry) (node : ℕ) (e new : Entry) → slice_get inventory node ≡ Some e → new.name ≡ e.name → names_of (set inventory node new) ≡ names_of inventory
 names_set [] node e new is same = refl
@@ -78,3 +91,27 @@ blend_second [] (y ∷ b) n e f = absurd (omega arith)
 blend_second (x ∷ a) [] n e f = absurd (omega arith)
 blend_second (x ∷ a) (y ∷ b) zero e f = absurd (omega arith)
 blend_second (x ∷ a) (y ∷ b) (suc n) e f = ap (λ r. y ∷ r) (blend_second a b n (omega arith) (omega arith))
+
+-- the marks of an inventory, all copied
+pub copied_all : (a : List Point) (inventory : List Entry) (n : ℕ) → n ≡ length a → length a ≡ length inventory
+    → blend (λ p q. q) n a (marks_of inventory) ≡ marks_of inventory
+copied_all a inventory n e f = blend_second a (marks_of inventory) n e (f ∙ sym (length-map inventory (λ (x : Entry). x.mark)))
+
+-- of the first nodes, none has a mark below its floor
+abbrev pub FreshTo : List Point → List Point → ℕ → Type 0
+FreshTo floor marks n = (i : ℕ) → i < n → IsStaleAt floor marks i → ⊥
+
+pub fresh_more : (floor marks : List Point) (n : ℕ) (at found : Point) → FreshTo floor marks n → slice_get floor n ≡ Some at → slice_get marks n ≡ Some found
+    → is_lt (mark_cmp found at) ≡ false → FreshTo floor marks (n + 1)
+fresh_more floor marks n at found h f g level i l c = elim (cases_order i n) [
+  | inl here ↦
+      let left : c.0 ≡ at = same_Some c.0 at (sym c.2.0 ∙ ap (slice_get floor) here ∙ f) in
+      let right : c.1 ≡ found = same_Some c.1 found (sym c.2.1 ∙ ap (slice_get marks) here ∙ g) in
+      false≢true (sym level ∙ sym (λ j. is_lt (mark_cmp (right j) (left j))) ∙ c.2.2)
+  | inr (inl before) ↦ h i before c
+  | inr (inr behind) ↦ absurd (omega arith)
+]
+
+-- and so none has
+pub fresh_all : (floor marks : List Point) (n : ℕ) → length floor ≡ n → FreshTo floor marks n → NoneStale floor marks
+fresh_all floor marks n e h node c = let l = slice_get_within floor node c.0 c.2.0 in h node (omega arith) c

@@ -5,11 +5,17 @@ use Rattle.druid_shard.specs.declared.reply.Body.{Body}
 use Rattle.druid_inventory.specs.Entry.{Entry}
 use Rattle.druid_inventory.specs.Join.{names_of}
 use Rattle.druid_inventory.specs.Step.{StepsAt, Tells}
+use Rattle.druid_inventory.specs.declared.fault.ApplyFault.{ApplyFault}
 use Rattle.druid_inventory.specs.declared.fault.ApplyFault.TheVariants as apply
 use Rattle.druid_inventory.specs.declared.fault.Outcome.{Outcome}
 use Rattle.druid_published.specs.Floor.{marks_of, IsFirstStale}
 use Rattle.druid_published.specs.declared.fault.PublishFault.{PublishFault}
 use Rattle.druid_published.specs.declared.fault.PublishFault.TheVariants as faults
+
+-- want of memory, or why else a reply is not applied
+abbrev pub publish_fault : ApplyFault → PublishFault
+publish_fault apply.Memory = faults.Memory
+publish_fault fault = faults.Apply fault
 
 -- the fault that tells why a reply of a node is not published; want of memory only where nothing is to be refused
 abbrev pub TellsPublish : List Entry → ℕ → Body → PublishFault → Type 0

@@ -1,20 +1,19 @@
-ghost use Rattle.std.specs.Prelude.{◌≡◌, ◌≢◌, ◌↔◌, ◌≤◌, ◌<◌, ℕ, List, IsTrue, IfOk, IfErr, OnErr, IsErrOf, Err, None, Some, MatchOption, All, length, map, replicate, slice_get, slice_set, vec_len};
+ghost use Rattle.std.specs.Prelude.{◌≡◌, ◌≢◌, ◌↔◌, ◌≤◌, ◌<◌, ℕ, List, IfOk, IfErr, OnErr, IsErrOf, Err, None, Some, length, replicate, slice_get, slice_set};
 ghost use Rattle.std.specs.Arc.{arc_value};
-ghost use Rattle.std.specs.Ordering.{is_lt};
-ghost use Rattle.druid_shard.specs.Mark.{Point, never, mark_cmp};
-ghost use Rattle.druid_inventory.specs.Entry.{Entry, max_nodes};
+ghost use Rattle.druid_shard.specs.Mark.{Point, never};
+ghost use Rattle.druid_inventory.specs.Entry.{Entry};
 ghost use Rattle.druid_inventory.specs.Join.{names_of};
 ghost use Rattle.druid_inventory.specs.Step.{StepsAt, RefusedAt};
 ghost use Rattle.druid_inventory.specs.declared.fault.ApplyFault.{ApplyFault};
-ghost use Rattle.druid_published.specs.Floor.{marks_of, later_mark, later_marks, NoneStale, IsFirstStale};
-ghost use Rattle.druid_published.specs.Told.{TellsPublish, TellsRead};
+ghost use Rattle.druid_published.specs.Floor.{marks_of, later_mark, later_marks, NoneStale};
+ghost use Rattle.druid_published.specs.Told.{publish_fault, TellsPublish, TellsRead};
 ghost use Rattle.druid_published.specs.declared.published.TheConstants.{MAX_PLACES};
 
 use crate::PublishFault;
 use druid_inventory::{ApplyFault, Inventory, Outcome};
 use druid_shard::{Mark, NodeNo, Reply};
 use std::alloc::{AllocError, Global};
-use std::marker::{Model, PhantomData};
+use std::marker::{Brand, Model, PhantomData};
 use std::sync::{Arc, Mutex, Wait};
 
 /// The most views of one publisher.
@@ -25,6 +24,13 @@ pub trait NodeList {
     ghost use Rattle.std.specs.Prelude.{ℕ, List};
 
     ghost names: { List (List ℕ) };
+}
+
+// Each call of a program picks the list.
+impl NodeList for Brand {
+    ghost use Rattle.std.specs.Prelude.{[]};
+
+    ghost names = { [] };
 }
 
 // What lies under the lock.
@@ -119,10 +125,7 @@ fn copy_marks(alloc: Global, inventory: &Inventory) -> Result<Vec<Mark>, AllocEr
 fn judge(inventory: &Inventory, floor: &[Mark]) -> Result<(), PublishFault>
     requires { length floor.now ≡ length inventory.now }
     ensures ok { IfOk result (λ _. NoneStale floor.now (marks_of inventory.now)) }
-    ensures apply { (fault : ApplyFault) → IsErrOf result (PublishFault.Apply fault) → ⊥ }
-    ensures memory { IsErrOf result PublishFault.Memory → ⊥ }
-    ensures stale { (node : ℕ) (at found : Point) → IsErrOf result (PublishFault.Stale node at found)
-        → IsFirstStale floor.now (marks_of inventory.now) node at found }
+    ensures told { IfErr result (TellsRead (names_of inventory.now) floor.now) }
 {
     for node in 0..inventory.node_count() {
         let found = mark_at(inventory, node);
@@ -146,7 +149,6 @@ fn later_of(a: Mark, b: Mark) -> Mark
 }
 
 // The later of both, node by node.
-#[tactic(auto, using(crate::proofs::FloorLemmas::blend_more, crate::proofs::FloorLemmas::blend_length, crate::proofs::FloorLemmas::blend_later))]
 fn raise(floor: &mut [Mark], marks: &[Mark])
     requires { length floor.old ≡ length marks.now }
     ensures { floor.new ≡ later_marks floor.old marks.now }
@@ -157,13 +159,23 @@ fn raise(floor: &mut [Mark], marks: &[Mark])
 }
 
 // The floor becomes the marks of the inventory.
-#[tactic(auto, using(crate::proofs::FloorLemmas::blend_more, crate::proofs::FloorLemmas::blend_length, crate::proofs::FloorLemmas::blend_second))]
 fn set_floor(floor: &mut [Mark], inventory: &Inventory)
     requires { length floor.old ≡ length inventory.now }
     ensures { floor.new ≡ marks_of inventory.now }
 {
     for node in 0..inventory.node_count() {
         floor[node as usize] = mark_at(inventory, node);
+    }
+}
+
+// Want of memory is B9, and why else a reply is not applied B1.
+#[tactic(auto, using(crate::proofs::ToldLemmas::not_memory))]
+fn fault_of(fault: ApplyFault) -> PublishFault
+    ensures { result ≡ publish_fault fault }
+{
+    match fault {
+        ApplyFault::Memory => PublishFault::Memory,
+        fault => PublishFault::Apply(fault),
     }
 }
 
@@ -292,7 +304,6 @@ pub fn open<N: NodeList>(
 impl<N: NodeList> Publisher<N> {
     /// What a reply of a node makes of the inventory, which is then what views read. B1 where the reply is not
     /// applied, and B9 last, where memory is refused; then all stays as it was.
-    #[tactic(auto, using(crate::proofs::FloorLemmas::names_kept))]
     pub fn publish(
         &mut self,
         rt: &impl Wait,
@@ -308,22 +319,58 @@ impl<N: NodeList> Publisher<N> {
         ensures refused { (fault : ApplyFault) → fault ≢ ApplyFault.UnknownNode → fault ≢ ApplyFault.Memory
             → IsErrOf result (PublishFault.Apply fault) ↔ RefusedAt self.old node reply.now fault }
     {
-        let (inventory, outcome) = match self.inventory.apply(node, reply) {
+        self.published(rt, node, reply)
+    }
+
+    // The same, with the fault told once.
+    fn published(
+        &mut self,
+        rt: &impl Wait,
+        node: NodeNo,
+        reply: &Reply,
+    ) -> Result<(Outcome, Receipt<N>), PublishFault>
+        ensures ok { IfOk result (λ r. (entry : Entry) × StepsAt self.old node reply.now r.0 entry
+            × (self.new ≡ slice_set self.old node entry)) }
+        ensures receipt { IfOk result (λ r. r.1 ≡ marks_of self.new) }
+        ensures stays { OnErr result (self.new ≡ self.old) }
+        ensures told { IfErr result (TellsPublish self.old node reply.now) }
+    {
+        let (inventory, outcome) = match self.stepped(node, reply) {
             Ok(made) => made,
-            Err(ApplyFault::Memory) => return Err(PublishFault::Memory),
-            Err(fault) => return Err(PublishFault::Apply(fault)),
+            Err(fault) => return Err(fault),
         };
+        let receipt = self.replace(rt, inventory)?;
+        Ok((outcome, receipt))
+    }
+
+    // What a reply makes of the inventory, which has the same nodes.
+    fn stepped(&self, node: NodeNo, reply: &Reply) -> Result<(Inventory, Outcome), PublishFault>
+        ensures ok { IfOk result (λ r. (entry : Entry) × StepsAt self.now node reply.now r.1 entry
+            × (r.0 ≡ slice_set self.now node entry)) }
+        ensures names { IfOk result (λ r. names_of r.0 ≡ N.names) }
+        ensures told { IfErr result (TellsPublish self.now node reply.now) }
+    {
+        match self.inventory.apply(node, reply) {
+            Ok(made) => Ok(made),
+            Err(fault) => Err(fault_of(fault)),
+        }
+    }
+
+    // Another inventory, here and for the views, and its marks.
+    fn replace(&mut self, rt: &impl Wait, inventory: Inventory) -> Result<Receipt<N>, AllocError>
+        requires { names_of inventory ≡ N.names }
+        ensures ok { IfOk result (λ _. self.new ≡ inventory) }
+        ensures receipt { IfOk result (λ receipt. receipt ≡ marks_of inventory) }
+        ensures stays { OnErr result (self.new ≡ self.old) }
+    {
         let marks = copy_marks(self.alloc, &inventory)?;
         let (mine, theirs) = shared(self.alloc, inventory)?;
         put(rt, &self.slot, theirs);
         self.inventory = mine;
-        Ok((
-            outcome,
-            Receipt {
-                marks,
-                list: PhantomData,
-            },
-        ))
+        Ok(Receipt {
+            marks,
+            list: PhantomData,
+        })
     }
 
     /// The inventory. It takes no memory.

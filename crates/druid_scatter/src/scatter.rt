@@ -15,7 +15,8 @@ use std::thread::Threads;
 
 /// Answers a query from the pieces of a plan. Each piece is asked of one node after another, in the order that `pick` gives
 /// them, until one gives it; a round sends each node one request for all that is asked of it. The nodes of a round are asked all
-/// at once, as `ask_round` asks them. A piece that no node gave is missing. G9 where memory was refused, also by a link: then too each exchange was one of the query, over its node's link.
+/// at once, as `ask_round` asks them. A piece that no node gave is missing. G9 where memory was refused, also by a link: then
+/// too each exchange was one of the query, over its node's link.
 pub fn gather<P: Pick, L: Link + Send, R: Threads + Sync>(
     rt: &R,
     alloc: Global,
