@@ -1,5 +1,5 @@
 //! Clusters in memory: data nodes, each behind a link of its own, and a broker that follows them.
-ghost use Rattle.std.specs.Prelude.{◌≡◌, ◌⊎◌, ◌≤◌, length, IfOk, IfErr};
+ghost use Rattle.std.specs.Prelude.{◌≡◌, ◌⊎◌, ◌≤◌, IsTrue, length, IfOk, IfErr};
 ghost use Rattle.druid_inventory.specs.Join.{names_of};
 
 use druid_broker::{Routes, serve_one, sync_turn};
@@ -295,6 +295,21 @@ pub(crate) fn followed<R: Handle, N: NodeList>(
     Ok(cluster)
 }
 
+/// Whether there is a link to each node that the view reads of.
+#[tactic(auto, using(crate::proofs::LinkLemmas::linked))]
+pub(crate) fn is_linked<R: Handle, N: NodeList>(cluster: &mut Cluster<R, N>) -> bool
+    ensures { IsTrue result → length N.names ≤ length cluster.new.links.items }
+{
+    let rt = cluster.rt;
+    let Ok(found) = cluster.view.read(&rt) else {
+        return false;
+    };
+    if cluster.links.len() < found.node_count() as usize {
+        return false;
+    }
+    true
+}
+
 // What the broker writes for a message, at a turn.
 fn written<R: Handle, N: NodeList>(
     alloc: Global,
@@ -304,7 +319,7 @@ fn written<R: Handle, N: NodeList>(
 ) -> Result<Vec<u8>, Fail> {
     let mut reader = message;
     let mut written = Vec::new(alloc);
-    if cluster.links.len() < cluster.publisher.inventory().node_count() as usize {
+    if !is_linked(cluster) {
         return Err("fewer links than nodes".into());
     }
     let Ok(routes) = Routes::new(alloc) else {

@@ -2,7 +2,7 @@
 ghost use Rattle.std.specs.Prelude.{◌≡◌};
 ghost use Rattle.druid_inventory.specs.Join.{names_of};
 
-use crate::cluster::{Cluster, Handle, Setup, followed, set_up};
+use crate::cluster::{Cluster, Handle, Setup, followed, is_linked, set_up};
 use crate::printing::printed;
 use crate::turns::one_node;
 use druid_broker::{Routes, seed_turn, serve_one};
@@ -24,7 +24,7 @@ fn answers_once<R: Handle, N: NodeList>(
     listener: &TcpListener,
     peer: &mut Cluster<R, N>,
 ) -> bool {
-    if peer.links.len() < peer.publisher.inventory().node_count() as usize {
+    if !is_linked(peer) {
         return false;
     }
     let Ok(routes) = Routes::new(alloc) else {
