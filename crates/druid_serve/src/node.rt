@@ -1,0 +1,164 @@
+//! A data node: its folder, its sockets and its threads.
+use crate::ServeFault;
+use crate::config::{MAX_KEPT, NodeConfig};
+use crate::outside::{REST_MILLISECONDS, limit, listen};
+use druid_node::{DataNode, NodeState};
+use druid_shard::Mark;
+use druid_store::{DiskFolder, Folder, next_incarnation};
+use std::alloc::{AllocError, Global};
+use std::fs::File;
+use std::io::{BufReader, BufWriter, Write};
+use std::net::{Net, TcpListener, TcpStream};
+use std::rt::Files;
+use std::sync::{Arc, Wait};
+use std::thread;
+use std::thread::{JoinHandle, Threads};
+use std::time::{Clock, Duration};
+
+// The end of the name of a segment file.
+const SEGMENT_END: &str = ".seg";
+
+// The copy of a text.
+fn copy_of(alloc: Global, text: &String) -> Result<String, AllocError> {
+    String::from_str(alloc, text.as_str())
+}
+
+// Loads the segment files of a folder, in the order of their names.
+fn load_files<R: Wait, F: Folder>(
+    rt: &R,
+    alloc: Global,
+    node: &DataNode,
+    folder: &mut F,
+) -> Result<(), ServeFault> {
+    let mut seen = Mark::never();
+    let names = folder.list(alloc)?;
+    for name in &names {
+        if name.as_str().ends_with(SEGMENT_END) {
+            node.load_file(rt, folder, name.as_str(), &mut seen)?;
+        }
+    }
+    Ok(())
+}
+
+// A node of a folder: its incarnation is raised before a segment is read.
+fn loaded<R: Wait, F: Folder>(
+    rt: &R,
+    alloc: Global,
+    folder: &mut F,
+    kept: usize,
+) -> Result<DataNode, ServeFault> {
+    if kept < 1 || (MAX_KEPT as usize) < kept {
+        return Err(ServeFault::BadConfig);
+    }
+    let incarnation = next_incarnation(alloc, folder)?;
+    // A device that lies may give anything.
+    if incarnation < 1 {
+        return Err(ServeFault::Device);
+    }
+    let node = DataNode::new(NodeState::new(alloc, incarnation, kept)?);
+    load_files(rt, alloc, &node, folder)?;
+    Ok(node)
+}
+
+// Loads files of a folder; one that is refused is passed over.
+fn load_later<R: Wait, F: Folder>(rt: &R, node: &DataNode, folder: &mut F, names: &[String]) {
+    let mut seen = Mark::never();
+    for name in names {
+        drop(node.load_file(rt, folder, name.as_str(), &mut seen));
+    }
+}
+
+// Starts the thread that loads files once the node stands.
+fn start_loader<
+    R: Files<File = File> + AllocGlobal + Wait + Threads + Copy + Send + Sync + 'static,
+>(
+    rt: &R,
+    node: &Arc<DataNode, Global>,
+    folder: DiskFolder<R>,
+    names: Vec<String>,
+) -> Result<JoinHandle<()>, ServeFault>
+where
+    R::Dir: Send,
+{
+    let rt = *rt;
+    let node = Arc::try_clone(node)?;
+    let mut folder = folder;
+    let job = move || load_later(&rt, &node, &mut folder, &names);
+    match thread::spawn(&rt, job) {
+        Ok(loader) => Ok(loader),
+        Err(_) => Err(ServeFault::Device),
+    }
+}
+
+// Answers one connection.
+fn answer<R: Wait>(rt: &R, alloc: Global, node: &DataNode, stream: &TcpStream, seen: &mut Mark) {
+    if !limit(stream) {
+        return;
+    }
+    let Ok(mut reader) = BufReader::new(alloc, stream) else {
+        return;
+    };
+    let Ok(mut writer) = BufWriter::new(alloc, stream) else {
+        return;
+    };
+    if node.serve_one(rt, &mut reader, &mut writer, seen).is_ok() {
+        drop(writer.flush());
+    }
+}
+
+// Answers connections.
+fn work<R: Wait + Clock>(rt: &R, alloc: Global, node: &DataNode, listener: &TcpListener) {
+    let mut seen = Mark::never();
+    for stream in listener.incoming() {
+        match stream {
+            Ok(stream) => answer(rt, alloc, node, &stream, &mut seen),
+            Err(_) => thread::sleep(rt, Duration::from_millis(REST_MILLISECONDS)),
+        }
+    }
+}
+
+// Starts a thread that answers connections.
+fn start_worker<R: Wait + Threads + Clock + Copy + Send + Sync + 'static>(
+    rt: &R,
+    alloc: Global,
+    node: &Arc<DataNode, Global>,
+    listener: &Arc<TcpListener, Global>,
+) -> Result<(), ServeFault> {
+    let rt = *rt;
+    let node = Arc::try_clone(node)?;
+    let listener = Arc::try_clone(listener)?;
+    match thread::spawn(&rt, move || work(&rt, alloc, &node, &listener)) {
+        Ok(worker) => {
+            drop(worker);
+            Ok(())
+        }
+        Err(_) => Err(ServeFault::Device),
+    }
+}
+
+/// Starts a data node: raises its incarnation, loads the segment files of its folder, listens, and starts its threads. It
+/// gives the thread that loads the files that come later.
+pub fn start_node<
+    R: Files<File = File>
+        + Net<Listener = TcpListener, Stream = TcpStream>
+        + AllocGlobal
+        + Wait
+        + Threads
+        + Clock
+        + Copy
+        + Send
+        + Sync
+        + 'static,
+>(rt: &R, alloc: Global, config: NodeConfig, kept: usize) -> Result<JoinHandle<()>, ServeFault>
+where
+    R::Dir: Send,
+{
+    let mut folder: DiskFolder<R> = DiskFolder::new(*rt, copy_of(alloc, &config.folder)?);
+    let node = Arc::new(alloc, loaded(rt, alloc, &mut folder, kept)?)?;
+    let listener = Arc::new(alloc, listen(rt, config.address.as_str())?)?;
+    let loader = start_loader(rt, &node, folder, config.loads)?;
+    for _ in 0..config.workers {
+        start_worker(rt, alloc, &node, &listener)?;
+    }
+    Ok(loader)
+}

@@ -1,0 +1,256 @@
+//! A cluster, from its config to its end.
+use crate::ServeFault;
+use crate::asking::ask;
+use crate::broker::{Broker, Opening, start_broker};
+use crate::config::{BrokerConfig, Config, NodeConfig, QueryConfig, names_in, read_config};
+use crate::gate::Gate;
+use crate::node::start_node;
+use crate::outside::listen;
+use druid_inventory::{Inventory, InventoryFault, MAX_NODES};
+use druid_segid::Name;
+use std::alloc::{AllocError, Global};
+use std::fs::File;
+use std::io::Write;
+use std::marker::Brand;
+use std::net::{Net, TcpListener, TcpStream};
+use std::rt::Files;
+use std::sync::{Arc, Wait};
+use std::thread::{JoinHandle, Threads};
+use std::time::Clock;
+
+// The addresses of the nodes, in their order.
+fn addresses_in(alloc: Global, nodes: &[NodeConfig]) -> Result<Vec<String>, AllocError> {
+    let mut addresses = Vec::with_capacity(alloc, nodes.len())?;
+    for node in nodes {
+        addresses.push(String::from_str(alloc, node.address.as_str())?)?;
+    }
+    Ok(addresses)
+}
+
+// Starts the nodes, one after another, and gives the threads that load what comes later.
+fn start_nodes<
+    R: Files<File = File>
+        + Net<Listener = TcpListener, Stream = TcpStream>
+        + AllocGlobal
+        + Wait
+        + Threads
+        + Clock
+        + Copy
+        + Send
+        + Sync
+        + 'static,
+>(
+    rt: &R,
+    alloc: Global,
+    nodes: Vec<NodeConfig>,
+    kept: usize,
+) -> Result<Vec<JoinHandle<()>>, ServeFault>
+where
+    R::Dir: Send,
+{
+    let mut loaders = Vec::new(alloc);
+    for node in nodes {
+        loaders.push(start_node(rt, alloc, node, kept)?)?;
+    }
+    Ok(loaders)
+}
+
+// The listeners of the brokers.
+fn listen_all<R: Net<Listener = TcpListener, Stream = TcpStream>>(
+    rt: &R,
+    alloc: Global,
+    brokers: &[BrokerConfig],
+) -> Result<Vec<Arc<TcpListener, Global>>, ServeFault> {
+    let mut listeners = Vec::with_capacity(alloc, brokers.len())?;
+    for broker in brokers {
+        listeners.push(Arc::new(alloc, listen(rt, broker.address.as_str())?)?)?;
+    }
+    Ok(listeners)
+}
+
+// What a broker knows first of nodes of these names. `BadConfig` where there are not 1 to 64, or a name stands twice.
+fn fresh(alloc: Global, names: &[Name]) -> Result<Inventory, ServeFault> {
+    let mut copies = Vec::with_capacity(alloc, names.len())?;
+    for name in names {
+        copies.push(name.clone()?)?;
+    }
+    if copies.is_empty() || MAX_NODES < copies.len() {
+        return Err(ServeFault::BadConfig);
+    }
+    match Inventory::new(alloc, copies) {
+        Ok(inventory) => Ok(inventory),
+        Err(InventoryFault::Memory) => Err(ServeFault::Device),
+        Err(_) => Err(ServeFault::BadConfig),
+    }
+}
+
+// Starts a broker: its publisher, views and receipts are of the names that its inventory has.
+fn start_one<
+    R: Net<Listener = TcpListener, Stream = TcpStream>
+        + Wait
+        + Threads
+        + Clock
+        + Copy
+        + Send
+        + Sync
+        + 'static,
+>(rt: &R, alloc: Global, opening: Opening, addresses: &[String]) -> Result<Broker, ServeFault> {
+    start_broker::<R, Brand>(rt, alloc, opening, addresses)
+}
+
+// Starts the brokers behind their listeners.
+fn start_brokers<
+    R: Net<Listener = TcpListener, Stream = TcpStream>
+        + Wait
+        + Threads
+        + Clock
+        + Copy
+        + Send
+        + Sync
+        + 'static,
+>(
+    rt: &R,
+    alloc: Global,
+    brokers: &[BrokerConfig],
+    turns: u64,
+    names: &[Name],
+    addresses: &[String],
+) -> Result<Vec<Broker>, ServeFault> {
+    let listeners = listen_all(rt, alloc, brokers)?;
+    let mut standing = Vec::new(alloc);
+    for (broker, listener) in brokers.iter().zip(listeners) {
+        let opening = Opening {
+            inventory: fresh(alloc, names)?,
+            listener,
+            workers: broker.workers,
+            turns,
+        };
+        standing.push(start_one(rt, alloc, opening, addresses)?)?;
+    }
+    Ok(standing)
+}
+
+// Waits for the end of threads.
+fn join_all<R: Threads>(rt: &R, threads: Vec<JoinHandle<()>>) {
+    for thread in threads {
+        thread.join(rt);
+    }
+}
+
+// Waits until the nodes have loaded and the brokers have followed them, and gives where each broker counts connections.
+fn settled<R: Threads>(
+    rt: &R,
+    alloc: Global,
+    loaders: Vec<JoinHandle<()>>,
+    standing: Vec<Broker>,
+) -> Result<Vec<Arc<Gate, Global>>, ServeFault> {
+    let mut gates = Vec::with_capacity(alloc, standing.len())?;
+    join_all(rt, loaders);
+    for broker in standing {
+        join_all(rt, broker.syncers);
+        gates.push(broker.gate)?;
+    }
+    Ok(gates)
+}
+
+// Posts the queries and prints their answers.
+fn ask_all<R: Net + Clock + Copy, W: Write>(
+    rt: &R,
+    alloc: Global,
+    queries: &[QueryConfig],
+    brokers: &[BrokerConfig],
+    out: &mut W,
+) -> Result<(), ServeFault> {
+    for query in queries {
+        match brokers.get(query.broker) {
+            Some(broker) => ask(rt, alloc, query, broker.address.as_str(), out)?,
+            None => return Err(ServeFault::BadConfig),
+        }
+    }
+    Ok(())
+}
+
+// Waits until each broker answered so many connections from outside. What was printed is there before.
+fn wait_for_others<R: Wait, W: Write>(
+    rt: &R,
+    gates: &[Arc<Gate, Global>],
+    connections: u64,
+    out: &mut W,
+) -> Result<(), ServeFault> {
+    for gate in gates {
+        gate.open(rt);
+    }
+    if out.flush().is_err() {
+        return Err(ServeFault::Device);
+    }
+    for gate in gates {
+        gate.wait(rt, connections);
+    }
+    Ok(())
+}
+
+// Serves the cluster of a config to its end.
+fn serve_config<
+    R: Files<File = File>
+        + Net<Listener = TcpListener, Stream = TcpStream>
+        + AllocGlobal
+        + Wait
+        + Threads
+        + Clock
+        + Copy
+        + Send
+        + Sync
+        + 'static,
+    W: Write,
+>(rt: &R, alloc: Global, config: &[u8], out: &mut W) -> Result<(), ServeFault>
+where
+    R::Dir: Send,
+{
+    let Config {
+        nodes,
+        brokers,
+        queries,
+        connections,
+        kept,
+        turns,
+    } = read_config(alloc, config)?;
+    let names = names_in(alloc, &nodes)?;
+    let addresses = addresses_in(alloc, &nodes)?;
+    let loaders = start_nodes(rt, alloc, nodes, kept)?;
+    let standing = start_brokers(rt, alloc, &brokers, turns, &names, &addresses)?;
+    let gates = settled(rt, alloc, loaders, standing)?;
+    ask_all(rt, alloc, &queries, &brokers, out)?;
+    wait_for_others(rt, &gates, connections, out)
+}
+
+/// Serves the cluster of a config, prints the answers to its queries, and ends once each broker answered the connections from
+/// outside that the config asks for. It gives the exit status: 0, or that of the fault that it tells on the error writer. The
+/// threads that still wait for connections are left.
+pub fn serve<
+    R: Files<File = File>
+        + Net<Listener = TcpListener, Stream = TcpStream>
+        + AllocGlobal
+        + Wait
+        + Threads
+        + Clock
+        + Copy
+        + Send
+        + Sync
+        + 'static,
+    W: Write,
+    E: Write,
+>(rt: &R, alloc: Global, config: &[u8], out: &mut W, errors: &mut E) -> u8
+where
+    R::Dir: Send,
+{
+    match serve_config(rt, alloc, config, out) {
+        Ok(()) => 0,
+        Err(fault) => tell(errors, fault),
+    }
+}
+
+/// Tells a fault, and gives its exit status.
+pub fn tell<E: Write>(errors: &mut E, fault: ServeFault) -> u8 {
+    drop(writeln!(errors, "{fault}"));
+    fault.status()
+}
