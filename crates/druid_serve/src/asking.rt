@@ -1,6 +1,5 @@
 //! Queries, posted to the brokers, and their answers, printed.
 use crate::ServeFault;
-use crate::config::QueryConfig;
 use druid_wire::{Link, Request, TcpLink, WireFault, request_bytes, response_of};
 use http::Method;
 use std::alloc::Global;
@@ -55,12 +54,12 @@ fn print<W: Write>(answer: &Result<Vec<u8>, WireFault>, out: &mut W) -> io::Resu
 pub fn ask<R: Net + Clock + Copy, W: Write>(
     rt: &R,
     alloc: Global,
-    query: &QueryConfig,
+    query: &str,
     address: &str,
     out: &mut W,
 ) -> Result<(), ServeFault> {
     let mut link = TcpLink::new(*rt, String::from_str(alloc, address)?);
-    let answer = posted(alloc, query.text.as_str(), &mut link);
+    let answer = posted(alloc, query, &mut link);
     match print(&answer, out) {
         Ok(()) => Ok(()),
         Err(_) => Err(ServeFault::Device),

@@ -1,11 +1,13 @@
 //! A broker: the threads that follow the nodes, and those that answer.
-ghost use Rattle.std.specs.Prelude.{◌≡◌, ◌≤◌, length, vec_len};
+ghost use Rattle.std.specs.Prelude.{◌≡◌, ◌≤◌, ◌+◌, IfOk, OnOk, length, vec_len};
+ghost use Rattle.druid_config.specs.declared.config.TheConstants.{MAX_WORKERS};
+ghost use Rattle.druid_inventory.specs.Entry.{max_nodes};
 ghost use Rattle.druid_inventory.specs.Join.{names_of};
 
 use crate::ServeFault;
-use crate::config::{MAX_SERVERS, MAX_WORKERS};
 use crate::gate::Gate;
 use crate::outside::{REST_MILLISECONDS, limit};
+use druid_config::NodeConfig;
 use druid_broker::{Routes, fetch, serve_one};
 use druid_inventory::Inventory;
 use druid_published::{NodeList, Publisher, Receipt, View, open};
@@ -97,15 +99,17 @@ fn link_to<R: Net + Clock + Copy>(
     Ok(TcpLink::new(*rt, String::from_str(alloc, address)?))
 }
 
-// A link to each of these.
+// A link to each of these nodes.
 fn links_to<R: Net + Clock + Copy>(
     rt: &R,
     alloc: Global,
-    addresses: &[String],
-) -> Result<Vec<TcpLink<R>>, AllocError> {
-    let mut links = Vec::with_capacity(alloc, addresses.len())?;
-    for address in addresses {
-        links.push(link_to(rt, alloc, address.as_str())?)?;
+    nodes: &[NodeConfig],
+) -> Result<Vec<TcpLink<R>>, AllocError>
+    ensures { IfOk result (λ links. vec_len links ≡ length nodes.now) }
+{
+    let mut links = Vec::with_capacity(alloc, nodes.len())?;
+    for node in nodes {
+        links.push(link_to(rt, alloc, node.address())?)?;
     }
     Ok(links)
 }
@@ -245,20 +249,16 @@ fn start_worker<
     }
 }
 
-// What a worker answers with, where there is an address of each node.
+// What a worker answers with.
 fn desk_of<R: Net + Clock + Copy, N: NodeList>(
     rt: &R,
     alloc: Global,
     view: View<N>,
-    count: NodeNo,
-    addresses: &[String],
+    nodes: &[NodeConfig],
 ) -> Result<Desk<R, N>, ServeFault>
-    requires { count ≡ length N.names }
+    requires { length nodes.now ≡ length N.names }
 {
-    let links = links_to(rt, alloc, addresses)?;
-    if links.len() < count as usize {
-        return Err(ServeFault::BadConfig);
-    }
+    let links = links_to(rt, alloc, nodes)?;
     match Routes::new(alloc) {
         Ok(routes) => Ok(Desk {
             routes,
@@ -277,10 +277,12 @@ pub struct Opening {
     pub inventory: Inventory,
     /// Where it listens.
     pub listener: Arc<TcpListener, Global>,
-    /// How many threads answer.
+    /// How many threads answer, 1 to 16.
     pub workers: u16,
     /// How many turns each of its syncers makes.
     pub turns: u64,
+    ghost some: { 1 ≤ workers },
+    ghost few: { workers ≤ MAX_WORKERS },
 }
 
 // The views of a publisher, and the publisher, which threads share.
@@ -292,11 +294,11 @@ fn opened<N: NodeList>(
     inventory: Inventory,
     workers: u16,
 ) -> Result<Shared<N>, ServeFault>
-    requires { names_of inventory ≡ N.names }
+    requires names { names_of inventory ≡ N.names }
+    requires some { 1 ≤ workers }
+    requires few { workers ≤ MAX_WORKERS }
+    ensures { IfOk result (λ shared. vec_len shared.1 ≡ length N.names + workers) }
 {
-    if workers < 1 || MAX_WORKERS < workers {
-        return Err(ServeFault::BadConfig);
-    }
     let places = inventory.node_count() + workers;
     match open::<N>(alloc, inventory, places) {
         Ok((publisher, views)) => Ok((Arc::new(alloc, Mutex::new(publisher))?, views)),
@@ -319,27 +321,27 @@ fn start_syncers<
     rt: &R,
     alloc: Global,
     turns: u64,
-    addresses: &[String],
+    nodes: &[NodeConfig],
     publisher: &Arc<Mutex<Publisher<N>>, Global>,
     views: &mut Vec<View<N>>,
-) -> Result<Vec<JoinHandle<()>>, ServeFault> {
+) -> Result<Vec<JoinHandle<()>>, ServeFault>
+    requires nodes { length nodes.now ≤ max_nodes }
+    requires views { length nodes.now ≤ vec_len views.old }
+    ensures { OnOk result (length nodes.now + vec_len views.new ≡ vec_len views.old) }
+{
     let mut syncers = Vec::new(alloc);
-    for place in 0..addresses.len() {
-        if MAX_SERVERS <= place {
-            return Err(ServeFault::BadConfig);
-        }
+    for node in 0..nodes.len() {
         let Some(view) = views.pop() else {
-            return Err(ServeFault::BadConfig);
+            unreachable!()
         };
-        let link = link_to(rt, alloc, addresses[place].as_str())?;
-        let syncer = start_syncer(rt, alloc, place as NodeNo, turns, view, link, publisher)?;
+        let link = link_to(rt, alloc, nodes[node].address())?;
+        let syncer = start_syncer(rt, alloc, node as NodeNo, turns, view, link, publisher)?;
         syncers.push(syncer)?;
     }
     Ok(syncers)
 }
 
-/// Starts the threads of a broker: one that follows each node, by its address, and its workers. `BadConfig` where there are not
-/// 1 to 16 workers, or not an address for each node.
+/// Starts the threads of a broker: one that follows each node, and its workers.
 pub fn start_broker<
     R: Net<Listener = TcpListener, Stream = TcpStream>
         + Wait
@@ -350,8 +352,9 @@ pub fn start_broker<
         + Sync
         + 'static,
     N: NodeList + Send + Sync + 'static,
->(rt: &R, alloc: Global, opening: Opening, addresses: &[String]) -> Result<Broker, ServeFault>
-    requires { names_of opening.inventory ≡ N.names }
+>(rt: &R, alloc: Global, opening: Opening, nodes: &[NodeConfig]) -> Result<Broker, ServeFault>
+    requires names { names_of opening.inventory ≡ N.names }
+    requires nodes { length nodes.now ≡ length opening.inventory }
 {
     let Opening {
         inventory,
@@ -359,12 +362,11 @@ pub fn start_broker<
         workers,
         turns,
     } = opening;
-    let count = inventory.node_count();
     let gate = Arc::new(alloc, Gate::new())?;
     let (publisher, mut views) = opened::<N>(alloc, inventory, workers)?;
-    let syncers = start_syncers(rt, alloc, turns, addresses, &publisher, &mut views)?;
+    let syncers = start_syncers(rt, alloc, turns, nodes, &publisher, &mut views)?;
     for view in views {
-        let desk = desk_of(rt, alloc, view, count, addresses)?;
+        let desk = desk_of(rt, alloc, view, nodes)?;
         start_worker(rt, alloc, desk, &gate, &listener)?;
     }
     Ok(Broker { gate, syncers })

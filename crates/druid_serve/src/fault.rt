@@ -1,6 +1,8 @@
 ghost use Rattle.std.specs.Prelude.{◌≡◌, ◌≢◌};
+ghost use Rattle.druid_serve.specs.Faults.{of_config, of_store, of_node};
 ghost use Rattle.druid_serve.specs.declared.fault.ServeFault.TheVariants.{Device};
 
+use druid_config::ConfigFault;
 use druid_node::NodeFault;
 use druid_store::StoreFault;
 use std::alloc::{AllocError, AllocFailed};
@@ -49,7 +51,20 @@ impl<T: Drop> From<AllocFailed<T>> for ServeFault {
     }
 }
 
+impl From<ConfigFault> for ServeFault {
+    ghost from_gives = { λ fault told. told ≡ of_config fault };
+
+    fn from(fault: ConfigFault) -> ServeFault {
+        match fault {
+            ConfigFault::Refused => ServeFault::BadConfig,
+            ConfigFault::Memory => ServeFault::Device,
+        }
+    }
+}
+
 impl From<StoreFault> for ServeFault {
+    ghost from_gives = { λ fault told. told ≡ of_store fault };
+
     fn from(fault: StoreFault) -> ServeFault {
         match fault {
             StoreFault::BadNumber | StoreFault::AtEnd | StoreFault::BadName =>
@@ -60,6 +75,8 @@ impl From<StoreFault> for ServeFault {
 }
 
 impl From<NodeFault> for ServeFault {
+    ghost from_gives = { λ fault told. told ≡ of_node fault };
+
     fn from(fault: NodeFault) -> ServeFault {
         match fault {
             NodeFault::File(_)

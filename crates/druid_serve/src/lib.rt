@@ -3,7 +3,6 @@
 
 mod asking;
 mod broker;
-mod config;
 mod fault;
 mod gate;
 mod node;
@@ -11,7 +10,6 @@ mod outside;
 mod program;
 mod serving;
 
-pub use config::{BrokerConfig, Config, NodeConfig, QueryConfig, read_config};
 pub use fault::ServeFault;
 pub use outside::PEER_SECONDS;
 pub use program::run;

@@ -1,7 +1,10 @@
 //! A data node: its folder, its sockets and its threads.
+ghost use Rattle.std.specs.Prelude.{◌≡◌, ◌≤◌, IfOk, map, string_bytes};
+ghost use Rattle.druid_shard.specs.Reply.{max_changes};
+
 use crate::ServeFault;
-use crate::config::{MAX_KEPT, NodeConfig};
 use crate::outside::{REST_MILLISECONDS, limit, listen};
+use druid_config::NodeConfig;
 use druid_node::{DataNode, NodeState};
 use druid_shard::Mark;
 use druid_store::{DiskFolder, Folder, next_incarnation};
@@ -18,9 +21,15 @@ use std::time::{Clock, Duration};
 // The end of the name of a segment file.
 const SEGMENT_END: &str = ".seg";
 
-// The copy of a text.
-fn copy_of(alloc: Global, text: &String) -> Result<String, AllocError> {
-    String::from_str(alloc, text.as_str())
+// The copies of texts.
+fn copies_of(alloc: Global, texts: &[String]) -> Result<Vec<String>, AllocError>
+    ensures { IfOk result (λ copies. map string_bytes copies.items ≡ map string_bytes texts.now) }
+{
+    let mut copies = Vec::with_capacity(alloc, texts.len())?;
+    for text in texts {
+        copies.push(String::from_str(alloc, text.as_str())?)?;
+    }
+    Ok(copies)
 }
 
 // Loads the segment files of a folder, in the order of their names.
@@ -46,10 +55,10 @@ fn loaded<R: Wait, F: Folder>(
     alloc: Global,
     folder: &mut F,
     kept: usize,
-) -> Result<DataNode, ServeFault> {
-    if kept < 1 || (MAX_KEPT as usize) < kept {
-        return Err(ServeFault::BadConfig);
-    }
+) -> Result<DataNode, ServeFault>
+    requires some { 1 ≤ kept }
+    requires few { kept ≤ max_changes }
+{
     let incarnation = next_incarnation(alloc, folder)?;
     // A device that lies may give anything.
     if incarnation < 1 {
@@ -149,15 +158,19 @@ pub fn start_node<
         + Send
         + Sync
         + 'static,
->(rt: &R, alloc: Global, config: NodeConfig, kept: usize) -> Result<JoinHandle<()>, ServeFault>
+>(rt: &R, alloc: Global, config: &NodeConfig, kept: usize) -> Result<JoinHandle<()>, ServeFault>
 where
     R::Dir: Send,
+    requires some { 1 ≤ kept }
+    requires few { kept ≤ max_changes }
 {
-    let mut folder: DiskFolder<R> = DiskFolder::new(*rt, copy_of(alloc, &config.folder)?);
+    let path = String::from_str(alloc, config.folder())?;
+    let mut folder: DiskFolder<R> = DiskFolder::new(*rt, path);
     let node = Arc::new(alloc, loaded(rt, alloc, &mut folder, kept)?)?;
-    let listener = Arc::new(alloc, listen(rt, config.address.as_str())?)?;
-    let loader = start_loader(rt, &node, folder, config.loads)?;
-    for _ in 0..config.workers {
+    let listener = Arc::new(alloc, listen(rt, config.address())?)?;
+    let loads = copies_of(alloc, config.loads())?;
+    let loader = start_loader(rt, &node, folder, loads)?;
+    for _ in 0..config.workers() {
         start_worker(rt, alloc, &node, &listener)?;
     }
     Ok(loader)

@@ -1,12 +1,16 @@
 //! A cluster, from its config to its end.
+ghost use Rattle.std.specs.Prelude.{◌≡◌, ◌≤◌, IfOk, length, map};
+ghost use Rattle.druid_shard.specs.Reply.{max_changes};
+ghost use Rattle.druid_inventory.specs.Entry.{max_nodes};
+
 use crate::ServeFault;
 use crate::asking::ask;
 use crate::broker::{Broker, Opening, start_broker};
-use crate::config::{BrokerConfig, Config, NodeConfig, QueryConfig, names_in, read_config};
 use crate::gate::Gate;
 use crate::node::start_node;
 use crate::outside::listen;
-use druid_inventory::{Inventory, InventoryFault, MAX_NODES};
+use druid_config::{BrokerConfig, NodeConfig, QueryConfig, read_config};
+use druid_inventory::Inventory;
 use druid_segid::Name;
 use std::alloc::{AllocError, Global};
 use std::fs::File;
@@ -17,15 +21,6 @@ use std::rt::Files;
 use std::sync::{Arc, Wait};
 use std::thread::{JoinHandle, Threads};
 use std::time::Clock;
-
-// The addresses of the nodes, in their order.
-fn addresses_in(alloc: Global, nodes: &[NodeConfig]) -> Result<Vec<String>, AllocError> {
-    let mut addresses = Vec::with_capacity(alloc, nodes.len())?;
-    for node in nodes {
-        addresses.push(String::from_str(alloc, node.address.as_str())?)?;
-    }
-    Ok(addresses)
-}
 
 // Starts the nodes, one after another, and gives the threads that load what comes later.
 fn start_nodes<
@@ -42,11 +37,13 @@ fn start_nodes<
 >(
     rt: &R,
     alloc: Global,
-    nodes: Vec<NodeConfig>,
+    nodes: &[NodeConfig],
     kept: usize,
 ) -> Result<Vec<JoinHandle<()>>, ServeFault>
 where
     R::Dir: Send,
+    requires some { 1 ≤ kept }
+    requires few { kept ≤ max_changes }
 {
     let mut loaders = Vec::new(alloc);
     for node in nodes {
@@ -63,24 +60,32 @@ fn listen_all<R: Net<Listener = TcpListener, Stream = TcpStream>>(
 ) -> Result<Vec<Arc<TcpListener, Global>>, ServeFault> {
     let mut listeners = Vec::with_capacity(alloc, brokers.len())?;
     for broker in brokers {
-        listeners.push(Arc::new(alloc, listen(rt, broker.address.as_str())?)?)?;
+        listeners.push(Arc::new(alloc, listen(rt, broker.address())?)?)?;
     }
     Ok(listeners)
 }
 
-// What a broker knows first of nodes of these names. `BadConfig` where there are not 1 to 64, or a name stands twice.
-fn fresh(alloc: Global, names: &[Name]) -> Result<Inventory, ServeFault> {
-    let mut copies = Vec::with_capacity(alloc, names.len())?;
-    for name in names {
-        copies.push(name.clone()?)?;
+// The names of the nodes, in their order.
+fn names_of(alloc: Global, nodes: &[NodeConfig]) -> Result<Vec<Name>, AllocError>
+    ensures { IfOk result (λ names. names.items ≡ map (λ n. n.name) nodes.now) }
+{
+    let mut names = Vec::with_capacity(alloc, nodes.len())?;
+    for node in nodes {
+        names.push(node.name().clone()?)?;
     }
-    if copies.is_empty() || MAX_NODES < copies.len() {
-        return Err(ServeFault::BadConfig);
-    }
-    match Inventory::new(alloc, copies) {
+    Ok(names)
+}
+
+// What a broker knows first of the nodes.
+fn fresh(alloc: Global, nodes: &[NodeConfig]) -> Result<Inventory, ServeFault>
+    requires some { 1 ≤ length nodes.now }
+    requires few { length nodes.now ≤ max_nodes }
+    ensures { IfOk result (λ inventory. length inventory ≡ length nodes.now) }
+{
+    match Inventory::new(alloc, names_of(alloc, nodes)?) {
         Ok(inventory) => Ok(inventory),
-        Err(InventoryFault::Memory) => Err(ServeFault::Device),
-        Err(_) => Err(ServeFault::BadConfig),
+        // No name stands twice, so memory was refused.
+        Err(_) => Err(ServeFault::Device),
     }
 }
 
@@ -94,8 +99,10 @@ fn start_one<
         + Send
         + Sync
         + 'static,
->(rt: &R, alloc: Global, opening: Opening, addresses: &[String]) -> Result<Broker, ServeFault> {
-    start_broker::<R, Brand>(rt, alloc, opening, addresses)
+>(rt: &R, alloc: Global, opening: Opening, nodes: &[NodeConfig]) -> Result<Broker, ServeFault>
+    requires { length nodes.now ≡ length opening.inventory }
+{
+    start_broker::<R, Brand>(rt, alloc, opening, nodes)
 }
 
 // Starts the brokers behind their listeners.
@@ -113,19 +120,22 @@ fn start_brokers<
     alloc: Global,
     brokers: &[BrokerConfig],
     turns: u64,
-    names: &[Name],
-    addresses: &[String],
-) -> Result<Vec<Broker>, ServeFault> {
+    nodes: &[NodeConfig],
+) -> Result<Vec<Broker>, ServeFault>
+    requires some { 1 ≤ length nodes.now }
+    requires few { length nodes.now ≤ max_nodes }
+{
     let listeners = listen_all(rt, alloc, brokers)?;
     let mut standing = Vec::new(alloc);
     for (broker, listener) in brokers.iter().zip(listeners) {
+        let inventory = fresh(alloc, nodes)?;
         let opening = Opening {
-            inventory: fresh(alloc, names)?,
+            inventory,
             listener,
-            workers: broker.workers,
+            workers: broker.workers(),
             turns,
         };
-        standing.push(start_one(rt, alloc, opening, addresses)?)?;
+        standing.push(start_one(rt, alloc, opening, nodes)?)?;
     }
     Ok(standing)
 }
@@ -162,8 +172,9 @@ fn ask_all<R: Net + Clock + Copy, W: Write>(
     out: &mut W,
 ) -> Result<(), ServeFault> {
     for query in queries {
-        match brokers.get(query.broker) {
-            Some(broker) => ask(rt, alloc, query, broker.address.as_str(), out)?,
+        match brokers.get(query.broker()) {
+            Some(broker) => ask(rt, alloc, query.text(), broker.address(), out)?,
+            // Each query is to a broker that is there.
             None => return Err(ServeFault::BadConfig),
         }
     }
@@ -206,21 +217,12 @@ fn serve_config<
 where
     R::Dir: Send,
 {
-    let Config {
-        nodes,
-        brokers,
-        queries,
-        connections,
-        kept,
-        turns,
-    } = read_config(alloc, config)?;
-    let names = names_in(alloc, &nodes)?;
-    let addresses = addresses_in(alloc, &nodes)?;
-    let loaders = start_nodes(rt, alloc, nodes, kept)?;
-    let standing = start_brokers(rt, alloc, &brokers, turns, &names, &addresses)?;
+    let config = read_config(alloc, config)?;
+    let loaders = start_nodes(rt, alloc, config.nodes(), config.kept())?;
+    let standing = start_brokers(rt, alloc, config.brokers(), config.turns(), config.nodes())?;
     let gates = settled(rt, alloc, loaders, standing)?;
-    ask_all(rt, alloc, &queries, &brokers, out)?;
-    wait_for_others(rt, &gates, connections, out)
+    ask_all(rt, alloc, config.queries(), config.brokers(), out)?;
+    wait_for_others(rt, &gates, config.connections(), out)
 }
 
 /// Serves the cluster of a config, prints the answers to its queries, and ends once each broker answered the connections from

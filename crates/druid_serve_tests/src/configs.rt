@@ -1,5 +1,5 @@
 //! Configs that are taken and that are refused.
-use druid_serve::{ServeFault, read_config};
+use druid_config::{ConfigFault, read_config};
 use std::alloc::Global;
 use std::test::Fail;
 
@@ -14,9 +14,8 @@ fn told_of(alloc: Global, from: &str, to: &str) -> Result<&'static str, Fail> {
     let text = format!(in alloc; "{front}{to}{back}")?;
     match read_config(alloc, text.as_bytes()) {
         Ok(_) => Ok("taken"),
-        Err(ServeFault::BadConfig) => Ok("bad config"),
-        Err(ServeFault::BadFolder) => Ok("bad folder"),
-        Err(ServeFault::Device) => Ok("device"),
+        Err(ConfigFault::Refused) => Ok("bad config"),
+        Err(ConfigFault::Memory) => Ok("device"),
     }
 }
 
@@ -110,7 +109,7 @@ fn doubled_names(rt: HostRuntime) -> Result<(), Fail> {
     let (front, back) = text.as_str().split_once("n1").ok_or("no second node")?;
     let doubled = format!(in alloc; "{front}n0{back}")?;
     let told = read_config(alloc, doubled.as_bytes());
-    assert!(rt; matches!(told, Err(ServeFault::BadConfig)));
+    assert!(rt; matches!(told, Err(ConfigFault::Refused)));
     Ok(())
 }
 
@@ -119,7 +118,7 @@ fn ample_memory(rt: HostRuntime) -> Result<(), Fail> {
     let Ok(config) = read_config(rt.alloc(), whole().as_bytes()) else {
         return Err("no config".into());
     };
-    assert!(rt; config.nodes.len() == 1 && config.brokers.len() == 1 && config.queries.len() == 1);
-    assert!(rt; config.kept == 1000 && config.turns == 1_000_000 && config.connections == 0);
+    assert!(rt; config.nodes().len() == 1 && config.brokers().len() == 1 && config.queries().len() == 1);
+    assert!(rt; config.kept() == 1000 && config.turns() == 1_000_000 && config.connections() == 0);
     Ok(())
 }
