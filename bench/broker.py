@@ -11,7 +11,8 @@ import os, shutil, subprocess, tempfile
 TOP = os.path.dirname(os.path.dirname(os.path.abspath(__file__)))
 PLACE = os.path.join(tempfile.gettempdir(), 'druid_cluster_bench_broker')
 CRATES = ['druid_time', 'druid_segid', 'druid_shard', 'druid_timeline', 'druid_changes', 'druid_sync', 'druid_inventory', 'druid_rows',
-          'druid_query', 'druid_partial', 'druid_segfile', 'druid_store', 'druid_wire', 'druid_node', 'druid_scatter', 'druid_broker']
+          'druid_query', 'druid_partial', 'druid_segfile', 'druid_store', 'druid_wire', 'druid_node', 'druid_published', 'druid_scatter',
+          'druid_broker']
 
 
 def build():
@@ -20,12 +21,16 @@ def build():
         kept = [line for line in f if line.split(':')[0] in CRATES]
     with open(os.path.join(PLACE, 'crates.txt'), 'w') as f:
         f.writelines(kept)
-        f.write('broker: druid_broker druid_scatter druid_node druid_inventory druid_partial druid_query druid_rows druid_wire '
+        f.write('broker: druid_broker druid_scatter druid_published druid_node druid_inventory druid_partial druid_query druid_rows druid_wire '
                 'druid_shard druid_segid druid_time anyhow\n')
     for name in CRATES:
         shutil.copytree(os.path.join(TOP, 'crates', name), os.path.join(PLACE, 'crates', name), dirs_exist_ok=True)
     crate = os.path.join(PLACE, 'crates', 'broker')
     shutil.copy(os.path.join(TOP, 'bench', 'broker', 'main.rt.in'), os.path.join(crate, 'src', 'main.rt'))
+    proofs = os.path.join(crate, 'proofs')
+    os.makedirs(os.path.join(proofs, 'all'), exist_ok=True)
+    open(os.path.join(proofs, 'Lib.antt'), 'w').close()
+    shutil.copy(os.path.join(TOP, 'bench', 'broker', 'Invariants.antt.in'), os.path.join(proofs, 'all', 'Invariants.antt'))
     subprocess.run(['rt', 'run', '--', 'plan'], cwd=crate, check=True, stdout=subprocess.DEVNULL)
     return os.path.join(crate, 'out', 'broker')
 

@@ -1,11 +1,15 @@
 -- Which requests use links.
-use Rattle.std.proofs.Common.{◌≡◌, ◌⊎◌, ℕ, Bool, true, false, List, codes, bytes_eq, Option, Some, None, IfSome, refl, inl, inr}
+use Rattle.std.proofs.Common.{◌≡◌, ◌⊎◌, ℕ, Bool, true, false, List, [], codes, bytes_eq, Option, Some, None, IfSome, Result, Ok, Err, IfOk, IfErr, refl, sym, ap, ◌∙◌, inl, inr}
+use Rattle.druid_shard.specs.Mark.{Point}
 use Rattle.druid_inventory.specs.Entry.{Entry}
 use Rattle.druid_wire.specs.Links.{Came}
 use Rattle.druid_wire.specs.Messages.{RequestValue, IsRequest}
 use Rattle.druid_wire.specs.Served.{path_of}
-use Rattle.druid_wire.proofs.ServeLemmas.{WasRead}
-use Rattle.druid_broker.specs.Routes.{Route, health, query, sources, load_status, entry, nowhere, route_of, AnswersPost, AnswersAt, Responds, KeepsLinks}
+use Rattle.druid_wire.specs.Served.{IsSent, IsServed, IsCutShort, FailsToServe}
+use Rattle.druid_wire.specs.declared.fault.WireFault.{WireFault}
+use Rattle.druid_wire.proofs.ServeLemmas.{WasRead, served, unsent}
+use Rattle.druid_broker.specs.Routes.{Route, health, query, sources, load_status, entry, nowhere, route_of, AnswersPost, AnswersAt, Responds, IsOutOfMemory, KeepsLinks}
+use Rattle.druid_broker.specs.Views.{takes_inventory, AnswersStale, RespondsBy, KeepsView}
 
 module _ {L : Type 0} (step : L → List ℕ → Came → L → Type 0) (inventory : List Entry) (old new : List L) where
   posted : (b : Bool) (bytes : List ℕ) (status : ℕ) (body : List ℕ) → AnswersPost step b inventory bytes old new status body → (new ≡ old) ⊎ (b ≡ true)
@@ -39,3 +43,41 @@ module _ {L : Type 0} (step : L → List ℕ → Came → L → Type 0) (invento
   keeps_links None after request status body read answer = tt
   keeps_links (Some input) after request status body (rest, after_is, is) answer =
       kept input request rest is (at_route (route_of (path_of request.target)) request status body answer)
+
+-- what was sent of an answer
+module _ (R : RequestValue → ℕ → List ℕ → Type 0) (request : RequestValue) (before after old new : Option (List ℕ)) (status sent_as : ℕ) (body sent_body : List ℕ) where
+  pub sent : (r : Result ℕ WireFault) → WasRead before after request → R request status body → sent_as ≡ status → sent_body ≡ body
+      → IfOk r (IsSent old new sent_as sent_body) → IfOk r (IsServed R before after old new)
+  sent (Ok s) read answer e f is = served R request before after old new s read (sent_as, sent_body, rw (e, f) answer, is)
+  sent (Err fault) read answer e f is = tt
+
+  pub cut_short : (r : Result ℕ WireFault) → WasRead before after request → R request status body → sent_as ≡ status → sent_body ≡ body
+      → IfErr r (IsCutShort old new sent_as sent_body) → IfErr r (FailsToServe R before after old new)
+  cut_short (Ok s) read answer e f is = tt
+  cut_short (Err fault) read answer e f is = unsent R request before after old new fault read (sent_as, sent_body, rw (e, f) answer, is)
+
+-- the links and the view after an answer by way of a view
+module _ {L : Type 0} (step : L → List ℕ → Came → L → Type 0) (names : List (List ℕ)) (floor after : List Point) (old new : List L) where
+  pub keeps_links_by : (before rest : Option (List ℕ)) (request : RequestValue) (status : ℕ) (body : List ℕ) → WasRead before rest request
+      → RespondsBy step names floor after old new request status body → IfSome before (KeepsLinks old new)
+  keeps_links_by None rest request status body read answer = tt
+  keeps_links_by (Some input) rest request status body read (inl (inventory, reads, answer)) = keeps_links step inventory old new (Some input) rest request status body read answer
+  keeps_links_by (Some input) rest request status body read (inr (inl (answer, same))) = keeps_links step [] old new (Some input) rest request status body read (answer [])
+  keeps_links_by (Some input) rest request status body read (inr (inr (takes, told, same, links))) = inl links
+
+  pub keeps_view : (request : RequestValue) (status : ℕ) (body : List ℕ) → RespondsBy step names floor after old new request status body → KeepsView names floor after
+  keeps_view request status body (inl (inventory, reads, answer)) = inr (inventory, reads)
+  keeps_view request status body (inr (inl (answer, same))) = inl same
+  keeps_view request status body (inr (inr (takes, told, same, links))) = inl same
+
+  -- where nothing is read, that is told
+  pub told_unread : (request : RequestValue) (status : ℕ) (body path : List ℕ) (route : Route) (takes : Bool)
+      → path ≡ path_of request.target → route ≡ route_of path → takes ≡ takes_inventory route request.method → takes ≡ true
+      → AnswersStale names floor status body ⊎ IsOutOfMemory status body → after ≡ floor → new ≡ old
+      → RespondsBy step names floor after old new request status body
+  told_unread request status body path route takes is_path is_route is_taken some told same links =
+      let needed : takes_inventory (route_of (path_of request.target)) request.method ≡ true =
+      sym (ap (λ p. takes_inventory (route_of p) request.method) is_path) ∙ (sym (ap (λ r. takes_inventory r request.method) is_route)
+      ∙ (sym is_taken ∙ some))
+      in
+      inr (inr (needed, told, same, links))

@@ -3,3 +3,4 @@ pub mod Routes
 pub mod Turns
 pub mod Lent
 pub mod Rows
+pub mod Views

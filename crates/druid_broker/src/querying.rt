@@ -15,6 +15,7 @@ use druid_scatter::{Answer, Pick, gather, plan};
 use druid_wire::Link;
 use http::StatusCode;
 use std::alloc::{AllocError, Global};
+use std::thread::Threads;
 
 fn is_memory(fault: &QueryFault) -> bool
     ensures { IsTrue result ↔ (fault.now ≡ QueryFault.Memory) }
@@ -51,7 +52,8 @@ fn tell_rows(alloc: Global, query: &Query, answer: &Answer) -> Result<Response, 
 }
 
 // The rows of a query.
-fn answer_rows<P: Pick, L: Link>(
+fn answer_rows<T: Threads + Sync, P: Pick, L: Link + Send>(
+    rt: &T,
     alloc: Global,
     inventory: &Inventory,
     query: &Query,
@@ -67,14 +69,15 @@ fn answer_rows<P: Pick, L: Link>(
     let Ok(pairs) = plan(alloc, inventory, query) else {
         return Err(AllocError);
     };
-    let Ok(gathered) = gather(alloc, query, &pairs, turn, pick, links) else {
+    let Ok(gathered) = gather(rt, alloc, query, &pairs, turn, pick, links) else {
         return Err(AllocError);
     };
     tell_rows(alloc, query, &gathered)
 }
 
 /// The answer to a query that is posted: its rows, of what the nodes of the inventory serve, gathered over their links.
-pub(crate) fn answer_query<P: Pick, L: Link>(
+pub(crate) fn answer_query<T: Threads + Sync, P: Pick, L: Link + Send>(
+    rt: &T,
     alloc: Global,
     inventory: &Inventory,
     body: &[u8],
@@ -86,7 +89,7 @@ pub(crate) fn answer_query<P: Pick, L: Link>(
     ensures { AnswersPost L.exchanges true inventory.now body.now links.old links.new result.status result.body }
 {
     match read_query(alloc, body) {
-        Ok(query) => match answer_rows(alloc, inventory, &query, turn, pick, links) {
+        Ok(query) => match answer_rows(rt, alloc, inventory, &query, turn, pick, links) {
             Ok(response) => response,
             Err(_) => Response::out_of_memory(),
         },

@@ -62,6 +62,13 @@ impl Response {
         Response::fixed(StatusCode::INTERNAL_SERVER_ERROR, "{\"error\":\"Memory\"}")
     }
 
+    /// The answer where what was found is behind what the view knows.
+    pub(crate) fn stale() -> Response
+        ensures { Tells 500 (codes "{\"error\":\"Stale\"}") result.status result.body }
+    {
+        Response::fixed(StatusCode::INTERNAL_SERVER_ERROR, "{\"error\":\"Stale\"}")
+    }
+
     /// The status.
     pub(crate) fn status(&self) -> StatusCode
         ensures { result ≡ self.now.status }

@@ -2,19 +2,22 @@
 ghost use Rattle.std.specs.Prelude.{◌≡◌, ◌≢◌, ◌↔◌, ◌<◌, ◌⊎◌, IsTrue, IfOk, IfErr, OnErr, Ok, Err, Some, length, slice_get, slice_set, string_bytes};
 ghost use Rattle.druid_sync.specs.Asks.{ask_text};
 ghost use Rattle.druid_inventory.specs.Entry.{Entry};
-ghost use Rattle.druid_inventory.specs.Step.{StepsAt, Tells};
+ghost use Rattle.druid_inventory.specs.Step.{StepsAt};
+ghost use Rattle.druid_published.specs.Floor.{marks_of};
 ghost use Rattle.druid_wire.specs.Links.{came_of};
 ghost use Rattle.druid_wire.specs.Written.{request_text};
 ghost use Rattle.druid_broker.specs.Turns.{get_request, entry_request, entry_target, IsAnswerTo, Fetches, StartsAgain, IsFetched, IsFetchedFrom, TakesTurn, FailsTurn};
 ghost use Rattle.druid_broker.specs.Lent.{RefusesTurn};
 
 use crate::TurnFault;
-use druid_inventory::{ApplyFault, Inventory, Outcome};
+use druid_inventory::{Inventory, Outcome};
+use druid_published::{NodeList, PublishFault, Publisher, Receipt};
 use druid_shard::{Ask, Body, NodeNo, Reply};
 use druid_sync::{SyncFault, ask_target, read_reply};
 use druid_wire::{Link, Request, WireFault, request_bytes, response_of};
 use http::{Method, StatusCode};
 use std::alloc::{AllocError, Global};
+use std::sync::Wait;
 
 // What is told of a body that does not read.
 fn reply_fault(fault: SyncFault) -> TurnFault
@@ -147,69 +150,81 @@ pub fn fetch_entry<L: Link>(alloc: Global, peer: &mut L, node: NodeNo) -> Result
     }
 }
 
-// What is told of a reply that is not applied.
-fn apply_fault(fault: ApplyFault) -> TurnFault
-    ensures { ((fault ≡ ApplyFault.Memory) × (result ≡ TurnFault.Memory)) ⊎ ((fault ≢ ApplyFault.Memory) × (result ≡ TurnFault.Apply fault)) }
+// Publishes a reply of a node.
+#[tactic(auto, using(crate::proofs::TurnLemmas::refused_at))]
+fn publish_reply<T: Wait, N: NodeList>(
+    rt: &T,
+    node: NodeNo,
+    reply: &Reply,
+    publisher: &mut Publisher<N>,
+) -> Result<(Outcome, Receipt<N>), TurnFault>
+    requires { node < length publisher.old }
+    ensures ok { IfOk result (λ r. (entry : Entry) × StepsAt publisher.old node reply.now r.0 entry
+        × (publisher.new ≡ slice_set publisher.old node entry)) }
+    ensures receipt { IfOk result (λ r. r.1 ≡ marks_of publisher.new) }
+    ensures err { IfErr result (RefusesTurn publisher.old node reply.now) }
+    ensures unchanged { OnErr result (publisher.new ≡ publisher.old) }
 {
-    if fault == ApplyFault::Memory {
-        TurnFault::Memory
-    } else {
-        TurnFault::Apply(fault)
+    match publisher.publish(rt, node, reply) {
+        Ok(published) => Ok(published),
+        Err(PublishFault::Apply(fault)) => Err(TurnFault::Apply(fault)),
+        Err(PublishFault::Memory) => Err(TurnFault::Memory),
+        Err(PublishFault::Stale { .. }) => unreachable!(),
     }
 }
 
-// Applies a reply of a node.
-fn take_reply(node: NodeNo, reply: &Reply, inventory: &mut Inventory) -> Result<Outcome, TurnFault>
-    requires { node < length inventory.old }
-    ensures ok { IfOk result (λ outcome. (entry : Entry) × StepsAt inventory.old node reply.now outcome entry
-        × (inventory.new ≡ slice_set inventory.old node entry)) }
-    ensures err { IfErr result (RefusesTurn inventory.old node reply.now) }
-    ensures unchanged { OnErr result (inventory.new ≡ inventory.old) }
+// Asks a node for what changed behind its mark in what is published.
+fn fetch_change<N: NodeList, L: Link>(
+    alloc: Global,
+    publisher: &Publisher<N>,
+    node: NodeNo,
+    link: &mut L,
+) -> Result<Reply, TurnFault>
+    requires { node < length publisher.now }
+    ensures { IsFetchedFrom L.exchanges publisher.now node link.old link.new result }
 {
-    match inventory.apply(node, reply) {
-        Ok((next, outcome)) => {
-            *inventory = next;
-            Ok(outcome)
-        }
-        Err(fault) => Err(apply_fault(fault)),
-    }
+    fetch(alloc, publisher.inventory(), node, link)
 }
 
-/// Fetches what changed of a node, and applies it. K3 where the reply is not applied, and else the faults of `fetch`; then the
-/// inventory stays as it was.
-pub fn sync_turn<L: Link>(
+/// Fetches what changed of a node, and publishes it; the receipt tells the marks then. K3 where the reply is not applied, and
+/// else the faults of `fetch`; then what is published stays as it was.
+pub fn sync_turn<T: Wait, N: NodeList, L: Link>(
+    rt: &T,
     alloc: Global,
     node: NodeNo,
     link: &mut L,
-    inventory: &mut Inventory,
-) -> Result<Outcome, TurnFault>
-    requires { node < length inventory.old }
-    ensures ok { IfOk result (λ outcome. TakesTurn (IsFetchedFrom L.exchanges inventory.old node link.old link.new)
-        inventory.old node outcome inventory.new) }
-    ensures err { IfErr result (FailsTurn (IsFetchedFrom L.exchanges inventory.old node link.old link.new) inventory.old node) }
-    ensures unchanged { OnErr result (inventory.new ≡ inventory.old) }
+    publisher: &mut Publisher<N>,
+) -> Result<(Outcome, Receipt<N>), TurnFault>
+    requires { node < length publisher.old }
+    ensures ok { IfOk result (λ r. TakesTurn (IsFetchedFrom L.exchanges publisher.old node link.old link.new)
+        publisher.old node r.0 publisher.new) }
+    ensures receipt { IfOk result (λ r. r.1 ≡ marks_of publisher.new) }
+    ensures err { IfErr result (FailsTurn (IsFetchedFrom L.exchanges publisher.old node link.old link.new) publisher.old node) }
+    ensures unchanged { OnErr result (publisher.new ≡ publisher.old) }
 {
-    match fetch(alloc, inventory, node, link) {
-        Ok(reply) => take_reply(node, &reply, inventory),
+    match fetch_change(alloc, publisher, node, link) {
+        Ok(reply) => publish_reply(rt, node, &reply, publisher),
         Err(fault) => Err(fault),
     }
 }
 
-/// Fetches what a peer broker knows of a node, and applies it as a reply of that node; the faults as for `sync_turn`.
-pub fn seed_turn<L: Link>(
+/// Fetches what a peer broker knows of a node, and publishes it as a reply of that node; the faults as for `sync_turn`.
+pub fn seed_turn<T: Wait, N: NodeList, L: Link>(
+    rt: &T,
     alloc: Global,
     node: NodeNo,
     peer: &mut L,
-    inventory: &mut Inventory,
-) -> Result<Outcome, TurnFault>
-    requires { node < length inventory.old }
-    ensures ok { IfOk result (λ outcome. TakesTurn (Fetches L.exchanges (entry_request node) peer.old peer.new)
-        inventory.old node outcome inventory.new) }
-    ensures err { IfErr result (FailsTurn (Fetches L.exchanges (entry_request node) peer.old peer.new) inventory.old node) }
-    ensures unchanged { OnErr result (inventory.new ≡ inventory.old) }
+    publisher: &mut Publisher<N>,
+) -> Result<(Outcome, Receipt<N>), TurnFault>
+    requires { node < length publisher.old }
+    ensures ok { IfOk result (λ r. TakesTurn (Fetches L.exchanges (entry_request node) peer.old peer.new)
+        publisher.old node r.0 publisher.new) }
+    ensures receipt { IfOk result (λ r. r.1 ≡ marks_of publisher.new) }
+    ensures err { IfErr result (FailsTurn (Fetches L.exchanges (entry_request node) peer.old peer.new) publisher.old node) }
+    ensures unchanged { OnErr result (publisher.new ≡ publisher.old) }
 {
     match fetch_entry(alloc, peer, node) {
-        Ok(reply) => take_reply(node, &reply, inventory),
+        Ok(reply) => publish_reply(rt, node, &reply, publisher),
         Err(fault) => Err(fault),
     }
 }

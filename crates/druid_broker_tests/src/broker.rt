@@ -1,6 +1,13 @@
 //! What brokers answer to messages.
-use crate::cluster::{Behind, Cluster, answered, followed_cluster, made_by, posted, set};
+ghost use Rattle.std.specs.Prelude.{◌≡◌};
+ghost use Rattle.druid_inventory.specs.Join.{names_of};
+
+use crate::cluster::{
+    Behind, Cluster, Handle, Setup, answered, followed, made_by, posted, set, set_up,
+};
+use druid_published::NodeList;
 use std::alloc::Global;
+use std::marker::Brand;
 use std::test::Fail;
 
 // Clusters, and queries over their first day of 2024, with their answers. A cluster is its nodes, between which `|` stands, each
@@ -55,41 +62,62 @@ fn without_marks(alloc: Global, text: &str) -> Result<String, Fail> {
     Ok(plain)
 }
 
-// The cluster, with nothing behind the links of nodes that fail.
-fn failing(alloc: Global, text: &str) -> Result<Cluster, Fail> {
-    let mut made = followed_cluster(alloc, without_marks(alloc, text)?.as_str(), 64)?;
+// The places of the nodes that the text marks.
+fn marked(alloc: Global, text: &str) -> Result<Vec<usize>, Fail> {
+    let mut places = Vec::new(alloc);
     for (place, node) in text.split(" | ").enumerate() {
         if node.starts_with("!") {
-            set(&mut made, place, Behind::Nothing)?;
+            places.push(place)?;
         }
     }
-    Ok(made)
+    Ok(places)
+}
+
+// What a broker over these parts answers to the query at a turn, once the nodes at these places fail.
+fn answer_to<R: Handle, N: NodeList>(
+    rt: R,
+    alloc: Global,
+    setup: Setup<R>,
+    failing: Vec<usize>,
+    query: String,
+    turn: u64,
+) -> Result<String, Fail>
+    requires { names_of setup.inventory ≡ N.names }
+{
+    let mut made: Cluster<R, N> = followed(rt, alloc, setup, 64)?;
+    for place in failing {
+        set(&mut made, place, Behind::Nothing)?;
+    }
+    posted(alloc, &mut made, turn, query.as_str())
 }
 
 /// Whether a broker over that cluster answers the query so, at a turn.
-pub(crate) fn is_answered_by(
+pub(crate) fn is_answered_by<R: Handle>(
+    rt: R,
     alloc: Global,
     nodes: &str,
     asked: &str,
     wanted: &str,
     turn: u64,
 ) -> Result<bool, Fail> {
-    let mut made = failing(alloc, nodes)?;
+    let setup = set_up(rt, alloc, without_marks(alloc, nodes)?.as_str())?;
+    let failing = marked(alloc, nodes)?;
     let query = query(alloc, asked)?;
-    Ok(posted(alloc, &mut made, turn, query.as_str())?.as_str() == wanted)
+    let told = answer_to::<R, Brand>(rt, alloc, setup, failing, query, turn)?;
+    Ok(told.as_str() == wanted)
 }
 
-fn is_answered(alloc: Global, line: &str, turn: u64) -> Result<bool, Fail> {
+fn is_answered<R: Handle>(rt: R, alloc: Global, line: &str, turn: u64) -> Result<bool, Fail> {
     let (nodes, rest) = line.split_once(" => ").ok_or("no query")?;
     let (asked, wanted) = rest.split_once(" = ").ok_or("no answer")?;
-    is_answered_by(alloc, nodes, asked, wanted, turn)
+    is_answered_by(rt, alloc, nodes, asked, wanted, turn)
 }
 
 #[test]
 fn ample_memory(rt: HostRuntime) -> Result<(), Fail> {
     for line in ANSWERS.lines() {
-        assert!(rt; is_answered(rt.alloc(), line, 0)?, "{line}");
-        assert!(rt; is_answered(rt.alloc(), line, 1)?, "{line}");
+        assert!(rt; is_answered(&rt, rt.alloc(), line, 0)?, "{line}");
+        assert!(rt; is_answered(&rt, rt.alloc(), line, 1)?, "{line}");
     }
     Ok(())
 }
@@ -136,18 +164,41 @@ fn spelled(alloc: Global, text: &str) -> Result<Vec<u8>, Fail> {
     Ok(out)
 }
 
-fn is_told(alloc: Global, made: &mut Cluster, line: &str) -> Result<bool, Fail> {
+fn is_told<R: Handle, N: NodeList>(
+    alloc: Global,
+    made: &mut Cluster<R, N>,
+    line: &str,
+) -> Result<bool, Fail> {
     let (message, wanted) = line.split_once(" = ").ok_or("no answer")?;
     let message = spelled(alloc, message)?;
     Ok(answered(alloc, made, 0, &message)?.as_str() == wanted)
 }
 
+// The first line that a broker over these parts answers otherwise, once it has followed the first node.
+fn told_otherwise<R: Handle, N: NodeList>(
+    rt: R,
+    alloc: Global,
+    setup: Setup<R>,
+) -> Result<Option<&'static str>, Fail>
+    requires { names_of setup.inventory ≡ N.names }
+{
+    let mut made: Cluster<R, N> = followed(rt, alloc, setup, 1)?;
+    for line in MESSAGES.lines() {
+        if !is_told(alloc, &mut made, line)? {
+            return Ok(Some(line));
+        }
+    }
+    Ok(None)
+}
+
+fn told_of<R: Handle>(rt: R, alloc: Global) -> Result<Option<&'static str>, Fail> {
+    let setup = set_up(rt, alloc, "v1/0/24/0/1 d:m 0/a/1 | .")?;
+    told_otherwise::<R, Brand>(rt, alloc, setup)
+}
+
 #[test]
 fn messages(rt: HostRuntime) -> Result<(), Fail> {
-    let mut made = followed_cluster(rt.alloc(), "v1/0/24/0/1 d:m 0/a/1 | .", 1)?;
-    for line in MESSAGES.lines() {
-        assert!(rt; is_told(rt.alloc(), &mut made, line)?, "{line}");
-    }
+    assert_eq!(rt; told_of(&rt, rt.alloc())?, None);
     Ok(())
 }
 
@@ -207,7 +258,12 @@ fn hostile(alloc: Global, head: &str, body: &str) -> Result<Vec<u8>, Fail> {
 }
 
 // Whether the query is answered so at a turn, and each of the two links was asked once.
-fn is_asked_once(alloc: Global, made: &mut Cluster, turn: u64, wanted: &str) -> Result<bool, Fail> {
+fn is_asked_once<R: Handle, N: NodeList>(
+    alloc: Global,
+    made: &mut Cluster<R, N>,
+    turn: u64,
+    wanted: &str,
+) -> Result<bool, Fail> {
     made_by(made, 0)?;
     made_by(made, 1)?;
     let query = query(
@@ -221,8 +277,15 @@ fn is_asked_once(alloc: Global, made: &mut Cluster, turn: u64, wanted: &str) -> 
 
 // Whether a broker over two replicas counts the row where one of them answers these bytes, and lists it as missing where both
 // do.
-fn is_passed_on(alloc: Global, bytes: &[u8]) -> Result<bool, Fail> {
-    let mut made = followed_cluster(alloc, "v1/0/24/0/1 d:m 0/a/1 | v1/0/24/0/1 d:m 0/a/1", 2)?;
+fn passes_on<R: Handle, N: NodeList>(
+    rt: R,
+    alloc: Global,
+    setup: Setup<R>,
+    bytes: &[u8],
+) -> Result<bool, Fail>
+    requires { names_of setup.inventory ≡ N.names }
+{
+    let mut made: Cluster<R, N> = followed(rt, alloc, setup, 2)?;
     set(&mut made, 0, Behind::Bytes(bytes.to_vec(alloc)?))?;
     if !is_asked_once(alloc, &mut made, 0, COUNTED)? {
         return Ok(false);
@@ -231,15 +294,20 @@ fn is_passed_on(alloc: Global, bytes: &[u8]) -> Result<bool, Fail> {
     is_asked_once(alloc, &mut made, 1, NOT_COUNTED)
 }
 
-fn is_hostile(alloc: Global, line: &str) -> Result<bool, Fail> {
+fn is_passed_on<R: Handle>(rt: R, alloc: Global, bytes: &[u8]) -> Result<bool, Fail> {
+    let setup = set_up(rt, alloc, "v1/0/24/0/1 d:m 0/a/1 | v1/0/24/0/1 d:m 0/a/1")?;
+    passes_on::<R, Brand>(rt, alloc, setup, bytes)
+}
+
+fn is_hostile<R: Handle>(rt: R, alloc: Global, line: &str) -> Result<bool, Fail> {
     let (head, body) = line.split_once(" = ").ok_or("no body")?;
-    is_passed_on(alloc, &hostile(alloc, head, body)?)
+    is_passed_on(rt, alloc, &hostile(alloc, head, body)?)
 }
 
 #[test]
 fn hostile_answers(rt: HostRuntime) -> Result<(), Fail> {
     for line in HOSTILE.lines() {
-        assert!(rt; is_hostile(rt.alloc(), line)?, "{line}");
+        assert!(rt; is_hostile(&rt, rt.alloc(), line)?, "{line}");
     }
     Ok(())
 }
@@ -251,6 +319,6 @@ fn many_brackets(rt: HostRuntime) -> Result<(), Fail> {
     for _ in 0..16_777_216 {
         bytes.push(b'[')?;
     }
-    assert!(rt; is_passed_on(rt.alloc(), &bytes)?);
+    assert!(rt; is_passed_on(&rt, rt.alloc(), &bytes)?);
     Ok(())
 }

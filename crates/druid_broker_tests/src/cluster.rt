@@ -1,18 +1,27 @@
 //! Clusters in memory: data nodes, each behind a link of its own, and a broker that follows them.
-ghost use Rattle.std.specs.Prelude.{◌≡◌, ◌⊎◌, ◌≤◌, length, IfOk, IfErr};
+ghost use Rattle.std.specs.Prelude.{◌≡◌, ◌⊎◌, ◌≤◌, IsTrue, length, IfOk, IfErr};
+ghost use Rattle.druid_inventory.specs.Join.{names_of};
 
 use druid_broker::{Routes, serve_one, sync_turn};
 use druid_inventory::{Inventory, MAX_NODES};
 use druid_node::{DataNode, NodeState};
+use druid_published::{NodeList, Publisher, View, open};
 use druid_rows::{Row, Schema, Segment};
 use druid_scatter::Rotate;
 use druid_segid::{Name, SegmentId, Version};
-use druid_shard::Descriptor;
+use druid_shard::{Descriptor, Mark};
 use druid_time::{Instant, Interval};
 use druid_wire::{Link, MAX_EXCHANGE, WireFault, response_of};
 use std::alloc::Global;
 use std::str;
+use std::sync::Wait;
 use std::test::Fail;
+use std::thread::Threads;
+
+/// What clusters do with the handle.
+pub(crate) trait Handle: Wait + Threads + Copy + Send + Sync {}
+
+impl<R: Wait + Threads + Copy + Send + Sync> Handle for R {}
 
 /// What stands behind a link.
 #[derive(Drop)]
@@ -27,28 +36,37 @@ pub(crate) enum Behind {
 
 /// A link of a test. It counts its exchanges.
 #[derive(Drop)]
-pub(crate) struct TestLink {
+pub(crate) struct TestLink<R: Handle> {
+    rt: R,
     behind: Behind,
+    // What was seen of the node behind it.
+    seen: Mark,
     made: u64,
     faults: u64,
 }
 
 // What a data node writes for a request. What was written before a fault comes back all the same.
-fn answer_of(alloc: Global, node: &DataNode, request: &[u8]) -> Result<Vec<u8>, WireFault>
+fn answer_of(
+    rt: &impl Wait,
+    alloc: Global,
+    node: &DataNode,
+    request: &[u8],
+    seen: &mut Mark,
+) -> Result<Vec<u8>, WireFault>
     ensures bound { IfOk result (λ bytes. length bytes.items ≤ MAX_EXCHANGE) }
     ensures fault { IfErr result (λ fault. fault ≡ WireFault.BodyTooLong) }
 {
     let mut reader = request;
     let mut written = Vec::new(alloc);
-    drop(node.serve_one(&mut reader, &mut written));
+    drop(node.serve_one(rt, &mut reader, &mut written, seen));
     if MAX_EXCHANGE < written.len() {
         return Err(WireFault::BodyTooLong);
     }
     Ok(written)
 }
 
-// A copy of bytes.
-fn copy_of(alloc: Global, bytes: &[u8]) -> Result<Vec<u8>, WireFault>
+/// A copy of bytes, as a link gives them.
+pub(crate) fn copy_of(alloc: Global, bytes: &[u8]) -> Result<Vec<u8>, WireFault>
     ensures bound { IfOk result (λ bytes. length bytes.items ≤ MAX_EXCHANGE) }
     ensures fault { IfErr result (λ fault. (fault ≡ WireFault.BodyTooLong) ⊎ (fault ≡ WireFault.Memory)) }
 {
@@ -58,7 +76,7 @@ fn copy_of(alloc: Global, bytes: &[u8]) -> Result<Vec<u8>, WireFault>
     Ok(bytes.to_vec(alloc)?)
 }
 
-impl Link for TestLink {
+impl<R: Handle> Link for TestLink<R> {
     ghost exchanges = { λ link request came next. Unit {0} };
 
     ghost faults = { λ link. link.faults };
@@ -66,7 +84,7 @@ impl Link for TestLink {
     fn exchange(&mut self, alloc: Global, request: &[u8]) -> Result<Vec<u8>, WireFault> {
         self.made = self.made.saturating_add(1);
         match &self.behind {
-            Behind::Node(node) => answer_of(alloc, node, request),
+            Behind::Node(node) => answer_of(&self.rt, alloc, node, request, &mut self.seen),
             Behind::Bytes(bytes) => copy_of(alloc, bytes),
             Behind::Nothing => {
                 self.faults = self.faults.saturating_add(1);
@@ -80,11 +98,13 @@ impl Link for TestLink {
     }
 }
 
-impl TestLink {
+impl<R: Handle> TestLink<R> {
     /// A link to that.
-    pub(crate) fn new(behind: Behind) -> TestLink {
+    pub(crate) fn new(rt: R, behind: Behind) -> TestLink<R> {
         TestLink {
+            rt,
             behind,
+            seen: Mark::never(),
             made: 0,
             faults: 0,
         }
@@ -93,6 +113,7 @@ impl TestLink {
     /// Puts something else behind it.
     pub(crate) fn set(&mut self, behind: Behind) {
         self.behind = behind;
+        self.seen = Mark::never();
     }
 
     /// How many exchanges were made since the last time that this was asked.
@@ -103,11 +124,20 @@ impl TestLink {
     }
 }
 
-/// A broker, and link k to node k of its list.
+/// What a cluster is made of: an inventory of its nodes, and link k to node k.
 #[derive(Drop)]
-pub(crate) struct Cluster {
+pub(crate) struct Setup<R: Handle> {
     pub(crate) inventory: Inventory,
-    pub(crate) links: Vec<TestLink>,
+    pub(crate) links: Vec<TestLink<R>>,
+}
+
+/// A broker, a view of what it publishes, and link k to node k of its list.
+#[derive(Drop)]
+pub(crate) struct Cluster<R: Handle, N: NodeList> {
+    pub(crate) rt: R,
+    pub(crate) publisher: Publisher<N>,
+    pub(crate) view: View<N>,
+    pub(crate) links: Vec<TestLink<R>>,
 }
 
 // An instant of the first day of 2024, by its milliseconds.
@@ -201,18 +231,24 @@ fn node(alloc: Global, text: &str) -> Result<DataNode, Fail> {
     Ok(DataNode::new(state))
 }
 
-// Follows the first nodes.
-fn follow(alloc: Global, cluster: &mut Cluster, count: usize) -> Result<(), Fail> {
+// Follows the first nodes, and tells the view of it.
+fn follow<R: Handle, N: NodeList>(
+    alloc: Global,
+    cluster: &mut Cluster<R, N>,
+    count: usize,
+) -> Result<(), Fail> {
+    let rt = cluster.rt;
     for node in 0..64_u16 {
         let place = node as usize;
         if place >= count || place >= cluster.links.len() {
             return Ok(());
         }
-        if node >= cluster.inventory.node_count() {
+        if node >= cluster.publisher.inventory().node_count() {
             return Err("more links than nodes".into());
         }
         let link = &mut cluster.links[place];
-        sync_turn(alloc, node, link, &mut cluster.inventory)?;
+        let (_, receipt) = sync_turn(&rt, alloc, node, link, &mut cluster.publisher)?;
+        cluster.view.learn(&receipt);
     }
     Ok(())
 }
@@ -228,43 +264,75 @@ fn inventory(alloc: Global, count: usize) -> Result<Inventory, Fail> {
     Ok(Inventory::new(alloc, names)?)
 }
 
-/// A cluster of nodes, between which `|` stands, and a broker that has followed the first of them.
-pub(crate) fn followed_cluster(
-    alloc: Global,
-    text: &str,
-    followed: usize,
-) -> Result<Cluster, Fail> {
+/// The parts of a cluster of nodes, between which `|` stands.
+pub(crate) fn set_up<R: Handle>(rt: R, alloc: Global, text: &str) -> Result<Setup<R>, Fail> {
     let mut links = Vec::new(alloc);
     for one in text.split(" | ") {
-        links.push(TestLink::new(Behind::Node(node(alloc, one)?)))?;
+        links.push(TestLink::new(rt, Behind::Node(node(alloc, one)?)))?;
     }
     let inventory = inventory(alloc, links.len())?;
-    let mut cluster = Cluster { inventory, links };
-    follow(alloc, &mut cluster, followed)?;
+    Ok(Setup { inventory, links })
+}
+
+/// A cluster of these parts, whose broker has followed the first nodes.
+pub(crate) fn followed<R: Handle, N: NodeList>(
+    rt: R,
+    alloc: Global,
+    setup: Setup<R>,
+    count: usize,
+) -> Result<Cluster<R, N>, Fail>
+    requires { names_of setup.inventory ≡ N.names }
+{
+    let (publisher, mut views) = open::<N>(alloc, setup.inventory, 1)?;
+    let view = views.pop().ok_or("no view")?;
+    let mut cluster = Cluster {
+        rt,
+        publisher,
+        view,
+        links: setup.links,
+    };
+    follow(alloc, &mut cluster, count)?;
     Ok(cluster)
 }
 
+/// Whether there is a link to each node that the view reads of.
+#[tactic(auto, using(crate::proofs::LinkLemmas::linked))]
+pub(crate) fn is_linked<R: Handle, N: NodeList>(cluster: &mut Cluster<R, N>) -> bool
+    ensures { IsTrue result → length N.names ≤ length cluster.new.links.items }
+{
+    let rt = cluster.rt;
+    let Ok(found) = cluster.view.read(&rt) else {
+        return false;
+    };
+    if cluster.links.len() < found.node_count() as usize {
+        return false;
+    }
+    true
+}
+
 // What the broker writes for a message, at a turn.
-fn written(
+fn written<R: Handle, N: NodeList>(
     alloc: Global,
-    cluster: &mut Cluster,
+    cluster: &mut Cluster<R, N>,
     turn: u64,
     message: &[u8],
 ) -> Result<Vec<u8>, Fail> {
     let mut reader = message;
     let mut written = Vec::new(alloc);
-    if cluster.links.len() < cluster.inventory.node_count() as usize {
+    if !is_linked(cluster) {
         return Err("fewer links than nodes".into());
     }
     let Ok(routes) = Routes::new(alloc) else {
         return Err("no routes".into());
     };
+    let rt = cluster.rt;
     serve_one(
+        &rt,
         alloc,
         &routes,
         &mut reader,
         &mut written,
-        &cluster.inventory,
+        &mut cluster.view,
         turn,
         &Rotate,
         &mut cluster.links,
@@ -273,9 +341,9 @@ fn written(
 }
 
 /// What the broker answers to a message, at a turn: `200 true`.
-pub(crate) fn answered(
+pub(crate) fn answered<R: Handle, N: NodeList>(
     alloc: Global,
-    cluster: &mut Cluster,
+    cluster: &mut Cluster<R, N>,
     turn: u64,
     message: &[u8],
 ) -> Result<String, Fail> {
@@ -289,9 +357,9 @@ pub(crate) fn answered(
 }
 
 /// What it answers to a query.
-pub(crate) fn posted(
+pub(crate) fn posted<R: Handle, N: NodeList>(
     alloc: Global,
-    cluster: &mut Cluster,
+    cluster: &mut Cluster<R, N>,
     turn: u64,
     query: &str,
 ) -> Result<String, Fail> {
@@ -303,7 +371,11 @@ pub(crate) fn posted(
 }
 
 /// Puts something else behind a link.
-pub(crate) fn set(cluster: &mut Cluster, place: usize, behind: Behind) -> Result<(), Fail> {
+pub(crate) fn set<R: Handle, N: NodeList>(
+    cluster: &mut Cluster<R, N>,
+    place: usize,
+    behind: Behind,
+) -> Result<(), Fail> {
     match cluster.links.get_mut(place) {
         Some(link) => {
             link.set(behind);
@@ -314,7 +386,10 @@ pub(crate) fn set(cluster: &mut Cluster, place: usize, behind: Behind) -> Result
 }
 
 /// How many exchanges a link made since the last time that this was asked.
-pub(crate) fn made_by(cluster: &mut Cluster, place: usize) -> Result<u64, Fail> {
+pub(crate) fn made_by<R: Handle, N: NodeList>(
+    cluster: &mut Cluster<R, N>,
+    place: usize,
+) -> Result<u64, Fail> {
     match cluster.links.get_mut(place) {
         Some(link) => Ok(link.take_made()),
         None => Err("no such link".into()),

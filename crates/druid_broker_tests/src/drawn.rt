@@ -2,6 +2,7 @@
 ghost use Rattle.std.specs.Prelude.{◌<◌};
 
 use crate::broker::is_answered_by;
+use crate::cluster::Handle;
 use crate::plain::{HOURS, Plain, PlainChunk, PlainQuery, PlainRow, PlainSegment, query_text};
 use std::alloc::Global;
 use std::test::Fail;
@@ -140,14 +141,21 @@ fn drawn_query(draws: &mut Draws) -> PlainQuery {
 }
 
 // Whether a broker over a drawn cluster answers as it should, and whether something was missing.
-fn drawn_answer(alloc: Global, seed: u64) -> Result<(bool, bool), Fail> {
+fn drawn_answer<R: Handle>(rt: R, alloc: Global, seed: u64) -> Result<(bool, bool), Fail> {
     let mut draws = Draws { state: seed };
     let plain = drawn_cluster(alloc, &mut draws)?;
     let query = drawn_query(&mut draws);
     let wanted = plain.answer(alloc, query)?;
     let asked = query_text(alloc, query)?;
     let text = plain.text(alloc)?;
-    let same = is_answered_by(alloc, text.as_str(), asked.as_str(), wanted.as_str(), seed)?;
+    let same = is_answered_by(
+        rt,
+        alloc,
+        text.as_str(),
+        asked.as_str(),
+        wanted.as_str(),
+        seed,
+    )?;
     Ok((same, wanted.as_str().starts_with("503")))
 }
 
@@ -155,7 +163,7 @@ fn drawn_answer(alloc: Global, seed: u64) -> Result<(bool, bool), Fail> {
 fn drawn_clusters(rt: HostRuntime) -> Result<(), Fail> {
     let mut short = 0_u64;
     for seed in 0..CLUSTERS {
-        let (same, missing) = drawn_answer(rt.alloc(), seed)?;
+        let (same, missing) = drawn_answer(&rt, rt.alloc(), seed)?;
         assert!(rt; same, "at {seed}");
         if missing {
             short = short.wrapping_add(1);

@@ -9,10 +9,16 @@ mod cluster;
 #[cfg(test)]
 mod drawn;
 #[cfg(test)]
+mod gate;
+#[cfg(test)]
 mod plain;
 #[cfg(test)]
 mod printing;
 #[cfg(test)]
+mod published;
+#[cfg(test)]
 mod scatter;
+#[cfg(test)]
+mod sockets;
 #[cfg(test)]
 mod turns;

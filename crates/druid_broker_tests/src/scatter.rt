@@ -1,9 +1,14 @@
 //! In which order replicas are asked, and how often.
+ghost use Rattle.std.specs.Prelude.{◌≡◌};
+ghost use Rattle.druid_inventory.specs.Join.{names_of};
+
 use crate::broker::query;
-use crate::cluster::{Cluster, followed_cluster, made_by, posted};
+use crate::cluster::{Cluster, Handle, Setup, followed, made_by, posted, set_up};
+use druid_published::NodeList;
 use druid_scatter::{Pick, Rotate};
 use druid_shard::NodeNo;
 use std::alloc::Global;
+use std::marker::Brand;
 use std::test::Fail;
 
 fn rotated(alloc: Global, turn: u64, nodes: &[NodeNo]) -> Result<Vec<NodeNo>, Fail> {
@@ -22,7 +27,11 @@ fn rotation(rt: HostRuntime) -> Result<(), Fail> {
 }
 
 // How many exchanges each link of two makes for a count at a turn.
-fn made(alloc: Global, cluster: &mut Cluster, turn: u64) -> Result<(u64, u64), Fail> {
+fn made<R: Handle, N: NodeList>(
+    alloc: Global,
+    cluster: &mut Cluster<R, N>,
+    turn: u64,
+) -> Result<(u64, u64), Fail> {
     made_by(cluster, 0)?;
     made_by(cluster, 1)?;
     let query = query(
@@ -33,16 +42,30 @@ fn made(alloc: Global, cluster: &mut Cluster, turn: u64) -> Result<(u64, u64), F
     Ok((made_by(cluster, 0)?, made_by(cluster, 1)?))
 }
 
+// The same at the first two turns.
+fn made_in_turn<R: Handle, N: NodeList>(
+    rt: R,
+    alloc: Global,
+    setup: Setup<R>,
+) -> Result<[(u64, u64); 2], Fail>
+    requires { names_of setup.inventory ≡ N.names }
+{
+    let mut cluster: Cluster<R, N> = followed(rt, alloc, setup, 2)?;
+    let first = made(alloc, &mut cluster, 0)?;
+    Ok([first, made(alloc, &mut cluster, 1)?])
+}
+
+fn made_over<R: Handle>(rt: R, alloc: Global, nodes: &str) -> Result<[(u64, u64); 2], Fail> {
+    let setup = set_up(rt, alloc, nodes)?;
+    made_in_turn::<R, Brand>(rt, alloc, setup)
+}
+
 // One request for each node and round, to the first of the turned replicas.
 #[test]
 fn ample_memory(rt: HostRuntime) -> Result<(), Fail> {
-    let alloc = rt.alloc();
     let replicas = "v1/0/24/0/1 d:m 0/a/1 | v1/0/24/0/1 d:m 0/a/1";
-    let mut one = followed_cluster(alloc, replicas, 2)?;
-    assert!(rt; made(alloc, &mut one, 0)? == (1, 0));
-    assert!(rt; made(alloc, &mut one, 1)? == (0, 1));
+    assert!(rt; made_over(&rt, rt.alloc(), replicas)? == [(1, 0), (0, 1)]);
     let parts = "v1/0/24/0/3 d:m 0/a/1 + v1/0/24/1/3 d:m 0/a/1 + v2/6/12/0/1 d:m | v1/0/24/2/3 d:m";
-    let mut more = followed_cluster(alloc, parts, 2)?;
-    assert!(rt; made(alloc, &mut more, 0)? == (1, 1));
+    assert!(rt; made_over(&rt, rt.alloc(), parts)? == [(1, 1), (1, 1)]);
     Ok(())
 }

@@ -1,11 +1,17 @@
 //! How brokers follow nodes and seed each other.
-use crate::cluster::{answered, followed_cluster};
+ghost use Rattle.std.specs.Prelude.{◌≡◌};
+ghost use Rattle.druid_inventory.specs.Join.{names_of};
+
+use crate::cluster::{Cluster, Handle, Setup, answered, followed, set_up};
 use crate::printing::printed;
 use druid_broker::{fetch_entry, seed_turn, sync_turn};
 use druid_inventory::{Inventory, Outcome};
+use druid_published::{NodeList, Publisher, open};
 use druid_segid::Name;
 use druid_wire::MemoryLink;
 use std::alloc::Global;
+use std::marker::Brand;
+use std::sync::Wait;
 use std::test::Fail;
 
 // Replies in turn, and what following the node tells: the outcome, or the fault. A reply is a status and a body; with `-` in front
@@ -53,8 +59,8 @@ fn reply(alloc: Global, text: &str) -> Result<Vec<u8>, Fail> {
     Ok(bytes)
 }
 
-// A link that gives these replies.
-fn link(alloc: Global, text: &str) -> Result<MemoryLink, Fail> {
+/// A link that gives these replies.
+pub(crate) fn link(alloc: Global, text: &str) -> Result<MemoryLink, Fail> {
     let mut replies = Vec::new(alloc);
     for one in text.split(';') {
         replies.push(reply(alloc, one)?)?;
@@ -62,62 +68,106 @@ fn link(alloc: Global, text: &str) -> Result<MemoryLink, Fail> {
     Ok(MemoryLink::new(replies, 64))
 }
 
-fn one_node(alloc: Global) -> Result<Inventory, Fail> {
+/// An inventory of one node.
+pub(crate) fn one_node(alloc: Global) -> Result<Inventory, Fail> {
     let mut names = Vec::new(alloc);
     names.push(Name::new(alloc, "n0")?)?;
     Ok(Inventory::new(alloc, names)?)
 }
 
 // What following the node tells, and the mark that is then held.
-fn followed(alloc: Global, inventory: &mut Inventory, replies: &str) -> Result<String, Fail> {
+fn told_of<N: NodeList>(
+    rt: &impl Wait,
+    alloc: Global,
+    publisher: &mut Publisher<N>,
+    replies: &str,
+) -> Result<String, Fail> {
     let mut link = link(alloc, replies)?;
-    if inventory.node_count() == 0 {
+    if publisher.inventory().node_count() == 0 {
         return Err("no node".into());
     }
-    let told = match sync_turn(alloc, 0, &mut link, inventory) {
-        Ok(Outcome::Moved) => String::from_str(alloc, "Moved")?,
-        Ok(Outcome::AlreadyHave) => String::from_str(alloc, "AlreadyHave")?,
-        Ok(Outcome::AskWhole) => String::from_str(alloc, "AskWhole")?,
+    let told = match sync_turn(rt, alloc, 0, &mut link, publisher) {
+        Ok((Outcome::Moved, _)) => String::from_str(alloc, "Moved")?,
+        Ok((Outcome::AlreadyHave, _)) => String::from_str(alloc, "AlreadyHave")?,
+        Ok((Outcome::AskWhole, _)) => String::from_str(alloc, "AskWhole")?,
         Err(fault) => printed(alloc, &fault)?,
     };
     let told = told.as_str();
-    let mark = inventory.mark(0).ok_or("no node")?;
+    let mark = publisher.inventory().mark(0).ok_or("no node")?;
     let incarnation = mark.incarnation();
     let count = mark.count();
     Ok(format!(in alloc; "{told} {incarnation} {count}")?)
 }
 
-fn is_followed(alloc: Global, inventory: &mut Inventory, line: &str) -> Result<bool, Fail> {
+fn is_followed<N: NodeList>(
+    rt: &impl Wait,
+    alloc: Global,
+    publisher: &mut Publisher<N>,
+    line: &str,
+) -> Result<bool, Fail> {
     let (replies, wanted) = line.split_once(" = ").ok_or("no outcome")?;
-    Ok(followed(alloc, inventory, replies)?.as_str() == wanted)
+    Ok(told_of(rt, alloc, publisher, replies)?.as_str() == wanted)
+}
+
+// The first line whose replies are followed otherwise.
+fn followed_otherwise<W: Wait, N: NodeList>(
+    rt: &W,
+    alloc: Global,
+    inventory: Inventory,
+) -> Result<Option<&'static str>, Fail>
+    requires { names_of inventory ≡ N.names }
+{
+    let (mut publisher, _views) = open::<N>(alloc, inventory, 1)?;
+    for line in TURNS.lines() {
+        if !is_followed(rt, alloc, &mut publisher, line)? {
+            return Ok(Some(line));
+        }
+    }
+    Ok(None)
+}
+
+fn turns_of<W: Wait>(rt: &W, alloc: Global) -> Result<Option<&'static str>, Fail> {
+    let inventory = one_node(alloc)?;
+    followed_otherwise::<W, Brand>(rt, alloc, inventory)
 }
 
 #[test]
 fn turns(rt: HostRuntime) -> Result<(), Fail> {
-    let mut inventory = one_node(rt.alloc())?;
-    for line in TURNS.lines() {
-        assert!(rt; is_followed(rt.alloc(), &mut inventory, line)?, "{line}");
-    }
+    assert_eq!(rt; turns_of(&rt, rt.alloc())?, None);
     Ok(())
 }
 
-// A broker that has followed nothing is seeded with what another knows of its first node.
-fn seeded(alloc: Global) -> Result<bool, Fail> {
-    let mut peer = followed_cluster(alloc, "v1/0/24/0/1 d:m 0/a/1", 1)?;
+// Whether a broker that has followed nothing is seeded with what another knows of its first node.
+fn is_seeded<R: Handle, N: NodeList, M: NodeList>(
+    rt: R,
+    alloc: Global,
+    setup: Setup<R>,
+    inventory: Inventory,
+) -> Result<bool, Fail>
+    requires peer { names_of setup.inventory ≡ N.names }
+    requires seeded { names_of inventory ≡ M.names }
+{
+    let mut peer: Cluster<R, N> = followed(rt, alloc, setup, 1)?;
     let request = b"GET /druid-internal/v1/inventory/0 HTTP/1.1\r\n\r\n";
     let entry = answered(alloc, &mut peer, 0, request)?;
-    let mut inventory = one_node(alloc)?;
-    if inventory.node_count() == 0 {
+    let (mut publisher, _views) = open::<M>(alloc, inventory, 1)?;
+    if publisher.inventory().node_count() == 0 {
         return Err("no node".into());
     }
     let mut first = link(alloc, entry.as_str())?;
-    let outcome = seed_turn(alloc, 0, &mut first, &mut inventory)?;
-    Ok(outcome == Outcome::Moved && inventory == peer.inventory)
+    let (outcome, _) = seed_turn(&rt, alloc, 0, &mut first, &mut publisher)?;
+    Ok(outcome == Outcome::Moved && publisher.inventory() == peer.publisher.inventory())
+}
+
+fn seeds_of<R: Handle>(rt: R, alloc: Global) -> Result<bool, Fail> {
+    let setup = set_up(rt, alloc, "v1/0/24/0/1 d:m 0/a/1")?;
+    let inventory = one_node(alloc)?;
+    is_seeded::<R, Brand, Brand>(rt, alloc, setup, inventory)
 }
 
 #[test]
 fn seeds(rt: HostRuntime) -> Result<(), Fail> {
-    assert!(rt; seeded(rt.alloc())?);
+    assert!(rt; seeds_of(&rt, rt.alloc())?);
     Ok(())
 }
 

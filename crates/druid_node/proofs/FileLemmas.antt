@@ -1,7 +1,6 @@
 -- What a file gives.
-use Rattle.std.proofs.Common.{◌≡◌, ◌⊎◌, ℕ, true, false, cond, List, Option, Some, None, Result, Ok, Err, IsOk, IfErr, refl, sym, ap, ◌∙◌, subst, inl, inr, bytes_eq}
+use Rattle.std.proofs.Common.{◌≡◌, ◌⊎◌, ℕ, true, false, cond, List, Option, Some, None, Result, Ok, Err, IsOk, IfErr, OnOk, refl, sym, ap, ◌∙◌, subst, inl, inr, bytes_eq}
 use Rattle.std.specs.Bool.{⊤}
-use Rattle.druid_shard.specs.declared.change.Change.TheVariants.{Load}
 use Rattle.druid_rows.specs.Segment.{Segment}
 use Rattle.druid_segfile.specs.Reading.{GivesInMemory, segment_at}
 use Rattle.druid_segfile.specs.declared.fault.FileFault.{FileFault}
@@ -11,7 +10,8 @@ use Rattle.druid_rows.specs.Segment.{max_text}
 use Rattle.druid_store.specs.Folder.{faults_at}
 use Rattle.druid_store.specs.declared.fault.StoreFault.{StoreFault}
 use Rattle.druid_store.specs.declared.fault.StoreFault.TheVariants as store
-use Rattle.druid_node.specs.State.{State, Refuses}
+use Rattle.druid_shard.specs.Mark.{Point}
+use Rattle.druid_node.specs.Seen.{RefusesLoad}
 use Rattle.druid_node.specs.Files.{file_name, named, file_at, told_as, RefusesFile, IsOfFile, RefusesBytes, RefusesFound, faults_after_load}
 use Rattle.druid_node.specs.declared.fault.NodeFault.{NodeFault}
 use Rattle.druid_node.specs.declared.fault.NodeFault.TheVariants as faults
@@ -40,14 +40,15 @@ is_read bytes s e = subst IsOk (sym e) refl
 
 -- ---- what loading tells
 
-bytes_refuse : (name bytes : List ℕ) (given : Option (List ℕ)) (state : State) (fault : NodeFault) → Some bytes ≡ given → RefusesBytes name bytes fault → RefusesFile (file_at name given) state fault
-bytes_refuse name bytes given state faults.Device is h = absurd h
-bytes_refuse name bytes given state (faults.File fault) is h = ap (file_at name) (sym is) ∙ ap (named name) h
-bytes_refuse name bytes given state faults.NameDiffers is h = ap (file_at name) (sym is) ∙ h
-bytes_refuse name bytes given state (faults.History fault) is h = absurd h
-bytes_refuse name bytes given state (faults.Wire fault) is h = absurd h
-bytes_refuse name bytes given state faults.NoFile is h = absurd h
-bytes_refuse name bytes given state faults.Memory is h = tt
+bytes_refuse : (name bytes : List ℕ) (given : Option (List ℕ)) (seen : Point) (fault : NodeFault) → Some bytes ≡ given → RefusesBytes name bytes fault → RefusesFile (file_at name given) seen fault
+bytes_refuse name bytes given seen faults.Device is h = absurd h
+bytes_refuse name bytes given seen (faults.File fault) is h = ap (file_at name) (sym is) ∙ ap (named name) h
+bytes_refuse name bytes given seen faults.NameDiffers is h = ap (file_at name) (sym is) ∙ h
+bytes_refuse name bytes given seen (faults.History fault) is h = absurd h
+bytes_refuse name bytes given seen (faults.Wire fault) is h = absurd h
+bytes_refuse name bytes given seen faults.NoFile is h = absurd h
+bytes_refuse name bytes given seen (faults.Behind found) is h = absurd h
+bytes_refuse name bytes given seen faults.Memory is h = tt
 
 bytes_own : (name bytes : List ℕ) (fault : NodeFault) → RefusesBytes name bytes fault → IsOfFile fault
 bytes_own name bytes faults.Device h = tt
@@ -64,34 +65,42 @@ bytes_own name bytes faults.NameDiffers h = tt
 bytes_own name bytes (faults.History fault) h = absurd h
 bytes_own name bytes (faults.Wire fault) h = absurd h
 bytes_own name bytes faults.NoFile h = absurd h
+bytes_own name bytes (faults.Behind found) h = absurd h
 bytes_own name bytes faults.Memory h = tt
 
-pub found_refuse : (name : List ℕ) (found given : Option (List ℕ)) (state : State) (fault : NodeFault) → found ≡ given → RefusesFound name found fault → RefusesFile (file_at name given) state fault
-found_refuse name None given state fault is h =
-    subst (λ (f : NodeFault). RefusesFile (file_at name given) state f) (sym h) (ap (file_at name) (sym is))
-found_refuse name (Some bytes) given state fault is h = bytes_refuse name bytes given state fault is h
+pub found_refuse : (name : List ℕ) (found given : Option (List ℕ)) (seen : Point) (fault : NodeFault) → found ≡ given → RefusesFound name found fault → RefusesFile (file_at name given) seen fault
+found_refuse name None given seen fault is h =
+    subst (λ (f : NodeFault). RefusesFile (file_at name given) seen f) (sym h) (ap (file_at name) (sym is))
+found_refuse name (Some bytes) given seen fault is h = bytes_refuse name bytes given seen fault is h
 
 pub found_own : (name : List ℕ) (found : Option (List ℕ)) (fault : NodeFault) → RefusesFound name found fault → IsOfFile fault
 found_own name None fault h = subst IsOfFile (sym h) tt
 found_own name (Some bytes) fault h = bytes_own name bytes fault h
 
-pub load_refuses : (given : Result Segment NodeFault) (state : State) (s : Segment) (fault : NodeFault) → given ≡ Ok s → Refuses state.history (Load s.descriptor) fault → RefusesFile given state fault
-load_refuses given state s faults.Device is h = absurd h
-load_refuses given state s (faults.File fault) is h = absurd h
-load_refuses given state s faults.NameDiffers is h = absurd h
-load_refuses given state s (faults.History fault) is h = (s, is, h)
-load_refuses given state s (faults.Wire fault) is h = absurd h
-load_refuses given state s faults.NoFile is h = absurd h
-load_refuses given state s faults.Memory is h = tt
+pub load_refuses : (given : Result Segment NodeFault) (seen : Point) (s : Segment) (fault : NodeFault) → given ≡ Ok s → RefusesLoad seen fault → RefusesFile given seen fault
+load_refuses given seen s faults.Device is h = absurd h
+load_refuses given seen s (faults.File fault) is h = absurd h
+load_refuses given seen s faults.NameDiffers is h = absurd h
+load_refuses given seen s (faults.History fault) is h = (s, is, h)
+load_refuses given seen s (faults.Wire fault) is h = absurd h
+load_refuses given seen s faults.NoFile is h = absurd h
+load_refuses given seen s (faults.Behind found) is h = (s, is, h)
+load_refuses given seen s faults.Memory is h = tt
 
-pub load_own : (state : State) (s : Segment) (fault : NodeFault) → Refuses state.history (Load s.descriptor) fault → IsOfFile fault
-load_own state s faults.Device h = absurd h
-load_own state s (faults.File fault) h = absurd h
-load_own state s faults.NameDiffers h = absurd h
-load_own state s (faults.History fault) h = tt
-load_own state s (faults.Wire fault) h = absurd h
-load_own state s faults.NoFile h = absurd h
-load_own state s faults.Memory h = tt
+pub load_own : (seen : Point) (fault : NodeFault) → RefusesLoad seen fault → IsOfFile fault
+load_own seen faults.Device h = absurd h
+load_own seen (faults.File fault) h = absurd h
+load_own seen faults.NameDiffers h = absurd h
+load_own seen (faults.History fault) h = tt
+load_own seen (faults.Wire fault) h = absurd h
+load_own seen faults.NoFile h = absurd h
+load_own seen (faults.Behind found) h = tt
+load_own seen faults.Memory h = tt
+
+-- what holds anyhow holds where a load was done
+pub always : {A : Type 0} (r : Result ⊤ NodeFault) → A → OnOk r A
+always (Ok x) a = a
+always (Err fault) a = tt
 
 -- ---- how often the device has failed
 
@@ -105,29 +114,31 @@ bytes_uncounted name bytes faults.NameDiffers n h = refl
 bytes_uncounted name bytes (faults.History fault) n h = refl
 bytes_uncounted name bytes (faults.Wire fault) n h = refl
 bytes_uncounted name bytes faults.NoFile n h = refl
+bytes_uncounted name bytes (faults.Behind found) n h = refl
 bytes_uncounted name bytes faults.Memory n h = refl
 
 pub found_uncounted : (name : List ℕ) (found : Option (List ℕ)) (fault : NodeFault) (n : ℕ) → RefusesFound name found fault → faults_after_load (load_told fault) n ≡ n
 found_uncounted name None fault n h = ap (λ (f : NodeFault). faults_after_load (load_told f) n) h
 found_uncounted name (Some bytes) fault n h = bytes_uncounted name bytes fault n h
 
-pub load_uncounted : (state : State) (s : Segment) (r : Result ⊤ NodeFault) (n : ℕ) → IfErr r (Refuses state.history (Load s.descriptor)) → faults_after_load r n ≡ n
-load_uncounted state s (Ok x) n h = refl
-load_uncounted state s (Err faults.Device) n h = absurd h
-load_uncounted state s (Err (faults.File fault)) n h = refl
-load_uncounted state s (Err faults.NameDiffers) n h = refl
-load_uncounted state s (Err (faults.History fault)) n h = refl
-load_uncounted state s (Err (faults.Wire fault)) n h = refl
-load_uncounted state s (Err faults.NoFile) n h = refl
-load_uncounted state s (Err faults.Memory) n h = refl
+pub load_uncounted : (seen : Point) (r : Result ⊤ NodeFault) (n : ℕ) → IfErr r (RefusesLoad seen) → faults_after_load r n ≡ n
+load_uncounted seen (Ok x) n h = refl
+load_uncounted seen (Err faults.Device) n h = absurd h
+load_uncounted seen (Err (faults.File fault)) n h = refl
+load_uncounted seen (Err faults.NameDiffers) n h = refl
+load_uncounted seen (Err (faults.History fault)) n h = refl
+load_uncounted seen (Err (faults.Wire fault)) n h = refl
+load_uncounted seen (Err faults.NoFile) n h = refl
+load_uncounted seen (Err (faults.Behind found)) n h = refl
+load_uncounted seen (Err faults.Memory) n h = refl
 
 -- the read of the folder failed
 abbrev pub ReadTold : StoreFault → NodeFault → Type 0
 ReadTold fault told = ((fault ≡ store.Device) × (told ≡ faults.Device)) ⊎ ((fault ≡ store.Memory) × (told ≡ faults.Memory))
 
-pub read_refuses : (given : Result Segment NodeFault) (state : State) (fault : StoreFault) (told : NodeFault) → ReadTold fault told → RefusesFile given state told
-read_refuses given state fault told (inl (e, f)) = subst (RefusesFile given state) (sym f) tt
-read_refuses given state fault told (inr (e, f)) = subst (RefusesFile given state) (sym f) tt
+pub read_refuses : (given : Result Segment NodeFault) (seen : Point) (fault : StoreFault) (told : NodeFault) → ReadTold fault told → RefusesFile given seen told
+read_refuses given seen fault told (inl (e, f)) = subst (RefusesFile given seen) (sym f) tt
+read_refuses given seen fault told (inr (e, f)) = subst (RefusesFile given seen) (sym f) tt
 
 pub read_own : (fault : StoreFault) (told : NodeFault) → ReadTold fault told → IsOfFile told
 read_own fault told (inl (e, f)) = subst IsOfFile (sym f) tt

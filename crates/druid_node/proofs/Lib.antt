@@ -2,4 +2,5 @@ pub mod HeldLemmas
 pub mod StateLemmas
 pub mod AnswerLemmas
 pub mod FileLemmas
+pub mod SeenLemmas
 pub mod RowLemmas

@@ -1,15 +1,14 @@
 -- What a file gives a node.
 use Rattle.std.specs.Prelude.{◌≡◌, ◌++◌, ⊤, ℕ, List, codes, bytes_eq, Option, Some, None, Result, Ok, Err, IsOk, if◌then◌else◌}
 use Rattle.druid_segid.specs.Identifier.{Identifier, identifier_text}
-use Rattle.druid_shard.specs.declared.change.Change.TheVariants.{Load}
 use Rattle.druid_rows.specs.Segment.{Segment}
-use Rattle.druid_changes.specs.Kept.{refusal}
+use Rattle.druid_shard.specs.Mark.{Point}
 use Rattle.druid_segfile.specs.Reading.{segment_at}
 use Rattle.druid_segfile.specs.declared.fault.FileFault.{FileFault}
 use Rattle.druid_segfile.specs.declared.fault.FileFault.TheVariants as file
 use Rattle.druid_store.specs.Folder.{faults_at}
 use Rattle.druid_store.specs.declared.fault.StoreFault.TheVariants as store
-use Rattle.druid_node.specs.State.{State, Takes}
+use Rattle.druid_node.specs.Seen.{IsBehind, IsLoadRefusal}
 use Rattle.druid_node.specs.declared.fault.NodeFault.{NodeFault}
 use Rattle.druid_node.specs.declared.fault.NodeFault.TheVariants as faults
 
@@ -27,21 +26,17 @@ abbrev pub file_at : List ℕ → Option (List ℕ) → Result Segment NodeFault
 file_at name None = Err faults.NoFile
 file_at name (Some bytes) = named name (segment_at bytes)
 
--- the file gave a segment, which was loaded
-abbrev pub TakesFile : Result Segment NodeFault → State → State → Type 0
-TakesFile given old new = (s : Segment) × (given ≡ Ok s) × Takes old new s
-
--- why a file was not loaded: what it gives, or what the history refuses its segment for; the device and memory are no matter
--- of the file
-abbrev pub RefusesFile : Result Segment NodeFault → State → NodeFault → Type 0
-RefusesFile given state faults.Device = ⊤
-RefusesFile given state (faults.File fault) = given ≡ Err (faults.File fault)
-RefusesFile given state faults.NameDiffers = given ≡ Err faults.NameDiffers
-RefusesFile given state (faults.History fault) =
-    (s : Segment) × (given ≡ Ok s) × (refusal state.history (Load s.descriptor) ≡ Some fault)
-RefusesFile given state (faults.Wire fault) = ⊥
-RefusesFile given state faults.NoFile = given ≡ Err faults.NoFile
-RefusesFile given state faults.Memory = ⊤
+-- why a file was not loaded into a node of which that mark was seen: what it gives, or why the node does not take its segment;
+-- the device and memory are no matter of the file
+abbrev pub RefusesFile : Result Segment NodeFault → Point → NodeFault → Type 0
+RefusesFile given seen faults.Device = ⊤
+RefusesFile given seen (faults.File fault) = given ≡ Err (faults.File fault)
+RefusesFile given seen faults.NameDiffers = given ≡ Err faults.NameDiffers
+RefusesFile given seen (faults.History fault) = (s : Segment) × (given ≡ Ok s) × IsLoadRefusal fault
+RefusesFile given seen (faults.Wire fault) = ⊥
+RefusesFile given seen faults.NoFile = given ≡ Err faults.NoFile
+RefusesFile given seen (faults.Behind found) = (s : Segment) × (given ≡ Ok s) × IsBehind found seen
+RefusesFile given seen faults.Memory = ⊤
 
 -- a fault that loading a file tells: of a file's own faults those that its bytes decide
 abbrev pub IsOfFile : NodeFault → Type 0
@@ -71,6 +66,7 @@ RefusesBytes name bytes faults.NameDiffers = named name (segment_at bytes) ≡ E
 RefusesBytes name bytes (faults.History fault) = ⊥
 RefusesBytes name bytes (faults.Wire fault) = ⊥
 RefusesBytes name bytes faults.NoFile = ⊥
+RefusesBytes name bytes (faults.Behind found) = ⊥
 RefusesBytes name bytes faults.Memory = IsOk (segment_at bytes)
 
 -- the same where there may be no file

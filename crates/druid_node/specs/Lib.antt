@@ -3,3 +3,4 @@ pub mod Held
 pub mod Answers
 pub mod Routes
 pub mod Files
+pub mod Seen

@@ -62,6 +62,7 @@ Refuses kept change faults.NameDiffers = ⊥
 Refuses kept change (faults.History fault) = refusal kept change ≡ Some fault
 Refuses kept change (faults.Wire fault) = ⊥
 Refuses kept change faults.NoFile = ⊥
+Refuses kept change (faults.Behind found) = ⊥
 Refuses kept change faults.Memory = refusal kept change ≡ None
 
 -- why what was found under an identifier is not dropped

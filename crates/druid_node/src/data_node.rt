@@ -1,31 +1,32 @@
 ghost use Rattle.std.specs.Prelude.{◌≡◌, ◌⊎◌, Some, Ok, IfOk, IfErr, OnOk, OnErr, bytes_eq};
+ghost use Rattle.std.specs.declared.cmp.Ordering.TheVariants.{Less};
+ghost use Rattle.druid_shard.specs.Mark.{Point, mark_cmp};
 ghost use Rattle.druid_rows.specs.Segment.{Segment};
 ghost use Rattle.druid_store.specs.Folder.{IsOwnFault, read_part, bytes_read};
 ghost use Rattle.druid_segfile.specs.Reading.{segment_at};
-ghost use Rattle.druid_node.specs.State.{Leaves, RefusesToDrop};
-ghost use Rattle.druid_partial.specs.Once.{segment_named};
-ghost use Rattle.druid_node.specs.Files.{file_name, named, file_at, told_as, TakesFile, RefusesFile, IsOfFile, RefusesBytes, RefusesFound, faults_after_load};
+ghost use Rattle.druid_node.specs.Files.{file_name, named, file_at, told_as, RefusesFile, IsOfFile, RefusesBytes, RefusesFound, faults_after_load};
+ghost use Rattle.druid_node.specs.Seen.{IsBehind, RefusesLoad, RefusesDrop, AnswersFrom, text_of};
 
+use crate::seen::{Answered, drop_as_seen, load_as_seen, respond_as_seen};
 use crate::{NodeFault, NodeState};
 use druid_rows::Segment;
 use druid_segfile::{FileFault, segment_of};
 use druid_segid::SegmentId;
+use druid_shard::Mark;
 use druid_store::{Folder, StoreFault};
+use druid_wire::Request;
 use std::alloc::{AllocError, Global};
-use std::marker::Model;
+use std::sync::{Mutex, Wait};
 
-/// A data node: it loads segments from files, and answers requests.
-#[derive(Debug, Drop)]
+/// A data node: it loads segments from files, and answers requests. Its state is behind a lock, so threads may share it.
+///
+/// A caller of it has a mark of its own, `seen`, which is (0, 0) at first: that of the last state that did what it asked for.
+/// A call that is given `seen` never answers Ok from a state whose mark is below it: no later Ok with that `seen` answers from
+/// a state before the change.
+#[derive(Drop)]
 pub struct DataNode {
-    state: NodeState,
-}
-
-impl Model for DataNode {
-    ghost use Rattle.druid_node.specs.State.{State};
-
-    ghost Value = { State };
-
-    ghost view = { λ a. a.state };
+    alloc: Global,
+    state: Mutex<NodeState>,
 }
 
 // What a failed read of a folder tells.
@@ -97,53 +98,89 @@ fn found_segment(alloc: Global, name: &str, found: Option<Vec<u8>>) -> Result<Se
 
 impl DataNode {
     /// The data node of that state.
-    pub fn new(state: NodeState) -> DataNode
-        ensures { result ≡ state }
-    {
-        DataNode { state }
+    pub fn new(state: NodeState) -> DataNode {
+        DataNode {
+            alloc: state.alloc(),
+            state: Mutex::new(state),
+        }
     }
 
-    /// Its state.
-    pub fn state(&self) -> &NodeState
-        ensures { result.now ≡ self.now }
-    {
-        &self.state
+    // The allocator of what it reads.
+    pub(crate) fn alloc(&self) -> Global {
+        self.alloc
     }
 
-    /// Loads the segment of the file of that name, of which a folder gives no more than 16 MiB and a byte. N1 where the device
-    /// fails, N6 where there is no such file, N2 where its bytes are no segment, N3 where the file is not called by the text of
-    /// the segment's identifier and `.seg`, and then the refusals of `NodeState::load`. N9 where memory was refused, which the
-    /// read of the folder may tell in place of all of these, and what comes behind it only where the bytes are a segment. Where
-    /// it fails all is as it was.
-    pub fn load_file<F: Folder>(&mut self, folder: &mut F, name: &str) -> Result<(), NodeFault>
+    // What its state answers to a request, and the state's mark.
+    pub(crate) fn respond_under_lock(
+        &self,
+        rt: &impl Wait,
+        request: &Request,
+        seen: Mark,
+    ) -> Result<Answered, NodeFault>
+        ensures ok { IfOk result (λ a. AnswersFrom seen a.mark request.now a.status (text_of a.body)) }
+        ensures err { IfErr result (λ fault. (found : Point) × IsBehind found seen × (fault ≡ NodeFault.Behind found)) }
+    {
+        let state = self.state.lock(rt);
+        respond_as_seen(&state, request, seen)
+    }
+
+    // Loads a segment.
+    fn load(&self, rt: &impl Wait, segment: Segment, seen: &mut Mark) -> Result<(), NodeFault>
+        ensures raised { OnOk result (mark_cmp seen.old seen.new ≡ Less) }
+        ensures err { IfErr result (RefusesLoad seen.old) }
+        ensures unseen { OnErr result (seen.new ≡ seen.old) }
+    {
+        let mut state = self.state.lock(rt);
+        load_as_seen(&mut state, segment, seen)
+    }
+
+    /// Loads the segment of the file of that name, of which a folder gives no more than 16 MiB and a byte, and sees the mark
+    /// behind that. N1 where the device fails, N6 where there is no such file, N2 where its bytes are no segment, N3 where the
+    /// file is not called by the text of the segment's identifier and `.seg`. Then N8 where the node's state is behind what was
+    /// seen, and then the refusals of `NodeState::load`. N9 where memory was refused, which the read of the folder may tell in
+    /// place of all of these, and what comes behind it only where the bytes are a segment. Where it fails all is as it was.
+    pub fn load_file<F: Folder>(
+        &self,
+        rt: &impl Wait,
+        folder: &mut F,
+        name: &str,
+        seen: &mut Mark,
+    ) -> Result<(), NodeFault>
         ensures ok { F.is_honest folder.new
-            → OnOk result (TakesFile (file_at name.now (read_part (F.content folder.old name.now))) self.old self.new) }
+            → OnOk result ((s : Segment) × (file_at name.now (read_part (F.content folder.old name.now)) ≡ Ok s)) }
+        ensures raised { OnOk result (mark_cmp seen.old seen.new ≡ Less) }
         ensures err { F.is_honest folder.new
-            → IfErr result (RefusesFile (file_at name.now (read_part (F.content folder.old name.now))) self.old) }
+            → IfErr result (RefusesFile (file_at name.now (read_part (F.content folder.old name.now))) seen.old) }
         ensures never { IfErr result IsOfFile }
-        ensures unchanged { OnErr result (self.new ≡ self.old) }
+        ensures unseen { OnErr result (seen.new ≡ seen.old) }
 
         ensures content { F.is_honest folder.new → F.content folder.new ≡ F.content folder.old }
         ensures honest { F.is_honest folder.new → F.is_honest folder.old }
         ensures counted { F.faults folder.new ≡ faults_after_load result (F.faults folder.old) }
     {
-        let alloc = self.state.alloc();
-        let found = match folder.read(alloc, name) {
+        let found = match folder.read(self.alloc, name) {
             Ok(found) => found,
             Err(fault) => return Err(read_fault(fault)),
         };
-        match found_segment(alloc, name, found) {
-            Ok(segment) => self.state.load(segment),
+        match found_segment(self.alloc, name, found) {
+            Ok(segment) => self.load(rt, segment, seen),
             Err(fault) => Err(fault),
         }
     }
 
-    /// Drops a segment, as `NodeState::drop_segment` does.
-    pub fn drop_segment(&mut self, id: &SegmentId) -> Result<(), NodeFault>
-        ensures ok { OnOk result ((s : Segment) × (segment_named id.now self.old.held ≡ Some s) × Leaves self.old self.new s) }
-        ensures err { IfErr result (RefusesToDrop self.old.history (segment_named id.now self.old.held)) }
-        ensures unchanged { OnErr result (self.new ≡ self.old) }
+    /// Drops a segment, and sees the mark behind that. N8 where the node's state is behind what was seen, and then the refusals
+    /// of `NodeState::drop_segment`. Where it fails all is as it was.
+    pub fn drop_segment(
+        &self,
+        rt: &impl Wait,
+        id: &SegmentId,
+        seen: &mut Mark,
+    ) -> Result<(), NodeFault>
+        ensures raised { OnOk result (mark_cmp seen.old seen.new ≡ Less) }
+        ensures err { IfErr result (RefusesDrop seen.old) }
+        ensures unseen { OnErr result (seen.new ≡ seen.old) }
     {
-        self.state.drop_segment(id)
+        let mut state = self.state.lock(rt);
+        drop_as_seen(&mut state, id, seen)
     }
 }

@@ -3,6 +3,7 @@ ghost use Rattle.druid_node.specs.declared.fault.NodeFault.TheVariants.{Memory};
 
 use druid_changes::HistoryFault;
 use druid_segfile::FileFault;
+use druid_shard::Mark;
 use druid_wire::WireFault;
 use std::alloc::{AllocError, AllocFailed};
 use thiserror::Error;
@@ -28,6 +29,9 @@ pub enum NodeFault {
     /// N6: the folder has no file of that name.
     #[error("N6: no such file")]
     NoFile,
+    /// N8: its state is behind the mark that the caller has seen. It tells the state's mark.
+    #[error("N8: behind what was seen")]
+    Behind(Mark),
     /// N9: memory was refused.
     #[error("N9: out of memory")]
     Memory,

@@ -8,6 +8,7 @@ mod held;
 mod laws;
 mod responding;
 mod routes;
+mod seen;
 mod serving;
 mod state;
 

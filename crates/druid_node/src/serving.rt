@@ -1,63 +1,100 @@
 //! Requests, served.
-ghost use Rattle.std.specs.Prelude.{◌≡◌, ℕ, List, IfOk, IfErr};
+ghost use Rattle.std.specs.Prelude.{◌≡◌, ◌≢◌, ◌⊎◌, ℕ, List, Some, IfOk, IfErr, OnOk, OnErr};
+ghost use Rattle.std.specs.Io.KnownBytes.{Keeps};
+ghost use Rattle.std.specs.declared.cmp.Ordering.TheVariants.{Greater};
+ghost use Rattle.druid_shard.specs.Mark.{Point, mark_cmp};
 ghost use Rattle.druid_wire.specs.declared.fault.WireFault.{WireFault};
-ghost use Rattle.druid_wire.specs.Served.{IsSent, IsServed, IsCutShort, FailsToServe};
-ghost use Rattle.druid_node.specs.Routes.{RespondsInTurn};
+ghost use Rattle.druid_wire.specs.Served.{refusal_text, IsSent, IsServed, IsCutShort};
+ghost use Rattle.druid_node.specs.Seen.{IsBehind, AnswersFrom, AnswersSince, IsPassedBy, IsUnserved, text_of};
 
+use crate::seen::Answered;
 use crate::{DataNode, NodeFault};
+use druid_shard::Mark;
 use druid_wire::{Request, WireFault, read_request, refuse_request, send_response};
-use http::StatusCode;
 use std::io::{BufRead, Write};
+use std::sync::Wait;
+
+// Writes an answer.
+fn send_answered<W: Write>(answered: &Answered, writer: &mut W) -> Result<u16, WireFault>
+    ensures ok { IfOk result (IsSent (W.contents writer.old) (W.contents writer.new) answered.now.status (text_of answered.now.body)) }
+    ensures err { IfErr result (IsCutShort (W.contents writer.old) (W.contents writer.new) answered.now.status (text_of answered.now.body)) }
+{
+    match &answered.body {
+        Some(body) => send_response(answered.status, body, writer),
+        None => send_response(answered.status, b"{\"error\":\"Memory\"}", writer),
+    }
+}
+
+// Answers where no request was read.
+fn refuse_unread<W: Write>(fault: WireFault, writer: &mut W) -> Result<u16, NodeFault>
+    ensures ok { IfOk result (λ sent. (text : List ℕ) × (refusal_text fault ≡ Some text)
+        × IsSent (W.contents writer.old) (W.contents writer.new) 400 text sent) }
+    ensures err { IfErr result (λ given. (told : WireFault) × (given ≡ NodeFault.Wire told)
+        × (((told ≡ fault) × (refusal_text fault ≡ None) × Keeps (W.contents writer.old) (W.contents writer.new))
+        ⊎ ((text : List ℕ) × (refusal_text fault ≡ Some text)
+        × IsCutShort (W.contents writer.old) (W.contents writer.new) 400 text told))) }
+{
+    match refuse_request(fault, writer) {
+        Ok(status) => Ok(status),
+        Err(told) => Err(NodeFault::Wire(told)),
+    }
+}
 
 impl DataNode {
     // Answers a request.
-    fn serve<W: Write>(&self, request: &Request, writer: &mut W) -> Result<u16, WireFault>
-        ensures ok { IfOk result (λ sent. (status : ℕ) × (body : List ℕ) × RespondsInTurn self.now request.now status body
-            × IsSent (W.contents writer.old) (W.contents writer.new) status body sent) }
-        ensures err { IfErr result (λ told. (status : ℕ) × (body : List ℕ) × RespondsInTurn self.now request.now status body
-            × IsCutShort (W.contents writer.old) (W.contents writer.new) status body told) }
-    {
-        match self.state().respond(request) {
-            Ok((status, body)) => send_response(status, &body, writer),
-            Err(_) => send_response(
-                StatusCode::INTERNAL_SERVER_ERROR,
-                b"{\"error\":\"Memory\"}",
-                writer,
-            ),
-        }
-    }
-
-    // Reads a request and writes the answer.
-    fn serve_next<R: BufRead, W: Write>(
+    fn serve<W: Write>(
         &self,
-        reader: &mut R,
+        rt: &impl Wait,
+        request: &Request,
         writer: &mut W,
-    ) -> Result<u16, WireFault>
-        ensures ok { IfOk result (IsServed (RespondsInTurn self.now) (R.remaining reader.old) (R.remaining reader.new) (W.contents writer.old) (W.contents writer.new)) }
-        ensures err { IfErr result (FailsToServe (RespondsInTurn self.now) (R.remaining reader.old) (R.remaining reader.new) (W.contents writer.old) (W.contents writer.new)) }
+        seen: &mut Mark,
+    ) -> Result<u16, NodeFault>
+        ensures ok { IfOk result (λ sent. (status : ℕ) × (body : List ℕ) × AnswersFrom seen.old seen.new request.now status body
+            × IsSent (W.contents writer.old) (W.contents writer.new) status body sent) }
+        ensures risen { OnOk result (mark_cmp seen.old seen.new ≢ Greater) }
+        ensures err { IfErr result (λ given.
+            ((found : Point) × IsBehind found seen.old × (given ≡ NodeFault.Behind found) × (W.contents writer.new ≡ W.contents writer.old))
+            ⊎ ((told : WireFault) × (given ≡ NodeFault.Wire told) × (status : ℕ) × (body : List ℕ) × AnswersSince seen.old request.now status body
+            × IsCutShort (W.contents writer.old) (W.contents writer.new) status body told)) }
+        ensures unseen { OnErr result (seen.new ≡ seen.old) }
     {
-        match read_request(self.state().alloc(), reader) {
-            Ok(request) => self.serve(&request, writer),
-            Err(fault) => refuse_request(fault, writer),
+        let answered = match self.respond_under_lock(rt, request, *seen) {
+            Ok(answered) => answered,
+            Err(fault) => return Err(fault),
+        };
+        match send_answered(&answered, writer) {
+            Ok(status) => {
+                *seen = answered.mark;
+                Ok(status)
+            }
+            Err(fault) => Err(NodeFault::Wire(fault)),
         }
     }
 
-    /// Reads a request and writes the answer, and gives the status that was written: what `NodeState::respond` answers, or 500
-    /// and `{"error":"Memory"}` where memory was refused for that. X4 to X7 of the request are answered 400 with their number.
-    /// N5 of X1, X2 or X9 where no request was read, and nothing was written; N5 of X3 or X9 where the writer failed, which then
-    /// has some front of the answer, and not the whole. Nothing is flushed.
+    /// Reads a request and writes the answer, and gives the status that was written: what `NodeState::respond` answers in a
+    /// state that is not behind what was seen, or 500 and `{"error":"Memory"}` where memory was refused for that; and it sees
+    /// that state's mark. X4 to X7 of the request are answered 400 with their number, and nothing is seen.
+    ///
+    /// N5 of X1, X2 or X9 where no request was read, and nothing was written; then N8 where the node's state is behind what was
+    /// seen, and nothing was written; N5 of X3 or X9 where the writer failed, which then has some front of the answer, and not
+    /// the whole. Where it fails nothing is seen. Nothing is flushed.
     pub fn serve_one<R: BufRead, W: Write>(
         &self,
+        rt: &impl Wait,
         reader: &mut R,
         writer: &mut W,
+        seen: &mut Mark,
     ) -> Result<u16, NodeFault>
-        ensures ok { IfOk result (IsServed (RespondsInTurn self.now) (R.remaining reader.old) (R.remaining reader.new) (W.contents writer.old) (W.contents writer.new)) }
-        ensures err { IfErr result (λ told. (fault : WireFault) × (told ≡ NodeFault.Wire fault)
-            × FailsToServe (RespondsInTurn self.now) (R.remaining reader.old) (R.remaining reader.new) (W.contents writer.old) (W.contents writer.new) fault) }
+        ensures ok { IfOk result (IsServed (AnswersFrom seen.old seen.new) (R.remaining reader.old) (R.remaining reader.new) (W.contents writer.old) (W.contents writer.new)) }
+        ensures risen { OnOk result (mark_cmp seen.old seen.new ≢ Greater) }
+        ensures err { IfErr result (λ fault.
+            IsPassedBy seen.old (R.remaining reader.old) (R.remaining reader.new) (W.contents writer.old) (W.contents writer.new) fault
+            ⊎ IsUnserved seen.old (R.remaining reader.old) (R.remaining reader.new) (W.contents writer.old) (W.contents writer.new) fault) }
+        ensures unseen { OnErr result (seen.new ≡ seen.old) }
     {
-        match self.serve_next(reader, writer) {
-            Ok(status) => Ok(status),
-            Err(fault) => Err(NodeFault::Wire(fault)),
+        match read_request(self.alloc(), reader) {
+            Ok(request) => self.serve(rt, &request, writer, seen),
+            Err(fault) => refuse_unread(fault, writer),
         }
     }
 }

@@ -3,8 +3,10 @@ use crate::printing::printed;
 use druid_node::{DataNode, NodeFault, NodeState};
 use druid_segfile::{read_segment, write_segment};
 use druid_segid::{Name, SegmentId};
+use druid_shard::Mark;
 use druid_store::{Folder, MemoryFolder};
 use std::alloc::Global;
+use std::sync::Wait;
 use std::test::Fail;
 
 // One row of the source `w` at a second of 1970, of `x` and 5, as another program spells it: examples/vector.dsg.
@@ -77,31 +79,50 @@ pub(crate) fn empty_node(alloc: Global) -> Result<DataNode, Fail> {
 }
 
 /// The same node, with the segment of `w`.
-pub(crate) fn node(alloc: Global) -> Result<DataNode, Fail> {
-    let mut node = empty_node(alloc)?;
-    load(alloc, &mut node, VECTOR_FILE)??;
+pub(crate) fn node(rt: &impl Wait, alloc: Global) -> Result<DataNode, Fail> {
+    let node = empty_node(alloc)?;
+    let mut seen = Mark::never();
+    load(rt, alloc, &node, VECTOR_FILE, &mut seen)??;
     Ok(node)
 }
 
 // What a file of the folder above tells.
-fn load(alloc: Global, node: &mut DataNode, name: &str) -> Result<Result<(), NodeFault>, Fail> {
+fn load(
+    rt: &impl Wait,
+    alloc: Global,
+    node: &DataNode,
+    name: &str,
+    seen: &mut Mark,
+) -> Result<Result<(), NodeFault>, Fail> {
     let mut folder = folder(alloc)?;
-    Ok(node.load_file(&mut folder, name))
+    Ok(node.load_file(rt, &mut folder, name, seen))
 }
 
 // What loading a file tells.
-fn loaded(alloc: Global, node: &mut DataNode, name: &str) -> Result<String, Fail> {
-    match load(alloc, node, name)? {
+fn loaded(
+    rt: &impl Wait,
+    alloc: Global,
+    node: &DataNode,
+    name: &str,
+    seen: &mut Mark,
+) -> Result<String, Fail> {
+    match load(rt, alloc, node, name, seen)? {
         Ok(()) => Ok(String::from_str(alloc, "ok")?),
         Err(fault) => printed(alloc, &fault),
     }
 }
 
 // What dropping a segment of `w` tells, by the text of its identifier.
-fn dropped(alloc: Global, node: &mut DataNode, id: &str) -> Result<String, Fail> {
+fn dropped(
+    rt: &impl Wait,
+    alloc: Global,
+    node: &DataNode,
+    id: &str,
+    seen: &mut Mark,
+) -> Result<String, Fail> {
     let source = Name::new(alloc, "w")?;
     let id = SegmentId::parse(alloc, &source, id)?;
-    match node.drop_segment(&id) {
+    match node.drop_segment(rt, &id, seen) {
         Ok(()) => Ok(String::from_str(alloc, "ok")?),
         Err(fault) => printed(alloc, &fault),
     }
@@ -146,14 +167,16 @@ fn response(alloc: Global, status: u16, body: &str) -> Result<String, Fail> {
 
 // Whether the node answers the message so: `200 true`, or the fault, where nothing is written.
 pub(crate) fn answers(
+    rt: &impl Wait,
     alloc: Global,
     node: &DataNode,
     message: &[u8],
     wanted: &str,
+    seen: &mut Mark,
 ) -> Result<bool, Fail> {
     let mut reader = message;
     let mut written = Vec::new(alloc);
-    match node.serve_one(&mut reader, &mut written) {
+    match node.serve_one(rt, &mut reader, &mut written, seen) {
         Ok(status) => {
             let (code, body) = wanted.split_once(" ").ok_or("no status")?;
             let whole = response(alloc, status, body)?;
@@ -163,9 +186,10 @@ pub(crate) fn answers(
     }
 }
 
-fn is_answered(alloc: Global, node: &DataNode, row: &str) -> Result<bool, Fail> {
+fn is_answered(rt: &impl Wait, alloc: Global, node: &DataNode, row: &str) -> Result<bool, Fail> {
     let (text, wanted) = row.split_once(" = ").ok_or("no row")?;
-    answers(alloc, node, &spelled(alloc, text)?, wanted)
+    let mut seen = Mark::never();
+    answers(rt, alloc, node, &spelled(alloc, text)?, wanted, &mut seen)
 }
 
 // Messages to a node with the segment of `w`, and what it answers.
@@ -238,9 +262,9 @@ POST /druid/v2 HTTP/1.1|Content-Length: 99999999999999999999||{} = 400 {\"error\
 
 #[test]
 fn ample_memory(rt: HostRuntime) -> Result<(), Fail> {
-    let node = node(rt.alloc())?;
+    let node = node(&rt, rt.alloc())?;
     for row in MESSAGES.lines() {
-        assert!(rt; is_answered(rt.alloc(), &node, row)?, "{row}");
+        assert!(rt; is_answered(&rt, rt.alloc(), &node, row)?, "{row}");
     }
     Ok(())
 }
@@ -263,21 +287,34 @@ fn head(alloc: Global, kind: &str, size: usize) -> Result<Vec<u8>, Fail> {
     Ok(head)
 }
 
-fn is_head_answered(alloc: Global, node: &DataNode, row: &str) -> Result<bool, Fail> {
+fn is_head_answered(
+    rt: &impl Wait,
+    alloc: Global,
+    node: &DataNode,
+    row: &str,
+) -> Result<bool, Fail> {
     let (what, wanted) = row.split_once(" = ").ok_or("no row")?;
     let (kind, size) = what.split_once(" ").ok_or("no size")?;
-    answers(alloc, node, &head(alloc, kind, size.parse()?)?, wanted)
+    let mut seen = Mark::never();
+    answers(
+        rt,
+        alloc,
+        node,
+        &head(alloc, kind, size.parse()?)?,
+        wanted,
+        &mut seen,
+    )
 }
 
 #[test]
 fn long_heads(rt: HostRuntime) -> Result<(), Fail> {
-    let node = node(rt.alloc())?;
+    let node = node(&rt, rt.alloc())?;
     let rows = "bytes 16384 = 200 true
 bytes 16385 = 400 {\"error\":\"X5\"}
 fields 64 = 200 true
 fields 65 = 400 {\"error\":\"X5\"}";
     for row in rows.lines() {
-        assert!(rt; is_head_answered(rt.alloc(), &node, row)?, "{row}");
+        assert!(rt; is_head_answered(&rt, rt.alloc(), &node, row)?, "{row}");
     }
     Ok(())
 }
@@ -302,18 +339,30 @@ fn with_changes(alloc: Global, text: &str) -> Result<String, Fail> {
 }
 
 // Whether the node answers an ask so.
-fn is_told(alloc: Global, node: &DataNode, row: &str) -> Result<bool, Fail> {
+fn is_told(
+    rt: &impl Wait,
+    alloc: Global,
+    node: &DataNode,
+    row: &str,
+    seen: &mut Mark,
+) -> Result<bool, Fail> {
     let (parameters, wanted) = row.split_once(" = ").ok_or("no row")?;
     let message = format!(in alloc;
         "GET /druid-internal/v1/segments{parameters} HTTP/1.1\r\n\r\n"
     )?;
     let wanted = with_changes(alloc, wanted)?;
-    answers(alloc, node, message.as_bytes(), wanted.as_str())
+    answers(rt, alloc, node, message.as_bytes(), wanted.as_str(), seen)
 }
 
-fn is_told_each(alloc: Global, node: &DataNode, rows: &str) -> Result<bool, Fail> {
+fn is_told_each(
+    rt: &impl Wait,
+    alloc: Global,
+    node: &DataNode,
+    rows: &str,
+    seen: &mut Mark,
+) -> Result<bool, Fail> {
     for row in rows.lines() {
-        if !is_told(alloc, node, row)? {
+        if !is_told(rt, alloc, node, row, seen)? {
             return Ok(false);
         }
     }
@@ -327,7 +376,8 @@ fn fresh_node(rt: HostRuntime) -> Result<(), Fail> {
         " = 200 {\"counter\":{\"counter\":0,\"hash\":1},\"from\":null,\"requests\":[],\"resetCause\":null,\"resetCounter\":false}
 ?counter=0&hash=1 = 200 {\"counter\":{\"counter\":0,\"hash\":1},\"from\":{\"counter\":0,\"hash\":1},\"requests\":[],\"resetCause\":null,\"resetCounter\":false}
 ?counter=0 = 400 {\"error\":\"Y6\"}";
-    assert!(rt; is_told_each(rt.alloc(), &node, rows)?);
+    let mut seen = Mark::never();
+    assert!(rt; is_told_each(&rt, rt.alloc(), &node, rows, &mut seen)?);
     Ok(())
 }
 
@@ -348,28 +398,49 @@ const AFTER_MORE: &str =
     "?counter=0&hash=1 = 200 {\"counter\":{\"counter\":3,\"hash\":1},\"from\":null,\"requests\":[],\"resetCause\":\"TooOld\",\"resetCounter\":true}";
 
 // What is done to the node: a file is loaded, or a segment dropped by the text of its identifier.
-fn done(alloc: Global, node: &mut DataNode, what: &str, name: &str) -> Result<String, Fail> {
+fn done(
+    rt: &impl Wait,
+    alloc: Global,
+    node: &DataNode,
+    what: &str,
+    name: &str,
+    seen: &mut Mark,
+) -> Result<String, Fail> {
     if what == "load" {
-        return loaded(alloc, node, name);
+        return loaded(rt, alloc, node, name, seen);
     }
-    dropped(alloc, node, name)
+    dropped(rt, alloc, node, name, seen)
 }
 
 // Whether a row holds: what is done, and what that tells.
-fn is_done(alloc: Global, node: &mut DataNode, row: &str) -> Result<bool, Fail> {
+fn is_done(
+    rt: &impl Wait,
+    alloc: Global,
+    node: &DataNode,
+    row: &str,
+    seen: &mut Mark,
+) -> Result<bool, Fail> {
     let (step, wanted) = row.split_once(" = ").ok_or("no row")?;
     let (what, name) = step.split_once(" ").ok_or("no name")?;
-    Ok(done(alloc, node, what, name)?.as_str() == wanted)
+    Ok(done(rt, alloc, node, what, name, seen)?.as_str() == wanted)
 }
 
-fn is_done_each(alloc: Global, node: &mut DataNode, rows: &str) -> Result<bool, Fail> {
+fn is_done_each(
+    rt: &impl Wait,
+    alloc: Global,
+    node: &DataNode,
+    rows: &str,
+    seen: &mut Mark,
+) -> Result<bool, Fail> {
     for row in rows.lines() {
-        if !is_done(alloc, node, row)? {
+        if !is_done(rt, alloc, node, row, seen)? {
             return Ok(false);
         }
     }
     Ok(true)
 }
+
+const FIRST: &str = "load w_1970-01-01T00:00:00.000Z_1970-01-02T00:00:00.000Z_v.seg = ok";
 
 // What is refused leaves the node as it was.
 const REFUSED: &str =
@@ -386,20 +457,39 @@ const LOADED: &str =
 load wiki_2024-01-01T00:00:00.000Z_2024-01-02T00:00:00.000Z_v1_3.seg = ok";
 
 // Whether the rows hold, and the node then answers so.
-fn goes_on(alloc: Global, node: &mut DataNode, steps: &str, told: &str) -> Result<bool, Fail> {
-    if !is_done_each(alloc, node, steps)? {
+fn goes_on(
+    rt: &impl Wait,
+    alloc: Global,
+    node: &DataNode,
+    steps: &str,
+    told: &str,
+    seen: &mut Mark,
+) -> Result<bool, Fail> {
+    if !is_done_each(rt, alloc, node, steps, seen)? {
         return Ok(false);
     }
-    is_told_each(alloc, node, told)
+    is_told_each(rt, alloc, node, told, seen)
 }
 
 #[test]
-fn loads_and_drops(rt: HostRuntime) -> Result<(), Fail> {
-    let mut node = node(rt.alloc())?;
-    assert!(rt; is_told_each(rt.alloc(), &node, AFTER_LOAD)?);
-    assert!(rt; goes_on(rt.alloc(), &mut node, REFUSED, AFTER_LOAD)?);
-    assert!(rt; goes_on(rt.alloc(), &mut node, DROPPED, AFTER_DROP)?);
-    assert!(rt; goes_on(rt.alloc(), &mut node, LOADED, AFTER_MORE)?);
+fn node_after_load(rt: HostRuntime) -> Result<(), Fail> {
+    let node = empty_node(rt.alloc())?;
+    let mut seen = Mark::never();
+    assert!(rt; goes_on(&rt, rt.alloc(), &node, FIRST, AFTER_LOAD, &mut seen)?);
+    assert!(rt; goes_on(&rt, rt.alloc(), &node, REFUSED, AFTER_LOAD, &mut seen)?);
+    assert!(rt; goes_on(&rt, rt.alloc(), &node, DROPPED, AFTER_DROP, &mut seen)?);
+    assert!(rt; goes_on(&rt, rt.alloc(), &node, LOADED, AFTER_MORE, &mut seen)?);
+    let mut ahead = Mark::new(9, 0);
+    assert!(rt;
+        is_told(
+            &rt,
+            rt.alloc(),
+            &node,
+            " = N8: behind what was seen",
+            &mut ahead
+        )?
+    );
+    assert!(rt; seen == Mark::new(1, 3) && ahead == Mark::new(9, 0));
     Ok(())
 }
 

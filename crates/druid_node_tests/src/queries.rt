@@ -1,7 +1,9 @@
 //! Queries to a data node.
 use crate::node::{answers, node};
 use druid_node::DataNode;
+use druid_shard::Mark;
 use std::alloc::Global;
+use std::sync::Wait;
 use std::test::Fail;
 
 // A query of the source `w`, or of another, over pieces of a day of 1970: its kind, what follows its source, and the pieces.
@@ -38,12 +40,19 @@ fn pieces(alloc: Global, text: &str) -> Result<String, Fail> {
 }
 
 // Whether a node with the segment of `w` answers the query so.
-fn is_answered(alloc: Global, node: &DataNode, body: &str, wanted: &str) -> Result<bool, Fail> {
+fn is_answered(
+    rt: &impl Wait,
+    alloc: Global,
+    node: &DataNode,
+    body: &str,
+    wanted: &str,
+) -> Result<bool, Fail> {
     let length = body.len();
     let message = format!(in alloc;
         "POST /druid/v2/ HTTP/1.1\r\nContent-Length: {length}\r\n\r\n{body}"
     )?;
-    answers(alloc, node, message.as_bytes(), wanted)
+    let mut seen = Mark::never();
+    answers(rt, alloc, node, message.as_bytes(), wanted, &mut seen)
 }
 
 // The source, the pieces, the pieces that are missing, and the rows.
@@ -57,7 +66,7 @@ w;2 00:00:00 1970-01-01T00:00:01,0 00:00:00 1970-01-02T00:00:00,1 00:00:00 1970-
 w;1 00:00:00 1970-01-02T00:00:00;1 00:00:00 1970-01-02T00:00:00;[]
 x;0 00:00:00 1970-01-02T00:00:00;0 00:00:00 1970-01-02T00:00:00;[]";
 
-fn is_asked(alloc: Global, node: &DataNode, row: &str) -> Result<bool, Fail> {
+fn is_asked(rt: &impl Wait, alloc: Global, node: &DataNode, row: &str) -> Result<bool, Fail> {
     let mut columns = row.split(';');
     let source = columns.next().ok_or("no source")?;
     let asked = pieces(alloc, columns.next().ok_or("no pieces")?)?;
@@ -66,14 +75,14 @@ fn is_asked(alloc: Global, node: &DataNode, row: &str) -> Result<bool, Fail> {
     let body = query(alloc, source, "", asked.as_str())?;
     let missing = missing.as_str();
     let wanted = format!(in alloc; "200 {{\"missing\":[{missing}],\"rows\":{rows}}}")?;
-    is_answered(alloc, node, body.as_str(), wanted.as_str())
+    is_answered(rt, alloc, node, body.as_str(), wanted.as_str())
 }
 
 #[test]
 fn pieces_are_answered(rt: HostRuntime) -> Result<(), Fail> {
-    let node = node(rt.alloc())?;
+    let node = node(&rt, rt.alloc())?;
     for row in ASKED.lines() {
-        assert!(rt; is_asked(rt.alloc(), &node, row)?, "{row}");
+        assert!(rt; is_asked(&rt, rt.alloc(), &node, row)?, "{row}");
     }
     Ok(())
 }
@@ -90,21 +99,21 @@ w;;0 00:00:01 1970-01-01T00:00:01;400 {\"error\":\"Q4\"}
 w;;0 00:00:00 1970-01-02T00:00:00,0 00:00:00 1970-01-02T00:00:00;400 {\"error\":\"Q4\"}
 w;;0 00:00:00 1970-01-01T00:00:02,1 00:00:00 1970-01-02T00:00:00,0 00:00:01 1970-01-02T00:00:00;400 {\"error\":\"Q4\"}";
 
-fn is_refused(alloc: Global, node: &DataNode, row: &str) -> Result<bool, Fail> {
+fn is_refused(rt: &impl Wait, alloc: Global, node: &DataNode, row: &str) -> Result<bool, Fail> {
     let mut columns = row.split(';');
     let source = columns.next().ok_or("no source")?;
     let more = columns.next().ok_or("no more")?;
     let asked = pieces(alloc, columns.next().ok_or("no pieces")?)?;
     let wanted = columns.next().ok_or("no answer")?;
     let body = query(alloc, source, more, asked.as_str())?;
-    is_answered(alloc, node, body.as_str(), wanted)
+    is_answered(rt, alloc, node, body.as_str(), wanted)
 }
 
 #[test]
 fn subqueries_are_refused(rt: HostRuntime) -> Result<(), Fail> {
-    let node = node(rt.alloc())?;
+    let node = node(&rt, rt.alloc())?;
     for row in REFUSED.lines() {
-        assert!(rt; is_refused(rt.alloc(), &node, row)?, "{row}");
+        assert!(rt; is_refused(&rt, rt.alloc(), &node, row)?, "{row}");
     }
     Ok(())
 }
@@ -116,7 +125,7 @@ const WHOLE: &str =
 #[test]
 fn other_queries(rt: HostRuntime) -> Result<(), Fail> {
     let alloc = rt.alloc();
-    let node = node(alloc)?;
+    let node = node(&rt, alloc)?;
     let front = format!(in alloc;
         "\"dataSource\":\"w\",\"granularity\":\"all\",\"intervals\":{{\"type\":\"segments\",\"segments\":[{WHOLE}]}},\"queryIntervals\":[\"1970-01-01/1970-01-02\"]"
     )?;
@@ -124,12 +133,21 @@ fn other_queries(rt: HostRuntime) -> Result<(), Fail> {
     let doubled = format!(in alloc;
         "{{\"queryType\":\"timeseries\",{front},\"aggregations\":[{{\"type\":\"count\",\"name\":\"n\"}},{{\"type\":\"count\",\"name\":\"n\"}}]}}"
     )?;
-    assert!(rt; is_answered(alloc, &node, doubled.as_str(), "400 {\"error\":\"Q6\"}")?);
+    assert!(rt;
+        is_answered(
+            &rt,
+            alloc,
+            &node,
+            doubled.as_str(),
+            "400 {\"error\":\"Q6\"}"
+        )?
+    );
     let grouped = format!(in alloc;
         "{{\"queryType\":\"groupBy\",{front},\"dimensions\":[{{\"type\":\"default\",\"dimension\":\"d\",\"outputName\":\"e\"}}],\"aggregations\":[{{\"type\":\"longMax\",\"name\":\"n\",\"fieldName\":\"m\"}}]}}"
     )?;
     assert!(rt;
         is_answered(
+            &rt,
             alloc,
             &node,
             grouped.as_str(),

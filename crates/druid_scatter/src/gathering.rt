@@ -17,6 +17,7 @@ use druid_query::{Query, SubQuery};
 use druid_wire::{Link, WireFault};
 use std::alloc::{AllocError, Global};
 use std::marker::Model;
+use std::thread::Threads;
 
 // The pieces that wait for an answer, and what was told of the others.
 #[derive(Debug, Drop)]
@@ -147,8 +148,9 @@ impl Gathering {
     }
 
     // After a round: each piece that waits is asked of the next node in its order.
-    pub(crate) fn round<L: Link>(
+    pub(crate) fn round<L: Link + Send, R: Threads + Sync>(
         self,
+        rt: &R,
         alloc: Global,
         query: &Query,
         round: usize,
@@ -161,7 +163,7 @@ impl Gathering {
         ensures err { OnErr result ((more : List Exchange) × AreMade L.exchanges query.now more links.old links.new) }
     {
         let subs = self.wanted_subs(alloc, query, round, links.len())?;
-        let came = ask(alloc, &subs, links)?;
+        let came = ask(rt, alloc, &subs, links)?;
         self.settled(alloc, query, round, &subs, &came)
     }
 

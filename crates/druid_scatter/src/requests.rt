@@ -11,6 +11,7 @@ use druid_query::{Asked, Query, SubQuery, subquery_text};
 use druid_wire::{Link, Request, WireFault, request_bytes};
 use http::Method;
 use std::alloc::{AllocError, Global};
+use std::thread::Threads;
 
 // What the nodes answered, place by place.
 pub(crate) type Came = Vec<Option<Result<Vec<u8>, WireFault>>>;
@@ -103,8 +104,9 @@ fn requests_for(
     Ok(requests)
 }
 
-// Sends each node its subquery, if it has one.
-pub(crate) fn ask<L: Link>(
+// Sends each node its subquery, if it has one, all at once.
+pub(crate) fn ask<L: Link + Send, R: Threads + Sync>(
+    rt: &R,
     alloc: Global,
     subs: &[Option<SubQuery>],
     links: &mut [L],
@@ -115,5 +117,5 @@ pub(crate) fn ask<L: Link>(
     ensures err { OnErr result (links.new ≡ links.old) }
 {
     let requests = requests_for(alloc, subs)?;
-    ask_round(alloc, links, &requests)
+    ask_round(rt, alloc, links, &requests)
 }

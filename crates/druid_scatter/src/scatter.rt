@@ -11,11 +11,14 @@ use druid_partial::Partial;
 use druid_query::Query;
 use druid_wire::Link;
 use std::alloc::Global;
+use std::thread::Threads;
 
 /// Answers a query from the pieces of a plan. Each piece is asked of one node after another, in the order that `pick` gives
-/// them, until one gives it; a round sends each node one request for all that is asked of it. A piece that no node gave is
-/// missing. G9 where memory was refused, also by a link: then too each exchange was one of the query, over its node's link.
-pub fn gather<P: Pick, L: Link>(
+/// them, until one gives it; a round sends each node one request for all that is asked of it. The nodes of a round are asked all
+/// at once, as `ask_round` asks them. A piece that no node gave is missing. G9 where memory was refused, also by a link: then
+/// too each exchange was one of the query, over its node's link.
+pub fn gather<P: Pick, L: Link + Send, R: Threads + Sync>(
+    rt: &R,
     alloc: Global,
     query: &Query,
     plan: &Plan,
@@ -33,7 +36,7 @@ pub fn gather<P: Pick, L: Link>(
     let rounds = most_nodes(&waiting);
     let mut gathering = Gathering::new(waiting, Partial::empty(alloc, query)?);
     for round in 0..rounds {
-        gathering = gathering.round(alloc, query, round, links)?;
+        gathering = gathering.round(rt, alloc, query, round, links)?;
     }
     gathering.into_answer(alloc)
 }

@@ -1,7 +1,13 @@
-use Rattle.std.proofs.Common.{arith}
+use Rattle.std.proofs.Common.{arith, rules}
 use Rattle.druid_timeline.proofs.ChunkLemmas.{always_err}
-use Rattle.druid_scatter.proofs.GatherLemmas.{leading_more, leading_err, gathered_all}
+use Rattle.druid_scatter.proofs.GatherLemmas.{leading_none, leading_more, leading_err, gathered_all}
 use Rattle.druid_scatter.proofs.scatter.gather.Goals as goal
+
+pub loop-round-init : goal.loop-round-init
+loop-round-init g c = record {
+  leading = leading_none g.L.Link.exchanges c.args.query.now c.args.plan.now c.new-gathering.result c.args.links.now;
+  of_query = search rules;
+}
 
 pub loop-round-preserved : goal.loop-round-preserved
 loop-round-preserved g c = record {

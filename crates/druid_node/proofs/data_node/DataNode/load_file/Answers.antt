@@ -1,15 +1,13 @@
-use Rattle.std.proofs.Common.{IfErr, OnOk, ap, sym, ◌∙◌, subst}
-use Rattle.std.proofs.lemmas.Result.{IfErr-weaker, on_ok_weaker}
-use Rattle.druid_shard.specs.declared.change.Change.TheVariants.{Load}
+use Rattle.std.proofs.Common.{IfErr, ap, sym, ◌∙◌}
+use Rattle.std.proofs.lemmas.Result.{IfErr-weaker}
 use Rattle.druid_store.specs.Folder.{bytes_read, read_part}
-use Rattle.druid_node.specs.State.{State, Takes, Refuses}
 use Rattle.druid_node.specs.Files.{file_at}
-use Rattle.druid_node.proofs.FileLemmas.{found_refuse, found_own, found_uncounted, load_refuses, load_own, load_uncounted, read_refuses, read_own, read_counted}
+use Rattle.druid_node.proofs.FileLemmas.{found_refuse, found_own, found_uncounted, load_refuses, load_own, load_uncounted, read_refuses, read_own, read_counted, always}
 use Rattle.druid_node.proofs.data_node.DataNode.load_file.Goals as goal
 
 pub returns-in-Err-clause-err : goal.returns-in-Err-clause-err
 returns-in-Err-clause-err g c honest =
-    read_refuses (file_at c.args.name.now (read_part (g.F.Folder.content c.args.folder.now c.args.name.now))) c.args.self.now c.in-Err.fault c.read_fault.result c.read_fault.ensures
+    read_refuses (file_at c.args.name.now (read_part (g.F.Folder.content c.args.folder.now c.args.name.now))) c.args.seen.now c.in-Err.fault c.read_fault.result c.read_fault.ensures
 
 pub returns-in-Err-clause-never : goal.returns-in-Err-clause-never
 returns-in-Err-clause-never g c = read_own c.in-Err.fault c.read_fault.result c.read_fault.ensures
@@ -20,7 +18,7 @@ returns-in-Err-clause-counted g c =
 
 pub returns-in-Err-found_segment-clause-err : goal.returns-in-Err-found_segment-clause-err
 returns-in-Err-found_segment-clause-err g c honest =
-    found_refuse c.args.name.now (bytes_read c.in-Ok.found) (read_part (g.F.Folder.content c.args.folder.now c.args.name.now)) c.args.self.now c.in-Err-found_segment.fault (c.in-Ok.ensures.found honest) c.in-Err-found_segment.ensures.err
+    found_refuse c.args.name.now (bytes_read c.in-Ok.found) (read_part (g.F.Folder.content c.args.folder.now c.args.name.now)) c.args.seen.now c.in-Err-found_segment.fault (c.in-Ok.ensures.found honest) c.in-Err-found_segment.ensures.err
 
 pub returns-in-Err-found_segment-clause-never : goal.returns-in-Err-found_segment-clause-never
 returns-in-Err-found_segment-clause-never g c = found_own c.args.name.now (bytes_read c.in-Ok.found) c.in-Err-found_segment.fault c.in-Err-found_segment.ensures.err
@@ -31,22 +29,19 @@ returns-in-Err-found_segment-clause-counted g c =
 
 pub returns-in-Ok-found_segment-clause-ok : goal.returns-in-Ok-found_segment-clause-ok
 returns-in-Ok-found_segment-clause-ok g c honest =
-    let s = c.in-Ok-found_segment.segment in
     let given = ap (file_at c.args.name.now) (sym (c.in-Ok.ensures.found honest)) ∙ c.in-Ok-found_segment.ensures.ok in
-    let takes = subst (λ (t : State). OnOk c.load.result (Takes t c.load.new.self s)) c.self.view_is c.load.ensures.ok in
-    on_ok_weaker c.load.result (λ h. (s, given, h)) takes
+    always c.load.result (c.in-Ok-found_segment.segment, given)
 
 pub returns-in-Ok-found_segment-clause-err : goal.returns-in-Ok-found_segment-clause-err
 returns-in-Ok-found_segment-clause-err g c honest =
     let s = c.in-Ok-found_segment.segment in
     let given = ap (file_at c.args.name.now) (sym (c.in-Ok.ensures.found honest)) ∙ c.in-Ok-found_segment.ensures.ok in
-    let refuses = subst (λ (t : State). IfErr c.load.result (Refuses t.history (Load s.descriptor))) c.self.view_is c.load.ensures.err in
-    IfErr-weaker c.load.result _ _ (λ fault h. load_refuses (file_at c.args.name.now (read_part (g.F.Folder.content c.args.folder.now c.args.name.now))) c.args.self.now s fault given h) refuses
+    IfErr-weaker c.load.result _ _ (λ fault h. load_refuses (file_at c.args.name.now (read_part (g.F.Folder.content c.args.folder.now c.args.name.now))) c.args.seen.now s fault given h) c.load.ensures.err
 
 pub returns-in-Ok-found_segment-clause-never : goal.returns-in-Ok-found_segment-clause-never
 returns-in-Ok-found_segment-clause-never g c =
-    IfErr-weaker c.load.result _ _ (λ fault h. load_own c.self.inside.state c.in-Ok-found_segment.segment fault h) c.load.ensures.err
+    IfErr-weaker c.load.result _ _ (λ fault h. load_own c.args.seen.now fault h) c.load.ensures.err
 
 pub returns-in-Ok-found_segment-clause-counted : goal.returns-in-Ok-found_segment-clause-counted
 returns-in-Ok-found_segment-clause-counted g c =
-    c.in-Ok.ensures.counted ∙ sym (load_uncounted c.self.inside.state c.in-Ok-found_segment.segment c.load.result (g.F.Folder.faults c.args.folder.now) c.load.ensures.err)
+    c.in-Ok.ensures.counted ∙ sym (load_uncounted c.args.seen.now c.load.result (g.F.Folder.faults c.args.folder.now) c.load.ensures.err)

@@ -5,8 +5,8 @@ use Rattle.druid_scatter.proofs.StateLemmas.{as_many_subs, subs_again, round_ok,
 use Rattle.druid_scatter.proofs.MadeLemmas.{matched}
 use Rattle.druid_scatter.proofs.gathering.Gathering.round.Goals as goal
 
-pub ask-requires : goal.ask-requires
-ask-requires g c =
+pub ask-requires-after_bounds : goal.ask-requires-after_bounds
+ask-requires-after_bounds g c κs within =
     sym (ap length c.deref.ensures.value
     ∙ as_many_subs (λ node. sub_if c.args.query.now (wanted_of c.args.round c.args.self.waiting node)) c.in_ok-subs.subs.items (length c.args.links.now) c.in_ok-subs.ensures)
 

@@ -1,0 +1,102 @@
+//! A broker that is seeded by another over a socket of this machine.
+ghost use Rattle.std.specs.Prelude.{◌≡◌};
+ghost use Rattle.druid_inventory.specs.Join.{names_of};
+
+use crate::cluster::{Cluster, Handle, Setup, followed, is_linked, set_up};
+use crate::printing::printed;
+use crate::turns::one_node;
+use druid_broker::{Routes, seed_turn, serve_one};
+use druid_inventory::Inventory;
+use druid_published::{NodeList, Publisher, open};
+use druid_scatter::Rotate;
+use druid_wire::TcpLink;
+use std::alloc::Global;
+use std::io::BufReader;
+use std::marker::Brand;
+use std::net::{Net, TcpListener, TcpStream};
+use std::test::Fail;
+use std::thread::join;
+use std::time::Clock;
+
+// Answers one connection, and says whether it did.
+fn answers_once<R: Handle, N: NodeList>(
+    alloc: Global,
+    listener: &TcpListener,
+    peer: &mut Cluster<R, N>,
+) -> bool {
+    if !is_linked(peer) {
+        return false;
+    }
+    let Ok(routes) = Routes::new(alloc) else {
+        return false;
+    };
+    let Ok((socket, _)) = listener.accept() else {
+        return false;
+    };
+    let Ok(mut reader) = BufReader::new(alloc, &socket) else {
+        return false;
+    };
+    let (rt, mut writer) = (peer.rt, &socket);
+    serve_one(
+        &rt,
+        alloc,
+        &routes,
+        &mut reader,
+        &mut writer,
+        &mut peer.view,
+        0,
+        &Rotate,
+        &mut peer.links,
+    )
+    .is_ok()
+}
+
+// Whether a broker is seeded over the socket.
+fn is_seeded_over<R: Handle + Net + Clock, N: NodeList>(
+    rt: R,
+    alloc: Global,
+    address: String,
+    publisher: &mut Publisher<N>,
+) -> bool {
+    if publisher.inventory().node_count() == 0 {
+        return false;
+    }
+    let mut link = TcpLink::new(rt, address);
+    seed_turn(&rt, alloc, 0, &mut link, publisher).is_ok()
+}
+
+// Whether a broker that was seeded by this one over a socket equals it.
+fn equals_its_peer<
+    R: Handle + Net<Listener = TcpListener, Stream = TcpStream> + Clock,
+    N: NodeList + Send,
+    M: NodeList + Send,
+>(rt: R, alloc: Global, setup: Setup<R>, inventory: Inventory) -> Result<bool, Fail>
+    requires peer { names_of setup.inventory ≡ N.names }
+    requires seeded { names_of inventory ≡ M.names }
+{
+    let mut peer: Cluster<R, N> = followed(rt, alloc, setup, 1)?;
+    let (mut publisher, _views) = open::<M>(alloc, inventory, 1)?;
+    let listener = TcpListener::bind(&rt, "127.0.0.1:0")?;
+    let address = printed(alloc, &listener.local_addr()?)?;
+    let (served, seeded) = join(
+        &rt,
+        || answers_once(alloc, &listener, &mut peer),
+        || is_seeded_over(rt, alloc, address, &mut publisher),
+    );
+    Ok(served && seeded && publisher.inventory() == peer.publisher.inventory())
+}
+
+fn seeded<R: Handle + Net<Listener = TcpListener, Stream = TcpStream> + Clock>(
+    rt: R,
+    alloc: Global,
+) -> Result<bool, Fail> {
+    let setup = set_up(rt, alloc, "v1/0/24/0/1 d:m 0/a/1")?;
+    let inventory = one_node(alloc)?;
+    equals_its_peer::<R, Brand, Brand>(rt, alloc, setup, inventory)
+}
+
+#[test]
+fn seed_over_sockets(rt: HostRuntime) -> Result<(), Fail> {
+    assert!(rt; seeded(&rt, rt.alloc())?);
+    Ok(())
+}

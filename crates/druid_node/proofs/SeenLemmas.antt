@@ -1,0 +1,154 @@
+-- Marks that rise.
+use Rattle.std.proofs.Common.{length-append, ◌≡◌, ◌<◌, ◌≤◌, ◌++◌, ◌+◌, ℕ, Bool, true, false, not, nat_le, if◌then◌else◌, IfSome, List, [], ◌∷◌, length, Option, Some, None, Result, Ok, Err, refl, sym, ap, ◌∙◌, subst, arith, inl, inr, ◌⊎◌, ◌≢◌}
+use Rattle.std.specs.Bool.{⊤}
+use Rattle.std.specs.Io.KnownBytes.{Keeps}
+use Rattle.std.specs.Option.{option_or}
+use Rattle.std.proofs.lemmas.Option.{same_Some}
+use Rattle.druid_shard.specs.Described.{Described}
+use Rattle.druid_shard.specs.Replay.{is_strict, has_room}
+use Rattle.druid_rows.specs.Segment.{Segment}
+use Rattle.druid_changes.specs.declared.fault.HistoryFault.{HistoryFault}
+use Rattle.druid_changes.specs.declared.fault.HistoryFault.TheVariants.{Served, NotServed, Full, CountAtEnd}
+use Rattle.druid_wire.specs.Messages.{RequestValue, IsRequest, RequestSays, HasFault}
+use Rattle.druid_wire.specs.Served.{refusal_text, IsCutShort}
+use Rattle.druid_wire.specs.declared.fault.WireFault.{WireFault}
+use Rattle.druid_wire.proofs.ServeLemmas.{WasRead, unsent, unanswered}
+use Rattle.druid_node.specs.declared.fault.NodeFault.{NodeFault}
+use Rattle.druid_node.specs.declared.fault.NodeFault.TheVariants as faults
+use Rattle.std.specs.declared.cmp.Ordering.{Ordering}
+use Rattle.std.specs.declared.cmp.Ordering.TheVariants.{Less, Equal, Greater}
+use Rattle.std.specs.Ordering.{nat_cmp, ordering_then, ordering_reverse}
+use Rattle.std.specs.Cmp.{IsTotalOrder, nat_cmp_is}
+use Rattle.druid_shard.specs.Mark.{Point, mark_cmp}
+use Rattle.druid_shard.specs.Orders.{mark_cmp-total}
+use Rattle.druid_shard.specs.declared.change.Change.{Change}
+use Rattle.druid_shard.specs.declared.change.Change.TheVariants.{Load, Drop}
+use Rattle.druid_changes.specs.Kept.{Kept, StandsFor, IsKept, last_count, refusal}
+use Rattle.druid_node.specs.State.{State, Records, Refuses, RefusesToDrop}
+use Rattle.druid_node.specs.Seen.{mark_of, IsBehind, IsAtLeast, IsLoadRefusal, RefusesAsSeen, RefusesLoad, RefusesDrop, AnswersSince, IsPassedBy, IsUnserved}
+
+-- a change more is a greater count
+counted : (old new : Kept) (c : Change) → IsKept old → Records old new c → new.count ≡ old.count + 1
+counted old new c kept is =
+    let more = (is.stands kept.history kept.stands).count in
+    more ∙ length-append kept.history (c ∷ []) ∙ ap (λ n. n + 1) (sym kept.stands.count)
+
+less_count : (a b : Point) → a.incarnation ≡ b.incarnation → a.count < b.count → mark_cmp a b ≡ Less
+less_count a b same less =
+    let first = sym (nat_cmp_is a.incarnation b.incarnation Equal same) in
+    let second = sym (nat_cmp_is a.count b.count Less less) in
+    λ i. ordering_then (first i) (second i)
+
+rises : (old new : Kept) (c : Change) → IsKept old → Records old new c
+    → mark_cmp (record { incarnation = old.incarnation; count = old.count }) (record { incarnation = new.incarnation; count = new.count }) ≡ Less
+rises old new c kept is =
+    less_count (record { incarnation = old.incarnation; count = old.count }) (record { incarnation = new.incarnation; count = new.count }) (sym is.incarnation) (omega (arith, counted old new c kept is))
+
+over : (found seen next : Point) (r : Ordering) → mark_cmp found seen ≡ r → (r ≢ Less) → mark_cmp found next ≡ Less → mark_cmp seen next ≡ Less
+over found seen next Less e h less = absurd (h refl)
+over found seen next Equal e h less = sym (mark_cmp-total.congr found seen next e) ∙ less
+over found seen next Greater e h less = mark_cmp-total.trans seen found next (mark_cmp-total.antisymm seen found ∙ ap ordering_reverse e) less
+
+-- a change of a state that is not behind what was seen gives a mark above that
+pub raised : (old new : State) (c : Change) (seen after : Point) → IsKept old.history → IsAtLeast (mark_of old) seen → Records old.history new.history c → after ≡ mark_of new → mark_cmp seen after ≡ Less
+raised old new c seen after kept at is same =
+    ap (mark_cmp seen) same ∙ over (mark_of old) seen (mark_of new) (mark_cmp (mark_of old) seen) refl at (rises old.history new.history c kept is)
+
+turned : (r : Ordering) → r ≢ Less → ordering_reverse r ≢ Greater
+turned Less h e = h refl
+turned Equal h e = absurd (cc)
+turned Greater h e = absurd (cc)
+
+pub not_fallen : (found seen : Point) → IsAtLeast found seen → mark_cmp seen found ≢ Greater
+not_fallen found seen at e = turned (mark_cmp found seen) at (sym (mark_cmp-total.antisymm seen found) ∙ e)
+
+-- ---- why a change is not made
+
+set_load : (strict room end : Bool) → option_or (if not strict then Some Served else (if not room then Some Full else None)) (if end then Some CountAtEnd else None) ≡ None
+    ⊎ ((f : HistoryFault) × (option_or (if not strict then Some Served else (if not room then Some Full else None)) (if end then Some CountAtEnd else None) ≡ Some f) × IsLoadRefusal f)
+set_load true true true = inr (CountAtEnd, refl, tt)
+set_load true true false = inl refl
+set_load true false end = inr (Full, refl, tt)
+set_load false room end = inr (Served, refl, tt)
+
+load_refusal : (kept : Kept) (d : Described) (f : HistoryFault) → refusal kept (Load d) ≡ Some f → IsLoadRefusal f
+unfolding refusal
+load_refusal kept d f h = elim (set_load (is_strict kept.set (Load d)) (has_room kept.set (Load d)) (nat_le last_count kept.count)) [
+  | inl none ↦ absurd (cc)
+  | inr some ↦ subst IsLoadRefusal (same_Some some.0 f (sym some.1 ∙ h)) some.2
+]
+
+load_told : (kept : Kept) (d : Described) (seen : Point) (fault : NodeFault) → Refuses kept (Load d) fault → RefusesLoad seen fault
+load_told kept d seen faults.Device h = absurd h
+load_told kept d seen (faults.File fault) h = absurd h
+load_told kept d seen faults.NameDiffers h = absurd h
+load_told kept d seen (faults.History fault) h = load_refusal kept d fault h
+load_told kept d seen (faults.Wire fault) h = absurd h
+load_told kept d seen faults.NoFile h = absurd h
+load_told kept d seen (faults.Behind found) h = absurd h
+load_told kept d seen faults.Memory h = tt
+
+pub load_as : (kept : Kept) (d : Described) (found seen : Point) (fault : NodeFault) → RefusesAsSeen (Refuses kept (Load d)) found seen fault → RefusesLoad seen fault
+load_as kept d found seen fault (inl (behind, told)) = subst (RefusesLoad seen) (sym told) behind
+load_as kept d found seen fault (inr (at, why)) = load_told kept d seen fault why
+
+set_drop : (strict end : Bool) (room : Bool) → room ≡ true → option_or (if not strict then Some NotServed else (if not room then Some Full else None)) (if end then Some CountAtEnd else None) ≡ None
+    ⊎ ((f : HistoryFault) × (option_or (if not strict then Some NotServed else (if not room then Some Full else None)) (if end then Some CountAtEnd else None) ≡ Some f) × ((f ≡ NotServed) ⊎ (f ≡ CountAtEnd)))
+set_drop true true true e = inr (CountAtEnd, refl, inr refl)
+set_drop true false true e = inl refl
+set_drop strict end false e = absurd (cc)
+set_drop false end true e = inr (NotServed, refl, inl refl)
+
+drop_refusal : (kept : Kept) (d : Described) (f : HistoryFault) → refusal kept (Drop d) ≡ Some f → (f ≡ NotServed) ⊎ (f ≡ CountAtEnd)
+unfolding refusal
+drop_refusal kept d f h = elim (set_drop (is_strict kept.set (Drop d)) (nat_le last_count kept.count) (has_room kept.set (Drop d)) refl) [
+  | inl none ↦ absurd (cc)
+  | inr some ↦ subst (λ (g : HistoryFault). (g ≡ NotServed) ⊎ (g ≡ CountAtEnd)) (same_Some some.0 f (sym some.1 ∙ h)) some.2
+]
+
+drop_found : (kept : Kept) (d : Described) (seen : Point) (fault : NodeFault) → Refuses kept (Drop d) fault → RefusesDrop seen fault
+drop_found kept d seen faults.Device h = absurd h
+drop_found kept d seen (faults.File fault) h = absurd h
+drop_found kept d seen faults.NameDiffers h = absurd h
+drop_found kept d seen (faults.History fault) h = drop_refusal kept d fault h
+drop_found kept d seen (faults.Wire fault) h = absurd h
+drop_found kept d seen faults.NoFile h = absurd h
+drop_found kept d seen (faults.Behind found) h = absurd h
+drop_found kept d seen faults.Memory h = tt
+
+drop_told : (kept : Kept) (o : Option Segment) (seen : Point) (fault : NodeFault) → RefusesToDrop kept o fault → RefusesDrop seen fault
+drop_told kept None seen fault h = subst (RefusesDrop seen) (sym h) (inl refl)
+drop_told kept (Some s) seen fault h = drop_found kept s.descriptor seen fault h
+
+pub drop_as : (kept : Kept) (o : Option Segment) (found seen : Point) (fault : NodeFault) → RefusesAsSeen (RefusesToDrop kept o) found seen fault → RefusesDrop seen fault
+drop_as kept o found seen fault (inl (behind, told)) = subst (RefusesDrop seen) (sym told) behind
+drop_as kept o found seen fault (inr (at, why)) = drop_told kept o seen fault why
+
+-- ---- what was not served
+
+abbrev pub ServeTold : Point → RequestValue → Option (List ℕ) → Option (List ℕ) → NodeFault → Type 0
+ServeTold seen request old new given =
+    ((found : Point) × IsBehind found seen × (given ≡ faults.Behind found) × (new ≡ old))
+    ⊎ ((told : WireFault) × (given ≡ faults.Wire told) × (status : ℕ) × (body : List ℕ) × AnswersSince seen request status body × IsCutShort old new status body told)
+
+read_some : (before after : Option (List ℕ)) (request : RequestValue) → WasRead before after request
+    → IfSome before (λ input. (r : RequestValue) × (rest : List ℕ) × (after ≡ Some rest) × IsRequest input r rest)
+read_some None after request read = tt
+read_some (Some input) after request read = (request, read.0, read.1, read.2)
+
+pub serve_told : (seen : Point) (request : RequestValue) (before after old new : Option (List ℕ)) (given : NodeFault) → WasRead before after request → ServeTold seen request old new given
+    → IsPassedBy seen before after old new given ⊎ IsUnserved seen before after old new given
+serve_told seen request before after old new given read (inl (found, behind, told, same)) =
+    inl (record { found = found; behind = behind; told = told; read = read_some before after request read; unwritten = same })
+serve_told seen request before after old new given read (inr (cause, told, status, body, answer, cut)) =
+    inr (record { cause = cause; told = told; fails = unsent (AnswersSince seen) request before after old new cause read (status, body, answer, cut) })
+
+abbrev pub UnreadTold : WireFault → Option (List ℕ) → Option (List ℕ) → NodeFault → Type 0
+UnreadTold fault old new given =
+    (told : WireFault) × (given ≡ faults.Wire told)
+    × (((told ≡ fault) × (refusal_text fault ≡ None) × Keeps old new) ⊎ ((text : List ℕ) × (refusal_text fault ≡ Some text) × IsCutShort old new 400 text told))
+
+pub unread_told : (seen : Point) (before after old new : Option (List ℕ)) (fault : WireFault) (given : NodeFault) → IfSome before (λ input. HasFault RequestSays input fault) → UnreadTold fault old new given
+    → IsPassedBy seen before after old new given ⊎ IsUnserved seen before after old new given
+unread_told seen before after old new fault given has (cause, told, why) =
+    inr (record { cause = cause; told = told; fails = unanswered (AnswersSince seen) before after old new fault cause has why })

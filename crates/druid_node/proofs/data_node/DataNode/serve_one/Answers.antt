@@ -1,0 +1,11 @@
+use Rattle.std.proofs.lemmas.Result.{IfErr-weaker}
+use Rattle.druid_node.proofs.SeenLemmas.{serve_told, unread_told}
+use Rattle.druid_node.proofs.data_node.DataNode.serve_one.Goals as goal
+
+pub returns-in-Ok-clause-err : goal.returns-in-Ok-clause-err
+returns-in-Ok-clause-err g c =
+    IfErr-weaker c.serve.result _ _ (λ given h. serve_told c.args.seen.now c.in-Ok.request _ _ _ _ given c.in-Ok.ensures.ok h) c.serve.ensures.err
+
+pub returns-in-Err-clause-err : goal.returns-in-Err-clause-err
+returns-in-Err-clause-err g c =
+    IfErr-weaker c.refuse_unread.result _ _ (λ given h. unread_told c.args.seen.now _ _ _ _ c.in-Err.fault given c.in-Err.ensures.err h) c.refuse_unread.ensures.err

@@ -1,0 +1,2 @@
+pub mod FloorLemmas
+pub mod ToldLemmas

@@ -1,0 +1,31 @@
+-- Why nothing was published, or nothing read.
+use Rattle.std.specs.Prelude.{◌≡◌, ◌≢◌, ⊤, ℕ, List}
+use Rattle.druid_shard.specs.Mark.{Point}
+use Rattle.druid_shard.specs.declared.reply.Body.{Body}
+use Rattle.druid_inventory.specs.Entry.{Entry}
+use Rattle.druid_inventory.specs.Join.{names_of}
+use Rattle.druid_inventory.specs.Step.{StepsAt, Tells}
+use Rattle.druid_inventory.specs.declared.fault.ApplyFault.{ApplyFault}
+use Rattle.druid_inventory.specs.declared.fault.ApplyFault.TheVariants as apply
+use Rattle.druid_inventory.specs.declared.fault.Outcome.{Outcome}
+use Rattle.druid_published.specs.Floor.{marks_of, IsFirstStale}
+use Rattle.druid_published.specs.declared.fault.PublishFault.{PublishFault}
+use Rattle.druid_published.specs.declared.fault.PublishFault.TheVariants as faults
+
+-- want of memory, or why else a reply is not applied
+abbrev pub publish_fault : ApplyFault → PublishFault
+publish_fault apply.Memory = faults.Memory
+publish_fault fault = faults.Apply fault
+
+-- the fault that tells why a reply of a node is not published; want of memory only where nothing is to be refused
+abbrev pub TellsPublish : List Entry → ℕ → Body → PublishFault → Type 0
+TellsPublish inventory node body (faults.Apply fault) = (fault ≢ apply.Memory) × Tells inventory node body fault
+TellsPublish inventory node body (faults.Stale stale at found) = ⊥
+TellsPublish inventory node body faults.Memory = (outcome : Outcome) × (new : Entry) × StepsAt inventory node body outcome new
+
+-- the fault that tells why nothing is read by a view with this floor
+abbrev pub TellsRead : List (List ℕ) → List Point → PublishFault → Type 0
+TellsRead names floor (faults.Apply fault) = ⊥
+TellsRead names floor (faults.Stale node at found) =
+    (inventory : List Entry) × (names_of inventory ≡ names) × IsFirstStale floor (marks_of inventory) node at found
+TellsRead names floor faults.Memory = ⊤
