@@ -1,5 +1,5 @@
 -- Configs, read out of JSON. A text is its bytes.
-use Rattle.std.specs.Prelude.{◌≡◌, ℕ, ◌<◌, ◌≤◌, ◌&&◌, Bool, true, false, not, nat_le, nat_lt, IsTrue, All, List, [], ◌∷◌, codes, length, map, take, drop, slice_index_or, Option, Some, None, option_and_then, if◌then◌else◌}
+use Rattle.std.specs.Prelude.{◌≡◌, ℕ, ◌<◌, ◌≤◌, ◌&&◌, Bool, true, false, not, nat_le, nat_lt, IsTrue, IsSome, All, List, [], ◌∷◌, ◌++◌, codes, decimal, length, map, take, drop, slice_index_or, Option, Some, None, option_and_then, if◌then◌else◌}
 use Rattle.std.specs.List.{list_any}
 use Rattle.std.specs.Str.{bytes_eq}
 use Rattle.serde_json.specs.Data.{Data, Items}
@@ -92,7 +92,7 @@ IsCompact text = (d : Data) → read text ≡ Some d → has_float d ≡ false �
 abbrev pub loopback : List ℕ
 loopback = codes "127.0.0.1:"
 
--- a port is one from 1 on
+-- there is a number, and it is that of a port
 abbrev pub is_port : Option ℕ → Bool
 is_port None = false
 is_port (Some n) = nat_le 1 n && nat_le n MAX_PORT
@@ -100,6 +100,10 @@ is_port (Some n) = nat_le 1 n && nat_le n MAX_PORT
 -- the address of a port of this machine, the port in decimal digits
 abbrev pub is_address : List ℕ → Bool
 is_address text = bytes_eq (take 10 text) loopback && is_port (numbers.number_at (drop 10 text))
+
+-- the same in words
+abbrev pub NamesPort : List ℕ → Type 0
+NamesPort text = (port : ℕ) × (1 ≤ port) × (port ≤ MAX_PORT) × (text ≡ loopback ++ decimal port)
 
 abbrev pub address_at : Data → Option (List ℕ)
 address_at d = option_and_then (λ s. if is_address s then Some s else None) (text_at (codes "address") d)
@@ -201,12 +205,14 @@ config_at d = do
 
 -- ---- limits
 
+-- a node of that name, which listens on this machine, and has 1 to 16 workers
 pub record IsNode (node : Node) : Type 0 where
   pub name : IsTrue (is_name node.name)
   pub address : IsTrue (is_address node.address)
   pub some_workers : 1 ≤ node.workers
   pub few_workers : node.workers ≤ MAX_WORKERS
 
+-- a broker that listens on this machine, and has 1 to 16 workers
 pub record IsBroker (broker : Broker) : Type 0 where
   pub address : IsTrue (is_address broker.address)
   pub some_workers : 1 ≤ broker.workers
@@ -218,6 +224,11 @@ HaveOwnNames names =
     (i j : ℕ) (d : List ℕ) → i < length names → j < length names
     → slice_index_or names i d ≡ slice_index_or names j d → i ≡ j
 
+-- the query is an object
+abbrev pub IsObject : Asked → Type 0
+IsObject q = IsSome (option_and_then as_object q.query)
+
+-- what a config tells is within its limits
 pub record IsWithinLimits (told : Told) : Type 0 where
   pub some_nodes : 1 ≤ length told.nodes
   pub few_nodes : length told.nodes ≤ MAX_SERVERS
@@ -227,6 +238,7 @@ pub record IsWithinLimits (told : Told) : Type 0 where
   pub few_brokers : length told.brokers ≤ MAX_SERVERS
   pub brokers : All IsBroker told.brokers
   pub asked : All (λ q. q.broker < length told.brokers) told.queries
+  pub objects : All IsObject told.queries
   pub few_connections : told.connections ≤ MAX_COUNT
   pub some_kept : 1 ≤ told.kept
   pub few_kept : told.kept ≤ MAX_KEPT

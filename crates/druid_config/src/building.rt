@@ -58,7 +58,7 @@ fn name_of(alloc: Global, value: &Value) -> Result<Name, AllocError>
 }
 
 // A node.
-#[tactic(auto, unfolding(crate::specs::Configs::node_at))]
+#[tactic(auto, using(crate::proofs::PartLemmas::name_reads, crate::proofs::PartLemmas::loads_read), unfolding(crate::specs::Configs::node_at))]
 fn node_of(alloc: Global, value: &Value) -> Result<NodeConfig, AllocError>
     requires { IsSome (node_at (view value.now)) }
     ensures { IfOk result (λ node. node_at (view value.now) ≡ Some node) }
@@ -112,6 +112,7 @@ fn query_of(alloc: Global, value: &Value, brokers: usize) -> Result<QueryConfig,
     Ok(QueryConfig::new(broker, text))
 }
 
+// The nodes that values are.
 fn node_list(alloc: Global, values: &[Value]) -> Result<Vec<NodeConfig>, AllocError>
     requires { IsSome (each_of node_at (items_view values.now)) }
     ensures { IfOk result (λ nodes. each_of node_at (items_view values.now) ≡ Some nodes.items) }
@@ -123,6 +124,7 @@ fn node_list(alloc: Global, values: &[Value]) -> Result<Vec<NodeConfig>, AllocEr
     Ok(nodes)
 }
 
+// The brokers that values are.
 fn broker_list(alloc: Global, values: &[Value]) -> Result<Vec<BrokerConfig>, AllocError>
     requires { IsSome (each_of broker_at (items_view values.now)) }
     ensures { IfOk result (λ brokers. each_of broker_at (items_view values.now) ≡ Some brokers.items) }
@@ -134,6 +136,7 @@ fn broker_list(alloc: Global, values: &[Value]) -> Result<Vec<BrokerConfig>, All
     Ok(brokers)
 }
 
+// The queries that values are, to so many brokers.
 fn query_list(
     alloc: Global,
     values: &[Value],
@@ -152,6 +155,7 @@ fn query_list(
 }
 
 // The nodes.
+#[tactic(auto, using(crate::proofs::FormLemmas::nodes_listed, crate::proofs::FormLemmas::nodes_list_reads))]
 fn nodes_of(alloc: Global, value: &Value) -> Result<Vec<NodeConfig>, AllocError>
     requires { IsSome (nodes_at (view value.now)) }
     ensures { IfOk result (λ nodes. nodes_at (view value.now) ≡ Some nodes.items) }
@@ -163,6 +167,7 @@ fn nodes_of(alloc: Global, value: &Value) -> Result<Vec<NodeConfig>, AllocError>
 }
 
 // The brokers.
+#[tactic(auto, using(crate::proofs::FormLemmas::brokers_listed, crate::proofs::FormLemmas::brokers_list_reads))]
 fn brokers_of(alloc: Global, value: &Value) -> Result<Vec<BrokerConfig>, AllocError>
     requires { IsSome (brokers_at (view value.now)) }
     ensures { IfOk result (λ brokers. brokers_at (view value.now) ≡ Some brokers.items) }
@@ -174,6 +179,7 @@ fn brokers_of(alloc: Global, value: &Value) -> Result<Vec<BrokerConfig>, AllocEr
 }
 
 // The queries to so many brokers.
+#[tactic(auto, using(crate::proofs::DepthLemmas::queries_shallow))]
 fn queries_of(alloc: Global, value: &Value, brokers: usize) -> Result<Vec<QueryConfig>, AllocError>
     requires reads { IsSome (queries_at brokers (view value.now)) }
     requires shallow { depth (view value.now) ≤ max_depth }
@@ -186,7 +192,7 @@ fn queries_of(alloc: Global, value: &Value, brokers: usize) -> Result<Vec<QueryC
 }
 
 // The config that a value is.
-#[tactic(auto, unfolding(crate::specs::Configs::config_at))]
+#[tactic(auto, using(crate::proofs::PartLemmas::connections_read, crate::proofs::PartLemmas::kept_read, crate::proofs::PartLemmas::turns_read, crate::proofs::PartLemmas::nodes_read, crate::proofs::PartLemmas::brokers_read, crate::proofs::PartLemmas::queries_read), unfolding(crate::specs::Configs::config_at))]
 pub(crate) fn built(alloc: Global, value: &Value) -> Result<Config, AllocError>
     requires reads { IsSome (config_at (view value.now)) }
     requires shallow { depth (view value.now) ≤ max_depth }
@@ -204,12 +210,5 @@ pub(crate) fn built(alloc: Global, value: &Value) -> Result<Config, AllocError>
     let nodes = nodes_of(alloc, value)?;
     let brokers = brokers_of(alloc, value)?;
     let queries = queries_of(alloc, value, brokers.len())?;
-    Ok(Config::new(
-        nodes,
-        brokers,
-        queries,
-        connections,
-        kept as usize,
-        turns,
-    ))
+    Ok(Config::new(nodes, brokers, queries, connections, kept as usize, turns))
 }

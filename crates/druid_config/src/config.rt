@@ -1,8 +1,9 @@
 //! What a config tells: the servers of a cluster, and what it does.
-ghost use Rattle.std.specs.Prelude.{◌≡◌, ◌<◌, All, length, map, string_bytes};
-ghost use Rattle.druid_config.specs.Configs.{Posted, IsNode, IsBroker, IsCompact, IsWithinLimits, told_of};
+ghost use Rattle.std.specs.Prelude.{◌≡◌, ◌<◌, All, IfOk, length, map, string_bytes};
+ghost use Rattle.druid_config.specs.Configs.{IsNode, IsBroker, IsCompact, IsObject, IsWithinLimits, asked_of, node_of, names_of, cluster_of, told_of};
 
 use druid_segid::Name;
+use std::alloc::{AllocError, Global};
 use std::marker::Model;
 
 /// The most nodes, and the most brokers.
@@ -248,10 +249,11 @@ impl Config {
         self.brokers.as_slice()
     }
 
-    /// The queries, in the order in which they are posted, each to a broker that is there.
+    /// The queries, in the order in which they are posted, each an object and to a broker that is there.
     pub fn queries(&self) -> &[QueryConfig]
         ensures value { result.now ≡ self.now.queries }
         ensures asked { All (λ q. q.broker < length self.now.brokers) self.now.queries }
+        ensures objects { All (λ q. IsObject (asked_of q)) self.now.queries }
     {
         self.queries.as_slice()
     }
@@ -279,4 +281,15 @@ impl Config {
     {
         self.turns
     }
+}
+
+/// The names of nodes, in their order.
+pub fn names_in(alloc: Global, nodes: &[NodeConfig]) -> Result<Vec<Name>, AllocError>
+    ensures { IfOk result (λ names. names.items ≡ names_of nodes.now) }
+{
+    let mut names = Vec::with_capacity(alloc, nodes.len())?;
+    for node in nodes {
+        names.push(node.name().clone()?)?;
+    }
+    Ok(names)
 }

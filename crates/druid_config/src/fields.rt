@@ -1,8 +1,6 @@
 //! The fields of a config, read out of JSON. Nothing here takes memory.
 ghost use Rattle.std.specs.Prelude.{◌≡◌, ◌≤◌, IsTrue, IfSome, option_map};
 ghost use Rattle.serde_json.specs.View.{view, items_view};
-ghost use Rattle.serde_json.specs.Data.{depth, items_depth};
-ghost use Rattle.serde_json.specs.Read.{max_depth};
 ghost use Rattle.druid_segid.specs.Names.{is_name};
 ghost use Rattle.druid_segid.specs.Numbers as numbers;
 ghost use Rattle.druid_config.specs.Configs.{is_port, is_address, address_at, name_at, some_at, count_at, list_at, place_at, object_at};
@@ -105,9 +103,5 @@ pub(crate) fn object_field(value: &Value) -> Option<&Value>
     ensures { option_map (λ v. view v.now) result ≡ object_at (view value.now) }
 {
     let query = value.get("query")?;
-    if query.is_object() {
-        Some(query)
-    } else {
-        None
-    }
+    if query.is_object() { Some(query) } else { None }
 }

@@ -4,7 +4,6 @@ ghost use Rattle.std.specs.List.{list_all, list_any};
 ghost use Rattle.std.specs.Str.{bytes_eq};
 ghost use Rattle.serde_json.specs.View.{view, items_view};
 ghost use Rattle.serde_json.specs.Find.{as_str};
-ghost use Rattle.druid_shard.specs.Each.{each_of};
 ghost use Rattle.druid_config.specs.Configs.{name_at, loads_at, node_at, broker_at, query_at, are_few, are_distinct, nodes_in, brokers_in, nodes_at, brokers_at, queries_at, config_at};
 ghost use Rattle.druid_config.specs.Lent.{text_or, names_in};
 
@@ -15,13 +14,15 @@ use crate::{MAX_KEPT, MAX_SERVERS, MAX_WORKERS};
 use druid_shard::text_field;
 use serde_json::Value;
 
+// Whether each value is a text.
 fn are_texts(values: &[Value]) -> bool
-    ensures { result ≡ is_some (each_of as_str (items_view values.now)) }
+    ensures { result ≡ list_all (λ value. is_some (as_str (view value))) values.now }
 {
     values.iter().all(|value| value.is_string())
 }
 
 // Whether the files that a node loads are named.
+#[tactic(auto, using(crate::proofs::FormLemmas::texts_judged))]
 fn has_loads(value: &Value) -> bool
     ensures { result ≡ is_some (loads_at (view value.now)) }
 {
@@ -31,6 +32,7 @@ fn has_loads(value: &Value) -> bool
     }
 }
 
+// Whether a value is a node.
 #[tactic(auto, unfolding(crate::specs::Configs::node_at))]
 fn is_node(value: &Value) -> bool
     ensures { result ≡ is_some (node_at (view value.now)) }
@@ -50,6 +52,7 @@ fn is_node(value: &Value) -> bool
     some_field(value, "workers", MAX_WORKERS).is_some()
 }
 
+// Whether a value is a broker.
 #[tactic(auto, unfolding(crate::specs::Configs::broker_at))]
 fn is_broker(value: &Value) -> bool
     ensures { result ≡ is_some (broker_at (view value.now)) }
@@ -60,6 +63,7 @@ fn is_broker(value: &Value) -> bool
     some_field(value, "workers", MAX_WORKERS).is_some()
 }
 
+// Whether a value is a query to one of so many brokers.
 #[tactic(auto, unfolding(crate::specs::Configs::query_at))]
 fn is_query(value: &Value, brokers: usize) -> bool
     ensures { result ≡ is_some (query_at brokers (view value.now)) }
@@ -70,6 +74,7 @@ fn is_query(value: &Value, brokers: usize) -> bool
     object_field(value).is_some()
 }
 
+// The name of a node, empty where it has none.
 fn name_of(value: &Value) -> &str
     ensures { result.now ≡ text_or (name_at (view value.now)) }
 {
@@ -79,6 +84,14 @@ fn name_of(value: &Value) -> &str
     }
 }
 
+// The name at a place.
+fn name_at(nodes: &[Value], place: usize) -> &str
+    requires { place < length nodes.now }
+    ensures { result.now ≡ slice_index_or (names_in nodes.now) place [] }
+{
+    name_of(&nodes[place])
+}
+
 // Whether the name of a node stands at a later one.
 fn stands_later(nodes: &[Value], place: usize) -> bool
     requires { place < length nodes.now }
@@ -86,13 +99,14 @@ fn stands_later(nodes: &[Value], place: usize) -> bool
         (drop (place + 1) (names_in nodes.now)) }
 {
     for later in place + 1..nodes.len() {
-        if name_of(&nodes[place]) == name_of(&nodes[later]) {
+        if name_at(nodes, place) == name_at(nodes, later) {
             return true;
         }
     }
     false
 }
 
+// Whether no name of a node stands twice.
 fn have_own_names(nodes: &[Value]) -> bool
     ensures { result ≡ are_distinct (names_in nodes.now) }
 {
@@ -111,6 +125,7 @@ fn are_few(count: usize) -> bool
     1 <= count && count <= MAX_SERVERS
 }
 
+// Whether each value is a node.
 fn are_all_nodes(values: &[Value]) -> bool
     ensures { result ≡ list_all (λ value. is_some (node_at (view value))) values.now }
 {
@@ -118,6 +133,7 @@ fn are_all_nodes(values: &[Value]) -> bool
 }
 
 // Whether values are the nodes of a cluster.
+#[tactic(auto, using(crate::proofs::FormLemmas::nodes_none, crate::proofs::FormLemmas::nodes_many, crate::proofs::FormLemmas::nodes_few))]
 fn are_nodes(values: &[Value]) -> bool
     ensures { result ≡ is_some (nodes_in (items_view values.now)) }
 {
@@ -130,6 +146,7 @@ fn are_nodes(values: &[Value]) -> bool
     have_own_names(values)
 }
 
+// Whether each value is a broker.
 fn are_all_brokers(values: &[Value]) -> bool
     ensures { result ≡ list_all (λ value. is_some (broker_at (view value))) values.now }
 {
@@ -137,6 +154,7 @@ fn are_all_brokers(values: &[Value]) -> bool
 }
 
 // Whether values are the brokers of a cluster.
+#[tactic(auto, using(crate::proofs::FormLemmas::brokers_none, crate::proofs::FormLemmas::brokers_some))]
 fn are_brokers(values: &[Value]) -> bool
     ensures { result ≡ is_some (brokers_in (items_view values.now)) }
 {
@@ -148,7 +166,7 @@ fn are_brokers(values: &[Value]) -> bool
 
 // Whether values are queries to so many brokers.
 fn are_queries(values: &[Value], brokers: usize) -> bool
-    ensures { result ≡ is_some (each_of (query_at brokers) (items_view values.now)) }
+    ensures { result ≡ list_all (λ value. is_some (query_at brokers (view value))) values.now }
 {
     values.iter().all(|value| is_query(value, brokers))
 }
@@ -174,6 +192,7 @@ fn has_queries(value: &Value, brokers: usize) -> bool
 }
 
 // How many brokers there are, where they are there.
+#[tactic(auto, using(crate::proofs::FormLemmas::brokers_counted, crate::proofs::FormLemmas::no_brokers_counted))]
 fn count_brokers(value: &Value) -> Option<usize>
     ensures { result ≡ option_map length (brokers_at (view value.now)) }
 {

@@ -11,8 +11,8 @@ mod reading;
 
 pub use config::{
     BrokerConfig, Config, MAX_COUNT, MAX_KEPT, MAX_PORT, MAX_SERVERS, MAX_WORKERS, NodeConfig,
-    QueryConfig,
+    QueryConfig, names_in,
 };
 pub use fault::ConfigFault;
-pub use laws::configs_are_within_limits;
+pub use laws::{addresses_name_ports, configs_are_within_limits};
 pub use reading::{config_of, read_config};

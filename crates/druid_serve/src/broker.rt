@@ -3,19 +3,20 @@ ghost use Rattle.std.specs.Prelude.{◌≡◌, ◌≤◌, ◌+◌, IfOk, OnOk, l
 ghost use Rattle.druid_config.specs.declared.config.TheConstants.{MAX_WORKERS};
 ghost use Rattle.druid_inventory.specs.Entry.{max_nodes};
 ghost use Rattle.druid_inventory.specs.Join.{names_of};
+ghost use Rattle.druid_published.specs.Floor.{NoneStale};
 
 use crate::ServeFault;
 use crate::gate::Gate;
 use crate::outside::{REST_MILLISECONDS, limit};
-use druid_config::NodeConfig;
 use druid_broker::{Routes, fetch, serve_one};
+use druid_config::NodeConfig;
 use druid_inventory::Inventory;
 use druid_published::{NodeList, Publisher, Receipt, View, open};
 use druid_scatter::Rotate;
 use druid_shard::{NodeNo, Reply};
 use druid_wire::TcpLink;
 use std::alloc::{AllocError, Global};
-use std::io::{BufReader, BufWriter, Write};
+use std::io::{BufRead, BufReader, BufWriter, Write};
 use std::net::{Net, TcpListener, TcpStream};
 use std::sync::{Arc, Mutex, Wait};
 use std::thread;
@@ -49,7 +50,9 @@ fn fetched<R: Wait + Net + Clock, N: NodeList>(
     node: NodeNo,
     view: &mut View<N>,
     link: &mut TcpLink<R>,
-) -> Option<Reply> {
+) -> Option<Reply>
+    ensures { NoneStale view.old view.new }
+{
     let inventory = view.read(rt).ok()?;
     if inventory.node_count() <= node {
         return None;
@@ -71,7 +74,25 @@ fn published<R: Wait, N: NodeList>(
     }
 }
 
-// Follows a node for so many turns. One that is refused leaves all as it was.
+// Asks a node what changed, and publishes it. A turn that is refused leaves what is published as it was.
+fn make_turn<R: Wait + Net + Clock, N: NodeList>(
+    rt: &R,
+    alloc: Global,
+    node: NodeNo,
+    view: &mut View<N>,
+    link: &mut TcpLink<R>,
+    publisher: &Mutex<Publisher<N>>,
+)
+    ensures { NoneStale view.old view.new }
+{
+    if let Some(reply) = fetched(rt, alloc, node, view, link) {
+        if let Some(receipt) = published(rt, node, &reply, publisher) {
+            view.learn(&receipt);
+        }
+    }
+}
+
+// Follows a node for so many turns.
 fn follow<R: Wait + Net + Clock, N: NodeList>(
     rt: &R,
     alloc: Global,
@@ -82,11 +103,7 @@ fn follow<R: Wait + Net + Clock, N: NodeList>(
     publisher: &Mutex<Publisher<N>>,
 ) {
     for _ in 0..turns {
-        if let Some(reply) = fetched(rt, alloc, node, view, link) {
-            if let Some(receipt) = published(rt, node, &reply, publisher) {
-                view.learn(&receipt);
-            }
-        }
+        make_turn(rt, alloc, node, view, link, publisher);
     }
 }
 
@@ -144,6 +161,36 @@ fn start_syncer<
     }
 }
 
+// Answers what comes by a reader, and tells whether that was done.
+fn respond<
+    R: Net<Listener = TcpListener, Stream = TcpStream>
+        + Wait
+        + Threads
+        + Clock
+        + Copy
+        + Send
+        + Sync,
+    N: NodeList,
+    I: BufRead,
+    O: Write,
+>(rt: &R, alloc: Global, desk: &mut Desk<R, N>, reader: &mut I, writer: &mut O) -> bool
+    ensures view { NoneStale desk.old.view desk.new.view }
+    ensures turn { desk.new.turn ≡ desk.old.turn }
+{
+    let served = serve_one(
+        rt,
+        alloc,
+        &desk.routes,
+        reader,
+        writer,
+        &mut desk.view,
+        desk.turn,
+        &Rotate,
+        &mut desk.links,
+    );
+    served.is_ok()
+}
+
 // Answers one connection, and tells whether that was done.
 fn answer<
     R: Net<Listener = TcpListener, Stream = TcpStream>
@@ -154,7 +201,10 @@ fn answer<
         + Send
         + Sync,
     N: NodeList,
->(rt: &R, alloc: Global, desk: &mut Desk<R, N>, stream: &TcpStream) -> bool {
+>(rt: &R, alloc: Global, desk: &mut Desk<R, N>, stream: &TcpStream) -> bool
+    ensures view { NoneStale desk.old.view desk.new.view }
+    ensures turn { desk.new.turn ≡ desk.old.turn }
+{
     if !limit(stream) {
         return false;
     }
@@ -164,18 +214,7 @@ fn answer<
     let Ok(mut writer) = BufWriter::new(alloc, stream) else {
         return false;
     };
-    let served = serve_one(
-        rt,
-        alloc,
-        &desk.routes,
-        &mut reader,
-        &mut writer,
-        &mut desk.view,
-        desk.turn,
-        &Rotate,
-        &mut desk.links,
-    );
-    served.is_ok() && writer.flush().is_ok()
+    respond(rt, alloc, desk, &mut reader, &mut writer) && writer.flush().is_ok()
 }
 
 // Answers a connection, and counts it once it is closed.
@@ -188,7 +227,9 @@ fn take<
         + Send
         + Sync,
     N: NodeList,
->(rt: &R, alloc: Global, desk: &mut Desk<R, N>, gate: &Gate, stream: TcpStream) {
+>(rt: &R, alloc: Global, desk: &mut Desk<R, N>, gate: &Gate, stream: TcpStream)
+    ensures { NoneStale desk.old.view desk.new.view }
+{
     let counts = gate.is_open(rt);
     if answer(rt, alloc, desk, &stream) {
         desk.turn = desk.turn.saturating_add(1);

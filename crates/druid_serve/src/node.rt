@@ -70,10 +70,16 @@ fn loaded<R: Wait, F: Folder>(
 }
 
 // Loads files of a folder; one that is refused is passed over.
-fn load_later<R: Wait, F: Folder>(rt: &R, node: &DataNode, folder: &mut F, names: &[String]) {
+fn load_later<R: Files<File = File> + AllocGlobal + Wait + Copy>(
+    rt: &R,
+    node: &DataNode,
+    path: String,
+    names: &[String],
+) {
+    let mut folder: DiskFolder<R> = DiskFolder::new(*rt, path);
     let mut seen = Mark::never();
     for name in names {
-        drop(node.load_file(rt, folder, name.as_str(), &mut seen));
+        drop(node.load_file(rt, &mut folder, name.as_str(), &mut seen));
     }
 }
 
@@ -83,7 +89,7 @@ fn start_loader<
 >(
     rt: &R,
     node: &Arc<DataNode, Global>,
-    folder: DiskFolder<R>,
+    path: String,
     names: Vec<String>,
 ) -> Result<JoinHandle<()>, ServeFault>
 where
@@ -91,8 +97,7 @@ where
 {
     let rt = *rt;
     let node = Arc::try_clone(node)?;
-    let mut folder = folder;
-    let job = move || load_later(&rt, &node, &mut folder, &names);
+    let job = move || load_later(&rt, &node, path, &names);
     match thread::spawn(&rt, job) {
         Ok(loader) => Ok(loader),
         Err(_) => Err(ServeFault::Device),
@@ -165,11 +170,11 @@ where
     requires few { kept ≤ max_changes }
 {
     let path = String::from_str(alloc, config.folder())?;
-    let mut folder: DiskFolder<R> = DiskFolder::new(*rt, path);
+    let mut folder: DiskFolder<R> = DiskFolder::new(*rt, String::from_str(alloc, path.as_str())?);
     let node = Arc::new(alloc, loaded(rt, alloc, &mut folder, kept)?)?;
     let listener = Arc::new(alloc, listen(rt, config.address())?)?;
     let loads = copies_of(alloc, config.loads())?;
-    let loader = start_loader(rt, &node, folder, loads)?;
+    let loader = start_loader(rt, &node, path, loads)?;
     for _ in 0..config.workers() {
         start_worker(rt, alloc, &node, &listener)?;
     }

@@ -1,5 +1,5 @@
 //! A cluster, from its config to its end.
-ghost use Rattle.std.specs.Prelude.{◌≡◌, ◌≤◌, IfOk, length, map};
+ghost use Rattle.std.specs.Prelude.{◌≡◌, ◌≤◌, IfOk, length};
 ghost use Rattle.druid_shard.specs.Reply.{max_changes};
 ghost use Rattle.druid_inventory.specs.Entry.{max_nodes};
 
@@ -9,10 +9,9 @@ use crate::broker::{Broker, Opening, start_broker};
 use crate::gate::Gate;
 use crate::node::start_node;
 use crate::outside::listen;
-use druid_config::{BrokerConfig, NodeConfig, QueryConfig, read_config};
+use druid_config::{BrokerConfig, NodeConfig, QueryConfig, names_in, read_config};
 use druid_inventory::Inventory;
-use druid_segid::Name;
-use std::alloc::{AllocError, Global};
+use std::alloc::Global;
 use std::fs::File;
 use std::io::Write;
 use std::marker::Brand;
@@ -65,24 +64,13 @@ fn listen_all<R: Net<Listener = TcpListener, Stream = TcpStream>>(
     Ok(listeners)
 }
 
-// The names of the nodes, in their order.
-fn names_of(alloc: Global, nodes: &[NodeConfig]) -> Result<Vec<Name>, AllocError>
-    ensures { IfOk result (λ names. names.items ≡ map (λ n. n.name) nodes.now) }
-{
-    let mut names = Vec::with_capacity(alloc, nodes.len())?;
-    for node in nodes {
-        names.push(node.name().clone()?)?;
-    }
-    Ok(names)
-}
-
 // What a broker knows first of the nodes.
 fn fresh(alloc: Global, nodes: &[NodeConfig]) -> Result<Inventory, ServeFault>
     requires some { 1 ≤ length nodes.now }
     requires few { length nodes.now ≤ max_nodes }
     ensures { IfOk result (λ inventory. length inventory ≡ length nodes.now) }
 {
-    match Inventory::new(alloc, names_of(alloc, nodes)?) {
+    match Inventory::new(alloc, names_in(alloc, nodes)?) {
         Ok(inventory) => Ok(inventory),
         // No name stands twice, so memory was refused.
         Err(_) => Err(ServeFault::Device),
