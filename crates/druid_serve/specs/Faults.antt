@@ -1,4 +1,5 @@
 -- What a cluster that is not served is told for.
+use Rattle.std.specs.Prelude.{ℕ}
 use Rattle.druid_config.specs.declared.fault.ConfigFault.{ConfigFault}
 use Rattle.druid_config.specs.declared.fault.ConfigFault.TheVariants as config
 use Rattle.druid_node.specs.declared.fault.NodeFault.{NodeFault}
@@ -31,3 +32,9 @@ of_node node.NameDiffers = BadFolder
 of_node (node.History fault) = BadFolder
 of_node node.NoFile = BadFolder
 of_node (node.Behind found) = BadFolder
+
+-- the exit status that tells a fault: 1 for what was handed in, and 3 for a device or memory
+abbrev pub status_of : ServeFault → ℕ
+status_of BadConfig = 1
+status_of BadFolder = 1
+status_of Device = 3

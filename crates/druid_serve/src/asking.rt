@@ -51,7 +51,7 @@ fn print<W: Write>(answer: &Result<Vec<u8>, WireFault>, out: &mut W) -> io::Resu
 }
 
 /// Posts a query to the broker at an address, and prints the answer.
-pub fn ask<R: Net + Clock + Copy, W: Write>(
+pub(crate) fn ask<R: Net + Clock + Copy, W: Write>(
     rt: &R,
     alloc: Global,
     query: &str,

@@ -25,11 +25,11 @@ use std::time::{Clock, Duration};
 
 /// A broker that stands.
 #[derive(Drop)]
-pub struct Broker {
+pub(crate) struct Broker {
     /// Where the connections that it answers are counted.
-    pub gate: Arc<Gate, Global>,
+    pub(crate) gate: Arc<Gate, Global>,
     /// The threads that follow the nodes.
-    pub syncers: Vec<JoinHandle<()>>,
+    pub(crate) syncers: Vec<JoinHandle<()>>,
 }
 
 // What a worker answers with.
@@ -313,15 +313,15 @@ fn desk_of<R: Net + Clock + Copy, N: NodeList>(
 
 /// What a broker is made of.
 #[derive(Drop)]
-pub struct Opening {
+pub(crate) struct Opening {
     /// What it knows first of the nodes.
-    pub inventory: Inventory,
+    pub(crate) inventory: Inventory,
     /// Where it listens.
-    pub listener: Arc<TcpListener, Global>,
+    pub(crate) listener: Arc<TcpListener, Global>,
     /// How many threads answer, 1 to 16.
-    pub workers: u16,
+    pub(crate) workers: u16,
     /// How many turns each of its syncers makes.
-    pub turns: u64,
+    pub(crate) turns: u64,
     ghost some: { 1 ≤ workers },
     ghost few: { workers ≤ MAX_WORKERS },
 }
@@ -383,7 +383,7 @@ fn start_syncers<
 }
 
 /// Starts the threads of a broker: one that follows each node, and its workers.
-pub fn start_broker<
+pub(crate) fn start_broker<
     R: Net<Listener = TcpListener, Stream = TcpStream>
         + Wait
         + Threads

@@ -1,5 +1,5 @@
-ghost use Rattle.std.specs.Prelude.{◌≡◌, ◌≢◌};
-ghost use Rattle.druid_serve.specs.Faults.{of_config, of_store, of_node};
+ghost use Rattle.std.specs.Prelude.{◌≡◌};
+ghost use Rattle.druid_serve.specs.Faults.{of_config, of_store, of_node, status_of};
 ghost use Rattle.druid_serve.specs.declared.fault.ServeFault.TheVariants.{Device};
 
 use druid_config::ConfigFault;
@@ -25,8 +25,7 @@ pub enum ServeFault {
 impl ServeFault {
     /// The exit status that tells it: 1 for what was handed in, and 3 for a device or memory.
     pub fn status(&self) -> u8
-        ensures device { self.now ≡ Device → result ≡ 3 }
-        ensures refused { self.now ≢ Device → result ≡ 1 }
+        ensures { result ≡ status_of self.now }
     {
         match self {
             ServeFault::BadConfig | ServeFault::BadFolder => 1,

@@ -152,7 +152,7 @@ fn start_worker<R: Wait + Threads + Clock + Copy + Send + Sync + 'static>(
 
 /// Starts a data node: raises its incarnation, loads the segment files of its folder, listens, and starts its threads. It
 /// gives the thread that loads the files that come later.
-pub fn start_node<
+pub(crate) fn start_node<
     R: Files<File = File>
         + Net<Listener = TcpListener, Stream = TcpStream>
         + AllocGlobal

@@ -1,5 +1,7 @@
 //! What the program does with its words.
-ghost use Rattle.std.specs.Prelude.{◌≡◌, OnErr, IsTrue, length};
+ghost use Rattle.std.specs.Prelude.{◌≡◌, IfOk, OnErr, IsTrue, length, map, string_bytes};
+ghost use Rattle.druid_cluster.specs.Program.{AsksForReplay};
+ghost use Rattle.druid_serve.specs.Program.{AsksForServe};
 
 use crate::ServeFault;
 use crate::serving::{serve, tell};
@@ -66,7 +68,8 @@ where
 
 // Whether there are two words, the first of which is `serve`.
 fn asks_for_serve(words: &[String]) -> bool
-    ensures { IsTrue result → length words.now ≡ 2 }
+    ensures two { IsTrue result → length words.now ≡ 2 }
+    ensures asked { IsTrue result → AsksForServe (map string_bytes words.now) }
 {
     words.len() == 2 && words[0].as_str() == "serve"
 }
@@ -91,6 +94,9 @@ pub fn run<
 >(rt: &R, alloc: Global, words: io::Result<Vec<String>>, input: I, output: W, errors: &mut E) -> u8
 where
     R::Dir: Send,
+    ensures unread { OnErr words (result ≡ 3) }
+    ensures usage { IfOk words (λ list. (AsksForReplay (map string_bytes list.items) → ⊥)
+        → (AsksForServe (map string_bytes list.items) → ⊥) → result ≡ 2) }
 {
     match words {
         Ok(words) if asks_for_serve(&words) => {

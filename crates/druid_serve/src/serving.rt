@@ -1,7 +1,9 @@
 //! A cluster, from its config to its end.
-ghost use Rattle.std.specs.Prelude.{◌≡◌, ◌≤◌, IfOk, length};
+ghost use Rattle.std.specs.Prelude.{◌≡◌, ◌≤◌, IfOk, OnOk, length};
 ghost use Rattle.druid_shard.specs.Reply.{max_changes};
 ghost use Rattle.druid_inventory.specs.Entry.{max_nodes};
+ghost use Rattle.druid_serve.specs.Faults.{status_of};
+ghost use Rattle.druid_serve.specs.Program.{IsConfig};
 
 use crate::ServeFault;
 use crate::asking::ask;
@@ -9,7 +11,7 @@ use crate::broker::{Broker, Opening, start_broker};
 use crate::gate::Gate;
 use crate::node::start_node;
 use crate::outside::listen;
-use druid_config::{BrokerConfig, NodeConfig, QueryConfig, names_in, read_config};
+use druid_config::{BrokerConfig, Config, NodeConfig, QueryConfig, names_in, read_config};
 use druid_inventory::Inventory;
 use std::alloc::Global;
 use std::fs::File;
@@ -188,6 +190,40 @@ fn wait_for_others<R: Wait, W: Write>(
     Ok(())
 }
 
+// The config that bytes are.
+fn config_of(alloc: Global, bytes: &[u8]) -> Result<Config, ServeFault>
+    ensures { OnOk result (IsConfig bytes.now) }
+{
+    match read_config(alloc, bytes) {
+        Ok(config) => Ok(config),
+        Err(fault) => Err(fault.into()),
+    }
+}
+
+// Serves a cluster to its end.
+fn serve_cluster<
+    R: Files<File = File>
+        + Net<Listener = TcpListener, Stream = TcpStream>
+        + AllocGlobal
+        + Wait
+        + Threads
+        + Clock
+        + Copy
+        + Send
+        + Sync
+        + 'static,
+    W: Write,
+>(rt: &R, alloc: Global, config: &Config, out: &mut W) -> Result<(), ServeFault>
+where
+    R::Dir: Send,
+{
+    let loaders = start_nodes(rt, alloc, config.nodes(), config.kept())?;
+    let standing = start_brokers(rt, alloc, config.brokers(), config.turns(), config.nodes())?;
+    let gates = settled(rt, alloc, loaders, standing)?;
+    ask_all(rt, alloc, config.queries(), config.brokers(), out)?;
+    wait_for_others(rt, &gates, config.connections(), out)
+}
+
 // Serves the cluster of a config to its end.
 fn serve_config<
     R: Files<File = File>
@@ -201,21 +237,22 @@ fn serve_config<
         + Sync
         + 'static,
     W: Write,
->(rt: &R, alloc: Global, config: &[u8], out: &mut W) -> Result<(), ServeFault>
+>(rt: &R, alloc: Global, bytes: &[u8], out: &mut W) -> Result<(), ServeFault>
 where
     R::Dir: Send,
+    ensures config { OnOk result (IsConfig bytes.now) }
+    ensures nothing { (IsConfig bytes.now → ⊥) → W.contents out.new ≡ W.contents out.old }
 {
-    let config = read_config(alloc, config)?;
-    let loaders = start_nodes(rt, alloc, config.nodes(), config.kept())?;
-    let standing = start_brokers(rt, alloc, config.brokers(), config.turns(), config.nodes())?;
-    let gates = settled(rt, alloc, loaders, standing)?;
-    ask_all(rt, alloc, config.queries(), config.brokers(), out)?;
-    wait_for_others(rt, &gates, config.connections(), out)
+    match config_of(alloc, bytes) {
+        Ok(config) => serve_cluster(rt, alloc, &config, out),
+        Err(fault) => Err(fault),
+    }
 }
 
 /// Serves the cluster of a config, prints the answers to its queries, and ends once each broker answered the connections from
 /// outside that the config asks for. It gives the exit status: 0, or that of the fault that it tells on the error writer. The
-/// threads that still wait for connections are left.
+/// threads that still wait for connections are left. Status 0 only where the bytes are a config; where they are none, nothing is
+/// printed.
 pub fn serve<
     R: Files<File = File>
         + Net<Listener = TcpListener, Stream = TcpStream>
@@ -232,6 +269,8 @@ pub fn serve<
 >(rt: &R, alloc: Global, config: &[u8], out: &mut W, errors: &mut E) -> u8
 where
     R::Dir: Send,
+    ensures served { result ≡ 0 → IsConfig config.now }
+    ensures nothing { (IsConfig config.now → ⊥) → W.contents out.new ≡ W.contents out.old }
 {
     match serve_config(rt, alloc, config, out) {
         Ok(()) => 0,
@@ -240,7 +279,9 @@ where
 }
 
 /// Tells a fault, and gives its exit status.
-pub fn tell<E: Write>(errors: &mut E, fault: ServeFault) -> u8 {
+pub(crate) fn tell<E: Write>(errors: &mut E, fault: ServeFault) -> u8
+    ensures { result ≡ status_of fault }
+{
     drop(writeln!(errors, "{fault}"));
     fault.status()
 }

@@ -3,8 +3,8 @@
 #![tactic(auto)]
 
 #[cfg(test)]
-mod configs;
+mod config;
 #[cfg(test)]
 mod folders;
 #[cfg(test)]
-mod serving;
+mod serve;

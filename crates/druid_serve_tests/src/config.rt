@@ -118,7 +118,9 @@ fn ample_memory(rt: HostRuntime) -> Result<(), Fail> {
     let Ok(config) = read_config(rt.alloc(), whole().as_bytes()) else {
         return Err("no config".into());
     };
-    assert!(rt; config.nodes().len() == 1 && config.brokers().len() == 1 && config.queries().len() == 1);
+    assert!(rt;
+        config.nodes().len() == 1 && config.brokers().len() == 1 && config.queries().len() == 1
+    );
     assert!(rt; config.kept() == 1000 && config.turns() == 1_000_000 && config.connections() == 0);
     Ok(())
 }
