@@ -62,26 +62,33 @@ fn without_marks(alloc: Global, text: &str) -> Result<String, Fail> {
     Ok(plain)
 }
 
-// Whether a broker over these parts answers the query so, at a turn, once the nodes fail that the text marks.
-fn answers_so<R: Handle, N: NodeList>(
+// The places of the nodes that the text marks.
+fn marked(alloc: Global, text: &str) -> Result<Vec<usize>, Fail> {
+    let mut places = Vec::new(alloc);
+    for (place, node) in text.split(" | ").enumerate() {
+        if node.starts_with("!") {
+            places.push(place)?;
+        }
+    }
+    Ok(places)
+}
+
+// What a broker over these parts answers to the query at a turn, once the nodes at these places fail.
+fn answer_to<R: Handle, N: NodeList>(
     rt: R,
     alloc: Global,
     setup: Setup<R>,
-    nodes: &str,
-    asked: &str,
-    wanted: &str,
+    failing: Vec<usize>,
+    query: String,
     turn: u64,
-) -> Result<bool, Fail>
+) -> Result<String, Fail>
     requires { names_of setup.inventory ≡ N.names }
 {
     let mut made: Cluster<R, N> = followed(rt, alloc, setup, 64)?;
-    for (place, node) in nodes.split(" | ").enumerate() {
-        if node.starts_with("!") {
-            set(&mut made, place, Behind::Nothing)?;
-        }
+    for place in failing {
+        set(&mut made, place, Behind::Nothing)?;
     }
-    let query = query(alloc, asked)?;
-    Ok(posted(alloc, &mut made, turn, query.as_str())?.as_str() == wanted)
+    posted(alloc, &mut made, turn, query.as_str())
 }
 
 /// Whether a broker over that cluster answers the query so, at a turn.
@@ -94,7 +101,10 @@ pub(crate) fn is_answered_by<R: Handle>(
     turn: u64,
 ) -> Result<bool, Fail> {
     let setup = set_up(rt, alloc, without_marks(alloc, nodes)?.as_str())?;
-    answers_so::<R, Brand>(rt, alloc, setup, nodes, asked, wanted, turn)
+    let failing = marked(alloc, nodes)?;
+    let query = query(alloc, asked)?;
+    let told = answer_to::<R, Brand>(rt, alloc, setup, failing, query, turn)?;
+    Ok(told.as_str() == wanted)
 }
 
 fn is_answered<R: Handle>(rt: R, alloc: Global, line: &str, turn: u64) -> Result<bool, Fail> {
