@@ -71,14 +71,21 @@ pub(crate) fn put<R: Files>(
     Ok(())
 }
 
-/// A new folder under that name.
+// How many folders of one name there may be: what a run that was ended left.
+const MAX_LEFT: u64 = 1_000;
+
+/// A new folder, whose name begins so.
 pub(crate) fn fresh_folder<R: Files + Env + AllocGlobal>(
     rt: &R,
     alloc: Global,
     name: &str,
 ) -> Result<String, Fail> {
-    let path: PathBuf = env::temp_dir(rt)?.join(alloc, name)?;
-    drop(fs::remove_dir_all(rt, path.as_path()));
-    fs::create_dir(rt, path.as_path())?;
-    Ok(String::from_str(alloc, path.as_str())?)
+    let top = env::temp_dir(rt)?;
+    for number in 0..MAX_LEFT {
+        let path: PathBuf = top.join(alloc, format!(in alloc; "{name}_{number}")?.as_str())?;
+        if fs::create_dir(rt, path.as_path()).is_ok() {
+            return Ok(String::from_str(alloc, path.as_str())?);
+        }
+    }
+    Err("no folder".into())
 }

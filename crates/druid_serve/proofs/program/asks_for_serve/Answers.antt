@@ -6,5 +6,5 @@ pub returns-then-words-eq2-clause-asked : goal.returns-then-words-eq2-clause-ask
 returns-then-words-eq2-clause-asked c =
     let two = two_words c.args.words.now c.index-words-0.result (omega arith) c.index-words-0.is in
     λ h.
-        let same : string_bytes c.index-words-0.result ≡ codes "serve" = search rules in
-        (two.0, two.1 ∙ ap (λ (t : List ℕ). t ∷ two.0 ∷ []) same)
+    let same : string_bytes c.index-words-0.result ≡ codes "serve" = search rules in
+    (two.0, two.1 ∙ ap (λ (t : List ℕ). t ∷ two.0 ∷ []) same)
