@@ -1,4 +1,5 @@
-//! The program `druid_cluster`: `druid_cluster replay` answers the commands on standard input.
+//! The program `druid_cluster`: `druid_cluster replay` answers the commands on standard input, and `druid_cluster serve CONFIG`
+//! serves the cluster of a config.
 #![tactic(auto)]
 
 use std::process::ExitCode;
@@ -17,7 +18,8 @@ fn words(rt: &HostRuntime) -> io::Result<Vec<String>> {
 
 fn main(rt: HostRuntime) -> ExitCode {
     let mut errors = rt.stderr();
-    let status = druid_cluster::run_program(
+    let status = druid_serve::run(
+        &rt,
         rt.alloc(),
         words(&rt),
         rt.reader(),

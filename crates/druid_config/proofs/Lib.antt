@@ -1,0 +1,5 @@
+pub mod AddressLemmas
+pub mod DepthLemmas
+pub mod FormLemmas
+pub mod LimitLemmas
+pub mod PartLemmas

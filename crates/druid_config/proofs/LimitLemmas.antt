@@ -1,0 +1,211 @@
+-- What is read of a config is within its limits.
+use Rattle.std.proofs.Common.{◌≡◌, ℕ, zero, suc, ◌<◌, ◌≤◌, List, [], ◌∷◌, length, map, get_or, codes, All, IsSome, Option, Some, None, option_and_then, Bool, true, false, not, ◌&&◌, ◌||◌, cond, nat_le, nat_lt, refl, sym, subst, ap, ◌∙◌, arith}
+use Rattle.std.specs.List.{list_any}
+use Rattle.std.specs.Str.{bytes_eq}
+use Rattle.std.proofs.lemmas.Bool.{leb-true}
+use Rattle.std.proofs.lemmas.Bool.Decides.{nat_tests}
+use Rattle.std.proofs.lemmas.Option.{same_Some}
+use Rattle.std.proofs.lemmas.List.{get_or-map, get_or_default, length-map}
+use Rattle.std.proofs.lemmas.Slice.Eq.{bytes_eq-Decides}
+use Rattle.serde_json.specs.Data.{Data, null, boolean, number, string, array, object, Items}
+use Rattle.serde_json.specs.Find.{get, as_object}
+use Rattle.druid_time.specs.Options.{◌>>=◌}
+use Rattle.druid_shard.specs.Each.{each_of}
+use Rattle.druid_shard.specs.Json.{text_at, number_at}
+use Rattle.druid_shard.proofs.EachLemmas.{each_sound}
+use Rattle.druid_segid.specs.Names.{is_name}
+use Rattle.druid_config.specs.declared.config.TheConstants.{MAX_SERVERS, MAX_WORKERS, MAX_KEPT, MAX_COUNT}
+use Rattle.druid_config.specs.Configs.{IsObject, Node, Broker, Asked, Posted, Told, asked_of, is_address, some_at, count_at, list_at, node_at, broker_at, query_at, are_few, are_distinct, names_of, nodes_in, brokers_in, config_at, IsNode, IsBroker, HaveOwnNames, IsWithinLimits}
+use Rattle.druid_config.proofs.PartLemmas.{node_parts, broker_parts, query_parts, config_parts}
+
+-- ---- tests
+
+both_true : (a b : Bool) → (a && b) ≡ true → (a ≡ true) × (b ≡ true)
+both_true true b h = (refl, h)
+both_true false b h = absurd cc
+
+chained : {A B : Type 0} (f : A → Option B) (o : Option A) (y : B) → option_and_then f o ≡ Some y → (x : A) × (o ≡ Some x) × (f x ≡ Some y)
+chained f None y e = absurd cc
+chained f (Some x) y e = (x, refl, e)
+
+stepped : {A B : Type 0} (f : A → Option B) (o : Option A) (y : B) → (o >>= f) ≡ Some y → (x : A) × (o ≡ Some x) × (f x ≡ Some y)
+stepped f None y e = absurd cc
+stepped f (Some x) y e = (x, refl, e)
+
+kept_so : {A : Type 0} (b : Bool) (x y : A) → cond b (Some x) None ≡ Some y → (b ≡ true) × (x ≡ y)
+kept_so true x y e = (refl, same_Some x y e)
+kept_so false x y e = absurd cc
+
+-- what passed a test, passes it
+passed : {A : Type 0} (p : A → Bool) (o : Option A) (y : A) → option_and_then (λ s. cond (p s) (Some s) None) o ≡ Some y → p y ≡ true
+passed {A} p o y e =
+    let step = chained (λ (s : A). cond (p s) (Some s) None) o y e in
+    let kept = kept_so (p step.0) step.0 y step.2 in
+    subst (λ t. p t ≡ true) kept.1 kept.0
+
+record Between (low high n : ℕ) : Type 0 where
+  above : low ≤ n
+  below : n ≤ high
+
+between : (low high n : ℕ) → (nat_le low n && nat_le n high) ≡ true → Between low high n
+between low high n h =
+    let both = both_true (nat_le low n) (nat_le n high) h in
+    record { above = leb-true low n both.0; below = leb-true n high both.1 }
+
+some_between : (limit : ℕ) (key : List ℕ) (d : Data) (n : ℕ) → some_at limit key d ≡ Some n → Between 1 limit n
+some_between limit key d n e = between 1 limit n (passed (λ n. nat_le 1 n && nat_le n limit) (number_at key d) n e)
+
+count_below : (key : List ℕ) (d : Data) (n : ℕ) → count_at key d ≡ Some n → n ≤ MAX_COUNT
+count_below key d n e = leb-true n MAX_COUNT (passed (λ n. nat_le n MAX_COUNT) (number_at key d) n e)
+
+-- ---- servers and queries
+
+node_is : (d : Data) (node : Node) → node_at d ≡ Some node → IsNode node
+node_is d node read =
+    let parts = node_parts d node read in
+    let workers = some_between MAX_WORKERS (codes "workers") d node.workers parts.workers in
+    record {
+      name = passed is_name (text_at (codes "name") d) node.name parts.name;
+      address = passed is_address (text_at (codes "address") d) node.address parts.address;
+      some_workers = workers.above;
+      few_workers = workers.below;
+    }
+
+broker_is : (d : Data) (broker : Broker) → broker_at d ≡ Some broker → IsBroker broker
+broker_is d broker read =
+    let parts = broker_parts d broker read in
+    let workers = some_between MAX_WORKERS (codes "workers") d broker.workers parts.workers in
+    record {
+      address = passed is_address (text_at (codes "address") d) broker.address parts.address;
+      some_workers = workers.above;
+      few_workers = workers.below;
+    }
+
+query_is : (brokers : ℕ) (d : Data) (asked : Asked) → query_at brokers d ≡ Some asked → asked.broker < brokers
+query_is brokers d asked read =
+    let lower : nat_lt asked.broker brokers ≡ true = passed (λ n. nat_lt n brokers) (number_at (codes "broker") d) asked.broker (query_parts brokers d asked read).broker in
+    grind (arith, nat_tests, lower)
+
+object_so : (o : Option Data) (asked : Option Data) → option_and_then (λ q. Some (Some q)) (option_and_then (λ q. option_and_then (λ _. Some q) (as_object q)) o) ≡ Some asked
+    → IsSome (option_and_then as_object asked)
+object_so None asked read = absurd cc
+object_so (Some (object ms)) asked read = subst (λ q. IsSome (option_and_then as_object q)) (same_Some (Some (object ms)) asked read) refl
+object_so (Some null) asked read = absurd cc
+object_so (Some (boolean b)) asked read = absurd cc
+object_so (Some (number x)) asked read = absurd cc
+object_so (Some (string s)) asked read = absurd cc
+object_so (Some (array ds)) asked read = absurd cc
+
+query_object : (brokers : ℕ) (d : Data) (asked : Asked) → query_at brokers d ≡ Some asked → IsObject asked
+query_object brokers d asked read = object_so (get (codes "query") d) asked.query (query_parts brokers d asked read).query
+
+-- what holds of all that an item reads as holds of each of the list
+each_is : {A : Type 0} (P : A → Type 0) (f : Data → Option A) → ((d : Data) (x : A) → f d ≡ Some x → P x) → (ds : Items) (xs : List A) → each_of f ds ≡ Some xs → All P xs
+each_is P f one ds xs read k d below = each_sound P f one ds xs read (get_or xs k d) (k, below, get_or_default xs k (get_or xs k d) d below)
+
+-- ---- names
+
+either_false : (a b : Bool) → (a || b) ≡ false → (a ≡ false) × (b ≡ false)
+either_false true b h = absurd cc
+either_false false b h = (refl, h)
+
+two_ways : (b : Bool) → b ≡ true → b ≡ false → ⊥
+two_ways b here gone = let both = sym here ∙ gone in absurd cc
+
+none_if : (b : Bool) → not b ≡ true → b ≡ false
+none_if true h = absurd cc
+none_if false h = refl
+
+first_apart : (name : List ℕ) (names : List (List ℕ)) → are_distinct (name ∷ names) ≡ true → list_any (bytes_eq name) names ≡ false
+first_apart name names distinct =
+    none_if (list_any (bytes_eq name) names) (both_true (not (list_any (bytes_eq name) names)) (are_distinct names) distinct).0
+
+none_same : (name : List ℕ) (names : List (List ℕ)) → list_any (bytes_eq name) names ≡ false → (j : ℕ) (d : List ℕ) → j < length names → name ≡ get_or names j d → ⊥
+none_same name [] none j d below same = omega (arith, below)
+none_same name (other ∷ names) none zero d below same =
+    let equal : bytes_eq name other ≡ true = (bytes_eq-Decides name other).1 same in
+    let apart = (either_false (bytes_eq name other) (list_any (bytes_eq name) names) none).0 in
+    absurd (two_ways (bytes_eq name other) equal apart)
+none_same name (other ∷ names) none (suc j) d below same =
+    none_same name names (either_false (bytes_eq name other) (list_any (bytes_eq name) names) none).1 j d (omega (arith, below)) same
+
+own_names : (names : List (List ℕ)) → are_distinct names ≡ true → HaveOwnNames names
+own_names [] distinct i j d hi hj same = omega (arith, hi)
+own_names (name ∷ names) distinct zero zero d hi hj same = refl
+own_names (name ∷ names) distinct zero (suc j) d hi hj same =
+    absurd (none_same name names (first_apart name names distinct) j d (omega (arith, hj)) same)
+own_names (name ∷ names) distinct (suc i) zero d hi hj same =
+    absurd (none_same name names (first_apart name names distinct) i d (omega (arith, hi)) (sym same))
+own_names (name ∷ names) distinct (suc i) (suc j) d hi hj same =
+    ap suc (own_names names (both_true (not (list_any (bytes_eq name) names)) (are_distinct names) distinct).1 i j d (omega (arith, hi)) (omega (arith, hj)) same)
+
+-- ---- lists of servers
+
+record NodeLimits (nodes : List Node) : Type 0 where
+  count : Between 1 MAX_SERVERS (length nodes)
+  each : All IsNode nodes
+  own : HaveOwnNames (names_of nodes)
+
+abbrev nodes_if : List Node → Option (List Node)
+nodes_if nodes = cond (are_few (length nodes) && are_distinct (names_of nodes)) (Some nodes) None
+
+nodes_fit : (items : Items) (nodes : List Node) → nodes_in items ≡ Some nodes → NodeLimits nodes
+unfolding nodes_in
+nodes_fit items nodes read =
+    let step = stepped nodes_if (each_of node_at items) nodes read in
+    let kept = kept_so (are_few (length step.0) && are_distinct (names_of step.0)) step.0 nodes step.2 in
+    let tests = both_true (are_few (length step.0)) (are_distinct (names_of step.0)) kept.0 in
+    subst NodeLimits kept.1 (record {
+      count = between 1 MAX_SERVERS (length step.0) tests.0;
+      each = each_is IsNode node_at node_is items step.0 step.1;
+      own = own_names (names_of step.0) tests.1;
+    })
+
+record BrokerLimits (brokers : List Broker) : Type 0 where
+  count : Between 1 MAX_SERVERS (length brokers)
+  each : All IsBroker brokers
+
+abbrev brokers_if : List Broker → Option (List Broker)
+brokers_if brokers = cond (are_few (length brokers)) (Some brokers) None
+
+brokers_fit : (items : Items) (brokers : List Broker) → brokers_in items ≡ Some brokers → BrokerLimits brokers
+unfolding brokers_in
+brokers_fit items brokers read =
+    let step = stepped brokers_if (each_of broker_at items) brokers read in
+    let kept = kept_so (are_few (length step.0)) step.0 brokers step.2 in
+    subst BrokerLimits kept.1 (record {
+      count = between 1 MAX_SERVERS (length step.0) kept.0;
+      each = each_is IsBroker broker_at broker_is items step.0 step.1;
+    })
+
+-- ---- configs
+
+pub within : (d : Data) (told : Told) → config_at d ≡ Some told → IsWithinLimits told
+within d told read =
+    let parts = config_parts d told read in
+    let listed = chained nodes_in (list_at (codes "nodes") d) told.nodes parts.nodes in
+    let nodes = nodes_fit listed.0 told.nodes listed.2 in
+    let ranked = chained brokers_in (list_at (codes "brokers") d) told.brokers parts.brokers in
+    let brokers = brokers_fit ranked.0 told.brokers ranked.2 in
+    let queued = chained (each_of (query_at (length told.brokers))) (list_at (codes "queries") d) told.queries parts.queries in
+    let kept = some_between MAX_KEPT (codes "kept") d told.kept parts.kept in
+    record {
+      some_nodes = nodes.count.above;
+      few_nodes = nodes.count.below;
+      nodes = nodes.each;
+      own_names = nodes.own;
+      some_brokers = brokers.count.above;
+      few_brokers = brokers.count.below;
+      brokers = brokers.each;
+      asked = each_is (λ q. q.broker < length told.brokers) (query_at (length told.brokers)) (query_is (length told.brokers)) queued.0 told.queries queued.2;
+      objects = each_is IsObject (query_at (length told.brokers)) (query_object (length told.brokers)) queued.0 told.queries queued.2;
+      few_connections = count_below (codes "connections") d told.connections parts.connections;
+      some_kept = kept.above;
+      few_kept = kept.below;
+      few_turns = count_below (codes "turns") d told.turns parts.turns;
+    }
+
+-- what holds of queries as they are told holds of them as they are posted
+pub posted_so : (P : Asked → Type 0) (queries : List Posted) → All P (map asked_of queries) → All (λ q. P (asked_of q)) queries
+posted_so P queries all k d below =
+    subst P (get_or-map asked_of queries k d (asked_of d) below) (all k (asked_of d) (omega (arith, below, length-map queries asked_of)))

@@ -1,0 +1,170 @@
+-- What the parts of a config are, where it is read.
+use Rattle.std.proofs.Common.{◌≡◌, ℕ, List, length, codes, Option, Some, None, IsSome, option_and_then, refl, sym, subst, ap, ◌∙◌}
+use Rattle.std.proofs.lemmas.Option.{same_Some}
+use Rattle.serde_json.specs.Data.{Data}
+use Rattle.druid_time.specs.Options.{◌>>=◌}
+use Rattle.druid_shard.specs.Json.{text_at}
+use Rattle.druid_config.specs.declared.config.TheConstants.{MAX_WORKERS, MAX_KEPT}
+use Rattle.druid_config.specs.Configs.{Node, Broker, Asked, Told, node_of, name_at, address_at, some_at, count_at, loads_at, place_at, object_at, node_at, broker_at, query_at, nodes_at, brokers_at, queries_at, config_at}
+
+-- what holds of each outcome of the step on the value holds of the step
+pub each_next : {A B : Type 0} (P : B → Type 0) (o : Option A) (f : A → Option B) → ((x : A) → o ≡ Some x → (y : B) → f x ≡ Some y → P y) → (y : B) → (o >>= f) ≡ Some y → P y
+each_next P None f each y e = absurd cc
+each_next P (Some x) f each y e = each x refl y e
+
+-- and what holds of a value holds of it where it is given
+pub given_so : {B : Type 0} (P : B → Type 0) (x : B) → P x → (y : B) → Some x ≡ Some y → P y
+given_so P x here y e = subst P (same_Some x y e) here
+
+pub some_of : {A : Type 0} (o : Option A) → IsSome o → (x : A) × (o ≡ Some x)
+some_of None some = absurd cc
+some_of (Some x) some = (x, refl)
+
+pub some_is : {A : Type 0} (o : Option A) (x : A) → o ≡ Some x → IsSome o
+some_is o x is = subst (λ p. IsSome p) (sym is) refl
+
+-- ---- nodes
+
+pub record NodeParts (d : Data) (node : Node) : Type 0 where
+  pub name : name_at d ≡ Some node.name
+  pub address : address_at d ≡ Some node.address
+  pub folder : text_at (codes "folder") d ≡ Some node.folder
+  pub loads : loads_at d ≡ Some node.loads
+  pub workers : some_at MAX_WORKERS (codes "workers") d ≡ Some node.workers
+
+abbrev node_last : Data → List ℕ → List ℕ → List ℕ → List (List ℕ) → Option Node
+node_last d name address folder loads = some_at MAX_WORKERS (codes "workers") d >>= λ workers. Some (node_of name address folder loads workers)
+
+abbrev node_fourth : Data → List ℕ → List ℕ → List ℕ → Option Node
+node_fourth d name address folder = loads_at d >>= node_last d name address folder
+
+abbrev node_third : Data → List ℕ → List ℕ → Option Node
+node_third d name address = text_at (codes "folder") d >>= node_fourth d name address
+
+abbrev node_second : Data → List ℕ → Option Node
+node_second d name = address_at d >>= node_third d name
+
+pub node_parts : (d : Data) (node : Node) → node_at d ≡ Some node → NodeParts d node
+unfolding node_at
+node_parts d =
+    each_next (NodeParts d) (name_at d) (node_second d)
+    (λ name a. each_next (NodeParts d) (address_at d) (node_third d name)
+    (λ address b. each_next (NodeParts d) (text_at (codes "folder") d) (node_fourth d name address)
+    (λ folder h. each_next (NodeParts d) (loads_at d) (node_last d name address folder)
+    (λ loads i. each_next (NodeParts d) (some_at MAX_WORKERS (codes "workers") d) (λ workers. Some (node_of name address folder loads workers))
+    (λ workers j. given_so (NodeParts d) (node_of name address folder loads workers) (record { name = a; address = b; folder = h; loads = i; workers = j }))))))
+
+-- ---- brokers
+
+pub record BrokerParts (d : Data) (broker : Broker) : Type 0 where
+  pub address : address_at d ≡ Some broker.address
+  pub workers : some_at MAX_WORKERS (codes "workers") d ≡ Some broker.workers
+
+abbrev broker_made : List ℕ → ℕ → Broker
+broker_made address workers = record { address = address; workers = workers }
+
+abbrev broker_second : Data → List ℕ → Option Broker
+broker_second d address = some_at MAX_WORKERS (codes "workers") d >>= λ workers. Some (broker_made address workers)
+
+pub broker_parts : (d : Data) (broker : Broker) → broker_at d ≡ Some broker → BrokerParts d broker
+unfolding broker_at
+broker_parts d =
+    each_next (BrokerParts d) (address_at d) (broker_second d)
+    (λ address a. each_next (BrokerParts d) (some_at MAX_WORKERS (codes "workers") d) (λ workers. Some (broker_made address workers))
+    (λ workers b. given_so (BrokerParts d) (broker_made address workers) (record { address = a; workers = b })))
+
+-- ---- queries
+
+pub record QueryParts (brokers : ℕ) (d : Data) (asked : Asked) : Type 0 where
+  pub broker : place_at brokers d ≡ Some asked.broker
+  pub query : option_and_then (λ q. Some (Some q)) (object_at d) ≡ Some asked.query
+
+abbrev asked_made : ℕ → Data → Asked
+asked_made broker query = record { broker = broker; query = Some query }
+
+abbrev query_second : Data → ℕ → Option Asked
+query_second d broker = object_at d >>= λ query. Some (asked_made broker query)
+
+pub query_parts : (brokers : ℕ) (d : Data) (asked : Asked) → query_at brokers d ≡ Some asked → QueryParts brokers d asked
+unfolding query_at
+query_parts brokers d =
+    each_next (QueryParts brokers d) (place_at brokers d) (query_second d)
+    (λ broker a. each_next (QueryParts brokers d) (object_at d) (λ query. Some (asked_made broker query))
+    (λ query b. given_so (QueryParts brokers d) (asked_made broker query) (record { broker = a; query = ap (λ o. option_and_then (λ q. Some (Some q)) o) b })))
+
+-- ---- configs
+
+pub record ConfigParts (d : Data) (told : Told) : Type 0 where
+  pub connections : count_at (codes "connections") d ≡ Some told.connections
+  pub kept : some_at MAX_KEPT (codes "kept") d ≡ Some told.kept
+  pub turns : count_at (codes "turns") d ≡ Some told.turns
+  pub nodes : nodes_at d ≡ Some told.nodes
+  pub brokers : brokers_at d ≡ Some told.brokers
+  pub queries : queries_at (length told.brokers) d ≡ Some told.queries
+
+abbrev told_made : ℕ → ℕ → ℕ → List Node → List Broker → List Asked → Told
+told_made connections kept turns nodes brokers queries =
+    record { nodes = nodes; brokers = brokers; queries = queries; connections = connections; kept = kept; turns = turns }
+
+abbrev config_last : Data → ℕ → ℕ → ℕ → List Node → List Broker → Option Told
+config_last d connections kept turns nodes brokers =
+    queries_at (length brokers) d >>= λ queries. Some (told_made connections kept turns nodes brokers queries)
+
+abbrev config_fifth : Data → ℕ → ℕ → ℕ → List Node → Option Told
+config_fifth d connections kept turns nodes = brokers_at d >>= config_last d connections kept turns nodes
+
+abbrev config_fourth : Data → ℕ → ℕ → ℕ → Option Told
+config_fourth d connections kept turns = nodes_at d >>= config_fifth d connections kept turns
+
+abbrev config_third : Data → ℕ → ℕ → Option Told
+config_third d connections kept = count_at (codes "turns") d >>= config_fourth d connections kept
+
+abbrev config_second : Data → ℕ → Option Told
+config_second d connections = some_at MAX_KEPT (codes "kept") d >>= config_third d connections
+
+pub config_parts : (d : Data) (told : Told) → config_at d ≡ Some told → ConfigParts d told
+unfolding config_at
+config_parts d =
+    each_next (ConfigParts d) (count_at (codes "connections") d) (config_second d)
+    (λ connections a. each_next (ConfigParts d) (some_at MAX_KEPT (codes "kept") d) (config_third d connections)
+    (λ kept b. each_next (ConfigParts d) (count_at (codes "turns") d) (config_fourth d connections kept)
+    (λ turns h. each_next (ConfigParts d) (nodes_at d) (config_fifth d connections kept turns)
+    (λ nodes i. each_next (ConfigParts d) (brokers_at d) (config_last d connections kept turns nodes)
+    (λ brokers j. each_next (ConfigParts d) (queries_at (length brokers) d) (λ queries. Some (told_made connections kept turns nodes brokers queries))
+    (λ queries k. given_so (ConfigParts d) (told_made connections kept turns nodes brokers queries)
+    (record { connections = a; kept = b; turns = h; nodes = i; brokers = j; queries = k })))))))
+
+-- ---- where the whole reads, each part does
+
+pub node_reads : (d : Data) → IsSome (node_at d) → (node : Node) × NodeParts d node
+node_reads d some = let read = some_of (node_at d) some in (read.0, node_parts d read.0 read.1)
+
+pub name_reads : (d : Data) → IsSome (node_at d) → IsSome (name_at d)
+name_reads d some = let read = node_reads d some in some_is (name_at d) read.0.name read.1.name
+
+pub loads_read : (d : Data) → IsSome (node_at d) → IsSome (loads_at d)
+loads_read d some = let read = node_reads d some in some_is (loads_at d) read.0.loads read.1.loads
+
+pub config_reads : (d : Data) → IsSome (config_at d) → (told : Told) × ConfigParts d told
+config_reads d some = let read = some_of (config_at d) some in (read.0, config_parts d read.0 read.1)
+
+pub connections_read : (d : Data) → IsSome (config_at d) → None ≡ count_at (codes "connections") d → ⊥
+connections_read d some none = let read = config_reads d some in let no = none ∙ read.1.connections in absurd cc
+
+pub kept_read : (d : Data) → IsSome (config_at d) → None ≡ some_at MAX_KEPT (codes "kept") d → ⊥
+kept_read d some none = let read = config_reads d some in let no = none ∙ read.1.kept in absurd cc
+
+pub turns_read : (d : Data) → IsSome (config_at d) → None ≡ count_at (codes "turns") d → ⊥
+turns_read d some none = let read = config_reads d some in let no = none ∙ read.1.turns in absurd cc
+
+pub nodes_read : (d : Data) → IsSome (config_at d) → IsSome (nodes_at d)
+nodes_read d some = let read = config_reads d some in some_is (nodes_at d) read.0.nodes read.1.nodes
+
+pub brokers_read : (d : Data) → IsSome (config_at d) → IsSome (brokers_at d)
+brokers_read d some = let read = config_reads d some in some_is (brokers_at d) read.0.brokers read.1.brokers
+
+pub queries_read : (d : Data) (brokers : List Broker) → IsSome (config_at d) → brokers_at d ≡ Some brokers → IsSome (queries_at (length brokers) d)
+queries_read d brokers some is =
+    let read = config_reads d some in
+    let same : read.0.brokers ≡ brokers = same_Some read.0.brokers brokers (sym read.1.brokers ∙ is) in
+    some_is (queries_at (length brokers) d) read.0.queries (ap (λ (bs : List Broker). queries_at (length bs) d) (sym same) ∙ read.1.queries)

@@ -1,0 +1,11 @@
+use Rattle.std.proofs.Common.{◌∙◌, ap, is_some, option_and_then}
+use Rattle.druid_shard.specs.Each.{each_of}
+use Rattle.druid_config.specs.Configs.{query_at}
+use Rattle.druid_config.proofs.FormLemmas.{queries_judged}
+use Rattle.druid_config.proofs.judging.has_queries.Goals as goal
+
+pub returns-in-Some : goal.returns-in-Some
+returns-in-Some c =
+    c.are_queries.ensures
+    ∙ queries_judged c.args.brokers c.in-Some.values.now
+    ∙ ap (λ o. is_some (option_and_then (each_of (query_at c.args.brokers)) o)) c.in-Some.ensures

@@ -1,0 +1,245 @@
+-- Configs, read out of JSON. A text is its bytes.
+use Rattle.std.specs.Prelude.{◌≡◌, ℕ, ◌<◌, ◌≤◌, ◌&&◌, Bool, true, false, not, nat_le, nat_lt, IsTrue, IsSome, All, List, [], ◌∷◌, ◌++◌, codes, decimal, length, map, take, drop, slice_index_or, Option, Some, None, option_and_then, if◌then◌else◌}
+use Rattle.std.specs.List.{list_any}
+use Rattle.std.specs.Str.{bytes_eq}
+use Rattle.serde_json.specs.Data.{Data, Items}
+use Rattle.serde_json.specs.Read.{read}
+use Rattle.serde_json.specs.Find.{get, as_array, as_object, as_str}
+use Rattle.serde_json.specs.Written.{compact_text, has_float}
+use Rattle.druid_time.specs.Options.{◌>>=◌}
+use Rattle.druid_segid.specs.Names.{is_name}
+use Rattle.druid_segid.specs.Numbers as numbers
+use Rattle.druid_shard.specs.Json.{text_at, number_at}
+use Rattle.druid_shard.specs.Each.{each_of}
+use Rattle.druid_config.specs.declared.config.TheConstants.{MAX_SERVERS, MAX_WORKERS, MAX_KEPT, MAX_COUNT, MAX_PORT}
+
+-- ---- what a config tells
+
+-- a data node: its name, where it listens, the path of its folder, the files that it loads, and how many threads answer
+pub record Node : Type 0 where
+  pub name : List ℕ
+  pub address : List ℕ
+  pub folder : List ℕ
+  pub loads : List (List ℕ)
+  pub workers : ℕ
+
+abbrev pub node_of : List ℕ → List ℕ → List ℕ → List (List ℕ) → ℕ → Node
+node_of name address folder loads workers = record { name = name; address = address; folder = folder; loads = loads; workers = workers }
+
+-- a broker: where it listens, and how many threads answer
+pub record Broker : Type 0 where
+  pub address : List ℕ
+  pub workers : ℕ
+
+-- a query as it is posted: the place of the broker that is asked, and its text
+pub record Posted : Type 0 where
+  pub broker : ℕ
+  pub text : List ℕ
+
+pub record Cluster : Type 0 where
+  pub nodes : List Node
+  pub brokers : List Broker
+  pub queries : List Posted
+  pub connections : ℕ
+  pub kept : ℕ
+  pub turns : ℕ
+
+abbrev pub cluster_of : List Node → List Broker → List Posted → ℕ → ℕ → ℕ → Cluster
+cluster_of nodes brokers queries connections kept turns = record {
+  nodes = nodes;
+  brokers = brokers;
+  queries = queries;
+  connections = connections;
+  kept = kept;
+  turns = turns;
+}
+
+-- a query as it is told: the place of the broker that is asked, and the JSON that the text of the query reads as
+pub record Asked : Type 0 where
+  pub broker : ℕ
+  pub query : Option Data
+
+-- a cluster, each of its queries by its JSON
+pub record Told : Type 0 where
+  pub nodes : List Node
+  pub brokers : List Broker
+  pub queries : List Asked
+  pub connections : ℕ
+  pub kept : ℕ
+  pub turns : ℕ
+
+abbrev pub asked_of : Posted → Asked
+asked_of q = record { broker = q.broker; query = read q.text }
+
+-- what a config tells of a cluster
+abbrev pub told_of : Cluster → Told
+told_of c = record {
+  nodes = c.nodes;
+  brokers = c.brokers;
+  queries = map asked_of c.queries;
+  connections = c.connections;
+  kept = c.kept;
+  turns = c.turns;
+}
+
+-- the text of a value is compact; one with a float has no text of its own
+abbrev pub IsCompact : List ℕ → Type 0
+IsCompact text = (d : Data) → read text ≡ Some d → has_float d ≡ false → text ≡ compact_text d
+
+-- ---- fields
+
+-- what stands before a port
+abbrev pub loopback : List ℕ
+loopback = codes "127.0.0.1:"
+
+-- there is a number, and it is that of a port
+abbrev pub is_port : Option ℕ → Bool
+is_port None = false
+is_port (Some n) = nat_le 1 n && nat_le n MAX_PORT
+
+-- the address of a port of this machine, the port in decimal digits
+abbrev pub is_address : List ℕ → Bool
+is_address text = bytes_eq (take 10 text) loopback && is_port (numbers.number_at (drop 10 text))
+
+-- the same in words
+abbrev pub NamesPort : List ℕ → Type 0
+NamesPort text = (port : ℕ) × (1 ≤ port) × (port ≤ MAX_PORT) × (text ≡ loopback ++ decimal port)
+
+abbrev pub address_at : Data → Option (List ℕ)
+address_at d = option_and_then (λ s. if is_address s then Some s else None) (text_at (codes "address") d)
+
+abbrev pub name_at : Data → Option (List ℕ)
+name_at d = option_and_then (λ s. if is_name s then Some s else None) (text_at (codes "name") d)
+
+-- the number at a key, where it is 1 at least and at most a limit
+abbrev pub some_at : ℕ → List ℕ → Data → Option ℕ
+some_at limit key d = option_and_then (λ n. if nat_le 1 n && nat_le n limit then Some n else None) (number_at key d)
+
+-- the number at a key, where it is at most 1,000,000
+abbrev pub count_at : List ℕ → Data → Option ℕ
+count_at key d = option_and_then (λ n. if nat_le n MAX_COUNT then Some n else None) (number_at key d)
+
+-- the items of the list at a key
+abbrev pub list_at : List ℕ → Data → Option Items
+list_at key d = option_and_then as_array (get key d)
+
+-- ---- nodes, brokers and queries
+
+-- the names of the files that a node loads
+abbrev pub loads_at : Data → Option (List (List ℕ))
+loads_at d = option_and_then (each_of as_str) (list_at (codes "loads") d)
+
+unfoldable pub node_at : Data → Option Node
+node_at d = do
+  name ← name_at d
+  address ← address_at d
+  folder ← text_at (codes "folder") d
+  loads ← loads_at d
+  workers ← some_at MAX_WORKERS (codes "workers") d
+  Some (node_of name address folder loads workers)
+
+unfoldable pub broker_at : Data → Option Broker
+broker_at d = do
+  address ← address_at d
+  workers ← some_at MAX_WORKERS (codes "workers") d
+  Some (record { address = address; workers = workers })
+
+-- the place of one of so many brokers
+abbrev pub place_at : ℕ → Data → Option ℕ
+place_at brokers d = option_and_then (λ n. if nat_lt n brokers then Some n else None) (number_at (codes "broker") d)
+
+-- the JSON of a query, which is an object
+abbrev pub object_at : Data → Option Data
+object_at d = option_and_then (λ q. option_and_then (λ _. Some q) (as_object q)) (get (codes "query") d)
+
+-- a query to one of so many brokers
+unfoldable pub query_at : ℕ → Data → Option Asked
+query_at brokers d = do
+  broker ← place_at brokers d
+  query ← object_at d
+  Some (record { broker = broker; query = Some query })
+
+-- so many servers there may be
+abbrev pub are_few : ℕ → Bool
+are_few n = nat_le 1 n && nat_le n MAX_SERVERS
+
+-- no name stands twice
+abbrev pub are_distinct : List (List ℕ) → Bool
+are_distinct [] = true
+are_distinct (name ∷ names) = not (list_any (bytes_eq name) names) && are_distinct names
+
+abbrev pub names_of : List Node → List (List ℕ)
+names_of nodes = map (λ n. n.name) nodes
+
+unfoldable pub nodes_in : Items → Option (List Node)
+nodes_in items = do
+  nodes ← each_of node_at items
+  if are_few (length nodes) && are_distinct (names_of nodes) then Some nodes else None
+
+unfoldable pub brokers_in : Items → Option (List Broker)
+brokers_in items = do
+  brokers ← each_of broker_at items
+  if are_few (length brokers) then Some brokers else None
+
+abbrev pub nodes_at : Data → Option (List Node)
+nodes_at d = option_and_then nodes_in (list_at (codes "nodes") d)
+
+abbrev pub brokers_at : Data → Option (List Broker)
+brokers_at d = option_and_then brokers_in (list_at (codes "brokers") d)
+
+abbrev pub queries_at : ℕ → Data → Option (List Asked)
+queries_at brokers d = option_and_then (each_of (query_at brokers)) (list_at (codes "queries") d)
+
+-- ---- configs
+
+-- what a config tells, if it is one
+unfoldable pub config_at : Data → Option Told
+config_at d = do
+  connections ← count_at (codes "connections") d
+  kept ← some_at MAX_KEPT (codes "kept") d
+  turns ← count_at (codes "turns") d
+  nodes ← nodes_at d
+  brokers ← brokers_at d
+  queries ← queries_at (length brokers) d
+  Some (record { nodes = nodes; brokers = brokers; queries = queries; connections = connections; kept = kept; turns = turns })
+
+-- ---- limits
+
+-- a node of that name, which listens on this machine, and has 1 to 16 workers
+pub record IsNode (node : Node) : Type 0 where
+  pub name : IsTrue (is_name node.name)
+  pub address : IsTrue (is_address node.address)
+  pub some_workers : 1 ≤ node.workers
+  pub few_workers : node.workers ≤ MAX_WORKERS
+
+-- a broker that listens on this machine, and has 1 to 16 workers
+pub record IsBroker (broker : Broker) : Type 0 where
+  pub address : IsTrue (is_address broker.address)
+  pub some_workers : 1 ≤ broker.workers
+  pub few_workers : broker.workers ≤ MAX_WORKERS
+
+-- no name stands at two places
+abbrev pub HaveOwnNames : List (List ℕ) → Type 0
+HaveOwnNames names =
+    (i j : ℕ) (d : List ℕ) → i < length names → j < length names
+    → slice_index_or names i d ≡ slice_index_or names j d → i ≡ j
+
+-- the query is an object
+abbrev pub IsObject : Asked → Type 0
+IsObject q = IsSome (option_and_then as_object q.query)
+
+-- what a config tells is within its limits
+pub record IsWithinLimits (told : Told) : Type 0 where
+  pub some_nodes : 1 ≤ length told.nodes
+  pub few_nodes : length told.nodes ≤ MAX_SERVERS
+  pub nodes : All IsNode told.nodes
+  pub own_names : HaveOwnNames (names_of told.nodes)
+  pub some_brokers : 1 ≤ length told.brokers
+  pub few_brokers : length told.brokers ≤ MAX_SERVERS
+  pub brokers : All IsBroker told.brokers
+  pub asked : All (λ q. q.broker < length told.brokers) told.queries
+  pub objects : All IsObject told.queries
+  pub few_connections : told.connections ≤ MAX_COUNT
+  pub some_kept : 1 ≤ told.kept
+  pub few_kept : told.kept ≤ MAX_KEPT
+  pub few_turns : told.turns ≤ MAX_COUNT

@@ -1,0 +1,23 @@
+-- What reading a config answers.
+use Rattle.std.specs.Prelude.{◌≡◌, ℕ, List, IsUtf8, ⊤, Option, Some, None, IsSome, Result, Ok, Err}
+use Rattle.serde_json.specs.Data.{Data}
+use Rattle.serde_json.specs.Read.{read}
+use Rattle.druid_config.specs.Configs.{Cluster, Told, told_of, config_at}
+use Rattle.druid_config.specs.declared.fault.ConfigFault.{ConfigFault}
+use Rattle.druid_config.specs.declared.fault.ConfigFault.TheVariants as faults
+
+-- the bytes are the JSON of d, in UTF-8
+abbrev pub ReadsAs : List ℕ → Data → Type 0
+ReadsAs bytes d = IsUtf8 bytes × (read bytes ≡ Some d)
+
+-- the config that is told, or that none is. Want of memory comes only where nothing is to be refused
+abbrev pub Gives : Result Cluster ConfigFault → Option Told → Type 0
+Gives (Ok config) told = told ≡ Some (told_of config)
+Gives (Err faults.Refused) told = told ≡ None
+Gives (Err faults.Memory) told = IsSome told
+
+-- the same out of bytes, which may be no JSON; reading JSON may want memory at any byte
+abbrev pub IsReadOf : List ℕ → Result Cluster ConfigFault → Type 0
+IsReadOf bytes (Ok config) = (d : Data) × ReadsAs bytes d × (config_at d ≡ Some (told_of config))
+IsReadOf bytes (Err faults.Refused) = (d : Data) → ReadsAs bytes d → config_at d ≡ None
+IsReadOf bytes (Err faults.Memory) = ⊤

@@ -1,0 +1,214 @@
+//! A config, built out of JSON that was judged before: nothing is left to refuse but memory.
+ghost use Rattle.std.specs.Prelude.{◌≡◌, ◌≤◌, Some, IsSome, IfOk, map, string_bytes};
+ghost use Rattle.serde_json.specs.Data.{depth, items_depth};
+ghost use Rattle.serde_json.specs.Find.{as_str};
+ghost use Rattle.serde_json.specs.Read.{max_depth};
+ghost use Rattle.serde_json.specs.View.{view, items_view};
+ghost use Rattle.druid_shard.specs.Each.{each_of};
+ghost use Rattle.druid_config.specs.Configs.{asked_of, told_of, name_at, loads_at, node_at, broker_at, query_at, nodes_at, brokers_at, queries_at, config_at};
+
+use crate::fields::{
+    address_field, count_field, list_field, name_field, object_field, place_field, some_field,
+};
+use crate::{BrokerConfig, Config, MAX_KEPT, MAX_WORKERS, NodeConfig, QueryConfig};
+use druid_segid::{IdFault, Name};
+use druid_shard::text_field;
+use serde_json::Value;
+use std::alloc::{AllocError, Global};
+
+// Copies of the texts.
+fn texts_of(alloc: Global, values: &[Value]) -> Result<Vec<String>, AllocError>
+    requires { IsSome (each_of as_str (items_view values.now)) }
+    ensures { IfOk result (λ texts. each_of as_str (items_view values.now) ≡ Some (map string_bytes texts.items)) }
+{
+    let mut texts = Vec::with_capacity(alloc, values.len())?;
+    for value in values {
+        let Some(text) = value.as_str() else {
+            unreachable!()
+        };
+        texts.push(String::from_str(alloc, text)?)?;
+    }
+    Ok(texts)
+}
+
+// The names of the files that a node loads.
+fn loads_of(alloc: Global, value: &Value) -> Result<Vec<String>, AllocError>
+    requires { IsSome (loads_at (view value.now)) }
+    ensures { IfOk result (λ loads. loads_at (view value.now) ≡ Some (map string_bytes loads.items)) }
+{
+    let Some(values) = list_field(value, "loads") else {
+        unreachable!()
+    };
+    texts_of(alloc, values)
+}
+
+// The name of a node.
+fn name_of(alloc: Global, value: &Value) -> Result<Name, AllocError>
+    requires { IsSome (name_at (view value.now)) }
+    ensures { IfOk result (λ name. name_at (view value.now) ≡ Some name) }
+{
+    let Some(text) = name_field(value) else {
+        unreachable!()
+    };
+    match Name::new(alloc, text) {
+        Ok(name) => Ok(name),
+        Err(IdFault::BadName) => unreachable!(),
+        Err(_) => Err(AllocError),
+    }
+}
+
+// A node.
+#[tactic(auto, using(crate::proofs::PartLemmas::name_reads, crate::proofs::PartLemmas::loads_read), unfolding(crate::specs::Configs::node_at))]
+fn node_of(alloc: Global, value: &Value) -> Result<NodeConfig, AllocError>
+    requires { IsSome (node_at (view value.now)) }
+    ensures { IfOk result (λ node. node_at (view value.now) ≡ Some node) }
+{
+    let name = name_of(alloc, value)?;
+    let Some(address) = address_field(value) else {
+        unreachable!()
+    };
+    let Some(folder) = text_field(value, "folder") else {
+        unreachable!()
+    };
+    let loads = loads_of(alloc, value)?;
+    let Some(workers) = some_field(value, "workers", MAX_WORKERS) else {
+        unreachable!()
+    };
+    let address = String::from_str(alloc, address)?;
+    let folder = String::from_str(alloc, folder)?;
+    Ok(NodeConfig::new(name, address, folder, loads, workers))
+}
+
+// A broker.
+#[tactic(auto, unfolding(crate::specs::Configs::broker_at))]
+fn broker_of(alloc: Global, value: &Value) -> Result<BrokerConfig, AllocError>
+    requires { IsSome (broker_at (view value.now)) }
+    ensures { IfOk result (λ broker. broker_at (view value.now) ≡ Some broker) }
+{
+    let Some(address) = address_field(value) else {
+        unreachable!()
+    };
+    let Some(workers) = some_field(value, "workers", MAX_WORKERS) else {
+        unreachable!()
+    };
+    let address = String::from_str(alloc, address)?;
+    Ok(BrokerConfig::new(address, workers))
+}
+
+// A query to one of so many brokers.
+#[tactic(auto, unfolding(crate::specs::Configs::query_at))]
+fn query_of(alloc: Global, value: &Value, brokers: usize) -> Result<QueryConfig, AllocError>
+    requires reads { IsSome (query_at brokers (view value.now)) }
+    requires shallow { depth (view value.now) ≤ max_depth }
+    ensures { IfOk result (λ query. query_at brokers (view value.now) ≡ Some (asked_of query)) }
+{
+    let Some(broker) = place_field(value, brokers) else {
+        unreachable!()
+    };
+    let Some(query) = object_field(value) else {
+        unreachable!()
+    };
+    let text = query.to_string(alloc)?;
+    Ok(QueryConfig::new(broker, text))
+}
+
+// The nodes that values are.
+fn node_list(alloc: Global, values: &[Value]) -> Result<Vec<NodeConfig>, AllocError>
+    requires { IsSome (each_of node_at (items_view values.now)) }
+    ensures { IfOk result (λ nodes. each_of node_at (items_view values.now) ≡ Some nodes.items) }
+{
+    let mut nodes = Vec::with_capacity(alloc, values.len())?;
+    for value in values {
+        nodes.push(node_of(alloc, value)?)?;
+    }
+    Ok(nodes)
+}
+
+// The brokers that values are.
+fn broker_list(alloc: Global, values: &[Value]) -> Result<Vec<BrokerConfig>, AllocError>
+    requires { IsSome (each_of broker_at (items_view values.now)) }
+    ensures { IfOk result (λ brokers. each_of broker_at (items_view values.now) ≡ Some brokers.items) }
+{
+    let mut brokers = Vec::with_capacity(alloc, values.len())?;
+    for value in values {
+        brokers.push(broker_of(alloc, value)?)?;
+    }
+    Ok(brokers)
+}
+
+// The queries that values are, to so many brokers.
+fn query_list(
+    alloc: Global,
+    values: &[Value],
+    brokers: usize,
+) -> Result<Vec<QueryConfig>, AllocError>
+    requires reads { IsSome (each_of (query_at brokers) (items_view values.now)) }
+    requires shallow { items_depth (items_view values.now) ≤ max_depth }
+    ensures { IfOk result (λ queries. each_of (query_at brokers) (items_view values.now)
+        ≡ Some (map asked_of queries.items)) }
+{
+    let mut queries = Vec::with_capacity(alloc, values.len())?;
+    for value in values {
+        queries.push(query_of(alloc, value, brokers)?)?;
+    }
+    Ok(queries)
+}
+
+// The nodes.
+#[tactic(auto, using(crate::proofs::FormLemmas::nodes_listed, crate::proofs::FormLemmas::nodes_list_reads))]
+fn nodes_of(alloc: Global, value: &Value) -> Result<Vec<NodeConfig>, AllocError>
+    requires { IsSome (nodes_at (view value.now)) }
+    ensures { IfOk result (λ nodes. nodes_at (view value.now) ≡ Some nodes.items) }
+{
+    let Some(values) = list_field(value, "nodes") else {
+        unreachable!()
+    };
+    node_list(alloc, values)
+}
+
+// The brokers.
+#[tactic(auto, using(crate::proofs::FormLemmas::brokers_listed, crate::proofs::FormLemmas::brokers_list_reads))]
+fn brokers_of(alloc: Global, value: &Value) -> Result<Vec<BrokerConfig>, AllocError>
+    requires { IsSome (brokers_at (view value.now)) }
+    ensures { IfOk result (λ brokers. brokers_at (view value.now) ≡ Some brokers.items) }
+{
+    let Some(values) = list_field(value, "brokers") else {
+        unreachable!()
+    };
+    broker_list(alloc, values)
+}
+
+// The queries to so many brokers.
+#[tactic(auto, using(crate::proofs::DepthLemmas::queries_shallow))]
+fn queries_of(alloc: Global, value: &Value, brokers: usize) -> Result<Vec<QueryConfig>, AllocError>
+    requires reads { IsSome (queries_at brokers (view value.now)) }
+    requires shallow { depth (view value.now) ≤ max_depth }
+    ensures { IfOk result (λ queries. queries_at brokers (view value.now) ≡ Some (map asked_of queries.items)) }
+{
+    let Some(values) = list_field(value, "queries") else {
+        unreachable!()
+    };
+    query_list(alloc, values, brokers)
+}
+
+// The config that a value is.
+#[tactic(auto, using(crate::proofs::PartLemmas::connections_read, crate::proofs::PartLemmas::kept_read, crate::proofs::PartLemmas::turns_read, crate::proofs::PartLemmas::nodes_read, crate::proofs::PartLemmas::brokers_read, crate::proofs::PartLemmas::queries_read), unfolding(crate::specs::Configs::config_at))]
+pub(crate) fn built(alloc: Global, value: &Value) -> Result<Config, AllocError>
+    requires reads { IsSome (config_at (view value.now)) }
+    requires shallow { depth (view value.now) ≤ max_depth }
+    ensures { IfOk result (λ config. config_at (view value.now) ≡ Some (told_of config)) }
+{
+    let Some(connections) = count_field(value, "connections") else {
+        unreachable!()
+    };
+    let Some(kept) = some_field(value, "kept", MAX_KEPT) else {
+        unreachable!()
+    };
+    let Some(turns) = count_field(value, "turns") else {
+        unreachable!()
+    };
+    let nodes = nodes_of(alloc, value)?;
+    let brokers = brokers_of(alloc, value)?;
+    let queries = queries_of(alloc, value, brokers.len())?;
+    Ok(Config::new(nodes, brokers, queries, connections, kept as usize, turns))
+}

@@ -1,0 +1,295 @@
+//! What a config tells: the servers of a cluster, and what it does.
+ghost use Rattle.std.specs.Prelude.{◌≡◌, ◌<◌, All, IfOk, length, map, string_bytes};
+ghost use Rattle.druid_config.specs.Configs.{IsNode, IsBroker, IsCompact, IsObject, IsWithinLimits, asked_of, node_of, names_of, cluster_of, told_of};
+
+use druid_segid::Name;
+use std::alloc::{AllocError, Global};
+use std::marker::Model;
+
+/// The most nodes, and the most brokers.
+pub const MAX_SERVERS: usize = 64;
+
+/// The most workers of a server.
+pub const MAX_WORKERS: u16 = 16;
+
+/// The most changes that a node keeps.
+pub const MAX_KEPT: u16 = 1_000;
+
+/// The most connections from outside, and the most turns.
+pub const MAX_COUNT: u64 = 1_000_000;
+
+/// The last port.
+pub const MAX_PORT: u64 = 65_535;
+
+/// A data node.
+#[derive(Drop)]
+pub struct NodeConfig {
+    name: Name,
+    address: String,
+    folder: String,
+    loads: Vec<String>,
+    workers: u16,
+}
+
+impl Model for NodeConfig {
+    ghost use Rattle.std.specs.Prelude.{map, string_bytes};
+    ghost use Rattle.druid_config.specs.Configs.{Node, IsNode, node_of};
+
+    ghost Value = { Node };
+
+    ghost view = { λ a. node_of a.name (string_bytes a.address) (string_bytes a.folder) (map string_bytes a.loads.items) a.workers };
+
+    ghost invariant = { λ a. IsNode (node_of a.name (string_bytes a.address) (string_bytes a.folder) (map string_bytes a.loads.items) a.workers) };
+}
+
+impl NodeConfig {
+    // The node of these parts.
+    pub(crate) fn new(
+        name: Name,
+        address: String,
+        folder: String,
+        loads: Vec<String>,
+        workers: u16,
+    ) -> NodeConfig
+        requires { IsNode (node_of name (string_bytes address) (string_bytes folder) (map string_bytes loads.items) workers) }
+        ensures { result ≡ node_of name (string_bytes address) (string_bytes folder) (map string_bytes loads.items) workers }
+    {
+        NodeConfig {
+            name,
+            address,
+            folder,
+            loads,
+            workers,
+        }
+    }
+
+    /// Its name.
+    pub fn name(&self) -> &Name
+        ensures value { result.now ≡ self.now.name }
+        ensures valid { IsNode self.now }
+    {
+        &self.name
+    }
+
+    /// Where it listens: a port of this machine.
+    pub fn address(&self) -> &str
+        ensures value { result.now ≡ self.now.address }
+        ensures valid { IsNode self.now }
+    {
+        self.address.as_str()
+    }
+
+    /// The path of its folder.
+    pub fn folder(&self) -> &str
+        ensures { result.now ≡ self.now.folder }
+    {
+        self.folder.as_str()
+    }
+
+    /// The names of the files that it loads, in order.
+    pub fn loads(&self) -> &[String]
+        ensures { map string_bytes result.now ≡ self.now.loads }
+    {
+        self.loads.as_slice()
+    }
+
+    /// How many threads answer, 1 to 16.
+    pub fn workers(&self) -> u16
+        ensures value { result ≡ self.now.workers }
+        ensures valid { IsNode self.now }
+    {
+        self.workers
+    }
+}
+
+/// A broker.
+#[derive(Drop)]
+pub struct BrokerConfig {
+    address: String,
+    workers: u16,
+}
+
+impl Model for BrokerConfig {
+    ghost use Rattle.std.specs.Prelude.{string_bytes};
+    ghost use Rattle.druid_config.specs.Configs.{Broker, IsBroker};
+
+    ghost Value = { Broker };
+
+    ghost view = { λ a. record { address = string_bytes a.address; workers = a.workers } };
+
+    ghost invariant = { λ a. IsBroker (record { address = string_bytes a.address; workers = a.workers }) };
+}
+
+impl BrokerConfig {
+    // The broker of these parts.
+    pub(crate) fn new(address: String, workers: u16) -> BrokerConfig
+        requires { IsBroker (record { address = string_bytes address; workers = workers }) }
+        ensures { result ≡ record { address = string_bytes address; workers = workers } }
+    {
+        BrokerConfig { address, workers }
+    }
+
+    /// Where it listens: a port of this machine.
+    pub fn address(&self) -> &str
+        ensures value { result.now ≡ self.now.address }
+        ensures valid { IsBroker self.now }
+    {
+        self.address.as_str()
+    }
+
+    /// How many threads answer, 1 to 16.
+    pub fn workers(&self) -> u16
+        ensures value { result ≡ self.now.workers }
+        ensures valid { IsBroker self.now }
+    {
+        self.workers
+    }
+}
+
+/// A query that is posted once the cluster stands.
+#[derive(Drop)]
+pub struct QueryConfig {
+    broker: usize,
+    text: String,
+}
+
+impl Model for QueryConfig {
+    ghost use Rattle.std.specs.Prelude.{string_bytes};
+    ghost use Rattle.druid_config.specs.Configs.{Posted, IsCompact};
+
+    ghost Value = { Posted };
+
+    ghost view = { λ a. record { broker = a.broker; text = string_bytes a.text } };
+
+    ghost invariant = { λ a. IsCompact (string_bytes a.text) };
+}
+
+impl QueryConfig {
+    // The query of these parts.
+    pub(crate) fn new(broker: usize, text: String) -> QueryConfig
+        requires { IsCompact (string_bytes text) }
+        ensures { result ≡ record { broker = broker; text = string_bytes text } }
+    {
+        QueryConfig { broker, text }
+    }
+
+    /// The place of the broker that is asked, from 0.
+    pub fn broker(&self) -> usize
+        ensures { result ≡ self.now.broker }
+    {
+        self.broker
+    }
+
+    /// The query, as compact JSON.
+    pub fn text(&self) -> &str
+        ensures value { result.now ≡ self.now.text }
+        ensures compact { IsCompact self.now.text }
+    {
+        self.text.as_str()
+    }
+}
+
+/// A cluster, and what it does.
+#[derive(Drop)]
+pub struct Config {
+    nodes: Vec<NodeConfig>,
+    brokers: Vec<BrokerConfig>,
+    queries: Vec<QueryConfig>,
+    connections: u64,
+    kept: usize,
+    turns: u64,
+}
+
+impl Model for Config {
+    ghost use Rattle.druid_config.specs.Configs.{Cluster, IsWithinLimits, cluster_of, told_of};
+
+    ghost Value = { Cluster };
+
+    ghost view = { λ a. cluster_of a.nodes.items a.brokers.items a.queries.items a.connections a.kept a.turns };
+
+    ghost invariant = { λ a. IsWithinLimits (told_of (cluster_of a.nodes.items a.brokers.items a.queries.items a.connections a.kept a.turns)) };
+}
+
+impl Config {
+    // The config of these parts.
+    pub(crate) fn new(
+        nodes: Vec<NodeConfig>,
+        brokers: Vec<BrokerConfig>,
+        queries: Vec<QueryConfig>,
+        connections: u64,
+        kept: usize,
+        turns: u64,
+    ) -> Config
+        requires { IsWithinLimits (told_of (cluster_of nodes.items brokers.items queries.items connections kept turns)) }
+        ensures { result ≡ cluster_of nodes.items brokers.items queries.items connections kept turns }
+    {
+        Config {
+            nodes,
+            brokers,
+            queries,
+            connections,
+            kept,
+            turns,
+        }
+    }
+
+    /// The data nodes, 1 to 64, no two of one name.
+    pub fn nodes(&self) -> &[NodeConfig]
+        ensures value { result.now ≡ self.now.nodes }
+        ensures valid { IsWithinLimits (told_of self.now) }
+    {
+        self.nodes.as_slice()
+    }
+
+    /// The brokers, 1 to 64.
+    pub fn brokers(&self) -> &[BrokerConfig]
+        ensures value { result.now ≡ self.now.brokers }
+        ensures valid { IsWithinLimits (told_of self.now) }
+    {
+        self.brokers.as_slice()
+    }
+
+    /// The queries, in the order in which they are posted, each an object and to a broker that is there.
+    pub fn queries(&self) -> &[QueryConfig]
+        ensures value { result.now ≡ self.now.queries }
+        ensures asked { All (λ q. q.broker < length self.now.brokers) self.now.queries }
+        ensures objects { All (λ q. IsObject (asked_of q)) self.now.queries }
+    {
+        self.queries.as_slice()
+    }
+
+    /// How many connections from outside each broker answers, at most 1,000,000.
+    pub fn connections(&self) -> u64
+        ensures value { result ≡ self.now.connections }
+        ensures valid { IsWithinLimits (told_of self.now) }
+    {
+        self.connections
+    }
+
+    /// How many changes each node keeps, 1 to 1,000.
+    pub fn kept(&self) -> usize
+        ensures value { result ≡ self.now.kept }
+        ensures valid { IsWithinLimits (told_of self.now) }
+    {
+        self.kept
+    }
+
+    /// How many turns each syncer makes, at most 1,000,000.
+    pub fn turns(&self) -> u64
+        ensures value { result ≡ self.now.turns }
+        ensures valid { IsWithinLimits (told_of self.now) }
+    {
+        self.turns
+    }
+}
+
+/// The names of nodes, in their order.
+pub fn names_in(alloc: Global, nodes: &[NodeConfig]) -> Result<Vec<Name>, AllocError>
+    ensures { IfOk result (λ names. names.items ≡ names_of nodes.now) }
+{
+    let mut names = Vec::with_capacity(alloc, nodes.len())?;
+    for node in nodes {
+        names.push(node.name().clone()?)?;
+    }
+    Ok(names)
+}

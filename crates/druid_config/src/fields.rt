@@ -1,0 +1,107 @@
+//! The fields of a config, read out of JSON. Nothing here takes memory.
+ghost use Rattle.std.specs.Prelude.{◌≡◌, ◌≤◌, IsTrue, IfSome, option_map};
+ghost use Rattle.serde_json.specs.View.{view, items_view};
+ghost use Rattle.druid_segid.specs.Names.{is_name};
+ghost use Rattle.druid_segid.specs.Numbers as numbers;
+ghost use Rattle.druid_config.specs.Configs.{is_port, is_address, address_at, name_at, some_at, count_at, list_at, place_at, object_at};
+
+use crate::{MAX_COUNT, MAX_PORT};
+use druid_segid::{Name, number_of};
+use druid_shard::{number_field, text_field};
+use serde_json::Value;
+
+// Whether digits are those of a port.
+fn is_port(digits: &[u8]) -> bool
+    ensures { result ≡ is_port (numbers.number_at digits.now) }
+{
+    match number_of(digits) {
+        Some(port) => 1 <= port && port <= MAX_PORT,
+        None => false,
+    }
+}
+
+// Whether a text is the address of a port of this machine.
+fn is_address(text: &str) -> bool
+    ensures { result ≡ is_address text.now }
+{
+    match text.as_bytes().strip_prefix(b"127.0.0.1:") {
+        Some(digits) => is_port(digits),
+        None => false,
+    }
+}
+
+// The address of a server.
+pub(crate) fn address_field(value: &Value) -> Option<&str>
+    ensures value { option_map (λ s. s.now) result ≡ address_at (view value.now) }
+    ensures valid { IfSome result (λ s. IsTrue (is_address s.now)) }
+{
+    let text = text_field(value, "address")?;
+    if is_address(text) { Some(text) } else { None }
+}
+
+// The name of a node.
+pub(crate) fn name_field(value: &Value) -> Option<&str>
+    ensures value { option_map (λ s. s.now) result ≡ name_at (view value.now) }
+    ensures valid { IfSome result (λ s. IsTrue (is_name s.now)) }
+{
+    let text = text_field(value, "name")?;
+    if Name::accepts(text) {
+        Some(text)
+    } else {
+        None
+    }
+}
+
+// The number at a key, where it is 1 at least and at most the limit.
+pub(crate) fn some_field(value: &Value, key: &str, limit: u16) -> Option<u16>
+    ensures value { result ≡ some_at limit key.now (view value.now) }
+    ensures some { IfSome result (λ n. 1 ≤ n) }
+    ensures few { IfSome result (λ n. n ≤ limit) }
+{
+    let number = number_field(value, key)?;
+    if 1 <= number && number <= limit as u64 {
+        Some(number as u16)
+    } else {
+        None
+    }
+}
+
+// The number at a key, where it is at most 1,000,000.
+pub(crate) fn count_field(value: &Value, key: &str) -> Option<u64>
+    ensures { result ≡ count_at key.now (view value.now) }
+{
+    let number = number_field(value, key)?;
+    if number <= MAX_COUNT {
+        Some(number)
+    } else {
+        None
+    }
+}
+
+// The values of the list at a key.
+pub(crate) fn list_field<'a>(value: &'a Value, key: &str) -> Option<&'a [Value]>
+    ensures { option_map (λ vs. items_view vs.now) result ≡ list_at key.now (view value.now) }
+{
+    let values = value.get(key).and_then(Value::as_array)?;
+    Some(values.as_slice())
+}
+
+// The place of the broker that a query is for, where there are so many brokers.
+pub(crate) fn place_field(value: &Value, brokers: usize) -> Option<usize>
+    ensures { result ≡ place_at brokers (view value.now) }
+{
+    let broker = number_field(value, "broker")?;
+    if broker < brokers as u64 {
+        Some(broker as usize)
+    } else {
+        None
+    }
+}
+
+// The JSON of a query.
+pub(crate) fn object_field(value: &Value) -> Option<&Value>
+    ensures { option_map (λ v. view v.now) result ≡ object_at (view value.now) }
+{
+    let query = value.get("query")?;
+    if query.is_object() { Some(query) } else { None }
+}

@@ -1,0 +1,18 @@
+//! The config of a cluster, read out of JSON.
+#![tactic(auto)]
+
+mod building;
+mod config;
+mod fault;
+mod fields;
+mod judging;
+mod laws;
+mod reading;
+
+pub use config::{
+    BrokerConfig, Config, MAX_COUNT, MAX_KEPT, MAX_PORT, MAX_SERVERS, MAX_WORKERS, NodeConfig,
+    QueryConfig, names_in,
+};
+pub use fault::ConfigFault;
+pub use laws::{addresses_name_ports, configs_are_within_limits};
+pub use reading::{config_of, read_config};

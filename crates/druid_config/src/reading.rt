@@ -1,0 +1,45 @@
+//! Configs, read.
+ghost use Rattle.std.specs.Prelude.{◌≤◌};
+ghost use Rattle.serde_json.specs.Data.{depth};
+ghost use Rattle.serde_json.specs.Read.{max_depth};
+ghost use Rattle.serde_json.specs.View.{view};
+ghost use Rattle.druid_config.specs.Configs.{config_at};
+ghost use Rattle.druid_config.specs.Read.{Gives, IsReadOf};
+
+use crate::building::built;
+use crate::judging::is_config;
+use crate::{Config, ConfigFault};
+use serde_json::Value;
+use std::alloc::{AllocError, Global};
+
+/// Reads a config: `Refused` where the value is none, and then `Memory`. The value nests at most 127 deep, as each that was
+/// read out of a text does. Other keys are passed over.
+pub fn config_of(alloc: Global, value: &Value) -> Result<Config, ConfigFault>
+    requires { depth (view value.now) ≤ max_depth }
+    ensures { Gives result (config_at (view value.now)) }
+{
+    if !is_config(value) {
+        return Err(ConfigFault::Refused);
+    }
+    match built(alloc, value) {
+        Ok(config) => Ok(config),
+        Err(AllocError) => Err(ConfigFault::Memory),
+    }
+}
+
+/// Reads a config out of a text: `Refused` where the bytes are no JSON in UTF-8, and where the value is no config. Reading
+/// JSON takes memory as it goes, so `Memory` may come before what is to be refused.
+pub fn read_config(alloc: Global, bytes: &[u8]) -> Result<Config, ConfigFault>
+    ensures { IsReadOf bytes.now result }
+{
+    match Value::from_slice(alloc, bytes) {
+        Ok(value) => config_of(alloc, &value),
+        Err(error) => {
+            if error.is_memory() {
+                Err(ConfigFault::Memory)
+            } else {
+                Err(ConfigFault::Refused)
+            }
+        }
+    }
+}

@@ -1,0 +1,2 @@
+pub mod RisesLemmas
+pub mod WordLemmas

@@ -1,0 +1,60 @@
+//! Where the connections that a broker answered are counted, once its queries are answered.
+use std::sync::{Condvar, Mutex, Wait};
+
+// What lies under the lock.
+#[derive(Drop)]
+struct Count {
+    // Whether connections count.
+    open: bool,
+    // How many were answered.
+    answered: u64,
+}
+
+/// A count of answered connections, which threads share. It counts nothing before it is opened.
+#[derive(Drop)]
+pub(crate) struct Gate {
+    count: Mutex<Count>,
+    changed: Condvar,
+}
+
+impl Gate {
+    /// A gate that is closed.
+    pub(crate) fn new() -> Gate {
+        Gate {
+            count: Mutex::new(Count {
+                open: false,
+                answered: 0,
+            }),
+            changed: Condvar::new(),
+        }
+    }
+
+    /// From now on connections count.
+    pub(crate) fn open<R: Wait>(&self, rt: &R) {
+        let mut count = self.count.lock(rt);
+        count.open = true;
+    }
+
+    /// Whether a connection counts that is accepted now.
+    pub(crate) fn is_open<R: Wait>(&self, rt: &R) -> bool {
+        let count = self.count.lock(rt);
+        count.open
+    }
+
+    /// One more was answered.
+    pub(crate) fn add<R: Wait>(&self, rt: &R) {
+        let mut count = self.count.lock(rt);
+        count.answered = count.answered.saturating_add(1);
+        drop(count);
+        self.changed.notify_all();
+    }
+
+    /// Waits until so many were answered.
+    pub(crate) fn wait<R: Wait>(&self, rt: &R, wanted: u64) {
+        let count = self.count.lock(rt);
+        drop(
+            self.changed
+                .wait_while(rt, count, |count| count.answered < wanted),
+        );
+    }
+}

@@ -1,0 +1,107 @@
+//! What the program does with its words.
+ghost use Rattle.std.specs.Prelude.{◌≡◌, IfOk, OnErr, IsTrue, length, map, string_bytes};
+ghost use Rattle.druid_cluster.specs.Program.{AsksForReplay};
+ghost use Rattle.druid_serve.specs.Program.{AsksForServe};
+
+use crate::ServeFault;
+use crate::serving::{serve, tell};
+use druid_cluster::run_program;
+use std::alloc::Global;
+use std::fs::File;
+use std::io::{BufWriter, Read, Write};
+use std::net::{Net, TcpListener, TcpStream};
+use std::rt::Files;
+use std::sync::Wait;
+use std::thread::Threads;
+use std::time::Clock;
+use std::{fs, io};
+
+/// The most bytes of a config.
+const MAX_CONFIG: usize = 16_777_216;
+
+// The bytes of the file at a path, and no more than one more than a config may have.
+fn front_of<R: Files>(rt: &R, alloc: Global, path: &str) -> io::Result<Vec<u8>> {
+    let mut bytes = Vec::new(alloc);
+    let mut part = fs::open(rt, path)?.take(MAX_CONFIG as u64 + 1);
+    part.read_to_end(&mut bytes)?;
+    Ok(bytes)
+}
+
+// The config at a path.
+fn config_at<R: Files>(rt: &R, alloc: Global, path: &str) -> Result<Vec<u8>, ServeFault> {
+    let Ok(bytes) = front_of(rt, alloc, path) else {
+        return Err(ServeFault::Device);
+    };
+    if MAX_CONFIG < bytes.len() {
+        return Err(ServeFault::BadConfig);
+    }
+    Ok(bytes)
+}
+
+// Serves the cluster of the config at a path, and gives the exit status.
+fn serve_file<
+    R: Files<File = File>
+        + Net<Listener = TcpListener, Stream = TcpStream>
+        + AllocGlobal
+        + Wait
+        + Threads
+        + Clock
+        + Copy
+        + Send
+        + Sync
+        + 'static,
+    W: Write + Drop,
+    E: Write,
+>(rt: &R, alloc: Global, path: &str, output: W, errors: &mut E) -> u8
+where
+    R::Dir: Send,
+{
+    let config = match config_at(rt, alloc, path) {
+        Ok(config) => config,
+        Err(fault) => return tell(errors, fault),
+    };
+    match BufWriter::new(alloc, output) {
+        Ok(mut writer) => serve(rt, alloc, &config, &mut writer, errors),
+        Err(_) => tell(errors, ServeFault::Device),
+    }
+}
+
+// Whether there are two words, the first of which is `serve`.
+fn asks_for_serve(words: &[String]) -> bool
+    ensures two { IsTrue result → length words.now ≡ 2 }
+    ensures asked { IsTrue result → AsksForServe (map string_bytes words.now) }
+{
+    words.len() == 2 && words[0].as_str() == "serve"
+}
+
+/// The whole program, over its handles: the words behind its name, standard input, standard output and standard error. It
+/// answers the exit status. `serve CONFIG` serves the cluster of the config at that path; all else is up to
+/// `druid_cluster::run_program`.
+pub fn run<
+    R: Files<File = File>
+        + Net<Listener = TcpListener, Stream = TcpStream>
+        + AllocGlobal
+        + Wait
+        + Threads
+        + Clock
+        + Copy
+        + Send
+        + Sync
+        + 'static,
+    I: Read + Drop,
+    W: Write + Drop,
+    E: Write,
+>(rt: &R, alloc: Global, words: io::Result<Vec<String>>, input: I, output: W, errors: &mut E) -> u8
+where
+    R::Dir: Send,
+    ensures unread { OnErr words (result ≡ 3) }
+    ensures usage { IfOk words (λ list. (AsksForReplay (map string_bytes list.items) → ⊥)
+        → (AsksForServe (map string_bytes list.items) → ⊥) → result ≡ 2) }
+{
+    match words {
+        Ok(words) if asks_for_serve(&words) => {
+            serve_file(rt, alloc, words[1].as_str(), output, errors)
+        }
+        words => run_program(alloc, words, input, output, errors),
+    }
+}

@@ -1,0 +1,287 @@
+//! A cluster, from its config to its end.
+ghost use Rattle.std.specs.Prelude.{◌≡◌, ◌≤◌, IfOk, OnOk, length};
+ghost use Rattle.druid_shard.specs.Reply.{max_changes};
+ghost use Rattle.druid_inventory.specs.Entry.{max_nodes};
+ghost use Rattle.druid_serve.specs.Faults.{status_of};
+ghost use Rattle.druid_serve.specs.Program.{IsConfig};
+
+use crate::ServeFault;
+use crate::asking::ask;
+use crate::broker::{Broker, Opening, start_broker};
+use crate::gate::Gate;
+use crate::node::start_node;
+use crate::outside::listen;
+use druid_config::{BrokerConfig, Config, NodeConfig, QueryConfig, names_in, read_config};
+use druid_inventory::Inventory;
+use std::alloc::Global;
+use std::fs::File;
+use std::io::Write;
+use std::marker::Brand;
+use std::net::{Net, TcpListener, TcpStream};
+use std::rt::Files;
+use std::sync::{Arc, Wait};
+use std::thread::{JoinHandle, Threads};
+use std::time::Clock;
+
+// Starts the nodes, one after another, and gives the threads that load what comes later.
+fn start_nodes<
+    R: Files<File = File>
+        + Net<Listener = TcpListener, Stream = TcpStream>
+        + AllocGlobal
+        + Wait
+        + Threads
+        + Clock
+        + Copy
+        + Send
+        + Sync
+        + 'static,
+>(
+    rt: &R,
+    alloc: Global,
+    nodes: &[NodeConfig],
+    kept: usize,
+) -> Result<Vec<JoinHandle<()>>, ServeFault>
+where
+    R::Dir: Send,
+    requires some { 1 ≤ kept }
+    requires few { kept ≤ max_changes }
+{
+    let mut loaders = Vec::new(alloc);
+    for node in nodes {
+        loaders.push(start_node(rt, alloc, node, kept)?)?;
+    }
+    Ok(loaders)
+}
+
+// The listeners of the brokers.
+fn listen_all<R: Net<Listener = TcpListener, Stream = TcpStream>>(
+    rt: &R,
+    alloc: Global,
+    brokers: &[BrokerConfig],
+) -> Result<Vec<Arc<TcpListener, Global>>, ServeFault> {
+    let mut listeners = Vec::with_capacity(alloc, brokers.len())?;
+    for broker in brokers {
+        listeners.push(Arc::new(alloc, listen(rt, broker.address())?)?)?;
+    }
+    Ok(listeners)
+}
+
+// What a broker knows first of the nodes.
+fn fresh(alloc: Global, nodes: &[NodeConfig]) -> Result<Inventory, ServeFault>
+    requires some { 1 ≤ length nodes.now }
+    requires few { length nodes.now ≤ max_nodes }
+    ensures { IfOk result (λ inventory. length inventory ≡ length nodes.now) }
+{
+    match Inventory::new(alloc, names_in(alloc, nodes)?) {
+        Ok(inventory) => Ok(inventory),
+        // No name stands twice, so memory was refused.
+        Err(_) => Err(ServeFault::Device),
+    }
+}
+
+// Starts a broker: its publisher, views and receipts are of the names that its inventory has.
+fn start_one<
+    R: Net<Listener = TcpListener, Stream = TcpStream>
+        + Wait
+        + Threads
+        + Clock
+        + Copy
+        + Send
+        + Sync
+        + 'static,
+>(rt: &R, alloc: Global, opening: Opening, nodes: &[NodeConfig]) -> Result<Broker, ServeFault>
+    requires { length nodes.now ≡ length opening.inventory }
+{
+    start_broker::<R, Brand>(rt, alloc, opening, nodes)
+}
+
+// Starts the brokers behind their listeners.
+fn start_brokers<
+    R: Net<Listener = TcpListener, Stream = TcpStream>
+        + Wait
+        + Threads
+        + Clock
+        + Copy
+        + Send
+        + Sync
+        + 'static,
+>(
+    rt: &R,
+    alloc: Global,
+    brokers: &[BrokerConfig],
+    turns: u64,
+    nodes: &[NodeConfig],
+) -> Result<Vec<Broker>, ServeFault>
+    requires some { 1 ≤ length nodes.now }
+    requires few { length nodes.now ≤ max_nodes }
+{
+    let listeners = listen_all(rt, alloc, brokers)?;
+    let mut standing = Vec::new(alloc);
+    for (broker, listener) in brokers.iter().zip(listeners) {
+        let inventory = fresh(alloc, nodes)?;
+        let opening = Opening {
+            inventory,
+            listener,
+            workers: broker.workers(),
+            turns,
+        };
+        standing.push(start_one(rt, alloc, opening, nodes)?)?;
+    }
+    Ok(standing)
+}
+
+// Waits for the end of threads.
+fn join_all<R: Threads>(rt: &R, threads: Vec<JoinHandle<()>>) {
+    for thread in threads {
+        thread.join(rt);
+    }
+}
+
+// Waits until the nodes have loaded and the brokers have followed them, and gives where each broker counts connections.
+fn settled<R: Threads>(
+    rt: &R,
+    alloc: Global,
+    loaders: Vec<JoinHandle<()>>,
+    standing: Vec<Broker>,
+) -> Result<Vec<Arc<Gate, Global>>, ServeFault> {
+    let mut gates = Vec::with_capacity(alloc, standing.len())?;
+    join_all(rt, loaders);
+    for broker in standing {
+        join_all(rt, broker.syncers);
+        gates.push(broker.gate)?;
+    }
+    Ok(gates)
+}
+
+// Posts the queries and prints their answers.
+fn ask_all<R: Net + Clock + Copy, W: Write>(
+    rt: &R,
+    alloc: Global,
+    queries: &[QueryConfig],
+    brokers: &[BrokerConfig],
+    out: &mut W,
+) -> Result<(), ServeFault> {
+    for query in queries {
+        match brokers.get(query.broker()) {
+            Some(broker) => ask(rt, alloc, query.text(), broker.address(), out)?,
+            // Each query is to a broker that is there.
+            None => return Err(ServeFault::BadConfig),
+        }
+    }
+    Ok(())
+}
+
+// Waits until each broker answered so many connections from outside. What was printed is there before.
+fn wait_for_others<R: Wait, W: Write>(
+    rt: &R,
+    gates: &[Arc<Gate, Global>],
+    connections: u64,
+    out: &mut W,
+) -> Result<(), ServeFault> {
+    for gate in gates {
+        gate.open(rt);
+    }
+    if out.flush().is_err() {
+        return Err(ServeFault::Device);
+    }
+    for gate in gates {
+        gate.wait(rt, connections);
+    }
+    Ok(())
+}
+
+// The config that bytes are.
+fn config_of(alloc: Global, bytes: &[u8]) -> Result<Config, ServeFault>
+    ensures { OnOk result (IsConfig bytes.now) }
+{
+    match read_config(alloc, bytes) {
+        Ok(config) => Ok(config),
+        Err(fault) => Err(fault.into()),
+    }
+}
+
+// Serves a cluster to its end.
+fn serve_cluster<
+    R: Files<File = File>
+        + Net<Listener = TcpListener, Stream = TcpStream>
+        + AllocGlobal
+        + Wait
+        + Threads
+        + Clock
+        + Copy
+        + Send
+        + Sync
+        + 'static,
+    W: Write,
+>(rt: &R, alloc: Global, config: &Config, out: &mut W) -> Result<(), ServeFault>
+where
+    R::Dir: Send,
+{
+    let loaders = start_nodes(rt, alloc, config.nodes(), config.kept())?;
+    let standing = start_brokers(rt, alloc, config.brokers(), config.turns(), config.nodes())?;
+    let gates = settled(rt, alloc, loaders, standing)?;
+    ask_all(rt, alloc, config.queries(), config.brokers(), out)?;
+    wait_for_others(rt, &gates, config.connections(), out)
+}
+
+// Serves the cluster of a config to its end.
+fn serve_config<
+    R: Files<File = File>
+        + Net<Listener = TcpListener, Stream = TcpStream>
+        + AllocGlobal
+        + Wait
+        + Threads
+        + Clock
+        + Copy
+        + Send
+        + Sync
+        + 'static,
+    W: Write,
+>(rt: &R, alloc: Global, bytes: &[u8], out: &mut W) -> Result<(), ServeFault>
+where
+    R::Dir: Send,
+    ensures config { OnOk result (IsConfig bytes.now) }
+    ensures nothing { (IsConfig bytes.now → ⊥) → W.contents out.new ≡ W.contents out.old }
+{
+    match config_of(alloc, bytes) {
+        Ok(config) => serve_cluster(rt, alloc, &config, out),
+        Err(fault) => Err(fault),
+    }
+}
+
+/// Serves the cluster of a config, prints the answers to its queries, and ends once each broker answered the connections from
+/// outside that the config asks for. It gives the exit status: 0, or that of the fault that it tells on the error writer. The
+/// threads that still wait for connections are left. Status 0 only where the bytes are a config; where they are none, nothing is
+/// printed.
+pub fn serve<
+    R: Files<File = File>
+        + Net<Listener = TcpListener, Stream = TcpStream>
+        + AllocGlobal
+        + Wait
+        + Threads
+        + Clock
+        + Copy
+        + Send
+        + Sync
+        + 'static,
+    W: Write,
+    E: Write,
+>(rt: &R, alloc: Global, config: &[u8], out: &mut W, errors: &mut E) -> u8
+where
+    R::Dir: Send,
+    ensures served { result ≡ 0 → IsConfig config.now }
+    ensures nothing { (IsConfig config.now → ⊥) → W.contents out.new ≡ W.contents out.old }
+{
+    match serve_config(rt, alloc, config, out) {
+        Ok(()) => 0,
+        Err(fault) => tell(errors, fault),
+    }
+}
+
+/// Tells a fault, and gives its exit status.
+pub(crate) fn tell<E: Write>(errors: &mut E, fault: ServeFault) -> u8
+    ensures { result ≡ status_of fault }
+{
+    drop(writeln!(errors, "{fault}"));
+    fault.status()
+}

@@ -1,0 +1,10 @@
+//! What no contract says of a cluster that is served: worked examples over sockets of this machine and folders of the system,
+//! configs and folders that are refused, and that calls succeed with ample memory.
+#![tactic(auto)]
+
+#[cfg(test)]
+mod config;
+#[cfg(test)]
+mod folders;
+#[cfg(test)]
+mod serve;
