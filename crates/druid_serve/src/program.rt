@@ -1,6 +1,7 @@
 //! What the program does with its words.
-ghost use Rattle.std.specs.Prelude.{◌≡◌, IfOk, OnErr, IsTrue, length, map, string_bytes};
-ghost use Rattle.druid_cluster.specs.Program.{AsksForReplay};
+ghost use Rattle.std.specs.Prelude.{◌≡◌, ⊤, ℕ, List, Option, Result, IfOk, OnErr, IsTrue, length, map, string_bytes};
+ghost use Rattle.druid_cluster.specs.Program.{AsksForReplay, Replays, exit_status};
+ghost use Rattle.druid_cluster.specs.declared.fault.ReplayFault.{ReplayFault};
 ghost use Rattle.druid_serve.specs.Program.{AsksForServe};
 
 use crate::ServeFault;
@@ -97,6 +98,9 @@ where
     ensures unread { OnErr words (result ≡ 3) }
     ensures usage { IfOk words (λ list. (AsksForReplay (map string_bytes list.items) → ⊥)
         → (AsksForServe (map string_bytes list.items) → ⊥) → result ≡ 2) }
+    ensures replayed { IfOk words (λ list. AsksForReplay (map string_bytes list.items)
+        → (written : Option (List ℕ)) × (end : Result ⊤ ReplayFault)
+        × Replays (I.remaining input) (W.contents output) written end × (result ≡ exit_status end)) }
 {
     match words {
         Ok(words) if asks_for_serve(&words) => {
