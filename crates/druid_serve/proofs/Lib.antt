@@ -1,2 +1,3 @@
-pub mod RisesLemmas
+pub mod ViewLemmas
+pub mod SeenLemmas
 pub mod WordLemmas

@@ -104,7 +104,7 @@ fn follow<R: Wait + Net + Clock, N: NodeList>(
 )
     ensures { Rises view.old view.new }
 {
-    for _ in 0..turns {
+    for _turn in 0..turns {
         make_turn(rt, alloc, node, view, link, publisher);
     }
 }
