@@ -1,3 +1,4 @@
-pub mod ViewLemmas
+pub mod FolderLemmas
 pub mod SeenLemmas
+pub mod ViewLemmas
 pub mod WordLemmas

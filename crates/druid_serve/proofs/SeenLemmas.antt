@@ -31,7 +31,7 @@ seen_on a b c f g = on a b c (mark_cmp a b) refl f g
 -- a call that raises what was seen, or leaves it
 pub seen_after : {A E : Type 0} (r : Result A E) (old new : Point) → OnOk r (mark_cmp old new ≡ Less) → OnErr r (new ≡ old) → mark_cmp old new ≢ Greater
 seen_after (Ok a) old new less stays g = absurd (cc)
-seen_after (Err e) old new less stays = seen_by old new stays
+seen_after (Err e) old new less stays g = seen_by old new stays g
 
 -- a call that does not lower what was seen, or leaves it
 pub seen_served : {A E : Type 0} (r : Result A E) (old new : Point) → OnOk r (mark_cmp old new ≢ Greater) → OnErr r (new ≡ old) → mark_cmp old new ≢ Greater
