@@ -19,7 +19,7 @@ returns-then-lt-clause-told c =
 
 pub returns-clause-ok : goal.returns-clause-ok
 returns-clause-ok c = (
-    length-map c.args.inventory.now (λ (x : Entry). x.mark) ∙ sym c.requires,
-    fresh_all c.args.floor.now (marks_of c.args.inventory.now) c.loop-node.node
-    (omega (arith, c.requires, c.node_count-node-end.ensures.value, c.loop-node.auto.node-end, c.loop-node-test.false)) c.loop-node.invariant
-    )
+  length-map c.args.inventory.now (λ (x : Entry). x.mark) ∙ sym c.requires,
+  fresh_all c.args.floor.now (marks_of c.args.inventory.now) c.loop-node.node
+      (omega (arith, c.requires, c.node_count-node-end.ensures.value, c.loop-node.auto.node-end, c.loop-node-test.false)) c.loop-node.invariant,
+)

@@ -11,21 +11,19 @@ pub loop-name-preserved : goal.loop-name-preserved
 loop-name-preserved g c = elim c.if-is_segment_file.branch [
   | then-is_segment_file+in_ok-load_file w ↦ λ honest.
       let up = subst g.F.Folder.is_honest w.folder-is honest in
-      let before = c.loop-name.invariant (w.load_file.ensures.honest up) in
-      (
+      let before = c.loop-name.invariant (w.load_file.ensures.honest up) in (
         before.0,
         ap g.F.Folder.content w.folder-is ∙ w.load_file.ensures.content up ∙ before.1,
         named_more (IsTaken (g.F.Folder.content c.args.folder.now)) c.args.names.now c.loop-name.name-index c.name-item.result c.loop-name-test.true c.name-item.is before.2
-        (taken (g.F.Folder.content c.loop-name.folder) (g.F.Folder.content c.args.folder.now) _ _ before.1 w.as_str-then-is_segment_file.ensures.value (w.in_ok-load_file.ensures.ok up))
+            (taken (g.F.Folder.content c.loop-name.folder) (g.F.Folder.content c.args.folder.now) _ _ before.1 w.as_str-then-is_segment_file.ensures.value (w.in_ok-load_file.ensures.ok up)),
       )
   | else-is_segment_file w ↦ λ honest.
       let up = subst g.F.Folder.is_honest w.folder-is honest in
-      let before = c.loop-name.invariant up in
-      (
+      let before = c.loop-name.invariant up in (
         before.0,
         ap g.F.Folder.content w.folder-is ∙ before.1,
         named_more (IsTaken (g.F.Folder.content c.args.folder.now)) c.args.names.now c.loop-name.name-index c.name-item.result c.loop-name-test.true c.name-item.is before.2
-        (λ some. absurd (false≢true (sym w.if-is_segment_file.false ∙ c.is_segment_file.ensures ∙ ap is_segment_file c.as_str.ensures.value ∙ some)))
+            (λ some. absurd (false≢true (sym w.if-is_segment_file.false ∙ c.is_segment_file.ensures ∙ ap is_segment_file c.as_str.ensures.value ∙ some))),
       )
 ]
 
