@@ -3,7 +3,7 @@ use Rattle.std.specs.Prelude.{◌≡◌, ◌⊎◌, ℕ, Bool, true, false, List
 use Rattle.druid_shard.specs.Mark.{Point}
 use Rattle.druid_inventory.specs.Entry.{Entry}
 use Rattle.druid_inventory.specs.Join.{names_of}
-use Rattle.druid_published.specs.Floor.{marks_of, NoneStale}
+use Rattle.druid_published.specs.Floor.{marks_of, Rises}
 use Rattle.druid_published.specs.Told.{TellsRead}
 use Rattle.druid_published.specs.declared.fault.PublishFault.TheVariants.{Stale}
 use Rattle.druid_wire.specs.Links.{Came}
@@ -11,9 +11,9 @@ use Rattle.druid_wire.specs.Messages.{RequestValue}
 use Rattle.druid_wire.specs.Served.{path_of, Tells}
 use Rattle.druid_broker.specs.Routes.{Route, health, query, sources, load_status, entry, nowhere, route_of, Responds, IsOutOfMemory}
 
--- the view reads this inventory: none of its marks is below what the view knew, and the view knows them then
+-- the view reads this inventory: its marks are not below what the view knew, and the view knows them then
 abbrev pub Reads : List (List ℕ) → List Point → List Point → List Entry → Type 0
-Reads names old new inventory = (names_of inventory ≡ names) × NoneStale old (marks_of inventory) × (new ≡ marks_of inventory)
+Reads names old new inventory = (names_of inventory ≡ names) × Rises old (marks_of inventory) × (new ≡ marks_of inventory)
 
 -- an answer takes the inventory where a query is posted, and where what is known is got
 abbrev pub takes_inventory : Route → List ℕ → Bool

@@ -1,2 +1,3 @@
 pub mod FloorLemmas
+pub mod RisesLemmas
 pub mod ToldLemmas

@@ -1,5 +1,5 @@
 -- What a view was told of each node, and what an inventory that it reads is measured by.
-use Rattle.std.specs.Prelude.{◌≡◌, ℕ, ◌<◌, true, List, map, Some, slice_get, if◌then◌else◌}
+use Rattle.std.specs.Prelude.{◌≡◌, ℕ, ◌<◌, true, List, length, map, Some, slice_get, if◌then◌else◌}
 use Rattle.std.specs.List.{zip}
 use Rattle.std.specs.Ordering.{is_lt}
 use Rattle.druid_shard.specs.Mark.{Point, mark_cmp}
@@ -29,6 +29,10 @@ IsStaleAt floor marks node = (at found : Point) × StaleAt floor marks node at f
 -- no node has a mark below its floor
 abbrev pub NoneStale : List Point → List Point → Type 0
 NoneStale floor marks = (node : ℕ) → IsStaleAt floor marks node → ⊥
+
+-- of each node there is a mark that is not below its floor
+abbrev pub Rises : List Point → List Point → Type 0
+Rises floor marks = (length marks ≡ length floor) × NoneStale floor marks
 
 -- the least node that has a mark below its floor, with both
 abbrev pub IsFirstStale : List Point → List Point → ℕ → Point → Point → Type 0

@@ -5,7 +5,7 @@ ghost use Rattle.druid_inventory.specs.Entry.{Entry};
 ghost use Rattle.druid_inventory.specs.Join.{names_of};
 ghost use Rattle.druid_inventory.specs.Step.{StepsAt, RefusedAt};
 ghost use Rattle.druid_inventory.specs.declared.fault.ApplyFault.{ApplyFault};
-ghost use Rattle.druid_published.specs.Floor.{marks_of, later_mark, later_marks, NoneStale};
+ghost use Rattle.druid_published.specs.Floor.{marks_of, later_mark, later_marks, Rises};
 ghost use Rattle.druid_published.specs.Told.{publish_fault, TellsPublish, TellsRead};
 ghost use Rattle.druid_published.specs.declared.published.TheConstants.{MAX_PLACES};
 
@@ -124,7 +124,7 @@ fn copy_marks(alloc: Global, inventory: &Inventory) -> Result<Vec<Mark>, AllocEr
 // The least node whose mark is below its floor.
 fn judge(inventory: &Inventory, floor: &[Mark]) -> Result<(), PublishFault>
     requires { length floor.now ≡ length inventory.now }
-    ensures ok { IfOk result (λ _. NoneStale floor.now (marks_of inventory.now)) }
+    ensures ok { IfOk result (λ _. Rises floor.now (marks_of inventory.now)) }
     ensures told { IfErr result (TellsRead (names_of inventory.now) floor.now) }
 {
     for node in 0..inventory.node_count() {
@@ -151,7 +151,8 @@ fn later_of(a: Mark, b: Mark) -> Mark
 // The later of both, node by node.
 fn raise(floor: &mut [Mark], marks: &[Mark])
     requires { length floor.old ≡ length marks.now }
-    ensures { floor.new ≡ later_marks floor.old marks.now }
+    ensures later { floor.new ≡ later_marks floor.old marks.now }
+    ensures rises { Rises floor.old floor.new }
 {
     for node in 0..floor.len() {
         floor[node] = later_of(floor[node], marks[node]);
@@ -389,7 +390,7 @@ impl<N: NodeList> View<N> {
     /// to what the publisher has.
     pub fn read(&mut self, rt: &impl Wait) -> Result<Arc<Inventory, Global>, PublishFault>
         ensures names { IfOk result (λ found. names_of (arc_value found) ≡ N.names) }
-        ensures floor { IfOk result (λ found. NoneStale self.old (marks_of (arc_value found))) }
+        ensures floor { IfOk result (λ found. Rises self.old (marks_of (arc_value found))) }
         ensures ok { IfOk result (λ found. self.new ≡ marks_of (arc_value found)) }
         ensures stays { OnErr result (self.new ≡ self.old) }
         ensures told { IfErr result (TellsRead N.names self.old) }
@@ -408,7 +409,8 @@ impl<N: NodeList> View<N> {
 
     /// The floor becomes the later of itself and what a receipt tells, node by node. It takes no memory.
     pub fn learn(&mut self, receipt: &Receipt<N>)
-        ensures { self.new ≡ later_marks self.old receipt.now }
+        ensures later { self.new ≡ later_marks self.old receipt.now }
+        ensures rises { Rises self.old self.new }
     {
         raise(&mut self.floor, &receipt.marks);
     }

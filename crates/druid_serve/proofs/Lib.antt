@@ -1,2 +1,4 @@
-pub mod RisesLemmas
+pub mod FolderLemmas
+pub mod SeenLemmas
+pub mod ViewLemmas
 pub mod WordLemmas

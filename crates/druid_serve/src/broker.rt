@@ -3,7 +3,7 @@ ghost use Rattle.std.specs.Prelude.{◌≡◌, ◌≤◌, ◌+◌, IfOk, OnOk, l
 ghost use Rattle.druid_config.specs.declared.config.TheConstants.{MAX_WORKERS};
 ghost use Rattle.druid_inventory.specs.Entry.{max_nodes};
 ghost use Rattle.druid_inventory.specs.Join.{names_of};
-ghost use Rattle.druid_published.specs.Floor.{NoneStale};
+ghost use Rattle.druid_published.specs.Floor.{Rises};
 
 use crate::ServeFault;
 use crate::gate::Gate;
@@ -51,7 +51,7 @@ fn fetched<R: Wait + Net + Clock, N: NodeList>(
     view: &mut View<N>,
     link: &mut TcpLink<R>,
 ) -> Option<Reply>
-    ensures { NoneStale view.old view.new }
+    ensures { Rises view.old view.new }
 {
     let inventory = view.read(rt).ok()?;
     if inventory.node_count() <= node {
@@ -83,7 +83,7 @@ fn make_turn<R: Wait + Net + Clock, N: NodeList>(
     link: &mut TcpLink<R>,
     publisher: &Mutex<Publisher<N>>,
 )
-    ensures { NoneStale view.old view.new }
+    ensures { Rises view.old view.new }
 {
     if let Some(reply) = fetched(rt, alloc, node, view, link) {
         if let Some(receipt) = published(rt, node, &reply, publisher) {
@@ -101,8 +101,10 @@ fn follow<R: Wait + Net + Clock, N: NodeList>(
     view: &mut View<N>,
     link: &mut TcpLink<R>,
     publisher: &Mutex<Publisher<N>>,
-) {
-    for _ in 0..turns {
+)
+    ensures { Rises view.old view.new }
+{
+    for _turn in 0..turns {
         make_turn(rt, alloc, node, view, link, publisher);
     }
 }
@@ -174,7 +176,7 @@ fn respond<
     I: BufRead,
     O: Write,
 >(rt: &R, alloc: Global, desk: &mut Desk<R, N>, reader: &mut I, writer: &mut O) -> bool
-    ensures view { NoneStale desk.old.view desk.new.view }
+    ensures view { Rises desk.old.view desk.new.view }
     ensures turn { desk.new.turn ≡ desk.old.turn }
 {
     let served = serve_one(
@@ -202,7 +204,7 @@ fn answer<
         + Sync,
     N: NodeList,
 >(rt: &R, alloc: Global, desk: &mut Desk<R, N>, stream: &TcpStream) -> bool
-    ensures view { NoneStale desk.old.view desk.new.view }
+    ensures view { Rises desk.old.view desk.new.view }
     ensures turn { desk.new.turn ≡ desk.old.turn }
 {
     if !limit(stream) {
@@ -228,7 +230,7 @@ fn take<
         + Sync,
     N: NodeList,
 >(rt: &R, alloc: Global, desk: &mut Desk<R, N>, gate: &Gate, stream: TcpStream)
-    ensures { NoneStale desk.old.view desk.new.view }
+    ensures { Rises desk.old.view desk.new.view }
 {
     let counts = gate.is_open(rt);
     if answer(rt, alloc, desk, &stream) {
@@ -250,7 +252,9 @@ fn work<
         + Send
         + Sync,
     N: NodeList,
->(rt: &R, alloc: Global, desk: &mut Desk<R, N>, gate: &Gate, listener: &TcpListener) {
+>(rt: &R, alloc: Global, desk: &mut Desk<R, N>, gate: &Gate, listener: &TcpListener)
+    ensures { Rises desk.old.view desk.new.view }
+{
     for stream in listener.incoming() {
         match stream {
             Ok(stream) => take(rt, alloc, desk, gate, stream),

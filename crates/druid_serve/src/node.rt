@@ -1,6 +1,10 @@
 //! A data node: its folder, its sockets and its threads.
-ghost use Rattle.std.specs.Prelude.{◌≡◌, ◌≤◌, IfOk, map, string_bytes};
+ghost use Rattle.std.specs.Prelude.{◌≡◌, ◌≢◌, ◌≤◌, All, IfOk, OnOk, map, string_bytes};
+ghost use Rattle.std.specs.declared.cmp.Ordering.TheVariants.{Greater};
+ghost use Rattle.druid_shard.specs.Mark.{mark_cmp};
 ghost use Rattle.druid_shard.specs.Reply.{max_changes};
+ghost use Rattle.druid_store.specs.Folder.{names_of};
+ghost use Rattle.druid_serve.specs.Files.{is_segment_file, IsTaken, HoldsSegments};
 
 use crate::ServeFault;
 use crate::outside::{REST_MILLISECONDS, limit, listen};
@@ -19,7 +23,7 @@ use std::thread::{JoinHandle, Threads};
 use std::time::{Clock, Duration};
 
 // The end of the name of a segment file.
-const SEGMENT_END: &str = ".seg";
+const SEGMENT_END: &[u8] = b".seg";
 
 // The copies of texts.
 fn copies_of(alloc: Global, texts: &[String]) -> Result<Vec<String>, AllocError>
@@ -32,21 +36,44 @@ fn copies_of(alloc: Global, texts: &[String]) -> Result<Vec<String>, AllocError>
     Ok(copies)
 }
 
+// Whether a file of that name is a segment file.
+fn is_segment_file(name: &str) -> bool
+    ensures { result ≡ is_segment_file name.now }
+{
+    name.as_bytes().ends_with(SEGMENT_END)
+}
+
+// Loads the segment files among these.
+fn load_named<R: Wait, F: Folder>(
+    rt: &R,
+    node: &DataNode,
+    folder: &mut F,
+    names: &[String],
+    seen: &mut Mark,
+) -> Result<(), ServeFault>
+    ensures ok { F.is_honest folder.new → OnOk result (All (IsTaken (F.content folder.old)) (names_of names.now)) }
+    ensures content { F.is_honest folder.new → F.content folder.new ≡ F.content folder.old }
+    ensures honest { F.is_honest folder.new → F.is_honest folder.old }
+{
+    for name in names {
+        if is_segment_file(name.as_str()) {
+            node.load_file(rt, folder, name.as_str(), seen)?;
+        }
+    }
+    Ok(())
+}
+
 // Loads the segment files of a folder, in the order of their names.
 fn load_files<R: Wait, F: Folder>(
     rt: &R,
     alloc: Global,
     node: &DataNode,
     folder: &mut F,
-) -> Result<(), ServeFault> {
-    let mut seen = Mark::never();
+) -> Result<(), ServeFault>
+    ensures { F.is_honest folder.new → OnOk result (HoldsSegments (F.content folder.new)) }
+{
     let names = folder.list(alloc)?;
-    for name in &names {
-        if name.as_str().ends_with(SEGMENT_END) {
-            node.load_file(rt, folder, name.as_str(), &mut seen)?;
-        }
-    }
-    Ok(())
+    load_named(rt, node, folder, &names, &mut Mark::never())
 }
 
 // A node of a folder: its incarnation is raised before a segment is read.
@@ -58,6 +85,7 @@ fn loaded<R: Wait, F: Folder>(
 ) -> Result<DataNode, ServeFault>
     requires some { 1 ≤ kept }
     requires few { kept ≤ max_changes }
+    ensures { F.is_honest folder.new → OnOk result (HoldsSegments (F.content folder.new)) }
 {
     let incarnation = next_incarnation(alloc, folder)?;
     // A device that lies may give anything.
@@ -70,17 +98,29 @@ fn loaded<R: Wait, F: Folder>(
 }
 
 // Loads files of a folder; one that is refused is passed over.
-fn load_later<R: Files<File = File> + AllocGlobal + Wait + Copy>(
+fn load_later<R: Wait, F: Folder>(
+    rt: &R,
+    node: &DataNode,
+    folder: &mut F,
+    names: &[String],
+    seen: &mut Mark,
+)
+    ensures { mark_cmp seen.old seen.new ≢ Greater }
+{
+    for name in names {
+        drop(node.load_file(rt, folder, name.as_str(), seen));
+    }
+}
+
+// What the thread does that loads files later.
+fn load_from<R: Files<File = File> + AllocGlobal + Wait + Copy>(
     rt: &R,
     node: &DataNode,
     path: String,
     names: &[String],
 ) {
     let mut folder: DiskFolder<R> = DiskFolder::new(*rt, path);
-    let mut seen = Mark::never();
-    for name in names {
-        drop(node.load_file(rt, &mut folder, name.as_str(), &mut seen));
-    }
+    load_later(rt, node, &mut folder, names, &mut Mark::never());
 }
 
 // Starts the thread that loads files once the node stands.
@@ -97,7 +137,7 @@ where
 {
     let rt = *rt;
     let node = Arc::try_clone(node)?;
-    let job = move || load_later(&rt, &node, path, &names);
+    let job = move || load_from(&rt, &node, path, &names);
     match thread::spawn(&rt, job) {
         Ok(loader) => Ok(loader),
         Err(_) => Err(ServeFault::Device),
@@ -105,7 +145,9 @@ where
 }
 
 // Answers one connection.
-fn answer<R: Wait>(rt: &R, alloc: Global, node: &DataNode, stream: &TcpStream, seen: &mut Mark) {
+fn answer<R: Wait>(rt: &R, alloc: Global, node: &DataNode, stream: &TcpStream, seen: &mut Mark)
+    ensures { mark_cmp seen.old seen.new ≢ Greater }
+{
     if !limit(stream) {
         return;
     }
@@ -121,11 +163,18 @@ fn answer<R: Wait>(rt: &R, alloc: Global, node: &DataNode, stream: &TcpStream, s
 }
 
 // Answers connections.
-fn work<R: Wait + Clock>(rt: &R, alloc: Global, node: &DataNode, listener: &TcpListener) {
-    let mut seen = Mark::never();
+fn work<R: Wait + Clock>(
+    rt: &R,
+    alloc: Global,
+    node: &DataNode,
+    listener: &TcpListener,
+    seen: &mut Mark,
+)
+    ensures { mark_cmp seen.old seen.new ≢ Greater }
+{
     for stream in listener.incoming() {
         match stream {
-            Ok(stream) => answer(rt, alloc, node, &stream, &mut seen),
+            Ok(stream) => answer(rt, alloc, node, &stream, seen),
             Err(_) => thread::sleep(rt, Duration::from_millis(REST_MILLISECONDS)),
         }
     }
@@ -141,7 +190,8 @@ fn start_worker<R: Wait + Threads + Clock + Copy + Send + Sync + 'static>(
     let rt = *rt;
     let node = Arc::try_clone(node)?;
     let listener = Arc::try_clone(listener)?;
-    match thread::spawn(&rt, move || work(&rt, alloc, &node, &listener)) {
+    let job = move || work(&rt, alloc, &node, &listener, &mut Mark::never());
+    match thread::spawn(&rt, job) {
         Ok(worker) => {
             drop(worker);
             Ok(())

@@ -1,5 +1,7 @@
 use Rattle.std.proofs.Common.{refl, sym, ◌∙◌, arith}
+use Rattle.std.proofs.lemmas.List.{length-map}
 use Rattle.std.proofs.lemmas.Option.{slice_get_read}
+use Rattle.druid_inventory.specs.Entry.{Entry}
 use Rattle.druid_published.specs.Floor.{marks_of}
 use Rattle.druid_published.proofs.FloorLemmas.{fresh_more, fresh_all}
 use Rattle.druid_published.proofs.published.judge.Goals as goal
@@ -16,6 +18,8 @@ returns-then-lt-clause-told c =
     (c.args.inventory.now, refl, ((held, c.mark_at-found.ensures, sym c.lt.ensures ∙ c.if-lt.true), c.loop-node.invariant))
 
 pub returns-clause-ok : goal.returns-clause-ok
-returns-clause-ok c =
-    fresh_all c.args.floor.now (marks_of c.args.inventory.now) c.loop-node.node
-    (omega (arith, c.requires, c.node_count-node-end.ensures.value, c.loop-node.auto.node-end, c.loop-node-test.false)) c.loop-node.invariant
+returns-clause-ok c = (
+  length-map c.args.inventory.now (λ (x : Entry). x.mark) ∙ sym c.requires,
+  fresh_all c.args.floor.now (marks_of c.args.inventory.now) c.loop-node.node
+      (omega (arith, c.requires, c.node_count-node-end.ensures.value, c.loop-node.auto.node-end, c.loop-node-test.false)) c.loop-node.invariant,
+)

@@ -1,6 +1,6 @@
 use Rattle.std.specs.Arc.{arc_value}
 use Rattle.druid_published.specs.Floor.{marks_of}
-use Rattle.druid_serve.proofs.RisesLemmas.{rises_read}
+use Rattle.druid_published.proofs.RisesLemmas.{rises_read}
 use Rattle.druid_serve.proofs.broker.fetched.Goals as goal
 
 pub returns-then-node_count-node : goal.returns-then-node_count-node

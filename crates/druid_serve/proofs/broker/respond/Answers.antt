@@ -1,4 +1,4 @@
-use Rattle.druid_serve.proofs.RisesLemmas.{rises_kept}
+use Rattle.druid_serve.proofs.ViewLemmas.{rises_kept}
 use Rattle.druid_serve.proofs.broker.respond.Goals as goal
 
 pub returns-clause-view : goal.returns-clause-view
