@@ -11,7 +11,7 @@ use Rattle.druid_wire.specs.Messages.{RequestValue}
 use Rattle.druid_wire.specs.Served.{path_of, Tells}
 use Rattle.druid_broker.specs.Routes.{Route, health, query, sources, load_status, entry, nowhere, route_of, Responds, IsOutOfMemory}
 
--- the view reads this inventory: its marks are not below what the view knew, and the view knows them then
+-- the view reads this inventory: it has a mark for each that the view knew, none below it, and the view knows them then
 abbrev pub Reads : List (List ℕ) → List Point → List Point → List Entry → Type 0
 Reads names old new inventory = (names_of inventory ≡ names) × Rises old (marks_of inventory) × (new ≡ marks_of inventory)
 

@@ -1,5 +1,5 @@
 -- What a data node takes of its folder.
-use Rattle.std.proofs.Common.{subst, ◌≡◌, ◌+◌, ◌<◌, ℕ, true, All, List, [], ◌∷◌, ◌++◌, Result, Ok, Err, OnOk, map, length, take, get_or, slice_index_or, string_bytes, sym, ap, ◌∙◌}
+use Rattle.std.proofs.Common.{subst, ◌≡◌, ◌+◌, ◌<◌, ℕ, All, List, Ok, length, take, slice_index_or, string_bytes, sym, ap, ◌∙◌}
 use Rattle.std.specs.declared.alloc.Global.{Global}
 use Rattle.std.specs.declared.string.String.{String}
 use Rattle.std.proofs.lemmas.List.{map_more}

@@ -1,4 +1,3 @@
 pub mod FolderLemmas
-pub mod SeenLemmas
 pub mod ViewLemmas
 pub mod WordLemmas

@@ -1,4 +1,4 @@
-use Rattle.std.proofs.Common.{List, length, sym, ◌∙◌, subst}
+use Rattle.std.proofs.Common.{List, ◌∙◌, subst}
 use Rattle.std.specs.Arc.{arc_value}
 use Rattle.druid_shard.specs.Mark.{Point}
 use Rattle.druid_inventory.specs.Entry.{Entry}
