@@ -1,5 +1,5 @@
 //! Links over sockets.
-ghost use Rattle.std.specs.Prelude.{◌≡◌, ◌≤◌, ◌<◌, ◌⊎◌, length, take, string_bytes, IfOk, IfErr, IfSome, OnOk};
+ghost use Rattle.std.specs.Prelude.{◌≡◌, ◌≤◌, ◌<◌, ◌⊎◌, length, take, string_bytes, IfOk, IfErr, IfSome, IsErrOf, OnOk};
 ghost use Rattle.std.specs.Io.KnownBytes.{Appends, Consumes, IsAtEnd};
 ghost use Rattle.druid_wire.specs.Links.{IsLinkFault, faults_at};
 ghost use Rattle.druid_wire.specs.TcpLinks.{fresh_tcp_link, limited};
@@ -250,12 +250,14 @@ fn receive_all<C: Clock, S: Read + OpenStream>(
 ) -> Result<Vec<u8>, WireFault>
     ensures bound { IfOk result (λ bytes. length bytes.items ≤ MAX_EXCHANGE) }
     ensures whole { IfOk result (λ bytes. IfSome (S.remaining stream.old) (λ left. bytes.items ≡ left)) }
+    ensures too_long { IsErrOf result WireFault.BodyTooLong
+        → IfSome (S.remaining stream.old) (λ left. MAX_EXCHANGE < length left) }
     ensures err { IfErr result
         (λ fault. (fault ≡ WireFault.Read) ⊎ (fault ≡ WireFault.BodyTooLong) ⊎ (fault ≡ WireFault.Memory)) }
 {
     let mut bytes = Vec::new(alloc);
     let mut part = [0u8; PART];
-    for _ in 0..=MAX_EXCHANGE {
+    for _turn in 0..=MAX_EXCHANGE {
         let count = match receive_some(clock, timer, stream, &mut part) {
             Ok(count) => count,
             Err(fault) => return Err(fault),
@@ -268,5 +270,5 @@ fn receive_all<C: Clock, S: Read + OpenStream>(
         }
         bytes.extend_from_slice(&part[..count])?;
     }
-    Err(WireFault::BodyTooLong)
+    unreachable!()
 }
