@@ -1,10 +1,13 @@
-//! What no contract says of the program: worked examples, printed texts, devices that fail, and that calls succeed with ample memory.
+//! What no contract says of `replay` and of `druid_world`: worked examples and runs, printed texts, devices that fail, that
+//! calls succeed with ample memory, and drawn runs against a plain replay. `world` and `drawn` are of `druid_world`.
 #![tactic(auto)]
 
 #[cfg(test)]
 mod cluster;
 #[cfg(test)]
 mod devices;
+#[cfg(test)]
+mod drawn;
 #[cfg(test)]
 mod following;
 #[cfg(test)]
@@ -13,3 +16,5 @@ mod joining;
 mod printing;
 #[cfg(test)]
 mod script;
+#[cfg(test)]
+mod world;

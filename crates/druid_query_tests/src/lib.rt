@@ -1,10 +1,21 @@
-//! What no contract says of queries: worked examples, printed texts, and that calls succeed with ample memory. A module has the
-//! name of the crate that it tests.
+//! What no contract says of queries, of partials and of data nodes: worked examples over texts, files and messages, printed
+//! texts, and that calls succeed with ample memory. `partial`, `answers` and `results` are of `druid_partial`, `node` and
+//! `queries` of `druid_node`.
 #![tactic(auto)]
 
 #[cfg(test)]
+mod answers;
+#[cfg(test)]
+mod node;
+#[cfg(test)]
+mod partial;
+#[cfg(test)]
 mod printing;
 #[cfg(test)]
+mod queries;
+#[cfg(test)]
 mod query;
+#[cfg(test)]
+mod results;
 #[cfg(test)]
 mod subquery;

@@ -1,10 +1,10 @@
+use crate::printing::printed;
 use druid_inventory::Inventory;
 use druid_segid::{Name, SegmentId, Version};
 use druid_shard::{Change, Descriptor};
 use druid_time::Interval;
 use druid_world::{Event, Sim, SimFault};
 use std::alloc::Global;
-use std::fmt::Display;
 use std::test::Fail;
 
 // A run of one node and two brokers, where two changes are kept: an event, what it is answered, and what broker 0 has
@@ -142,11 +142,6 @@ fn event(alloc: Global, text: &str) -> Result<Event, Fail> {
         Some((first, second)) => long_event(alloc, word, first, second),
         None => short_event(word, rest),
     }
-}
-
-// What a value prints. It is of no type in particular, since what a proof knows of the texts of one is long.
-fn printed<T: Display>(alloc: Global, value: &T) -> Result<String, Fail> {
-    Ok(format!(in alloc; "{value}")?)
 }
 
 // What an event is answered.
