@@ -166,10 +166,24 @@ impl Segment {
             × HaveShape (segment_of descriptor schema rows.items)
             × (¬ AreInside (segment_of descriptor schema rows.items))) }
     {
-        let room = match judge(&descriptor, &schema, &rows) {
-            Ok(room) => room,
-            Err(fault) => return Err(fault),
-        };
+        match judge(&descriptor, &schema, &rows) {
+            Ok(room) => Ok(Segment::of_judged(alloc, descriptor, schema, rows, room)?),
+            Err(fault) => Err(fault),
+        }
+    }
+
+    // The segment of rows that make one, of which the text leaves this room.
+    fn of_judged(
+        alloc: Global,
+        descriptor: Descriptor,
+        schema: Schema,
+        rows: Vec<Row>,
+        room: usize,
+    ) -> Result<Segment, AllocError>
+        requires valid { IsSegment (segment_of descriptor schema rows.items) }
+        requires room { room ≡ max_text - text_length (segment_of descriptor schema rows.items) }
+        ensures value { IfOk result (λ segment. segment ≡ segment_of descriptor schema rows.items) }
+    {
         let (dimensions, metrics) = (schema.dimensions().len(), schema.metrics().len());
         let len = rows.len();
         let table = Table::of_rows(alloc, dimensions, metrics, rows)?;

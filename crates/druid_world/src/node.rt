@@ -81,16 +81,15 @@ impl Node {
         ensures unchanged { OnErr result (self.new ≡ self.old) }
         ensures memory { IfErr result (λ fault. fault ≡ SimFault.Memory) }
     {
-        let copy = change.clone()?;
         self.changes.reserve(1)?;
+        let copy = change.clone()?;
         match self.history.record(change) {
-            Ok(()) => {
-                let Ok(()) = self.changes.push(copy) else {
-                    unreachable!();
-                };
-                Ok(())
-            }
-            Err(_) => Err(SimFault::Memory),
+            Ok(()) => {}
+            Err(_) => return Err(SimFault::Memory),
+        }
+        match self.changes.push(copy) {
+            Ok(()) => Ok(()),
+            Err(_) => unreachable!(),
         }
     }
 
