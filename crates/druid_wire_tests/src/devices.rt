@@ -1,6 +1,7 @@
 //! Readers and writers that fail, that are interrupted, and that take a byte at a time.
-use crate::printing::printed;
-use crate::wire::spelled;
+use crate::printing::{beside, printed};
+use crate::rows::told_otherwise;
+use crate::wire::{spelled, told_of};
 use druid_wire::{WireFault, read_request, read_response, write_response};
 use http::StatusCode;
 use std::alloc::Global;
@@ -71,13 +72,27 @@ impl Write for PlannedWriter<'_> {
     }
 }
 
-// What reading a message over a device with that plan tells.
-fn read_over(alloc: Global, plan: &str, is_response: bool) -> Result<String, Fail> {
-    let text = if is_response {
-        spelled(alloc, "HTTP/1.1 200 OK|Content-Length: 4||true")?
-    } else {
-        spelled(alloc, "|POST /q HTTP/1.1|Content-Length: 3||abc")?
-    };
+// What reading a message tells.
+fn told_over(
+    alloc: Global,
+    reader: &mut BufReader<PlannedReader<'_>>,
+    is_response: bool,
+) -> Result<String, Fail> {
+    if is_response {
+        return match read_response(alloc, reader) {
+            Ok((status, body)) => beside(alloc, &status.as_u16(), &body.len()),
+            Err(fault) => printed(alloc, &fault),
+        };
+    }
+    match read_request(alloc, reader) {
+        Ok(request) => beside(alloc, &request.target(), &request.body().len()),
+        Err(fault) => printed(alloc, &fault),
+    }
+}
+
+// The same of this message, over a device with that plan.
+fn read_over(alloc: Global, plan: &str, text: &str, is_response: bool) -> Result<String, Fail> {
+    let text = spelled(alloc, text)?;
     let input = PlannedReader {
         plan: Plan {
             letters: plan.as_bytes(),
@@ -85,27 +100,19 @@ fn read_over(alloc: Global, plan: &str, is_response: bool) -> Result<String, Fai
         rest: &text,
     };
     let mut reader = BufReader::with_capacity(alloc, 16, input)?;
-    if is_response {
-        return match read_response(alloc, &mut reader) {
-            Ok((status, body)) => Ok(format!(in alloc; "{} {}", status.as_u16(), body.len())?),
-            Err(fault) => printed(alloc, &fault),
-        };
-    }
-    match read_request(alloc, &mut reader) {
-        Ok(request) => Ok(format!(in alloc; "{} {}", request.target(), request.body().len())?),
-        Err(fault) => printed(alloc, &fault),
-    }
+    told_over(alloc, &mut reader, is_response)
 }
 
-fn is_read_so(alloc: Global, row: &str) -> Result<bool, Fail> {
-    let mut columns = row.split('=');
-    let plan = columns.next().ok_or("no plan")?;
-    let request = columns.next().ok_or("no request")?;
-    let response = columns.next().ok_or("no response")?;
-    Ok(
-        read_over(alloc, plan, false)?.as_str() == request
-            && read_over(alloc, plan, true)?.as_str() == response,
-    )
+// What reading a request and a response over devices with that plan tells.
+fn both_over(alloc: Global, plan: &str) -> Result<String, Fail> {
+    let request = read_over(
+        alloc,
+        plan,
+        "|POST /q HTTP/1.1|Content-Length: 3||abc",
+        false,
+    )?;
+    let response = read_over(alloc, plan, "HTTP/1.1 200 OK|Content-Length: 4||true", true)?;
+    Ok(format!(in alloc; "{request}={response}")?)
 }
 
 #[test]
@@ -121,14 +128,12 @@ aaaf=/q 3=200 4
 aam=X9: out of memory=X9: out of memory
 111110=X1: the message is cut off=X1: the message is cut off
 aa0=X1: the message is cut off=X1: the message is cut off";
-    for row in rows.lines() {
-        assert!(rt; is_read_so(rt.alloc(), row)?, "{row}");
-    }
+    assert_eq!(rt; told_otherwise(rt.alloc(), rows, "=", both_over)?, None);
     Ok(())
 }
 
-const WHOLE: &[u8] =
-    b"HTTP/1.1 200 OK\r\nContent-Type: application/json\r\nContent-Length: 4\r\nConnection: close\r\n\r\ntrue";
+const WHOLE: &str =
+    "HTTP/1.1 200 OK|Content-Type: application/json|Content-Length: 4|Connection: close||true";
 
 // What writing a response over a device with that plan tells, and how much of it was written.
 fn written_over(alloc: Global, plan: &str) -> Result<String, Fail> {
@@ -139,22 +144,10 @@ fn written_over(alloc: Global, plan: &str) -> Result<String, Fail> {
         written: Vec::new(alloc),
     };
     let end = write_response(StatusCode::OK, b"true", &mut writer);
-    if !WHOLE.starts_with(&writer.written) {
+    if !spelled(alloc, WHOLE)?.starts_with(&writer.written) {
         return Ok(String::from_str(alloc, "another text")?);
     }
-    let count = writer.written.len();
-    match end {
-        Ok(()) => Ok(format!(in alloc; "ok {count}")?),
-        Err(fault) => {
-            let told = printed(alloc, &fault)?;
-            Ok(format!(in alloc; "{told} {count}")?)
-        }
-    }
-}
-
-fn is_written_so(alloc: Global, row: &str) -> Result<bool, Fail> {
-    let (plan, wanted) = row.split_once("=").ok_or("no row")?;
-    Ok(written_over(alloc, plan)?.as_str() == wanted)
+    told_of(alloc, end, writer.written.len())
 }
 
 #[test]
@@ -172,9 +165,7 @@ m=X9: out of memory 0
 af=X3: the message could not be written 9
 aaaaaaaaf=X3: the message could not be written 89
 aaaaaaaa1i=X3: the message could not be written 90";
-    for row in rows.lines() {
-        assert!(rt; is_written_so(rt.alloc(), row)?, "{row}");
-    }
+    assert_eq!(rt; told_otherwise(rt.alloc(), rows, "=", written_over)?, None);
     Ok(())
 }
 

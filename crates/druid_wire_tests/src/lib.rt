@@ -9,6 +9,8 @@ mod links;
 #[cfg(test)]
 mod printing;
 #[cfg(test)]
+mod rows;
+#[cfg(test)]
 mod serving;
 #[cfg(test)]
 mod tcp_links;

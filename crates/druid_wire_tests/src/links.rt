@@ -1,14 +1,15 @@
 //! Links in memory.
-use crate::printing::printed;
+use crate::printing::{printed, text_of};
+use crate::rows::told_otherwise;
 use crate::wire::large;
 use druid_wire::{Link, MAX_EXCHANGE, MemoryLink};
 use std::alloc::Global;
 use std::test::Fail;
 
-// A link that gives two replies, and fails from that exchange on.
-fn two_replies(alloc: Global, fuse: u64) -> Result<MemoryLink, Fail> {
+// A link that gives this reply and then `two`, and fails from that exchange on.
+fn link_of(alloc: Global, first: Vec<u8>, fuse: u64) -> Result<MemoryLink, Fail> {
     let mut replies = Vec::new(alloc);
-    replies.push(b"one".as_slice().to_vec(alloc)?)?;
+    replies.push(first)?;
     replies.push(b"two".as_slice().to_vec(alloc)?)?;
     Ok(MemoryLink::new(replies, fuse))
 }
@@ -16,7 +17,7 @@ fn two_replies(alloc: Global, fuse: u64) -> Result<MemoryLink, Fail> {
 // What an exchange gives.
 pub(crate) fn exchanged<L: Link>(alloc: Global, link: &mut L) -> Result<String, Fail> {
     match link.exchange(alloc, b"GET / HTTP/1.1\r\n\r\n") {
-        Ok(bytes) => Ok(String::from_utf8_lossy(alloc, &bytes)?),
+        Ok(bytes) => text_of(alloc, &bytes),
         Err(fault) => printed(alloc, &fault),
     }
 }
@@ -32,10 +33,10 @@ fn four_exchanges<L: Link>(alloc: Global, link: &mut L) -> Result<String, Fail> 
     Ok(told)
 }
 
-fn is_exchanged(alloc: Global, row: &str) -> Result<bool, Fail> {
-    let (fuse, wanted) = row.split_once(" = ").ok_or("no row")?;
-    let mut link = two_replies(alloc, fuse.parse()?)?;
-    Ok(four_exchanges(alloc, &mut link)?.as_str() == wanted)
+fn exchanged_before(alloc: Global, fuse: &str) -> Result<String, Fail> {
+    let first = b"one".as_slice().to_vec(alloc)?;
+    let mut link = link_of(alloc, first, fuse.parse()?)?;
+    four_exchanges(alloc, &mut link)
 }
 
 #[test]
@@ -45,24 +46,28 @@ fn links_in_memory(rt: HostRuntime) -> Result<(), Fail> {
 3 = one, two, , X2: the message could not be read, 1
 1 = one, X2: the message could not be read, X2: the message could not be read, X2: the message could not be read, 3
 0 = X2: the message could not be read, X2: the message could not be read, X2: the message could not be read, X2: the message could not be read, 4";
-    for row in rows.lines() {
-        assert!(rt; is_exchanged(rt.alloc(), row)?, "{row}");
-    }
+    assert_eq!(rt;
+        told_otherwise(rt.alloc(), rows, " = ", exchanged_before)?,
+        None
+    );
     Ok(())
+}
+
+// How many bytes an exchange gives, or its fault.
+fn exchanged_length<L: Link>(alloc: Global, link: &mut L) -> Result<String, Fail> {
+    match link.exchange(alloc, b"") {
+        Ok(bytes) => printed(alloc, &bytes.len()),
+        Err(fault) => printed(alloc, &fault),
+    }
 }
 
 // How many bytes a reply gives that has so many more than an exchange may give, or its fault; and what comes behind it.
 fn large_reply(alloc: Global, more: usize) -> Result<String, Fail> {
-    let mut replies = Vec::new(alloc);
-    replies.push(large(alloc, MAX_EXCHANGE.saturating_add(more))?)?;
-    replies.push(b"two".as_slice().to_vec(alloc)?)?;
-    let mut link = MemoryLink::new(replies, 9);
-    let told = match link.exchange(alloc, b"") {
-        Ok(bytes) => printed(alloc, &bytes.len())?,
-        Err(fault) => printed(alloc, &fault)?,
-    };
+    let reply = large(alloc, MAX_EXCHANGE.saturating_add(more))?;
+    let mut link = link_of(alloc, reply, 9)?;
+    let first = exchanged_length(alloc, &mut link)?;
     let next = exchanged(alloc, &mut link)?;
-    Ok(format!(in alloc; "{told}, {next}")?)
+    Ok(format!(in alloc; "{first}, {next}")?)
 }
 
 #[test]

@@ -7,3 +7,17 @@ use std::test::Fail;
 pub(crate) fn printed<T: Display>(alloc: Global, value: &T) -> Result<String, Fail> {
     Ok(format!(in alloc; "{value}")?)
 }
+
+/// What two values print, one beside the other.
+pub(crate) fn beside<T: Display, U: Display>(
+    alloc: Global,
+    first: &T,
+    second: &U,
+) -> Result<String, Fail> {
+    Ok(format!(in alloc; "{first} {second}")?)
+}
+
+/// The text of these bytes.
+pub(crate) fn text_of(alloc: Global, bytes: &[u8]) -> Result<String, Fail> {
+    Ok(String::from_utf8_lossy(alloc, bytes)?)
+}

@@ -1,19 +1,24 @@
 //! Requests, taken apart and refused.
-use crate::printing::printed;
+use crate::printing::{beside, printed, text_of};
+use crate::rows::{halves, told_otherwise};
 use crate::wire::spelled;
 use druid_wire::{Request, WireFault, read_request, refuse_request};
 use std::alloc::Global;
 use std::test::Fail;
 
+fn method_of(request: &Request) -> &'static str {
+    if request.has_method("GET") {
+        "GET"
+    } else {
+        "another"
+    }
+}
+
 // The parts of a request's target, and whether its method is `GET`.
 fn parts_of(alloc: Global, request: &Request) -> Result<String, Fail> {
     let path = request.path();
     let parameters = request.parameters();
-    let method = if request.has_method("GET") {
-        "GET"
-    } else {
-        "another"
-    };
+    let method = method_of(request);
     Ok(format!(in alloc; "{method} [{path}] [{parameters}]")?)
 }
 
@@ -22,9 +27,9 @@ fn refused(alloc: Global, fault: WireFault) -> Result<String, Fail> {
     let mut written = Vec::new(alloc);
     match refuse_request(fault, &mut written) {
         Ok(status) => {
-            let text = String::from_utf8_lossy(alloc, &written)?;
-            let (_, body) = text.as_str().split_once("\r\n\r\n").ok_or("no head")?;
-            Ok(format!(in alloc; "{status} {body}")?)
+            let text = text_of(alloc, &written)?;
+            let (_, body) = halves(text.as_str(), "\r\n\r\n")?;
+            beside(alloc, &status, &body)
         }
         Err(fault) => {
             if !written.is_empty() {
@@ -35,17 +40,13 @@ fn refused(alloc: Global, fault: WireFault) -> Result<String, Fail> {
     }
 }
 
-fn told_of(alloc: Global, text: &[u8]) -> Result<String, Fail> {
-    let mut rest = text;
+fn told_of(alloc: Global, text: &str) -> Result<String, Fail> {
+    let text = spelled(alloc, text)?;
+    let mut rest = text.as_slice();
     match read_request(alloc, &mut rest) {
         Ok(request) => parts_of(alloc, &request),
         Err(fault) => refused(alloc, fault),
     }
-}
-
-fn is_told(alloc: Global, row: &str) -> Result<bool, Fail> {
-    let (text, wanted) = row.split_once(" = ").ok_or("no row")?;
-    Ok(told_of(alloc, &spelled(alloc, text)?)?.as_str() == wanted)
 }
 
 #[test]
@@ -61,9 +62,7 @@ GET = X1: the message is cut off
 GET|| = 400 {\"error\":\"X4\"}
 POST / HTTP/1.1|| = 400 {\"error\":\"X6\"}
 GET / HTTP/1.1|Content-Length: 16777217||a = 400 {\"error\":\"X7\"}";
-    for row in rows.lines() {
-        assert!(rt; is_told(rt.alloc(), row)?, "{row}");
-    }
+    assert_eq!(rt; told_otherwise(rt.alloc(), rows, " = ", told_of)?, None);
     assert!(rt; refused(rt.alloc(), WireFault::HeadTooLong)?.as_str() == "400 {\"error\":\"X5\"}");
     assert!(rt; refused(rt.alloc(), WireFault::Memory)?.as_str() == "X9: out of memory");
     Ok(())

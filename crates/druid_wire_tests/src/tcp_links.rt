@@ -1,10 +1,11 @@
 //! Links over sockets of this machine.
 use crate::links::exchanged;
 use crate::printing::printed;
+use crate::rows::halves;
 use druid_wire::{Link, TcpLink};
 use std::alloc::Global;
 use std::io::{Read, Write};
-use std::net::{Net, SocketAddr, TcpListener, TcpStream};
+use std::net::{Net, TcpListener, TcpStream};
 use std::test::Fail;
 use std::thread::{Threads, join};
 use std::time::{Clock, Duration};
@@ -39,11 +40,13 @@ fn serve_once<C: Clock>(clock: &C, listener: &TcpListener, row: &str) -> io::Res
     serve(clock, &mut socket, row)
 }
 
+// A listener of this machine, and its address.
 fn listening<N: Net<Listener = TcpListener, Stream = TcpStream>>(
+    alloc: Global,
     net: &N,
-) -> io::Result<(TcpListener, SocketAddr)> {
+) -> Result<(TcpListener, String), Fail> {
     let listener = TcpListener::bind(net, "127.0.0.1:0")?;
-    let address = listener.local_addr()?;
+    let address = printed(alloc, &listener.local_addr()?)?;
     Ok((listener, address))
 }
 
@@ -59,7 +62,8 @@ fn linked<N: Net + Clock + Drop>(net: N, address: String, row: &str) -> TcpLink<
 // What an exchange gives, and how often the device has failed then.
 fn told<L: Link>(alloc: Global, link: &mut L) -> Result<String, Fail> {
     let came = exchanged(alloc, link)?;
-    Ok(format!(in alloc; "{came}, {}", link.faults())?)
+    let faults = printed(alloc, &link.faults())?;
+    Ok(format!(in alloc; "{came}, {faults}")?)
 }
 
 // What an exchange tells with a server that does what the row says.
@@ -68,8 +72,8 @@ fn told_with<R: Net<Listener = TcpListener, Stream = TcpStream> + Clock + Thread
     rt: &R,
     row: &str,
 ) -> Result<String, Fail> {
-    let (listener, address) = listening(rt)?;
-    let mut link = linked(rt, printed(alloc, &address)?, row);
+    let (listener, address) = listening(alloc, rt)?;
+    let mut link = linked(rt, address, row);
     if row == "is gone" {
         drop(listener);
         return told(alloc, &mut link);
@@ -90,7 +94,7 @@ stalls = X2: the message could not be read, 1
 drips = X2: the message could not be read, 1
 is gone = X8: no connection, 1";
     for row in rows.lines() {
-        let (server, wanted) = row.split_once(" = ").ok_or("no row")?;
+        let (server, wanted) = halves(row, " = ")?;
         assert!(rt;
             told_with(rt.alloc(), &rt, server)?.as_str() == wanted,
             "{row}"

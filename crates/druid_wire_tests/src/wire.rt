@@ -1,8 +1,9 @@
 //! Messages, read and written.
-use crate::printing::printed;
+use crate::printing::{beside, printed, text_of};
+use crate::rows::{halves, told_otherwise};
 use druid_wire::{
-    Request, read_request, read_response, request_bytes, response_of, send_response, write_request,
-    write_response,
+    Request, WireFault, read_request, read_response, request_bytes, response_of, send_response,
+    write_request, write_response,
 };
 use http::{Method, StatusCode};
 use std::alloc::Global;
@@ -121,47 +122,65 @@ HTTP/1.1 200 OK|transfer-encoding: chunked||0|| = X6: no length of the body
 HTTP/1.1 200 OK|Content-Length: 16777217||a = X7: the body is too long
 HTTP/1.1 200 OK|Content-Length: 99999999999999999999||a = X7: the body is too long";
 
-fn push_byte(alloc: Global, out: &mut Vec<u8>, byte: u8) -> Result<(), Fail> {
-    match byte {
-        b'|' => out.extend_from_slice(b"\r\n")?,
-        b'_' => out.push(b'\n')?,
-        b'^' => out.push(b'\r')?,
-        b'%' => out.push(1)?,
-        b'@' => out.push(127)?,
-        b'~' => out.push(255)?,
-        _ => out.push(byte)?,
+// The byte that a letter stands for which stands for one.
+fn byte_of(letter: u8) -> u8 {
+    match letter {
+        b'_' => b'\n',
+        b'^' => b'\r',
+        b'%' => 1,
+        b'@' => 127,
+        b'~' => 255,
+        _ => letter,
     }
-    Ok(())
 }
 
 // The bytes that a text stands for.
 pub(crate) fn spelled(alloc: Global, text: &str) -> Result<Vec<u8>, Fail> {
     let mut out = Vec::new(alloc);
-    for byte in text.bytes() {
-        push_byte(alloc, &mut out, byte)?;
+    for letter in text.bytes() {
+        if letter == b'|' {
+            out.extend_from_slice(b"\r\n")?;
+        } else {
+            out.push(byte_of(letter))?;
+        }
     }
     Ok(out)
 }
 
 // The bytes as a text of a table, which shows a line end as `|`.
 fn shown(alloc: Global, bytes: &[u8]) -> Result<String, Fail> {
-    let text = String::from_utf8_lossy(alloc, bytes)?;
+    let text = text_of(alloc, bytes)?;
     Ok(text.as_str().replace(alloc, "\r\n", "|")?)
+}
+
+// A request, and what is left behind it.
+fn told_request(alloc: Global, request: &Request, rest: &[u8]) -> Result<String, Fail> {
+    let method = request.method().as_str();
+    let target = request.target();
+    let body = shown(alloc, request.body())?;
+    let left = shown(alloc, rest)?;
+    Ok(format!(in alloc; "{method} {target} [{body}] [{left}]")?)
 }
 
 // What a text is, read as a request.
 fn request_in(alloc: Global, text: &[u8]) -> Result<String, Fail> {
     let mut rest = text;
     match read_request(alloc, &mut rest) {
-        Ok(request) => {
-            let method = request.method().as_str();
-            let target = request.target();
-            let body = shown(alloc, request.body())?;
-            let left = shown(alloc, rest)?;
-            Ok(format!(in alloc; "{method} {target} [{body}] [{left}]")?)
-        }
+        Ok(request) => told_request(alloc, &request, rest),
         Err(fault) => printed(alloc, &fault),
     }
+}
+
+// A response, without what is left behind it.
+fn shown_response(alloc: Global, status: StatusCode, body: &[u8]) -> Result<String, Fail> {
+    let code = printed(alloc, &status.as_u16())?;
+    let body = shown(alloc, body)?;
+    Ok(format!(in alloc; "{code} [{body}]")?)
+}
+
+fn shown_with_rest(alloc: Global, told: &str, rest: &[u8]) -> Result<String, Fail> {
+    let left = shown(alloc, rest)?;
+    Ok(format!(in alloc; "{told} [{left}]")?)
 }
 
 // What a text is, read as a response.
@@ -169,10 +188,8 @@ fn response_in(alloc: Global, text: &[u8]) -> Result<String, Fail> {
     let mut rest = text;
     match read_response(alloc, &mut rest) {
         Ok((status, body)) => {
-            let code = status.as_u16();
-            let body = shown(alloc, &body)?;
-            let left = shown(alloc, rest)?;
-            Ok(format!(in alloc; "{code} [{body}] [{left}]")?)
+            let told = shown_response(alloc, status, &body)?;
+            shown_with_rest(alloc, told.as_str(), rest)
         }
         Err(fault) => printed(alloc, &fault),
     }
@@ -181,38 +198,36 @@ fn response_in(alloc: Global, text: &[u8]) -> Result<String, Fail> {
 // What the response is that stands in these bytes.
 fn found_in(alloc: Global, text: &[u8]) -> Result<String, Fail> {
     match response_of(text) {
-        Ok((status, body)) => {
-            let code = status.as_u16();
-            let body = shown(alloc, body)?;
-            Ok(format!(in alloc; "{code} [{body}]")?)
-        }
+        Ok((status, body)) => shown_response(alloc, status, body),
         Err(fault) => printed(alloc, &fault),
     }
 }
 
-fn is_request(alloc: Global, row: &str) -> Result<bool, Fail> {
-    let (text, wanted) = row.split_once(" = ").ok_or("no row")?;
-    Ok(request_in(alloc, &spelled(alloc, text)?)?.as_str() == wanted)
+fn request_told(alloc: Global, text: &str) -> Result<String, Fail> {
+    request_in(alloc, &spelled(alloc, text)?)
 }
 
-fn is_response(alloc: Global, row: &str) -> Result<bool, Fail> {
-    let (text, wanted) = row.split_once(" = ").ok_or("no row")?;
-    Ok(response_in(alloc, &spelled(alloc, text)?)?.as_str() == wanted)
+fn response_told(alloc: Global, text: &str) -> Result<String, Fail> {
+    response_in(alloc, &spelled(alloc, text)?)
 }
 
 // Whether the same response is found where its bytes are at hand. What follows it is not told.
 fn is_found(alloc: Global, row: &str) -> Result<bool, Fail> {
-    let (text, wanted) = row.split_once(" = ").ok_or("no row")?;
+    let (text, wanted) = halves(row, " = ")?;
     Ok(wanted.starts_with(found_in(alloc, &spelled(alloc, text)?)?.as_str()))
 }
 
 #[test]
 fn ample_memory(rt: HostRuntime) -> Result<(), Fail> {
-    for row in REQUESTS.lines() {
-        assert!(rt; is_request(rt.alloc(), row)?, "{row}");
-    }
+    assert_eq!(rt;
+        told_otherwise(rt.alloc(), REQUESTS, " = ", request_told)?,
+        None
+    );
+    assert_eq!(rt;
+        told_otherwise(rt.alloc(), RESPONSES, " = ", response_told)?,
+        None
+    );
     for row in RESPONSES.lines() {
-        assert!(rt; is_response(rt.alloc(), row)?, "{row}");
         assert!(rt; is_found(rt.alloc(), row)?, "{row}");
     }
     Ok(())
@@ -220,19 +235,20 @@ fn ample_memory(rt: HostRuntime) -> Result<(), Fail> {
 
 const CUT: &str = "X1: the message is cut off";
 
+fn is_cut(alloc: Global, front: &[u8], is_response: bool) -> Result<bool, Fail> {
+    if is_response {
+        return Ok(
+            response_in(alloc, front)?.as_str() == CUT && found_in(alloc, front)?.as_str() == CUT,
+        );
+    }
+    Ok(request_in(alloc, front)?.as_str() == CUT)
+}
+
 // Whether each front of a message that is not the whole is cut, read as a request or as a response.
 fn is_cut_everywhere(alloc: Global, text: &str, is_response: bool) -> Result<bool, Fail> {
     let whole = spelled(alloc, text)?;
     for i in 0..whole.len() {
-        let told = if is_response {
-            response_in(alloc, &whole[..i])?
-        } else {
-            request_in(alloc, &whole[..i])?
-        };
-        if told.as_str() != CUT {
-            return Ok(false);
-        }
-        if is_response && found_in(alloc, &whole[..i])?.as_str() != CUT {
+        if !is_cut(alloc, &whole[..i], is_response)? {
             return Ok(false);
         }
     }
@@ -253,58 +269,53 @@ const REQUEST_LINE: &str = "GET / HTTP/1.1|";
 
 const RESPONSE_LINES: &str = "HTTP/1.1 200 OK|Content-Length: 0|";
 
-// A head of so many bytes, with one long field.
-fn long_head(alloc: Global, lines: &str, length: usize) -> Result<Vec<u8>, Fail> {
-    let mut head = spelled(alloc, lines)?;
-    head.extend_from_slice(b"A: ")?;
-    for _ in 0..length.saturating_sub(head.len().saturating_add(4)) {
-        head.push(b'x')?;
-    }
-    head.extend_from_slice(b"\r\n\r\n")?;
-    Ok(head)
+fn number(text: &str) -> Result<usize, Fail> {
+    Ok(text.parse()?)
 }
 
-// A head of so many fields more.
-fn wide_head(alloc: Global, lines: &str, count: usize) -> Result<Vec<u8>, Fail> {
-    let mut head = spelled(alloc, lines)?;
+fn repeated(alloc: Global, part: &str, count: usize) -> Result<String, Fail> {
+    let mut text = String::new(alloc);
     for _ in 0..count {
-        head.extend_from_slice(b"A: b\r\n")?;
+        text.push_str(part)?;
     }
-    head.extend_from_slice(b"\r\n")?;
-    Ok(head)
+    Ok(text)
 }
 
-// What is large in a row and how large, behind these lines, and how many blank lines stand before it.
+// A head of so many bytes, with one long field behind these lines.
+fn long_head(alloc: Global, lines: &str, length: &str) -> Result<String, Fail> {
+    // Seven are those of the field's name and of the two line ends.
+    let least = spelled(alloc, lines)?.len().saturating_add(7);
+    let value = repeated(alloc, "x", number(length)?.saturating_sub(least))?;
+    Ok(format!(in alloc; "{lines}A: {value}||")?)
+}
+
+// A head of so many fields more than these lines.
+fn wide_head(alloc: Global, lines: &str, count: &str) -> Result<String, Fail> {
+    let fields = repeated(alloc, "A: b|", number(count)?)?;
+    Ok(format!(in alloc; "{lines}{fields}|")?)
+}
+
+// A head behind these lines: what is large in it and how large, and how many blank lines stand before it.
 fn large_head(alloc: Global, lines: &str, what: &str) -> Result<Vec<u8>, Fail> {
-    let mut columns = what.split(' ');
-    let kind = columns.next().ok_or("no kind")?;
-    let size: usize = columns.next().ok_or("no size")?.parse()?;
-    let blank: usize = columns.next().ok_or("no blank lines")?.parse()?;
+    let (kind, rest) = halves(what, " ")?;
+    let (size, blank) = halves(rest, " ")?;
     let head = if kind == "bytes" {
         long_head(alloc, lines, size)?
     } else {
         wide_head(alloc, lines, size)?
     };
-    let mut text = Vec::new(alloc);
-    for _ in 0..blank {
-        text.extend_from_slice(b"\r\n")?;
-    }
-    text.extend_from_slice(&head)?;
-    Ok(text)
+    let blank = repeated(alloc, "|", number(blank)?)?;
+    spelled(alloc, format!(in alloc; "{blank}{head}")?.as_str())
 }
 
-// Whether a large head is read as a request so.
-fn is_within(alloc: Global, row: &str) -> Result<bool, Fail> {
-    let (what, wanted) = row.split_once(" = ").ok_or("no row")?;
-    let text = large_head(alloc, REQUEST_LINE, what)?;
-    Ok(request_in(alloc, &text)?.as_str() == wanted)
+// What a request with a large head is.
+fn told_within(alloc: Global, what: &str) -> Result<String, Fail> {
+    request_in(alloc, &large_head(alloc, REQUEST_LINE, what)?)
 }
 
-// Whether a response with a large head is found so.
-fn is_found_within(alloc: Global, row: &str) -> Result<bool, Fail> {
-    let (what, wanted) = row.split_once(" = ").ok_or("no row")?;
-    let text = large_head(alloc, RESPONSE_LINES, what)?;
-    Ok(found_in(alloc, &text)?.as_str() == wanted)
+// What a response with a large head is.
+fn found_within(alloc: Global, what: &str) -> Result<String, Fail> {
+    found_in(alloc, &large_head(alloc, RESPONSE_LINES, what)?)
 }
 
 #[test]
@@ -318,9 +329,10 @@ bytes 50000 1 = X5: the head is too long
 fields 64 0 = GET / [] []
 fields 65 0 = X5: the head is too long
 fields 200 0 = X5: the head is too long";
-    for row in requests.lines() {
-        assert!(rt; is_within(rt.alloc(), row)?, "{row}");
-    }
+    assert_eq!(rt;
+        told_otherwise(rt.alloc(), requests, " = ", told_within)?,
+        None
+    );
     let responses = "bytes 16384 0 = 200 []
 bytes 16384 9000 = 200 []
 bytes 16385 0 = X5: the head is too long
@@ -328,46 +340,70 @@ bytes 16386 0 = X5: the head is too long
 bytes 50000 1 = X5: the head is too long
 fields 63 0 = 200 []
 fields 64 0 = X5: the head is too long";
-    for row in responses.lines() {
-        assert!(rt; is_found_within(rt.alloc(), row)?, "{row}");
-    }
+    assert_eq!(rt;
+        told_otherwise(rt.alloc(), responses, " = ", found_within)?,
+        None
+    );
     Ok(())
+}
+
+fn response_bytes(alloc: Global, status: StatusCode, body: &[u8]) -> Result<Vec<u8>, Fail> {
+    let mut written = Vec::new(alloc);
+    if write_response(status, body, &mut written).is_err() {
+        return Err("the response is not written".into());
+    }
+    Ok(written)
+}
+
+fn status(code: &str) -> Result<StatusCode, Fail> {
+    match StatusCode::from_u16(code.parse()?) {
+        Ok(status) => Ok(status),
+        Err(_) => Err("no status".into()),
+    }
 }
 
 // Whether a response with that status and body is written so.
 fn is_response_text(alloc: Global, row: &str) -> Result<bool, Fail> {
-    let (what, wanted) = row.split_once(" = ").ok_or("no row")?;
-    let (code, body) = what.split_once(" ").ok_or("no status")?;
-    let Ok(status) = StatusCode::from_u16(code.parse()?) else {
-        return Ok(false);
-    };
-    let mut written = Vec::new(alloc);
-    if write_response(status, body.as_bytes(), &mut written).is_err() {
-        return Ok(false);
-    }
+    let (what, wanted) = halves(row, " = ")?;
+    let (code, body) = halves(what, " ")?;
+    let written = response_bytes(alloc, status(code)?, body.as_bytes())?;
     Ok(written.as_slice() == spelled(alloc, wanted)?.as_slice())
 }
 
-// Whether a request of that method, target and body is written so.
-fn is_request_text(alloc: Global, row: &str) -> Result<bool, Fail> {
-    let (what, wanted) = row.split_once(" = ").ok_or("no row")?;
-    let mut columns = what.split(' ');
-    let method = columns.next().ok_or("no method")?;
-    let target = columns.next().ok_or("no target")?;
-    let body = columns.next().ok_or("no body")?;
-    let Ok(method) = Method::from_bytes(alloc, method.as_bytes()) else {
-        return Ok(false);
-    };
-    let mut bytes = Vec::new(alloc);
-    bytes.extend_from_slice(body.as_bytes())?;
-    let request = Request::new(method, String::from_str(alloc, target)?, bytes);
-    let mut written = Vec::new(alloc);
-    if write_request(&request, &mut written).is_err() {
-        return Ok(false);
+fn method(alloc: Global, name: &str) -> Result<Method, Fail> {
+    match Method::from_bytes(alloc, name.as_bytes()) {
+        Ok(method) => Ok(method),
+        Err(_) => Err("no method".into()),
     }
+}
+
+fn request(alloc: Global, name: &str, target: &str, body: Vec<u8>) -> Result<Request, Fail> {
+    let target = String::from_str(alloc, target)?;
+    Ok(Request::new(method(alloc, name)?, target, body))
+}
+
+fn is_written(alloc: Global, request: &Request, wanted: &[u8]) -> bool {
+    let mut written = Vec::new(alloc);
+    write_request(request, &mut written).is_ok() && written.as_slice() == wanted
+}
+
+fn has_bytes(alloc: Global, request: &Request, wanted: &[u8]) -> Result<bool, Fail> {
+    Ok(request_bytes(alloc, request)?.as_slice() == wanted)
+}
+
+// The request of that method, target and body.
+fn request_of(alloc: Global, what: &str) -> Result<Request, Fail> {
+    let (method, rest) = halves(what, " ")?;
+    let (target, body) = halves(rest, " ")?;
+    request(alloc, method, target, body.as_bytes().to_vec(alloc)?)
+}
+
+// Whether a request is written so.
+fn is_request_text(alloc: Global, row: &str) -> Result<bool, Fail> {
+    let (what, wanted) = halves(row, " = ")?;
+    let request = request_of(alloc, what)?;
     let wanted = spelled(alloc, wanted)?;
-    let bytes = request_bytes(alloc, &request)?;
-    Ok(written.as_slice() == wanted.as_slice() && bytes.as_slice() == wanted.as_slice())
+    Ok(is_written(alloc, &request, &wanted) && has_bytes(alloc, &request, &wanted)?)
 }
 
 #[test]
@@ -394,18 +430,12 @@ POST /q abcdefghijkl = POST /q HTTP/1.1|Host: localhost|Content-Type: applicatio
 
 // A body of so many bytes.
 pub(crate) fn large(alloc: Global, length: usize) -> Result<Vec<u8>, Fail> {
-    let mut body = Vec::new(alloc);
-    body.resize(length, b'x')?;
-    Ok(body)
+    Ok(vec![in alloc; b'x'; length]?)
 }
 
 // Whether a response with a body of so many bytes is written with that head, and that much of a body.
 fn is_large_response(alloc: Global, length: usize, head: &str, count: usize) -> Result<bool, Fail> {
-    let body = large(alloc, length)?;
-    let mut written = Vec::new(alloc);
-    if write_response(StatusCode::OK, &body, &mut written).is_err() {
-        return Ok(false);
-    }
+    let written = response_bytes(alloc, StatusCode::OK, &large(alloc, length)?)?;
     let head = spelled(alloc, head)?;
     Ok(written.starts_with(&head) && written.len() == head.len().saturating_add(count))
 }
@@ -417,21 +447,29 @@ fn large_status(alloc: Global, length: usize) -> Result<u16, Fail> {
     Ok(send_response(StatusCode::OK, &body, &mut written).unwrap_or(0))
 }
 
+/// What the end of writing tells, beside how many bytes are written.
+pub(crate) fn told_of(
+    alloc: Global,
+    end: Result<(), WireFault>,
+    count: usize,
+) -> Result<String, Fail> {
+    match end {
+        Ok(()) => beside(alloc, &"ok", &count),
+        Err(fault) => beside(alloc, &fault, &count),
+    }
+}
+
+fn written_of(alloc: Global, request: &Request) -> Result<String, Fail> {
+    let mut written = Vec::new(alloc);
+    let end = write_request(request, &mut written);
+    told_of(alloc, end, written.len())
+}
+
 // What writing a request with a body of so many bytes tells, how many bytes are written, and how many its text has.
 fn large_request(alloc: Global, length: usize) -> Result<String, Fail> {
-    let body = large(alloc, length)?;
-    let Ok(method) = Method::from_bytes(alloc, b"POST") else {
-        return Ok(String::new(alloc));
-    };
-    let request = Request::new(method, String::from_str(alloc, "/")?, body);
-    let mut written = Vec::new(alloc);
-    let told = match write_request(&request, &mut written) {
-        Ok(()) => String::from_str(alloc, "ok")?,
-        Err(fault) => printed(alloc, &fault)?,
-    };
-    let count = written.len();
-    let text = request_bytes(alloc, &request)?.len();
-    Ok(format!(in alloc; "{told} {count} {text}")?)
+    let request = request(alloc, "POST", "/", large(alloc, length)?)?;
+    let written = written_of(alloc, &request)?;
+    beside(alloc, &written, &request_bytes(alloc, &request)?.len())
 }
 
 #[test]
