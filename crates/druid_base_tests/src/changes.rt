@@ -1,9 +1,10 @@
-use crate::printing::printed;
-use crate::rows::{change, descriptor, mark_told, partitions_told};
+use crate::printing::{assert_printed, assert_rows, assert_told, owned, printed};
+use crate::rows::{change, descriptor, mark_told, parsed, push_partition, push_partitions};
 use druid_changes::{History, HistoryFault};
-use druid_shard::{Ask, Body, Change, MAX_SEGMENTS, Mark, Reply};
+use druid_shard::{Ask, Body, Cause, Change, Descriptor, MAX_SEGMENTS, Mark, Reply};
 use std::alloc::Global;
-use std::test::Fail;
+use std::fmt::Write;
+use std::process::Abort;
 
 // Five changes: a partition is loaded or dropped.
 const CHANGES: &str = "+0 +1 -0 +3 +2";
@@ -22,126 +23,138 @@ const ANSWERS: &str = "1 3 = delta 1 3 1 5 +3 +2
 const RECORDED: &str = "+1 = H1: served already
 -0 = H2: not served
 -9 = H2: not served
-+0 = 0 1 2 3
--1 = 2 3";
++0 = set 0 1 2 3
+-1 = set 2 3";
 
 // A node of incarnation 1 that keeps two changes.
-fn five_changes(alloc: Global) -> Result<History, Fail> {
-    let mut history = History::new(alloc, 1, 2)?;
+fn five_changes(rt: &impl Abort, alloc: Global) -> History {
+    let mut history = History::new(alloc, 1, 2).expect(rt, "memory");
     for text in CHANGES.split(' ') {
-        history.record(change(alloc, text)?)?;
+        history
+            .record(change(rt, alloc, text))
+            .expect(rt, "a refused change");
     }
-    Ok(history)
+    history
 }
 
-fn changes_told(alloc: Global, changes: &[Change]) -> Result<String, Fail> {
-    let mut told = String::new(alloc);
+fn push_changes(rt: &impl Abort, told: &mut String, changes: &[Change]) {
     for change in changes {
-        let one = match change {
-            Change::Load(segment) => format!(in alloc; " +{}", segment.id().partition())?,
-            Change::Drop(segment) => format!(in alloc; " -{}", segment.id().partition())?,
-        };
-        told.push_str(one.as_str())?;
+        match change {
+            Change::Load(segment) => push_partition(rt, told, " +", segment),
+            Change::Drop(segment) => push_partition(rt, told, " -", segment),
+        }
     }
-    Ok(told)
 }
 
-fn reply_told(alloc: Global, reply: &Reply) -> Result<String, Fail> {
+fn delta_told(rt: &impl Abort, alloc: Global, from: Mark, to: Mark, changes: &[Change]) -> String {
+    let mut told = kind_told(rt, alloc, "delta", from);
+    write!(told, " {} {}", to.incarnation(), to.count()).expect(rt, "memory");
+    push_changes(rt, &mut told, changes);
+    told
+}
+
+fn snapshot_told(rt: &impl Abort, alloc: Global, at: Mark, segments: &[Descriptor]) -> String {
+    let mut told = kind_told(rt, alloc, "snapshot", at);
+    push_partitions(rt, &mut told, segments);
+    told
+}
+
+fn reset_told(rt: &impl Abort, alloc: Global, cause: Cause, at: Mark) -> String {
+    let mut told = kind_told(rt, alloc, "reset", at);
+    write!(told, " {cause:?}").expect(rt, "memory");
+    told
+}
+
+// A kind of reply and a mark.
+fn kind_told(rt: &impl Abort, alloc: Global, kind: &str, mark: Mark) -> String {
+    let mark = mark_told(rt, alloc, mark);
+    format!(in alloc; "{kind} {mark}").expect(rt, "memory")
+}
+
+fn reply_told(rt: &impl Abort, alloc: Global, reply: &Reply) -> String {
     match reply.body() {
         Body::Delta { from, to, changes } => {
-            let from = mark_told(alloc, *from)?;
-            let to = mark_told(alloc, *to)?;
-            let changes = changes_told(alloc, changes.as_slice())?;
-            Ok(format!(in alloc; "delta {from} {to}{changes}")?)
+            delta_told(rt, alloc, *from, *to, changes.as_slice())
         }
-        Body::Snapshot { at, segments } => {
-            let at = mark_told(alloc, *at)?;
-            let segments = partitions_told(alloc, segments.as_slice())?;
-            Ok(format!(in alloc; "snapshot {at}{segments}")?)
-        }
-        Body::Reset { cause, at } => {
-            let at = mark_told(alloc, *at)?;
-            Ok(format!(in alloc; "reset {at} {cause:?}")?)
-        }
+        Body::Snapshot { at, segments } => snapshot_told(rt, alloc, *at, segments.as_slice()),
+        Body::Reset { cause, at } => reset_told(rt, alloc, *cause, *at),
     }
 }
 
-fn answer_since(alloc: Global, mark: &str) -> Result<String, Fail> {
-    let (incarnation, count) = mark.split_once(' ').ok_or("no mark")?;
-    let mark = Mark::new(incarnation.parse()?, count.parse()?);
-    let reply = five_changes(alloc)?.since(&Ask::Since(mark))?;
-    reply_told(alloc, &reply)
+// What the node answers to an ask.
+fn answered(rt: &impl Abort, alloc: Global, ask: &Ask) -> String {
+    let reply = five_changes(rt, alloc).since(ask).expect(rt, "memory");
+    reply_told(rt, alloc, &reply)
 }
 
-fn snapshot(alloc: Global) -> Result<String, Fail> {
-    let reply = five_changes(alloc)?.since(&Ask::Whole)?;
-    reply_told(alloc, &reply)
+fn answer_since(rt: &impl Abort, alloc: Global, mark: &str) -> String {
+    let (incarnation, count) = mark.split_once(' ').expect(rt, "no mark");
+    let mark = Mark::new(parsed(rt, incarnation), parsed(rt, count));
+    answered(rt, alloc, &Ask::Since(mark))
+}
+
+// The set that the node has.
+fn set_told(rt: &impl Abort, alloc: Global, history: &History) -> String {
+    let set = history.set().expect(rt, "memory");
+    let mut told = owned(rt, alloc, "set");
+    push_partitions(rt, &mut told, set.as_slice());
+    told
 }
 
 // The set after the five changes and one more, or why that one is refused.
-fn set_after(alloc: Global, text: &str) -> Result<String, Fail> {
-    let mut history = five_changes(alloc)?;
-    match history.record(change(alloc, text)?) {
-        Ok(()) => {
-            let told = partitions_told(alloc, history.set()?.as_slice())?;
-            Ok(String::from_str(alloc, told.as_str().trim_start())?)
-        }
-        Err(fault) => printed(alloc, &fault),
+fn set_after(rt: &impl Abort, alloc: Global, text: &str) -> String {
+    let mut history = five_changes(rt, alloc);
+    match history.record(change(rt, alloc, text)) {
+        Ok(()) => set_told(rt, alloc, &history),
+        Err(fault) => printed(rt, alloc, &fault),
     }
+}
+
+// Loads that partition.
+fn load(
+    rt: &impl Abort,
+    alloc: Global,
+    history: &mut History,
+    partition: u16,
+) -> Result<(), HistoryFault> {
+    history.record(Change::Load(descriptor(rt, alloc, partition)))
 }
 
 // Why a node of 20,000 segments loads no more.
-fn fault_when_full(alloc: Global) -> Result<Option<HistoryFault>, Fail> {
-    let mut history = History::new(alloc, 1, 1)?;
+fn fault_when_full(rt: &impl Abort, alloc: Global) -> Option<HistoryFault> {
+    let mut history = History::new(alloc, 1, 1).expect(rt, "memory");
     for partition in 0..MAX_SEGMENTS as u16 {
-        history.record(Change::Load(descriptor(alloc, partition)?))?;
+        load(rt, alloc, &mut history, partition).expect(rt, "a refused load");
     }
-    Ok(
-        history
-            .record(Change::Load(descriptor(alloc, 20_000)?))
-            .err(),
-    )
+    load(rt, alloc, &mut history, 20_000).err()
 }
 
 #[test]
-fn ample_memory(rt: HostRuntime) -> Result<(), Fail> {
-    let told = snapshot(rt.alloc())?;
-    assert_eq!(rt; told.as_str(), "snapshot 1 5 1 2 3");
-    let mark = mark_told(rt.alloc(), five_changes(rt.alloc())?.mark())?;
-    assert_eq!(rt; mark.as_str(), "1 5");
-    for row in RECORDED.lines() {
-        let (text, wanted) = row.split_once(" = ").ok_or("no row")?;
-        let told = set_after(rt.alloc(), text)?;
-        assert_eq!(rt; told.as_str(), wanted, "at {text}");
-    }
-    Ok(())
+fn ample_memory(rt: HostRuntime) {
+    let told = answered(&rt, rt.alloc(), &Ask::Whole);
+    assert_told(&rt, "the whole", told, "snapshot 1 5 1 2 3");
+    let mark = five_changes(&rt, rt.alloc()).mark();
+    assert!(rt; mark == Mark::new(1, 5));
+    assert_rows(&rt, rt.alloc(), RECORDED, set_after);
 }
 
 #[test]
-fn history_answers(rt: HostRuntime) -> Result<(), Fail> {
-    for row in ANSWERS.lines() {
-        let (mark, wanted) = row.split_once(" = ").ok_or("no row")?;
-        let told = answer_since(rt.alloc(), mark)?;
-        assert_eq!(rt; told.as_str(), wanted, "at {mark}");
-    }
-    Ok(())
+fn history_answers(rt: HostRuntime) {
+    assert_rows(&rt, rt.alloc(), ANSWERS, answer_since);
 }
 
 #[test]
-fn the_limit_of_a_set(rt: HostRuntime) -> Result<(), Fail> {
-    let fault = fault_when_full(rt.alloc())?;
+fn the_limit_of_a_set(rt: HostRuntime) {
+    let fault = fault_when_full(&rt, rt.alloc());
     assert!(rt; fault == Some(HistoryFault::Full));
-    Ok(())
 }
 
 #[test]
-fn texts_of_faults(rt: HostRuntime) -> Result<(), Fail> {
-    for (fault, wanted) in [
+fn texts_of_faults(rt: HostRuntime) {
+    let rows = [
         (HistoryFault::Full, "H3: too many segments"),
         (HistoryFault::CountAtEnd, "H4: too many changes"),
         (HistoryFault::Memory, "H9: out of memory"),
-    ] {
-        assert_eq!(rt; printed(rt.alloc(), &fault)?.as_str(), wanted);
-    }
-    Ok(())
+    ];
+    assert_printed(&rt, rt.alloc(), &rows);
 }

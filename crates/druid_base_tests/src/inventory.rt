@@ -1,10 +1,9 @@
-use crate::printing::printed;
-use crate::rows::{change, descriptor, mark_told, partitions_told};
+use crate::printing::{assert_printed, assert_rows, assert_told, printed};
+use crate::rows::{change, descriptor, mark_told, name, parsed, push_partitions};
 use druid_inventory::{ApplyFault, Inventory, InventoryFault, JoinFault, Outcome};
-use druid_segid::Name;
-use druid_shard::{Cause, Mark, NodeNo, Reply};
+use druid_shard::{Cause, Change, Descriptor, Mark, NodeNo, Reply};
 use std::alloc::Global;
-use std::test::Fail;
+use std::process::Abort;
 
 // Replies of node 0, one after another, and beside each what it does: the outcome, the mark after it, and the set that
 // is held there, or the refusal. A snapshot has its mark and its partitions; a delta has its incarnation, the counts that
@@ -45,216 +44,243 @@ const JOINS: &str = "1 5 0 1,1 2 2;1 3 0,1 7 3 = 1 5: 0 1,1 7: 3
 1 5 0,1 2 2;1 5 1,1 2 3 = J2: a conflict at node 0";
 
 // The nodes `n0` and another, never synced.
-fn made(alloc: Global, other: &str) -> Result<Result<Inventory, InventoryFault>, Fail> {
-    let mut names = Vec::new(alloc);
-    names.push(Name::new(alloc, "n0")?)?;
-    names.push(Name::new(alloc, other)?)?;
-    Ok(Inventory::new(alloc, names))
+fn made(rt: &impl Abort, alloc: Global, other: &str) -> Result<Inventory, InventoryFault> {
+    let names = vec![in alloc; name(rt, alloc, "n0"), name(rt, alloc, other)];
+    Inventory::new(alloc, names.expect(rt, "memory"))
 }
 
-fn nodes(alloc: Global, other: &str) -> Result<Inventory, Fail> {
-    Ok(made(alloc, other)??)
+fn nodes(rt: &impl Abort, alloc: Global, other: &str) -> Inventory {
+    made(rt, alloc, other).expect(rt, "a doubled node")
 }
 
 // A number at the front of a text, and what follows it.
-fn number<'a>(text: &'a str) -> Result<(u64, &'a str), Fail> {
-    let Some((number, rest)) = text.split_once(' ') else {
-        return Ok((text.parse()?, ""));
-    };
-    Ok((number.parse()?, rest))
+fn number<'a>(rt: &impl Abort, text: &'a str) -> (u64, &'a str) {
+    let (number, rest) = text.split_once(' ').unwrap_or((text, ""));
+    (parsed(rt, number), rest)
 }
 
-fn snapshot(alloc: Global, row: &str) -> Result<Reply, Fail> {
-    let (incarnation, row) = number(row)?;
-    let (count, row) = number(row)?;
+// Two numbers at the front of a text, and what follows them.
+fn two_numbers<'a>(rt: &impl Abort, text: &'a str) -> (u64, u64, &'a str) {
+    let (first, text) = number(rt, text);
+    let (second, rest) = number(rt, text);
+    (first, second, rest)
+}
+
+fn segments(rt: &impl Abort, alloc: Global, row: &str) -> Vec<Descriptor> {
     let mut segments = Vec::new(alloc);
     for partition in row.split_whitespace() {
-        segments.push(descriptor(alloc, partition.parse()?)?)?;
+        segments
+            .push(descriptor(rt, alloc, parsed(rt, partition)))
+            .expect(rt, "memory");
     }
-    let at = Mark::new(incarnation.max(1), count);
-    Ok(Reply::snapshot(at, segments)?)
+    segments
 }
 
-fn delta(alloc: Global, row: &str) -> Result<Reply, Fail> {
-    let (incarnation, row) = number(row)?;
-    let (from, row) = number(row)?;
-    let (to, row) = number(row)?;
+fn changes(rt: &impl Abort, alloc: Global, row: &str) -> Vec<Change> {
     let mut changes = Vec::new(alloc);
     for text in row.split_whitespace() {
-        changes.push(change(alloc, text)?)?;
+        changes.push(change(rt, alloc, text)).expect(rt, "memory");
     }
+    changes
+}
+
+fn snapshot(rt: &impl Abort, alloc: Global, row: &str) -> Reply {
+    let (incarnation, count, row) = two_numbers(rt, row);
+    let segments = segments(rt, alloc, row);
+    let at = Mark::new(incarnation.max(1), count);
+    Reply::snapshot(at, segments).expect(rt, "a snapshot")
+}
+
+fn delta(rt: &impl Abort, alloc: Global, row: &str) -> Reply {
+    let (incarnation, from, row) = two_numbers(rt, row);
+    let (to, row) = number(rt, row);
+    let changes = changes(rt, alloc, row);
     let from = Mark::new(incarnation.max(1), from);
     let to = Mark::new(incarnation.max(1), to);
-    Ok(Reply::delta(from, to, changes)?)
+    Reply::delta(from, to, changes).expect(rt, "a delta")
 }
 
-fn reset(row: &str) -> Result<Reply, Fail> {
-    let (incarnation, row) = number(row)?;
-    let (count, _) = number(row)?;
+fn reset(rt: &impl Abort, row: &str) -> Reply {
+    let (incarnation, count, _) = two_numbers(rt, row);
     let at = Mark::new(incarnation.max(1), count);
-    Ok(Reply::reset(Cause::TooOld, at))
+    Reply::reset(Cause::TooOld, at)
 }
 
-fn reply(alloc: Global, row: &str) -> Result<Reply, Fail> {
-    let (kind, row) = row.split_once(' ').ok_or("no kind")?;
+fn reply(rt: &impl Abort, alloc: Global, row: &str) -> Reply {
+    let (kind, row) = row.split_once(' ').expect(rt, "no kind");
     match kind {
-        "snapshot" => snapshot(alloc, row),
-        "delta" => delta(alloc, row),
-        _ => reset(row),
+        "snapshot" => snapshot(rt, alloc, row),
+        "delta" => delta(rt, alloc, row),
+        _ => reset(rt, row),
     }
 }
 
 // The mark of a node, and the partitions that it serves there.
-fn entry_told(alloc: Global, inventory: &Inventory, node: NodeNo) -> Result<String, Fail> {
-    let mark = mark_told(alloc, inventory.mark(node).ok_or("no node")?)?;
-    let set = partitions_told(alloc, inventory.segments(node).ok_or("no node")?)?;
-    Ok(format!(in alloc; "{mark}:{set}")?)
+fn entry_told(rt: &impl Abort, alloc: Global, inventory: &Inventory, node: NodeNo) -> String {
+    let mut told = mark_told(rt, alloc, inventory.mark(node).expect(rt, "no node"));
+    told.push(':').expect(rt, "memory");
+    push_partitions(
+        rt,
+        &mut told,
+        inventory.segments(node).expect(rt, "no node"),
+    );
+    told
 }
 
-// What a reply does to the inventory, which is the new one after that.
-fn take(alloc: Global, inventory: &mut Inventory, row: &str) -> Result<String, Fail> {
-    let reply = reply(alloc, row)?;
-    let (next, outcome) = match inventory.apply(0, &reply) {
-        Ok(taken) => taken,
-        Err(fault) => return printed(alloc, &fault),
-    };
-    *inventory = next;
-    let entry = entry_told(alloc, inventory, 0)?;
-    let outcome = match outcome {
+fn name_of(outcome: Outcome) -> &'static str {
+    match outcome {
         Outcome::Moved => "Moved",
         Outcome::AlreadyHave => "AlreadyHave",
         Outcome::AskWhole => "AskWhole",
-    };
-    Ok(format!(in alloc; "{outcome} {entry}")?)
+    }
 }
 
-fn does_as_told(alloc: Global, rows: &str) -> Result<bool, Fail> {
-    let mut inventory = nodes(alloc, "n1")?;
-    for row in rows.lines() {
-        let (reply, wanted) = row.split_once(" =").ok_or("no row")?;
-        let told = take(alloc, &mut inventory, reply)?;
-        if told.as_str() != wanted.trim_start() {
-            return Ok(false);
+fn outcome_told(rt: &impl Abort, alloc: Global, inventory: &Inventory, outcome: Outcome) -> String {
+    let entry = entry_told(rt, alloc, inventory, 0);
+    format!(in alloc; "{} {entry}", name_of(outcome)).expect(rt, "memory")
+}
+
+// What a reply does to the inventory, which is the new one after that.
+fn take(rt: &impl Abort, alloc: Global, inventory: &mut Inventory, row: &str) -> String {
+    match inventory.apply(0, &reply(rt, alloc, row)) {
+        Ok((next, outcome)) => {
+            *inventory = next;
+            outcome_told(rt, alloc, inventory, outcome)
         }
+        Err(fault) => printed(rt, alloc, &fault),
     }
-    Ok(true)
+}
+
+// Asserts that the replies, one after another, do as the rows say.
+fn assert_replies(rt: &impl Abort, alloc: Global, rows: &str) {
+    let mut inventory = nodes(rt, alloc, "n1");
+    for row in rows.lines() {
+        let (reply, wanted) = row.split_once(" = ").expect(rt, "no row");
+        assert_told(rt, reply, take(rt, alloc, &mut inventory, reply), wanted);
+    }
+}
+
+// The inventory after that reply of a node.
+fn applied(rt: &impl Abort, inventory: &Inventory, node: NodeNo, reply: &Reply) -> Inventory {
+    let (next, _) = inventory.apply(node, reply).expect(rt, "a refused reply");
+    next
+}
+
+// Takes a snapshot of a node, or nothing where the text is empty.
+fn sync(rt: &impl Abort, alloc: Global, inventory: &mut Inventory, node: NodeNo, row: &str) {
+    if !row.is_empty() {
+        *inventory = applied(rt, inventory, node, &snapshot(rt, alloc, row));
+    }
 }
 
 // A broker that took these snapshots of nodes 0 and 1.
-fn broker(alloc: Global, row: &str) -> Result<Inventory, Fail> {
-    let mut inventory = nodes(alloc, "n1")?;
-    let mut node = 0;
-    for row in row.split(',') {
-        if !row.is_empty() {
-            let (next, _) = inventory.apply(node, &snapshot(alloc, row)?)?;
-            inventory = next;
-        }
-        node = 1;
-    }
-    Ok(inventory)
+fn broker(rt: &impl Abort, alloc: Global, row: &str) -> Inventory {
+    let (first, second) = row.split_once(',').expect(rt, "one node");
+    let mut inventory = nodes(rt, alloc, "n1");
+    sync(rt, alloc, &mut inventory, 0, first);
+    sync(rt, alloc, &mut inventory, 1, second);
+    inventory
 }
 
-fn join_told(alloc: Global, left: &Inventory, right: &Inventory) -> Result<String, Fail> {
+fn both_told(rt: &impl Abort, alloc: Global, both: &Inventory) -> String {
+    let first = entry_told(rt, alloc, both, 0);
+    let second = entry_told(rt, alloc, both, 1);
+    format!(in alloc; "{first},{second}").expect(rt, "memory")
+}
+
+fn join_told(rt: &impl Abort, alloc: Global, left: &Inventory, right: &Inventory) -> String {
     match left.join(right) {
-        Ok(both) => {
-            let first = entry_told(alloc, &both, 0)?;
-            let second = entry_told(alloc, &both, 1)?;
-            Ok(format!(in alloc; "{first},{second}")?)
-        }
-        Err(fault) => printed(alloc, &fault),
+        Ok(both) => both_told(rt, alloc, &both),
+        Err(fault) => printed(rt, alloc, &fault),
     }
 }
 
-fn is_join(alloc: Global, row: &str) -> Result<bool, Fail> {
-    let (row, wanted) = row.split_once(" = ").ok_or("no row")?;
-    let (left, right) = row.split_once(';').ok_or("one broker")?;
-    let (left, right) = (broker(alloc, left)?, broker(alloc, right)?);
-    let there = join_told(alloc, &left, &right)?;
-    let back = join_told(alloc, &right, &left)?;
-    Ok(there.as_str() == wanted && back.as_str() == wanted)
+// What two brokers are together, which is the same from either side.
+fn joined(rt: &impl Abort, alloc: Global, brokers: &str) -> String {
+    let (left, right) = brokers.split_once(';').expect(rt, "one broker");
+    let (left, right) = (broker(rt, alloc, left), broker(rt, alloc, right));
+    let there = join_told(rt, alloc, &left, &right);
+    let back = join_told(rt, alloc, &right, &left);
+    assert_told(rt, brokers, back, there.as_str());
+    there
 }
 
-// What the entry of a node is: its kind of reply, or the refusal.
-fn entry_of(alloc: Global, inventory: &Inventory, node: NodeNo) -> Result<String, Fail> {
+// What a reply of a node makes of an inventory that was never synced.
+fn alone(rt: &impl Abort, alloc: Global, node: NodeNo, reply: &Reply) -> String {
+    let synced = applied(rt, &nodes(rt, alloc, "n1"), node, reply);
+    entry_told(rt, alloc, &synced, node)
+}
+
+// What the entry of a node is, or the refusal.
+fn entry_of(rt: &impl Abort, alloc: Global, inventory: &Inventory, node: NodeNo) -> String {
     match inventory.entry(node) {
-        Ok(reply) => {
-            let (again, _) = nodes(alloc, "n1")?.apply(node, &reply)?;
-            entry_told(alloc, &again, node)
-        }
-        Err(fault) => printed(alloc, &fault),
+        Ok(reply) => alone(rt, alloc, node, &reply),
+        Err(fault) => printed(rt, alloc, &fault),
     }
+}
+
+// What the entry of a node is at a broker that took a snapshot of node 0 alone.
+fn entry_of_text(rt: &impl Abort, alloc: Global, node: &str) -> String {
+    let inventory = broker(rt, alloc, "1 5 0 1,");
+    entry_of(rt, alloc, &inventory, parsed(rt, node))
+}
+
+// What brokers over `n0` and `n1` and over `n0` and `n2` are together.
+fn other_nodes_joined(rt: &impl Abort, alloc: Global) -> String {
+    let (left, right) = (nodes(rt, alloc, "n1"), nodes(rt, alloc, "n2"));
+    join_told(rt, alloc, &left, &right)
 }
 
 // Whether `n0` and `n0` are refused.
-fn is_doubled(alloc: Global) -> Result<bool, Fail> {
-    let fault = made(alloc, "n0")?.err();
-    Ok(fault == Some(InventoryFault::DoubledNode))
+fn is_doubled(rt: &impl Abort, alloc: Global) -> bool {
+    made(rt, alloc, "n0").err() == Some(InventoryFault::DoubledNode)
 }
 
-fn is_its_copy(inventory: &Inventory) -> Result<bool, Fail> {
-    let copy = inventory.clone()?;
-    Ok(&copy == inventory)
-}
-
-#[test]
-fn ample_memory(rt: HostRuntime) -> Result<(), Fail> {
-    let inventory = broker(rt.alloc(), "1 5 0 1,")?;
-    assert!(rt; is_its_copy(&inventory)?);
-    assert_eq!(rt; inventory.sources()?.len(), 1);
-    assert_eq!(rt; entry_of(rt.alloc(), &inventory, 0)?.as_str(), "1 5: 0 1");
-    assert_eq!(rt;
-        entry_of(rt.alloc(), &inventory, 1)?.as_str(),
-        "V3: a node that was never synced"
-    );
-    assert_eq!(rt;
-        entry_of(rt.alloc(), &inventory, 2)?.as_str(),
-        "V2: an unknown node"
-    );
-    Ok(())
+fn is_its_copy(rt: &impl Abort, inventory: &Inventory) -> bool {
+    &inventory.clone().expect(rt, "memory") == inventory
 }
 
 #[test]
-fn replies_do_as_told(rt: HostRuntime) -> Result<(), Fail> {
-    assert!(rt; does_as_told(rt.alloc(), DELTAS)?);
-    assert!(rt; does_as_told(rt.alloc(), SNAPSHOTS)?);
-    Ok(())
+fn ample_memory(rt: HostRuntime) {
+    let inventory = broker(&rt, rt.alloc(), "1 5 0 1,");
+    assert!(rt; is_its_copy(&rt, &inventory));
+    assert!(rt; inventory.sources().expect(&rt, "memory").len() == 1);
+    let entries = "0 = 1 5: 0 1
+1 = V3: a node that was never synced
+2 = V2: an unknown node";
+    assert_rows(&rt, rt.alloc(), entries, entry_of_text);
 }
 
 #[test]
-fn joins_from_either_side(rt: HostRuntime) -> Result<(), Fail> {
-    for row in JOINS.lines() {
-        assert!(rt; is_join(rt.alloc(), row)?, "{row}");
-    }
-    Ok(())
+fn replies_do_as_told(rt: HostRuntime) {
+    assert_replies(&rt, rt.alloc(), DELTAS);
+    assert_replies(&rt, rt.alloc(), SNAPSHOTS);
 }
 
 #[test]
-fn other_nodes_and_doubled_ones(rt: HostRuntime) -> Result<(), Fail> {
-    let (left, right) = (nodes(rt.alloc(), "n1")?, nodes(rt.alloc(), "n2")?);
-    let told = join_told(rt.alloc(), &left, &right)?;
-    assert_eq!(rt; told.as_str(), "J1: other nodes");
-    assert!(rt; is_doubled(rt.alloc())?);
-    Ok(())
+fn joins_from_either_side(rt: HostRuntime) {
+    assert_rows(&rt, rt.alloc(), JOINS, joined);
 }
 
 #[test]
-fn faults_have_these_texts(rt: HostRuntime) -> Result<(), Fail> {
-    for (fault, wanted) in [
+fn other_nodes_and_doubled_ones(rt: HostRuntime) {
+    let told = other_nodes_joined(&rt, rt.alloc());
+    assert_told(&rt, "n1 and n2", told, "J1: other nodes");
+    assert!(rt; is_doubled(&rt, rt.alloc()));
+}
+
+#[test]
+fn faults_have_these_texts(rt: HostRuntime) {
+    let of_nodes = [
         (InventoryFault::DoubledNode, "V1: a doubled node"),
         (InventoryFault::Memory, "V9: out of memory"),
-    ] {
-        assert_eq!(rt; printed(rt.alloc(), &fault)?.as_str(), wanted);
-    }
-    for (fault, wanted) in [
+    ];
+    assert_printed(&rt, rt.alloc(), &of_nodes);
+    let of_replies = [
         (ApplyFault::UnknownNode, "A1: an unknown node"),
         (ApplyFault::TooMany, "A6: too many segments"),
         (ApplyFault::Memory, "A9: out of memory"),
-    ] {
-        assert_eq!(rt; printed(rt.alloc(), &fault)?.as_str(), wanted);
-    }
-    assert_eq!(rt;
-        printed(rt.alloc(), &JoinFault::Memory)?.as_str(),
-        "J9: out of memory"
-    );
-    Ok(())
+    ];
+    assert_printed(&rt, rt.alloc(), &of_replies);
+    assert_printed(&rt, rt.alloc(), &[(JoinFault::Memory, "J9: out of memory")]);
 }

@@ -1,9 +1,41 @@
-//! Texts of values, whose types say nothing to a proof.
+//! Texts of values, whose types say nothing to a proof, and tables of what is told.
 use std::alloc::Global;
 use std::fmt::Display;
-use std::test::Fail;
+use std::process::Abort;
+
+/// A text of its own.
+pub(crate) fn owned(rt: &impl Abort, alloc: Global, text: &str) -> String {
+    String::from_str(alloc, text).expect(rt, "memory")
+}
 
 /// What a value prints. It is of no type in particular, since what a proof knows of the texts of one is long.
-pub(crate) fn printed<T: Display>(alloc: Global, value: &T) -> Result<String, Fail> {
-    Ok(format!(in alloc; "{value}")?)
+pub(crate) fn printed<T: Display>(rt: &impl Abort, alloc: Global, value: &T) -> String {
+    format!(in alloc; "{value}").expect(rt, "memory")
+}
+
+/// Asserts that what is told of a text is what is wanted.
+pub(crate) fn assert_told(rt: &impl Abort, text: &str, told: String, wanted: &str) {
+    assert!(rt; told.as_str() == wanted, "at {text}: {told}");
+}
+
+/// Asserts what is told of the text of each row `TEXT = WANTED`.
+pub(crate) fn assert_rows<R: Abort, F: Fn(&R, Global, &str) -> String>(
+    rt: &R,
+    alloc: Global,
+    rows: &str,
+    told: F,
+)
+    requires { F.IsAlwaysCallable told }
+{
+    for row in rows.lines() {
+        let (text, wanted) = row.split_once(" = ").expect(rt, "no row");
+        assert_told(rt, text, told(rt, alloc, text), wanted);
+    }
+}
+
+/// Asserts that each of these values prints as the text beside it.
+pub(crate) fn assert_printed<T: Display>(rt: &impl Abort, alloc: Global, rows: &[(T, &str)]) {
+    for (value, wanted) in rows {
+        assert_told(rt, wanted, printed(rt, alloc, value), wanted);
+    }
 }

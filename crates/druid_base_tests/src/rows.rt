@@ -3,39 +3,77 @@ use druid_segid::{Name, SegmentId, Version};
 use druid_shard::{Change, Descriptor, Mark};
 use druid_time::Interval;
 use std::alloc::Global;
-use std::test::Fail;
+use std::fmt::{Debug, Write};
+use std::process::Abort;
+use std::str::FromStr;
+
+/// What a word of a row says.
+pub(crate) fn parsed<T: FromStr<Err: Debug + Drop>>(rt: &impl Abort, word: &str) -> T {
+    word.parse().expect(rt, "another word")
+}
+
+/// A name.
+pub(crate) fn name(rt: &impl Abort, alloc: Global, text: &str) -> Name {
+    Name::new(alloc, text).expect(rt, "a name")
+}
+
+/// An interval.
+pub(crate) fn interval(rt: &impl Abort, text: &str) -> Interval {
+    Interval::parse(text).expect(rt, "an interval")
+}
+
+/// A segment of the source `wiki`.
+pub(crate) fn segment(
+    rt: &impl Abort,
+    alloc: Global,
+    chunk: &str,
+    version: &str,
+    partition: u16,
+) -> SegmentId {
+    let version = Version::new(alloc, version).expect(rt, "a version");
+    SegmentId::new(
+        name(rt, alloc, "wiki"),
+        interval(rt, chunk),
+        version,
+        partition,
+    )
+}
+
+/// A partition of a chunk of `wiki` that has so many core partitions.
+pub(crate) fn member(rt: &impl Abort, alloc: Global, partition: u16, core: u16) -> Descriptor {
+    let id = segment(rt, alloc, "2024-01-01/2024-01-02", "v1", partition);
+    Descriptor::new(id, core, 7).expect(rt, "a descriptor")
+}
 
 /// A partition of a chunk of `wiki` that has no core partitions.
-pub(crate) fn descriptor(alloc: Global, partition: u16) -> Result<Descriptor, Fail> {
-    let source = Name::new(alloc, "wiki")?;
-    let day = Interval::parse("2024-01-01/2024-01-02")?;
-    let version = Version::new(alloc, "v1")?;
-    let id = SegmentId::new(source, day, version, partition);
-    Ok(Descriptor::new(id, 0, 7).ok_or("core")?)
+pub(crate) fn descriptor(rt: &impl Abort, alloc: Global, partition: u16) -> Descriptor {
+    member(rt, alloc, partition, 0)
 }
 
 /// Of `+3` the load of partition 3, and of `-3` the drop.
-pub(crate) fn change(alloc: Global, text: &str) -> Result<Change, Fail> {
+pub(crate) fn change(rt: &impl Abort, alloc: Global, text: &str) -> Change {
     match text.strip_prefix('+') {
-        Some(partition) => Ok(Change::Load(descriptor(alloc, partition.parse()?)?)),
+        Some(partition) => Change::Load(descriptor(rt, alloc, parsed(rt, partition))),
         None => {
-            let partition = text.strip_prefix('-').ok_or("no change")?;
-            Ok(Change::Drop(descriptor(alloc, partition.parse()?)?))
+            let partition = text.strip_prefix('-').expect(rt, "no change");
+            Change::Drop(descriptor(rt, alloc, parsed(rt, partition)))
         }
     }
 }
 
 /// A mark, as `1 5`.
-pub(crate) fn mark_told(alloc: Global, mark: Mark) -> Result<String, Fail> {
-    Ok(format!(in alloc; "{} {}", mark.incarnation(), mark.count())?)
+pub(crate) fn mark_told(rt: &impl Abort, alloc: Global, mark: Mark) -> String {
+    format!(in alloc; "{} {}", mark.incarnation(), mark.count()).expect(rt, "memory")
 }
 
-/// The partitions of these segments, each behind a blank.
-pub(crate) fn partitions_told(alloc: Global, segments: &[Descriptor]) -> Result<String, Fail> {
-    let mut told = String::new(alloc);
+/// Appends the partition of a segment, behind this.
+pub(crate) fn push_partition(rt: &impl Abort, told: &mut String, sign: &str, segment: &Descriptor) {
+    write!(told, "{sign}{}", segment.id().partition()).expect(rt, "memory");
+}
+
+/// Appends the partitions of these segments, each behind a blank.
+pub(crate) fn push_partitions(rt: &impl Abort, told: &mut String, segments: &[Descriptor]) {
     for segment in segments {
-        let partition = format!(in alloc; " {}", segment.id().partition())?;
-        told.push_str(partition.as_str())?;
+        push_partition(rt, told, " ", segment);
     }
-    Ok(told)
 }

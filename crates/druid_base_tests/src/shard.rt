@@ -1,12 +1,11 @@
-use crate::printing::printed;
-use druid_segid::{Name, SegmentId, Version};
+use crate::printing::{assert_printed, assert_rows, assert_told, owned, printed};
+use crate::rows::{descriptor, member};
 use druid_shard::{
     Descriptor, Mark, Members, Reply, ReplyFault, ShardFault, descriptor_value, read_descriptor,
 };
-use druid_time::Interval;
 use serde_json::Value;
 use std::alloc::Global;
-use std::test::Fail;
+use std::process::Abort;
 
 // A descriptor's JSON; with `?` for a shard spec, and the refusal of what stands in its place or in place of all.
 const WRITTEN: &str =
@@ -23,103 +22,120 @@ const REFUSED: &str = r#"[] = S3: a bad field: dataSource
 {"dataSource":"a","interval":"2024-01-01/2024-01-02","version":"v","size":0,"shardSpec":{"partitionNum":0,"partitions":32769,"type":"numbered"}} = S2: a bad shard spec
 {"dataSource":"a","interval":"2024-01-01/2024-01-02","version":"v","size":0,"shardSpec":{"partitionNum":65535,"partitions":32768,"type":"numbered"}} = none"#;
 
-fn descriptor(alloc: Global, version: &str, partition: u16, core: u16) -> Result<Descriptor, Fail> {
-    let source = Name::new(alloc, "wiki")?;
-    let day = Interval::parse("2024-01-01/2024-01-02")?;
-    let version = Version::new(alloc, version)?;
-    let id = SegmentId::new(source, day, version, partition);
-    Ok(Descriptor::new(id, core, 7).ok_or("core")?)
+fn read(rt: &impl Abort, alloc: Global, text: &str) -> Result<Descriptor, ShardFault> {
+    let value = Value::from_str(alloc, text).expect(rt, "not JSON");
+    read_descriptor(alloc, &value)
 }
 
 // The printed fault of a text that is no descriptor.
-fn refusal(alloc: Global, text: &str) -> Result<String, Fail> {
-    let value = Value::from_str(alloc, text)?;
-    match read_descriptor(alloc, &value) {
-        Ok(_) => Ok(String::from_str(alloc, "none")?),
-        Err(fault) => printed(alloc, &fault),
+fn refusal(rt: &impl Abort, alloc: Global, text: &str) -> String {
+    match read(rt, alloc, text) {
+        Ok(_) => owned(rt, alloc, "none"),
+        Err(fault) => printed(rt, alloc, &fault),
     }
+}
+
+fn written(rt: &impl Abort, alloc: Global, descriptor: &Descriptor) -> String {
+    let value = descriptor_value(alloc, descriptor).expect(rt, "memory");
+    value.to_string(alloc).expect(rt, "memory")
 }
 
 // What is written of a descriptor that was read from a text and copied.
-fn written_again(alloc: Global, text: &str) -> Result<String, Fail> {
-    let value = Value::from_str(alloc, text)?;
-    let read = read_descriptor(alloc, &value)?;
-    Ok(descriptor_value(alloc, &read.clone()?)?.to_string(alloc)?)
+fn written_again(rt: &impl Abort, alloc: Global, text: &str) -> String {
+    let read = read(rt, alloc, text).expect(rt, "no descriptor");
+    written(rt, alloc, &read.clone().expect(rt, "memory"))
 }
 
 #[test]
-fn ample_memory(rt: HostRuntime) -> Result<(), Fail> {
-    let written = written_again(rt.alloc(), WRITTEN)?;
-    assert_eq!(rt; written.as_str(), WRITTEN);
-    Ok(())
+fn ample_memory(rt: HostRuntime) {
+    let written = written_again(&rt, rt.alloc(), WRITTEN);
+    assert_told(&rt, "it", written, WRITTEN);
 }
 
 #[test]
-fn refused_descriptors(rt: HostRuntime) -> Result<(), Fail> {
-    for row in REFUSED.lines() {
-        let (text, wanted) = row.split_once(" = ").ok_or("no row")?;
-        let told = refusal(rt.alloc(), text)?;
-        assert_eq!(rt; told.as_str(), wanted, "at {text}");
-    }
-    Ok(())
+fn refused_descriptors(rt: HostRuntime) {
+    assert_rows(&rt, rt.alloc(), REFUSED, refusal);
+}
+
+// Adds a node that serves a partition of so many core partitions.
+fn add(
+    rt: &impl Abort,
+    alloc: Global,
+    members: &mut Members,
+    partition: u16,
+    core: u16,
+    node: u16,
+) -> bool {
+    members
+        .add(&member(rt, alloc, partition, core), node)
+        .expect(rt, "memory")
+}
+
+// The partitions of which there is a member, after one is added.
+fn one_member(rt: &impl Abort, alloc: Global) -> Vec<u16> {
+    let mut members = Members::new(alloc);
+    assert!(rt; add(rt, alloc, &mut members, 3, 4, 2));
+    members.partitions().expect(rt, "memory")
 }
 
 #[test]
-fn ample_memory_of_members(rt: HostRuntime) -> Result<(), Fail> {
-    let mut members = Members::new(rt.alloc());
-    assert!(rt; members.add(&descriptor(rt.alloc(), "v1", 3, 4)?, 2)?);
-    let partitions = members.partitions()?;
-    assert_eq!(rt; partitions.as_slice(), [3].as_slice());
-    Ok(())
+fn ample_memory_of_members(rt: HostRuntime) {
+    let partitions = one_member(&rt, rt.alloc());
+    assert!(rt; partitions.as_slice() == [3].as_slice());
+}
+
+// How many members there are, and their core.
+fn counted(rt: &impl Abort, members: &Members) -> (usize, u16) {
+    let partitions = members.partitions().expect(rt, "memory");
+    (partitions.len(), members.core())
 }
 
 // Whether members stay once a node serves a partition no more, and a copy from before keeps it.
-fn is_taken_out(alloc: Global) -> Result<bool, Fail> {
+fn is_taken_out(rt: &impl Abort, alloc: Global) -> bool {
     let mut members = Members::new(alloc);
     for (partition, core, node) in [(0, 1, 2), (3, 4, 2), (3, 4, 5), (7, 9, 2)] {
-        members.add(&descriptor(alloc, "v1", partition, core)?, node)?;
+        add(rt, alloc, &mut members, partition, core, node);
     }
-    let copy = members.clone()?;
-    if !members.remove(7, 2) || members.remove(7, 2) {
-        return Ok(false);
-    }
-    let (left, all) = (members.partitions()?, copy.partitions()?);
-    Ok(left.len() == 2 && members.core() == 4 && all.len() == 3 && copy.core() == 9)
+    let copy = members.clone().expect(rt, "memory");
+    members.remove(7, 2)
+        && !members.remove(7, 2)
+        && counted(rt, &members) == (2, 4)
+        && counted(rt, &copy) == (3, 9)
 }
 
 #[test]
-fn members_taken_out(rt: HostRuntime) -> Result<(), Fail> {
-    assert!(rt; is_taken_out(rt.alloc())?);
-    Ok(())
+fn members_taken_out(rt: HostRuntime) {
+    assert!(rt; is_taken_out(&rt, rt.alloc()));
 }
 
-fn snapshot_fault(alloc: Global, count: u16) -> Result<Option<ReplyFault>, Fail> {
+fn snapshot_fault(rt: &impl Abort, alloc: Global, count: u16) -> Option<ReplyFault> {
     let mut segments = Vec::new(alloc);
     for partition in 0..count {
-        segments.push(descriptor(alloc, "v1", partition, 0)?)?;
+        segments
+            .push(descriptor(rt, alloc, partition))
+            .expect(rt, "memory");
     }
-    Ok(Reply::snapshot(Mark::new(1, 4), segments).err())
+    Reply::snapshot(Mark::new(1, 4), segments).err()
 }
 
 #[test]
-fn the_limit_of_a_snapshot(rt: HostRuntime) -> Result<(), Fail> {
-    assert!(rt; snapshot_fault(rt.alloc(), 20_000)?.is_none());
-    assert!(rt; snapshot_fault(rt.alloc(), 20_001)? == Some(ReplyFault::TooMany));
-    Ok(())
+fn the_limit_of_a_snapshot(rt: HostRuntime) {
+    assert!(rt; snapshot_fault(&rt, rt.alloc(), 20_000).is_none());
+    assert!(rt; snapshot_fault(&rt, rt.alloc(), 20_001) == Some(ReplyFault::TooMany));
 }
 
 #[test]
-fn texts_of_faults(rt: HostRuntime) -> Result<(), Fail> {
-    let alloc = rt.alloc();
-    let shard = printed(alloc, &ShardFault::Memory)?;
-    assert_eq!(rt; shard.as_str(), "S9: out of memory");
-    for (fault, wanted) in [
+fn texts_of_faults(rt: HostRuntime) {
+    assert_printed(
+        &rt,
+        rt.alloc(),
+        &[(ShardFault::Memory, "S9: out of memory")],
+    );
+    let rows = [
         (ReplyFault::TooMany, "Y5: too many segments or changes"),
         (ReplyFault::LengthOfDelta, "Y3: a delta of another length"),
         (ReplyFault::DoubledSegment, "Y4: a doubled segment"),
         (ReplyFault::Memory, "Y9: out of memory"),
-    ] {
-        assert_eq!(rt; printed(alloc, &fault)?.as_str(), wanted);
-    }
-    Ok(())
+    ];
+    assert_printed(&rt, rt.alloc(), &rows);
 }

@@ -1,26 +1,26 @@
-use crate::printing::printed;
-use druid_shard::{Ask, Mark};
+use crate::printing::{assert_printed, assert_rows, assert_told, owned, printed};
+use druid_shard::{Ask, Mark, Reply};
 use druid_sync::{AskFault, SyncFault, ask_target, read_ask, read_reply, reply_text};
 use std::alloc::Global;
-use std::test::Fail;
+use std::process::Abort;
 
-// Texts of replies, and what is told of them: `same` is the same text again. `@` stands for five fields of a delta without
-// changes at count 5 of incarnation 1, up to the first count.
+// Texts of replies, and what is told of them: `same` is the same text again. The first is of a delta without changes at
+// count 5 of incarnation 1.
 const REPLIES: &str =
-    "@5,\"hash\":1},\"from\":{\"counter\":5,\"hash\":1},\"requests\":[],\"resetCause\":null,\"resetCounter\":false} = same
-@6,\"hash\":1},\"from\":{\"counter\":5,\"hash\":1},\"requests\":[],\"resetCause\":null,\"resetCounter\":false} = Y3: a delta of another length
-@5,\"hash\":2},\"from\":{\"counter\":5,\"hash\":1},\"requests\":[],\"resetCause\":null,\"resetCounter\":false} = Y3: a delta of another length
-@5,\"hash\":0},\"from\":{\"counter\":5,\"hash\":1},\"requests\":[],\"resetCause\":null,\"resetCounter\":false} = Y2: not a reply
-@5,\"hash\":1},\"from\":{\"counter\":5,\"hash\":1},\"requests\":[],\"resetCause\":null,\"resetCounter\":true} = Y2: not a reply
-@5,\"hash\":1},\"from\":{\"counter\":5,\"hash\":1},\"requests\":[],\"resetCause\":\"Ahead\",\"resetCounter\":false} = Y2: not a reply
-@5,\"hash\":1},\"from\":null,\"requests\":[],\"resetCause\":\"Ahead\",\"resetCounter\":true} = same
-@5,\"hash\":1},\"from\":null,\"requests\":[],\"resetCause\":\"TooOld\",\"resetCounter\":true} = same
-@5,\"hash\":1},\"from\":null,\"requests\":[],\"resetCause\":\"OtherIncarnation\",\"resetCounter\":true} = same
-@5,\"hash\":1},\"from\":null,\"requests\":[],\"resetCause\":\"Late\",\"resetCounter\":true} = Y2: not a reply
-@5,\"hash\":1},\"from\":null,\"requests\":[],\"resetCause\":null,\"resetCounter\":false} = same
-@5,\"hash\":1},\"from\":null,\"requests\":[{\"action\":\"load\",\"dataSource\":\"wiki\",\"interval\":\"2024-01-01T00:00:00.000Z/2024-01-02T00:00:00.000Z\",\"shardSpec\":{\"partitionNum\":0,\"partitions\":1,\"type\":\"numbered\"},\"size\":7,\"version\":\"v1\"},{\"action\":\"load\",\"dataSource\":\"wiki\",\"interval\":\"2024-01-01T00:00:00.000Z/2024-01-02T00:00:00.000Z\",\"shardSpec\":{\"partitionNum\":3,\"partitions\":1,\"type\":\"numbered\"},\"size\":7,\"version\":\"v1\"}],\"resetCause\":null,\"resetCounter\":false} = same
-@5,\"hash\":1},\"from\":{\"counter\":3,\"hash\":1},\"requests\":[{\"action\":\"load\",\"dataSource\":\"wiki\",\"interval\":\"2024-01-01T00:00:00.000Z/2024-01-02T00:00:00.000Z\",\"shardSpec\":{\"partitionNum\":0,\"partitions\":1,\"type\":\"numbered\"},\"size\":7,\"version\":\"v1\"},{\"action\":\"drop\",\"dataSource\":\"wiki\",\"interval\":\"2024-01-01T00:00:00.000Z/2024-01-02T00:00:00.000Z\",\"shardSpec\":{\"partitionNum\":3,\"partitions\":1,\"type\":\"numbered\"},\"size\":7,\"version\":\"v1\"}],\"resetCause\":null,\"resetCounter\":false} = same
-@5,\"hash\":1},\"from\":null,\"requests\":[{\"action\":\"drop\",\"dataSource\":\"wiki\",\"interval\":\"2024-01-01T00:00:00.000Z/2024-01-02T00:00:00.000Z\",\"shardSpec\":{\"partitionNum\":3,\"partitions\":1,\"type\":\"numbered\"},\"size\":7,\"version\":\"v1\"}],\"resetCause\":null,\"resetCounter\":false} = Y2: not a reply
+    "{\"counter\":{\"counter\":5,\"hash\":1},\"from\":{\"counter\":5,\"hash\":1},\"requests\":[],\"resetCause\":null,\"resetCounter\":false} = same
+{\"counter\":{\"counter\":6,\"hash\":1},\"from\":{\"counter\":5,\"hash\":1},\"requests\":[],\"resetCause\":null,\"resetCounter\":false} = Y3: a delta of another length
+{\"counter\":{\"counter\":5,\"hash\":2},\"from\":{\"counter\":5,\"hash\":1},\"requests\":[],\"resetCause\":null,\"resetCounter\":false} = Y3: a delta of another length
+{\"counter\":{\"counter\":5,\"hash\":0},\"from\":{\"counter\":5,\"hash\":1},\"requests\":[],\"resetCause\":null,\"resetCounter\":false} = Y2: not a reply
+{\"counter\":{\"counter\":5,\"hash\":1},\"from\":{\"counter\":5,\"hash\":1},\"requests\":[],\"resetCause\":null,\"resetCounter\":true} = Y2: not a reply
+{\"counter\":{\"counter\":5,\"hash\":1},\"from\":{\"counter\":5,\"hash\":1},\"requests\":[],\"resetCause\":\"Ahead\",\"resetCounter\":false} = Y2: not a reply
+{\"counter\":{\"counter\":5,\"hash\":1},\"from\":null,\"requests\":[],\"resetCause\":\"Ahead\",\"resetCounter\":true} = same
+{\"counter\":{\"counter\":5,\"hash\":1},\"from\":null,\"requests\":[],\"resetCause\":\"TooOld\",\"resetCounter\":true} = same
+{\"counter\":{\"counter\":5,\"hash\":1},\"from\":null,\"requests\":[],\"resetCause\":\"OtherIncarnation\",\"resetCounter\":true} = same
+{\"counter\":{\"counter\":5,\"hash\":1},\"from\":null,\"requests\":[],\"resetCause\":\"Late\",\"resetCounter\":true} = Y2: not a reply
+{\"counter\":{\"counter\":5,\"hash\":1},\"from\":null,\"requests\":[],\"resetCause\":null,\"resetCounter\":false} = same
+{\"counter\":{\"counter\":5,\"hash\":1},\"from\":null,\"requests\":[{\"action\":\"load\",\"dataSource\":\"wiki\",\"interval\":\"2024-01-01T00:00:00.000Z/2024-01-02T00:00:00.000Z\",\"shardSpec\":{\"partitionNum\":0,\"partitions\":1,\"type\":\"numbered\"},\"size\":7,\"version\":\"v1\"},{\"action\":\"load\",\"dataSource\":\"wiki\",\"interval\":\"2024-01-01T00:00:00.000Z/2024-01-02T00:00:00.000Z\",\"shardSpec\":{\"partitionNum\":3,\"partitions\":1,\"type\":\"numbered\"},\"size\":7,\"version\":\"v1\"}],\"resetCause\":null,\"resetCounter\":false} = same
+{\"counter\":{\"counter\":5,\"hash\":1},\"from\":{\"counter\":3,\"hash\":1},\"requests\":[{\"action\":\"load\",\"dataSource\":\"wiki\",\"interval\":\"2024-01-01T00:00:00.000Z/2024-01-02T00:00:00.000Z\",\"shardSpec\":{\"partitionNum\":0,\"partitions\":1,\"type\":\"numbered\"},\"size\":7,\"version\":\"v1\"},{\"action\":\"drop\",\"dataSource\":\"wiki\",\"interval\":\"2024-01-01T00:00:00.000Z/2024-01-02T00:00:00.000Z\",\"shardSpec\":{\"partitionNum\":3,\"partitions\":1,\"type\":\"numbered\"},\"size\":7,\"version\":\"v1\"}],\"resetCause\":null,\"resetCounter\":false} = same
+{\"counter\":{\"counter\":5,\"hash\":1},\"from\":null,\"requests\":[{\"action\":\"drop\",\"dataSource\":\"wiki\",\"interval\":\"2024-01-01T00:00:00.000Z/2024-01-02T00:00:00.000Z\",\"shardSpec\":{\"partitionNum\":3,\"partitions\":1,\"type\":\"numbered\"},\"size\":7,\"version\":\"v1\"}],\"resetCause\":null,\"resetCounter\":false} = Y2: not a reply
 [ = Y1: not JSON
 [] = Y2: not a reply";
 
@@ -41,83 +41,64 @@ counter=5&hash=1&hash=1 = Y6: not a mark
 counter=18446744073709551616&hash=1 = Y6: not a mark
 counter&hash=1 = Y6: not a mark";
 
-fn reply_told(alloc: Global, text: &str) -> Result<String, Fail> {
+// What is written of a reply, or `same` where that is the text that it was read from.
+fn written(rt: &impl Abort, alloc: Global, reply: &Reply, text: &str) -> String {
+    let written = reply_text(alloc, reply).expect(rt, "memory");
+    if written.as_str() == text {
+        return owned(rt, alloc, "same");
+    }
+    written
+}
+
+fn reply_told(rt: &impl Abort, alloc: Global, text: &str) -> String {
     match read_reply(alloc, text.as_bytes()) {
-        Ok(reply) => Ok(reply_text(alloc, &reply)?),
-        Err(fault) => printed(alloc, &fault),
+        Ok(reply) => written(rt, alloc, &reply, text),
+        Err(fault) => printed(rt, alloc, &fault),
     }
 }
 
-fn ask_told(alloc: Global, query: &str) -> Result<String, Fail> {
+fn target(rt: &impl Abort, alloc: Global, ask: &Ask) -> String {
+    ask_target(alloc, ask).expect(rt, "memory")
+}
+
+fn ask_told(rt: &impl Abort, alloc: Global, query: &str) -> String {
     match read_ask(query) {
-        Ok(ask) => Ok(ask_target(alloc, &ask)?),
-        Err(fault) => printed(alloc, &fault),
+        Ok(ask) => target(rt, alloc, &ask),
+        Err(fault) => printed(rt, alloc, &fault),
     }
-}
-
-// The text that a row has.
-fn spelled(alloc: Global, text: &str) -> Result<String, Fail> {
-    let Some(rest) = text.strip_prefix("@") else {
-        return Ok(String::from_str(alloc, text)?);
-    };
-    let mut whole = String::from_str(alloc, "{\"counter\":{\"counter\":")?;
-    whole.push_str(rest)?;
-    Ok(whole)
-}
-
-fn is_reply_told(alloc: Global, row: &str) -> Result<bool, Fail> {
-    let (text, wanted) = row.split_once(" = ").ok_or("no row")?;
-    let text = spelled(alloc, text)?;
-    let told = reply_told(alloc, text.as_str())?;
-    if wanted == "same" {
-        return Ok(told == text);
-    }
-    Ok(told.as_str() == wanted)
-}
-
-fn is_ask_told(alloc: Global, row: &str) -> Result<bool, Fail> {
-    let (query, wanted) = row.split_once(" = ").ok_or("no row")?;
-    Ok(ask_told(alloc, query)?.as_str() == wanted)
 }
 
 #[test]
-fn ample_memory(rt: HostRuntime) -> Result<(), Fail> {
-    for row in REPLIES.lines() {
-        assert!(rt; is_reply_told(rt.alloc(), row)?, "{row}");
-    }
-    for row in ASKS.lines() {
-        assert!(rt; is_ask_told(rt.alloc(), row)?, "{row}");
-    }
-    Ok(())
+fn ample_memory(rt: HostRuntime) {
+    assert_rows(&rt, rt.alloc(), REPLIES, reply_told);
+    assert_rows(&rt, rt.alloc(), ASKS, ask_told);
+}
+
+// The text of the first row.
+fn first_reply(rt: &impl Abort) -> &'static str {
+    let (text, _) = REPLIES.split_once(" = ").expect(rt, "no row");
+    text
 }
 
 #[test]
-fn empty_delta_of_117_bytes(rt: HostRuntime) -> Result<(), Fail> {
-    let row = REPLIES.lines().next().ok_or("no row")?;
-    let (text, _) = row.split_once(" = ").ok_or("no text")?;
-    assert_eq!(rt; spelled(rt.alloc(), text)?.len(), 117);
-    let ask = Ask::Since(Mark::new(1, 5));
-    let target = ask_target(rt.alloc(), &ask)?;
-    assert_eq!(rt;
-        target.as_str(),
-        "/druid-internal/v1/segments?counter=5&hash=1"
+fn empty_delta_of_117_bytes(rt: HostRuntime) {
+    assert!(rt; first_reply(&rt).len() == 117);
+    let target = target(&rt, rt.alloc(), &Ask::Since(Mark::new(1, 5)));
+    assert_told(
+        &rt,
+        "1 5",
+        target,
+        "/druid-internal/v1/segments?counter=5&hash=1",
     );
-    Ok(())
 }
 
 #[test]
-fn faults_print_these_texts(rt: HostRuntime) -> Result<(), Fail> {
-    let alloc = rt.alloc();
-    for (fault, text) in [
+fn faults_print_these_texts(rt: HostRuntime) {
+    let of_replies = [
         (SyncFault::TooMany, "Y5: too many segments or changes"),
         (SyncFault::DoubledSegment, "Y4: a doubled segment"),
         (SyncFault::Memory, "Y9: out of memory"),
-    ] {
-        assert_eq!(rt; printed(alloc, &fault)?.as_str(), text);
-    }
-    assert_eq!(rt;
-        printed(alloc, &AskFault::BadCounter)?.as_str(),
-        "Y6: not a mark"
-    );
-    Ok(())
+    ];
+    assert_printed(&rt, rt.alloc(), &of_replies);
+    assert_printed(&rt, rt.alloc(), &[(AskFault::BadCounter, "Y6: not a mark")]);
 }

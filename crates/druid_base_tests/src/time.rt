@@ -1,7 +1,8 @@
-use crate::printing::printed;
+use crate::printing::{assert_rows, owned, printed};
+use crate::rows::{interval, parsed};
 use druid_time::{Granularity, Instant, Interval, IntervalSet};
 use std::alloc::Global;
-use std::test::Fail;
+use std::process::Abort;
 
 // A text, and the milliseconds since 1970 of the instant that it names, or its fault.
 const INSTANTS: &str = "2024-01-01T10:00 = 1704103200000
@@ -82,105 +83,92 @@ const SETS: &str = " =\u{20}
 2024-01-01T00:00/2024-01-01T06:00 2024-01-01T06:00/2024-01-01T12:00 = 2024-01-01T00:00:00.000Z/2024-01-01T12:00:00.000Z\u{20}
 2024-01-03/2024-01-04 2024-01-01T06:00/2024-01-01T12:00 2024-01-01T00:00/2024-01-01T06:00 = 2024-01-01T00:00:00.000Z/2024-01-01T12:00:00.000Z 2024-01-03T00:00:00.000Z/2024-01-04T00:00:00.000Z\u{20}";
 
-fn instant_told(alloc: Global, text: &str) -> Result<String, Fail> {
+fn instant_told(rt: &impl Abort, alloc: Global, text: &str) -> String {
     match Instant::parse(text) {
-        Ok(instant) => Ok(format!(in alloc; "{}", instant.ms())?),
-        Err(fault) => printed(alloc, &fault),
+        Ok(instant) => printed(rt, alloc, &instant.ms()),
+        Err(fault) => printed(rt, alloc, &fault),
     }
 }
 
-fn printed_form(alloc: Global, ms: &str) -> Result<String, Fail> {
-    match Instant::new(ms.parse()?) {
-        Some(instant) => {
-            let mut text = [0; 24];
-            instant.write(&mut text);
-            Ok(String::from_utf8_lossy(alloc, &text)?)
-        }
-        None => Ok(String::from_str(alloc, "none")?),
+fn written(rt: &impl Abort, alloc: Global, instant: Instant) -> String {
+    let mut text = [0; 24];
+    instant.write(&mut text);
+    String::from_utf8_lossy(alloc, &text).expect(rt, "memory")
+}
+
+fn printed_form(rt: &impl Abort, alloc: Global, ms: &str) -> String {
+    match Instant::new(parsed(rt, ms)) {
+        Some(instant) => written(rt, alloc, instant),
+        None => owned(rt, alloc, "none"),
     }
 }
 
-fn start_told(alloc: Global, instant: Instant, granularity: Granularity) -> Result<String, Fail> {
-    let start = instant.bucket(granularity).ok_or("no bucket")?;
-    Ok(format!(in alloc; "{}", start.ms())?)
+// Where the bucket of that size starts.
+fn start(rt: &impl Abort, instant: Instant, granularity: Granularity) -> i64 {
+    instant.bucket(granularity).expect(rt, "no bucket").ms()
 }
 
-fn buckets_told(alloc: Global, ms: &str) -> Result<String, Fail> {
-    let instant = Instant::new(ms.parse()?).ok_or("no instant")?;
-    let second = start_told(alloc, instant, Granularity::Second)?;
-    let minute = start_told(alloc, instant, Granularity::Minute)?;
-    let hour = start_told(alloc, instant, Granularity::Hour)?;
-    let day = start_told(alloc, instant, Granularity::Day)?;
-    Ok(format!(in alloc; "{second} {minute} {hour} {day}")?)
+fn buckets_told(rt: &impl Abort, alloc: Global, ms: &str) -> String {
+    let instant = Instant::new(parsed(rt, ms)).expect(rt, "no instant");
+    let second = start(rt, instant, Granularity::Second);
+    let minute = start(rt, instant, Granularity::Minute);
+    let hour = start(rt, instant, Granularity::Hour);
+    let day = start(rt, instant, Granularity::Day);
+    format!(in alloc; "{second} {minute} {hour} {day}").expect(rt, "memory")
 }
 
-fn interval_told(alloc: Global, text: &str) -> Result<String, Fail> {
+fn interval_told(rt: &impl Abort, alloc: Global, text: &str) -> String {
     match Interval::parse(text) {
-        Ok(interval) => Ok(interval.text(alloc)?),
-        Err(fault) => printed(alloc, &fault),
+        Ok(interval) => interval.text(alloc).expect(rt, "memory"),
+        Err(fault) => printed(rt, alloc, &fault),
     }
 }
 
-fn parts(alloc: Global, text: &str) -> Result<String, Fail> {
+// The set of the instants of these intervals, and a copy of it.
+fn set(rt: &impl Abort, alloc: Global, text: &str) -> IntervalSet {
     let mut intervals = Vec::new(alloc);
-    for interval in text.split_whitespace() {
-        intervals.push(Interval::parse(interval)?)?;
+    for part in text.split_whitespace() {
+        intervals.push(interval(rt, part)).expect(rt, "memory");
     }
-    let set = IntervalSet::of(alloc, &intervals)?.clone()?;
+    let set = IntervalSet::of(alloc, &intervals).expect(rt, "memory");
+    set.clone().expect(rt, "memory")
+}
+
+fn push_part(rt: &impl Abort, alloc: Global, told: &mut String, part: &Interval) {
+    let text = part.text(alloc).expect(rt, "memory");
+    told.push_str(text.as_str()).expect(rt, "memory");
+    told.push(' ').expect(rt, "memory");
+}
+
+fn parts(rt: &impl Abort, alloc: Global, text: &str) -> String {
     let mut told = String::new(alloc);
-    for part in set.parts() {
-        told.push_str(part.text(alloc)?.as_str())?;
-        told.push(' ')?;
+    for part in set(rt, alloc, text).parts() {
+        push_part(rt, alloc, &mut told, part);
     }
-    Ok(told)
+    told
 }
 
 #[test]
-fn instants(rt: HostRuntime) -> Result<(), Fail> {
-    for row in INSTANTS.lines() {
-        let (text, wanted) = row.split_once(" = ").ok_or("no row")?;
-        let told = instant_told(rt.alloc(), text)?;
-        assert_eq!(rt; told.as_str(), wanted, "at {text}");
-    }
-    Ok(())
+fn instants(rt: HostRuntime) {
+    assert_rows(&rt, rt.alloc(), INSTANTS, instant_told);
 }
 
 #[test]
-fn printed_instants(rt: HostRuntime) -> Result<(), Fail> {
-    for row in PRINTED.lines() {
-        let (ms, wanted) = row.split_once(" = ").ok_or("no row")?;
-        let told = printed_form(rt.alloc(), ms)?;
-        assert_eq!(rt; told.as_str(), wanted, "at {ms}");
-    }
-    Ok(())
+fn printed_instants(rt: HostRuntime) {
+    assert_rows(&rt, rt.alloc(), PRINTED, printed_form);
 }
 
 #[test]
-fn buckets(rt: HostRuntime) -> Result<(), Fail> {
-    for row in BUCKETS.lines() {
-        let (ms, wanted) = row.split_once(" = ").ok_or("no row")?;
-        let told = buckets_told(rt.alloc(), ms)?;
-        assert_eq!(rt; told.as_str(), wanted, "at {ms}");
-    }
-    Ok(())
+fn buckets(rt: HostRuntime) {
+    assert_rows(&rt, rt.alloc(), BUCKETS, buckets_told);
 }
 
 #[test]
-fn intervals(rt: HostRuntime) -> Result<(), Fail> {
-    for row in INTERVALS.lines() {
-        let (text, wanted) = row.split_once(" = ").ok_or("no row")?;
-        let told = interval_told(rt.alloc(), text)?;
-        assert_eq!(rt; told.as_str(), wanted, "at {text}");
-    }
-    Ok(())
+fn intervals(rt: HostRuntime) {
+    assert_rows(&rt, rt.alloc(), INTERVALS, interval_told);
 }
 
 #[test]
-fn ample_memory(rt: HostRuntime) -> Result<(), Fail> {
-    for row in SETS.lines() {
-        let (text, wanted) = row.split_once(" = ").ok_or("no row")?;
-        let told = parts(rt.alloc(), text)?;
-        assert_eq!(rt; told.as_str(), wanted, "at {text}");
-    }
-    Ok(())
+fn ample_memory(rt: HostRuntime) {
+    assert_rows(&rt, rt.alloc(), SETS, parts);
 }

@@ -1,10 +1,12 @@
-use crate::printing::printed;
-use druid_segid::{Meter, Name, SegmentId, Version};
+use crate::printing::{assert_printed, assert_rows, assert_told, printed};
+use crate::rows::{interval, name, parsed, segment};
+use druid_segid::{GroupKey, Meter};
 use druid_shard::Descriptor;
-use druid_time::{Interval, IntervalSet};
-use druid_timeline::{Timeline, TimelineFault};
+use druid_time::IntervalSet;
+use druid_timeline::{Piece, Timeline, TimelineFault};
 use std::alloc::Global;
-use std::test::Fail;
+use std::fmt::Write;
+use std::process::Abort;
 
 // Segments that node 0 serves, each by interval, version, partition and core count, and the visible pieces of the day,
 // each by version, stretch and partitions. A line is a case.
@@ -48,20 +50,22 @@ const HIDES: &str =
 - 2024-01-01T10:00/2024-01-01T12:00 v1 0 1 = v3 2024-01-01T00:00:00.000Z/2024-01-02T00:00:00.000Z [0];|v2 2024-01-01T00:00:00.000Z/2024-01-01T10:00:00.000Z;v10 2024-01-01T10:00:00.000Z/2024-01-01T12:00:00.000Z;v2 2024-01-01T10:00:00.000Z/2024-01-01T12:00:00.000Z;
 - 2024-01-01/2024-01-02 v3 0 1 = v2 2024-01-01T00:00:00.000Z/2024-01-01T10:00:00.000Z [0];v2 2024-01-01T10:00:00.000Z/2024-01-01T12:00:00.000Z [0];|v10 2024-01-01T10:00:00.000Z/2024-01-01T12:00:00.000Z;";
 
+// Steps on a timeline of which a copy was made before, and beside each what is told of the copy and of the timeline.
+const COPIES: &str =
+    "+ 2024-01-01/2024-01-02 v1 5 2 = v1 2024-01-01T00:00:00.000Z/2024-01-02T00:00:00.000Z [0, 1]; then v1 2024-01-01T00:00:00.000Z/2024-01-02T00:00:00.000Z [0, 1, 5];|
+- 2024-01-01/2024-01-02 v1 0 2 = v1 2024-01-01T00:00:00.000Z/2024-01-02T00:00:00.000Z [0, 1]; then |";
+
 // A segment of the source `wiki`, as a case has it.
-fn segment(alloc: Global, row: &str) -> Result<Descriptor, Fail> {
-    let (interval, row) = row.split_once(' ').ok_or("no interval")?;
-    let (version, row) = row.split_once(' ').ok_or("no version")?;
-    let (partition, core) = row.split_once(' ').ok_or("no partition")?;
-    let source = Name::new(alloc, "wiki")?;
-    let version = Version::new(alloc, version)?;
-    let id = SegmentId::new(
-        source,
-        Interval::parse(interval)?,
-        version,
-        partition.parse()?,
-    );
-    Ok(Descriptor::new(id, core.parse()?, 1).ok_or("too many core partitions")?)
+fn descriptor(rt: &impl Abort, alloc: Global, row: &str) -> Descriptor {
+    let (chunk, row) = row.split_once(' ').expect(rt, "no interval");
+    let (version, row) = row.split_once(' ').expect(rt, "no version");
+    let (partition, core) = row.split_once(' ').expect(rt, "no partition");
+    let id = segment(rt, alloc, chunk, version, parsed(rt, partition));
+    Descriptor::new(id, parsed(rt, core), 1).expect(rt, "too many core partitions")
+}
+
+fn timeline(rt: &impl Abort, alloc: Global, source: &str) -> Timeline {
+    Timeline::new(alloc, name(rt, alloc, source))
 }
 
 // Node 0 serves the segment from now on.
@@ -78,160 +82,152 @@ fn remove(timeline: &mut Timeline, descriptor: &Descriptor) -> Result<(), Timeli
 
 // A step on a timeline, as a case has it.
 fn edit(
+    rt: &impl Abort,
     alloc: Global,
     timeline: &mut Timeline,
     step: &str,
-) -> Result<Result<(), TimelineFault>, Fail> {
-    let (kind, row) = step.split_once(' ').ok_or("no step")?;
-    let descriptor = segment(alloc, row)?;
+) -> Result<(), TimelineFault> {
+    let (kind, row) = step.split_once(' ').expect(rt, "no step");
+    let descriptor = descriptor(rt, alloc, row);
     if kind == "+" {
-        return Ok(add(timeline, &descriptor));
+        return add(timeline, &descriptor);
     }
-    Ok(remove(timeline, &descriptor))
+    remove(timeline, &descriptor)
 }
 
-fn served(alloc: Global, case: &str) -> Result<Timeline, Fail> {
-    let mut timeline = Timeline::new(alloc, Name::new(alloc, "wiki")?);
+fn served(rt: &impl Abort, alloc: Global, case: &str) -> Timeline {
+    let mut timeline = timeline(rt, alloc, "wiki");
     for row in case.split(',') {
-        add(&mut timeline, &segment(alloc, row)?)?;
+        add(&mut timeline, &descriptor(rt, alloc, row)).expect(rt, "a refused segment");
     }
-    Ok(timeline)
+    timeline
 }
 
-// The pieces in an interval.
-fn told(alloc: Global, timeline: &Timeline, interval: &str) -> Result<String, Fail> {
-    let set = IntervalSet::of(alloc, &[Interval::parse(interval)?])?;
+// The pieces of the day.
+fn pieces(rt: &impl Abort, alloc: Global, timeline: &Timeline) -> Vec<Piece> {
+    let day = interval(rt, "2024-01-01/2024-01-02");
+    let set = IntervalSet::of(alloc, &[day]).expect(rt, "memory");
+    timeline.lookup(&set).expect(rt, "memory")
+}
+
+fn push_version(rt: &impl Abort, alloc: Global, told: &mut String, key: &GroupKey) {
+    let version = key.version().text(alloc).expect(rt, "memory");
+    told.push_str(version.as_str()).expect(rt, "memory");
+}
+
+// What is told of the pieces of the day.
+fn told(rt: &impl Abort, alloc: Global, timeline: &Timeline) -> String {
     let mut told = String::new(alloc);
-    for piece in &timeline.lookup(&set)? {
-        let version = piece.key().version().text(alloc)?;
-        let (stretch, parts) = (piece.interval(), piece.parts());
-        told.push_str(format!(in alloc; "{version} {stretch} {parts:?};")?.as_str())?;
+    for piece in &pieces(rt, alloc, timeline) {
+        push_version(rt, alloc, &mut told, piece.key());
+        write!(told, " {} {:?};", piece.interval(), piece.parts()).expect(rt, "memory");
     }
-    Ok(told)
+    told
 }
 
-// The overshadowed chunks.
-fn hidden(alloc: Global, timeline: &Timeline) -> Result<String, Fail> {
+// Appends the overshadowed chunks.
+fn push_hidden(rt: &impl Abort, alloc: Global, told: &mut String, timeline: &Timeline) {
     let mut meter = Meter::new();
-    let mut told = String::new(alloc);
-    for key in &timeline.overshadowed(&mut meter)? {
-        let version = key.version().text(alloc)?;
-        let interval = key.interval();
-        told.push_str(format!(in alloc; "{version} {interval};")?.as_str())?;
+    for key in &timeline.overshadowed(&mut meter).expect(rt, "memory") {
+        push_version(rt, alloc, told, key);
+        write!(told, " {};", key.interval()).expect(rt, "memory");
     }
-    Ok(told)
+}
+
+// The pieces of the day and the overshadowed chunks.
+fn all_told(rt: &impl Abort, alloc: Global, timeline: &Timeline) -> String {
+    let mut told = told(rt, alloc, timeline);
+    told.push('|').expect(rt, "memory");
+    push_hidden(rt, alloc, &mut told, timeline);
+    told
 }
 
 // What is told after a step on a timeline.
-fn after(alloc: Global, timeline: &mut Timeline, step: &str) -> Result<String, Fail> {
-    if let Err(fault) = edit(alloc, timeline, step)? {
-        return printed(alloc, &fault);
+fn after(rt: &impl Abort, alloc: Global, timeline: &mut Timeline, step: &str) -> String {
+    match edit(rt, alloc, timeline, step) {
+        Ok(()) => all_told(rt, alloc, timeline),
+        Err(fault) => printed(rt, alloc, &fault),
     }
-    let pieces = told(alloc, timeline, "2024-01-01/2024-01-02")?;
-    let hidden = hidden(alloc, timeline)?;
-    Ok(format!(in alloc; "{pieces}|{hidden}")?)
 }
 
-// What is told after the first steps on a timeline that differs from what is wanted; empty where nothing does.
-fn first_difference(alloc: Global, steps: &str) -> Result<String, Fail> {
-    let mut timeline = Timeline::new(alloc, Name::new(alloc, "wiki")?);
+// Asserts what is told after each of these steps on a timeline.
+fn assert_steps(rt: &impl Abort, alloc: Global, steps: &str) {
+    let mut timeline = timeline(rt, alloc, "wiki");
     for row in steps.lines() {
-        let (step, wanted) = row.split_once(" = ").ok_or("no step")?;
-        let told = after(alloc, &mut timeline, step)?;
-        if told.as_str() != wanted {
-            return Ok(format!(in alloc; "at {step}: {told}")?);
-        }
+        let (step, wanted) = row.split_once(" = ").expect(rt, "no step");
+        assert_told(rt, step, after(rt, alloc, &mut timeline, step), wanted);
     }
-    Ok(String::new(alloc))
 }
 
 // What is told of a copy of a timeline after a step on the timeline, and of the timeline.
-fn copied(alloc: Global, case: &str, step: &str) -> Result<String, Fail> {
-    let mut timeline = served(alloc, case)?;
-    let copy = timeline.clone()?;
-    let after = after(alloc, &mut timeline, step)?;
-    let before = told(alloc, &copy, "2024-01-01/2024-01-02")?;
-    Ok(format!(in alloc; "{before} then {after}")?)
+fn copied(rt: &impl Abort, alloc: Global, step: &str) -> String {
+    let mut timeline = served(
+        rt,
+        alloc,
+        "2024-01-01/2024-01-02 v1 0 2,2024-01-01/2024-01-02 v1 1 2",
+    );
+    let copy = timeline.clone().expect(rt, "memory");
+    let after = after(rt, alloc, &mut timeline, step);
+    let before = told(rt, alloc, &copy);
+    format!(in alloc; "{before} then {after}").expect(rt, "memory")
 }
 
-// The nodes that serve a segment, where nodes 0 and 2 have added it.
-fn replicas(alloc: Global, source: &str) -> Result<String, Fail> {
-    let descriptor = segment(alloc, "2024-01-01/2024-01-02 v1 3 1")?;
-    let mut timeline = Timeline::new(alloc, Name::new(alloc, source)?);
+// The nodes that serve a segment, where nodes 0 and 2 have added it to a timeline of this source.
+fn replicas(rt: &impl Abort, alloc: Global, source: &str) -> String {
+    let descriptor = descriptor(rt, alloc, "2024-01-01/2024-01-02 v1 3 1");
+    let mut timeline = timeline(rt, alloc, source);
     let mut meter = Meter::new();
-    for node in [2, 0] {
-        let _ = timeline.add(&descriptor, node, &mut meter);
-    }
-    let nodes = timeline.replicas(descriptor.id())?;
-    Ok(format!(in alloc; "{nodes:?}")?)
+    let _ = timeline.add(&descriptor, 2, &mut meter);
+    let _ = timeline.add(&descriptor, 0, &mut meter);
+    let nodes = timeline.replicas(descriptor.id()).expect(rt, "memory");
+    format!(in alloc; "{nodes:?}").expect(rt, "memory")
 }
 
-fn answer(alloc: Global, case: &str) -> Result<String, Fail> {
-    told(alloc, &served(alloc, case)?, "2024-01-01/2024-01-02")
-}
-
-#[test]
-fn ample_memory(rt: HostRuntime) -> Result<(), Fail> {
-    for row in CASES.lines() {
-        let (case, wanted) = row.split_once(" = ").ok_or("no case")?;
-        let told = answer(rt.alloc(), case)?;
-        assert_eq!(rt; told.as_str(), wanted, "at {case}");
-    }
-    Ok(())
+fn answer(rt: &impl Abort, alloc: Global, case: &str) -> String {
+    told(rt, alloc, &served(rt, alloc, case))
 }
 
 #[test]
-fn steps(rt: HostRuntime) -> Result<(), Fail> {
-    for rows in [CUTS, COMPLETES, HIDES] {
-        let difference = first_difference(rt.alloc(), rows)?;
-        assert_eq!(rt; difference.as_str(), "");
-    }
-    Ok(())
+fn ample_memory(rt: HostRuntime) {
+    assert_rows(&rt, rt.alloc(), CASES, answer);
 }
 
 #[test]
-fn copies_are_apart(rt: HostRuntime) -> Result<(), Fail> {
-    let segments = "2024-01-01/2024-01-02 v1 0 2,2024-01-01/2024-01-02 v1 1 2";
-    let added = copied(rt.alloc(), segments, "+ 2024-01-01/2024-01-02 v1 5 2")?;
-    assert_eq!(rt;
-        added.as_str(),
-        "v1 2024-01-01T00:00:00.000Z/2024-01-02T00:00:00.000Z [0, 1]; then v1 2024-01-01T00:00:00.000Z/2024-01-02T00:00:00.000Z [0, 1, 5];|"
-    );
-    let removed = copied(rt.alloc(), segments, "- 2024-01-01/2024-01-02 v1 0 2")?;
-    assert_eq!(rt;
-        removed.as_str(),
-        "v1 2024-01-01T00:00:00.000Z/2024-01-02T00:00:00.000Z [0, 1]; then |"
-    );
-    Ok(())
+fn steps(rt: HostRuntime) {
+    assert_steps(&rt, rt.alloc(), CUTS);
+    assert_steps(&rt, rt.alloc(), COMPLETES);
+    assert_steps(&rt, rt.alloc(), HIDES);
 }
 
 #[test]
-fn nodes_of_a_segment(rt: HostRuntime) -> Result<(), Fail> {
-    for (source, wanted) in [("wiki", "[0, 2]"), ("wikipedia", "[]")] {
-        let told = replicas(rt.alloc(), source)?;
-        assert_eq!(rt; told.as_str(), wanted, "at {source}");
-    }
-    Ok(())
+fn copies_are_apart(rt: HostRuntime) {
+    assert_rows(&rt, rt.alloc(), COPIES, copied);
 }
 
 #[test]
-fn a_segment_that_is_there(rt: HostRuntime) -> Result<(), Fail> {
-    let day = "2024-01-01/2024-01-02 v1 0 1";
-    let mut timeline = served(rt.alloc(), day)?;
-    let again = add(&mut timeline, &segment(rt.alloc(), day)?);
-    assert_eq!(rt; again, Err(TimelineFault::AlreadyThere));
-    Ok(())
+fn nodes_of_a_segment(rt: HostRuntime) {
+    assert_rows(&rt, rt.alloc(), "wiki = [0, 2]\nwikipedia = []", replicas);
+}
+
+// What becomes of a segment that is there.
+fn added_twice(rt: &impl Abort, alloc: Global, row: &str) -> Result<(), TimelineFault> {
+    let mut timeline = served(rt, alloc, row);
+    add(&mut timeline, &descriptor(rt, alloc, row))
 }
 
 #[test]
-fn faults_print_these_texts(rt: HostRuntime) -> Result<(), Fail> {
-    for (fault, wanted) in [
+fn a_segment_that_is_there(rt: HostRuntime) {
+    let again = added_twice(&rt, rt.alloc(), "2024-01-01/2024-01-02 v1 0 1");
+    assert!(rt; again == Err(TimelineFault::AlreadyThere));
+}
+
+#[test]
+fn faults_print_these_texts(rt: HostRuntime) {
+    let rows = [
         (TimelineFault::OtherSource, "L2: another source"),
         (TimelineFault::AlreadyThere, "L1: already there"),
         (TimelineFault::NotThere, "L3: not there"),
         (TimelineFault::Memory, "L9: out of memory"),
-    ] {
-        assert_eq!(rt; printed(rt.alloc(), &fault)?.as_str(), wanted);
-    }
-    Ok(())
+    ];
+    assert_printed(&rt, rt.alloc(), &rows);
 }

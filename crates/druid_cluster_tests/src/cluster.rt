@@ -1,13 +1,13 @@
-use crate::printing::printed;
-use crate::script::{is_answered, named, push_row, run};
+use crate::printing::{assert_printed, assert_rows, owned, printed};
+use crate::script::{assert_answered, assert_run, assert_too_many, named, push_row};
 use druid_cluster::ReplayFault;
-use druid_shard::Body;
+use druid_shard::{Body, Reply};
 use druid_sync::{SyncFault, read_reply};
 use std::alloc::Global;
-use std::test::Fail;
+use std::process::Abort;
 
 #[test]
-fn one_node(rt: HostRuntime) -> Result<(), Fail> {
+fn one_node(rt: HostRuntime) {
     let rows = r#"@brokers; => {"brokers":1}
 @lookup; => {"pieces":[]}
 @node0;@at1;@load;@p0of1;@end;} => @moved1;
@@ -16,14 +16,12 @@ fn one_node(rt: HostRuntime) -> Result<(), Fail> {
 @node0;@at1;@end;} => {"refused":"A5"}
 @node0;@at2;@end;} => @moved2;
 @lookup; => {"pieces":[]}"#;
-    assert!(rt; is_answered(rt.alloc(), rows)?);
-    let (end, written) = run(rt.alloc(), b"");
-    assert!(rt; end == Ok(()) && written.is_empty());
-    Ok(())
+    assert_answered(&rt, rt.alloc(), rows);
+    assert_run(&rt, rt.alloc(), b"", Ok(()), b"");
 }
 
 #[test]
-fn two_nodes(rt: HostRuntime) -> Result<(), Fail> {
+fn two_nodes(rt: HostRuntime) {
     let rows = r#"@brokers; => {"brokers":1}
 @node0;@at1;@load;@p0of2;@end;} => @moved1;
 @lookup; => {"pieces":[]}
@@ -31,12 +29,11 @@ fn two_nodes(rt: HostRuntime) -> Result<(), Fail> {
 @lookup; => {"pieces":[{"chunk":"@day;","interval":"@day;","parts":[0,1],"version":"v1"}]}
 @node0;@at2;@load;@p1of2;,@load;@p0of2;@end;} => @moved2;
 @lookup; => {"pieces":[{"chunk":"@day;","interval":"@day;","parts":[0,1],"version":"v1"}]}"#;
-    assert!(rt; is_answered(rt.alloc(), rows)?);
-    Ok(())
+    assert_answered(&rt, rt.alloc(), rows);
 }
 
 #[test]
-fn refusals(rt: HostRuntime) -> Result<(), Fail> {
+fn refusals(rt: HostRuntime) {
     let rows = r#"{"count":1,"do":"brokers","nodes":["a b","a b"]} => {"refused":"I1"}
 {"count":1,"do":"brokers","nodes":["a","a"]} => {"refused":"V1"}
 @brokers; => {"brokers":1}
@@ -54,19 +51,23 @@ fn refusals(rt: HostRuntime) -> Result<(), Fail> {
 @node0;{"counter":{"counter":1,"hash":0},"from":null,"requests":[@end;} => {"refused":"Y2"}
 @node0;@at1;@load;@p0of1;,@load;@p0of1;@end;} => {"refused":"Y4"}
 @lookup; => {"pieces":[]}"#;
-    assert!(rt; is_answered(rt.alloc(), rows)?);
-    Ok(())
+    assert_answered(&rt, rt.alloc(), rows);
+}
+
+// Asserts that each of these lines is bad behind that row.
+fn assert_bad(rt: &impl Abort, alloc: Global, before: &str, lines: &str) {
+    for line in lines.lines() {
+        let rows = format!(in alloc; "{before}{line} => bad").expect(rt, "memory");
+        assert_answered(rt, alloc, rows.as_str());
+    }
 }
 
 #[test]
-fn bad_lines(rt: HostRuntime) -> Result<(), Fail> {
+fn bad_lines(rt: HostRuntime) {
     let firsts = "\nx\n{}\n[]\n{\"do\":\"marks\"}\n@lookup;\n\u{feff}@brokers;
 {\"count\":0,\"do\":\"brokers\",\"nodes\":[\"n0\"]}\n{\"count\":65,\"do\":\"brokers\",\"nodes\":[\"n0\"]}\n{\"count\":1.0,\"do\":\"brokers\",\"nodes\":[\"n0\"]}
 {\"count\":1,\"do\":\"brokers\",\"nodes\":[]}\n{\"count\":1,\"do\":\"brokers\",\"nodes\":[\"a b\",1]}";
-    for line in firsts.lines() {
-        let row = format!(in rt.alloc(); "{line} => bad")?;
-        assert!(rt; is_answered(rt.alloc(), row.as_str())?);
-    }
+    assert_bad(&rt, rt.alloc(), "", firsts);
     let laters = r#"@brokers;
 
 {"broker":1,"do":"lookup","interval":"x","source":"w"}
@@ -79,84 +80,68 @@ fn bad_lines(rt: HostRuntime) -> Result<(), Fail> {
 {"broker":0,"do":"lookup","interval":1,"source":"w"}
 {"broker":0,"do":"reply","node":65536,"reply":null}
 {"broker":0,"do":"reply","node":0}"#;
-    for line in laters.lines() {
-        let rows = format!(in rt.alloc(); "@brokers; => {{\"brokers\":1}}\n{line} => bad")?;
-        assert!(rt; is_answered(rt.alloc(), rows.as_str())?);
-    }
-    Ok(())
+    let before = "@brokers; => {\"brokers\":1}\n";
+    assert_bad(&rt, rt.alloc(), before, laters);
 }
 
 // A line of that many bytes, which asks for brokers and ends in spaces.
-fn padded(alloc: Global, length: usize) -> Result<Vec<u8>, Fail> {
-    let mut line = Vec::with_capacity(alloc, length)?;
-    line.extend_from_slice(named("brokers").as_bytes())?;
-    line.resize(length, b' ')?;
-    Ok(line)
+fn padded(rt: &impl Abort, alloc: Global, length: &str) -> Vec<u8> {
+    let length = length.parse::<usize>().expect(rt, "no length");
+    let mut line = Vec::with_capacity(alloc, length).expect(rt, "memory");
+    line.extend_from_slice(named("brokers").as_bytes())
+        .expect(rt, "memory");
+    line.resize(length, b' ').expect(rt, "memory");
+    line
 }
 
 #[test]
-fn longest_line(rt: HostRuntime) -> Result<(), Fail> {
-    let longest = padded(rt.alloc(), "16777216".parse::<usize>()?)?;
-    let (end, written) = run(rt.alloc(), &longest);
-    assert!(rt; end == Ok(()) && written.as_slice() == "{\"brokers\":1}\n".as_bytes());
-    let longer = padded(rt.alloc(), "16777217".parse::<usize>()?)?;
-    let (end, written) = run(rt.alloc(), &longer);
-    assert!(rt; end == Err(ReplayFault::BadCommand(1)) && written.is_empty());
-    Ok(())
+fn longest_line(rt: HostRuntime) {
+    let longest = padded(&rt, rt.alloc(), "16777216");
+    assert_run(&rt, rt.alloc(), &longest, Ok(()), b"{\"brokers\":1}\n");
+    let longer = padded(&rt, rt.alloc(), "16777217");
+    let end = Err(ReplayFault::BadCommand(1));
+    assert_run(&rt, rt.alloc(), &longer, end, b"");
 }
 
 #[test]
-fn too_many_segments(rt: HostRuntime) -> Result<(), Fail> {
-    let mut row = String::from_str(rt.alloc(), "@node0;@at1;@load;@p0of1;")?;
-    for _ in 0..20_000 {
-        row.push_str(",@load;@p0of1;")?;
-    }
-    row.push_str("@end;}")?;
-    let rows = format!(in rt.alloc();
-        "@brokers; => {{\"brokers\":1}}\n{row} => {{\"refused\":\"Y5\"}}"
-    )?;
-    assert!(rt; is_answered(rt.alloc(), rows.as_str())?);
-    Ok(())
+fn too_many_segments(rt: HostRuntime) {
+    assert_too_many(&rt, rt.alloc(), "@at1;", 20_000);
 }
 
 // How reading a reply ends, as it is told.
-fn read_end(alloc: Global, bytes: &[u8]) -> Result<String, Fail> {
-    match read_reply(alloc, bytes) {
-        Ok(_) => Ok(String::from_str(alloc, "read")?),
-        Err(fault) => printed(alloc, &fault),
+fn read_end(rt: &impl Abort, alloc: Global, text: &str) -> String {
+    match read_reply(alloc, text.as_bytes()) {
+        Ok(_) => owned(rt, alloc, "read"),
+        Err(fault) => printed(rt, alloc, &fault),
     }
 }
 
 #[test]
-fn fault_texts(rt: HostRuntime) -> Result<(), Fail> {
-    assert!(rt; read_end(rt.alloc(), b"x")?.as_str() == "Y1: not JSON");
-    assert!(rt; read_end(rt.alloc(), b"null")?.as_str() == "Y2: not a reply");
-    let faults = [
-        SyncFault::TooMany,
-        SyncFault::LengthOfDelta,
-        SyncFault::DoubledSegment,
-        SyncFault::Memory,
+fn fault_texts(rt: HostRuntime) {
+    let read = "x = Y1: not JSON
+null = Y2: not a reply";
+    assert_rows(&rt, rt.alloc(), read, read_end);
+    let rows = [
+        (SyncFault::TooMany, "Y5: too many segments or changes"),
+        (SyncFault::LengthOfDelta, "Y3: a delta of another length"),
+        (SyncFault::DoubledSegment, "Y4: a doubled segment"),
+        (SyncFault::Memory, "Y9: out of memory"),
     ];
-    let rows = "Y5: too many segments or changes
-Y3: a delta of another length
-Y4: a doubled segment
-Y9: out of memory";
-    for (fault, row) in faults.iter().zip(rows.lines()) {
-        assert!(rt; printed(rt.alloc(), fault)?.as_str() == row);
-    }
-    Ok(())
+    assert_printed(&rt, rt.alloc(), &rows);
 }
 
-#[test]
-fn ample_memory(rt: HostRuntime) -> Result<(), Fail> {
-    let alloc = rt.alloc();
-    let mut one = String::new(alloc);
-    push_row(&mut one, "@at1;@end;")?;
-    let reply = read_reply(alloc, one.as_bytes()).ok().ok_or("no reply")?;
-    let is_it = match reply.body() {
+// Whether it is a snapshot without segments after one change.
+fn is_empty_snapshot(reply: &Reply) -> bool {
+    match reply.body() {
         Body::Snapshot { at, segments } => at.count() == 1 && segments.as_slice().is_empty(),
         _ => false,
-    };
-    assert!(rt; is_it);
-    Ok(())
+    }
+}
+
+#[test]
+fn ample_memory(rt: HostRuntime) {
+    let mut one = String::new(rt.alloc());
+    push_row(&rt, &mut one, "@at1;@end;");
+    let reply = read_reply(rt.alloc(), one.as_bytes()).expect(&rt, "no reply");
+    assert!(rt; is_empty_snapshot(&reply));
 }

@@ -1,14 +1,22 @@
 //! Readers and writers that fail, that are interrupted, and that take a byte at a time.
-use druid_cluster::{obey, replay};
+use crate::printing::{assert_rows, owned};
+use druid_cluster::{ReplayFault, obey, replay};
 use std::alloc::Global;
+use std::fmt::Display;
 use std::io;
 use std::io::{BufReader, ErrorKind, Read, Write};
-use std::test::Fail;
+use std::process::Abort;
 
 // What the calls of a device do: a letter for each, of which the last is for all calls behind it too.
 #[derive(Drop)]
 struct Plan<'a> {
     letters: &'a [u8],
+}
+
+fn planned(letters: &str) -> Plan<'_> {
+    Plan {
+        letters: letters.as_bytes(),
+    }
 }
 
 impl Plan<'_> {
@@ -80,73 +88,74 @@ fn script(name: &str) -> &'static str {
     }
 }
 
+// A value and a count.
+fn beside<T: Display>(rt: &impl Abort, alloc: Global, value: &T, count: usize) -> String {
+    format!(in alloc; "{value} {count}").expect(rt, "memory")
+}
+
+fn end_told(
+    rt: &impl Abort,
+    alloc: Global,
+    end: Result<(), ReplayFault>,
+    written: &[u8],
+) -> String {
+    if !ANSWERS.as_bytes().starts_with(written) {
+        return owned(rt, alloc, "other answers");
+    }
+    match end {
+        Ok(()) => beside(rt, alloc, &"ok", written.len()),
+        Err(fault) => beside(rt, alloc, &fault, written.len()),
+    }
+}
+
 // How a run of a script ends over devices with these plans, and how many bytes of the answers were written.
 fn end_of(
+    rt: &impl Abort,
     alloc: Global,
     name: &str,
     reads: &str,
-    writes: &str,
-    flushes: &str,
-) -> Result<String, Fail> {
+    writer: &mut PlannedWriter<'_>,
+) -> String {
     let input = PlannedReader {
-        plan: Plan {
-            letters: reads.as_bytes(),
-        },
+        plan: planned(reads),
         rest: script(name).as_bytes(),
     };
-    let mut reader = BufReader::with_capacity(alloc, 16, input)?;
-    let mut writer = PlannedWriter {
-        plan: Plan {
-            letters: writes.as_bytes(),
-        },
-        flushes: Plan {
-            letters: flushes.as_bytes(),
-        },
-        written: Vec::new(alloc),
-    };
-    let end = replay(alloc, &mut reader, &mut writer);
-    if !ANSWERS.as_bytes().starts_with(&writer.written) {
-        return Ok(String::from_str(alloc, "other answers")?);
-    }
-    let count = writer.written.len();
-    match end {
-        Ok(()) => Ok(format!(in alloc; "ok {count}")?),
-        Err(fault) => Ok(format!(in alloc; "{fault} {count}")?),
-    }
+    let mut reader = BufReader::with_capacity(alloc, 16, input).expect(rt, "memory");
+    let end = replay(alloc, &mut reader, writer);
+    end_told(rt, alloc, end, &writer.written)
 }
 
-// Whether a row holds: the script, the plans for reads, writes and flushes, and the end.
-fn is_so(alloc: Global, row: &str) -> Result<bool, Fail> {
-    let (plans, wanted) = row.split_once(" => ").ok_or("no row")?;
-    let mut columns = plans.split(' ');
-    let name = columns.next().ok_or("no script")?;
-    let reads = columns.next().ok_or("no reads")?;
-    let writes = columns.next().ok_or("no writes")?;
-    let flushes = columns.next().ok_or("no flushes")?;
-    Ok(end_of(alloc, name, reads, writes, flushes)?.as_str() == wanted)
+// The same of a row: the script, and the plans for reads, writes and flushes.
+fn end_over(rt: &impl Abort, alloc: Global, row: &str) -> String {
+    let (name, plans) = row.split_once(' ').expect(rt, "no reads");
+    let (reads, plans) = plans.split_once(' ').expect(rt, "no writes");
+    let (writes, flushes) = plans.split_once(' ').expect(rt, "no flushes");
+    let mut writer = PlannedWriter {
+        plan: planned(writes),
+        flushes: planned(flushes),
+        written: Vec::new(alloc),
+    };
+    end_of(rt, alloc, name, reads, &mut writer)
 }
 
 #[test]
-fn devices(rt: HostRuntime) -> Result<(), Fail> {
-    let rows = "good a a a => ok 28
-good 1 1 a => ok 28
-good i1iia i1iia a => ok 28
-good fa a a => line 1: device 0
-good aaafa a a => line 2: device 14
-good aaai a a => line 2: device 14
-good a fa a => line 1: device 0
-good a 0a a => line 1: device 0
-good a 10a a => line 1: device 1
-good a 111fa a => line 1: device 3
-good a aa0a a => line 2: device 25
-good a ai a => line 2: device 14
-good a a f => line 3: device 28
-bad a a a => line 3: bad command 28
-bad a a f => line 3: device 28";
-    for row in rows.lines() {
-        assert!(rt; is_so(rt.alloc(), row)?, "{row}");
-    }
-    Ok(())
+fn devices(rt: HostRuntime) {
+    let rows = "good a a a = ok 28
+good 1 1 a = ok 28
+good i1iia i1iia a = ok 28
+good fa a a = line 1: device 0
+good aaafa a a = line 2: device 14
+good aaai a a = line 2: device 14
+good a fa a = line 1: device 0
+good a 0a a = line 1: device 0
+good a 10a a = line 1: device 1
+good a 111fa a = line 1: device 3
+good a aa0a a = line 2: device 25
+good a ai a = line 2: device 14
+good a a f = line 3: device 28
+bad a a a = line 3: bad command 28
+bad a a f = line 3: device 28";
+    assert_rows(&rt, rt.alloc(), rows, end_over);
 }
 
 // Whether what was written is that line, or nothing where the line is empty.
@@ -157,54 +166,45 @@ fn is_line(written: &[u8], line: &str) -> bool {
     written.strip_suffix(b"\n") == Some(line.as_bytes())
 }
 
-// Whether the words over an input of one line end so.
-fn obeys(
+fn list_of(rt: &impl Abort, alloc: Global, words: &str) -> Vec<String> {
+    let mut list = Vec::new(alloc);
+    for word in words.split_whitespace() {
+        list.push(owned(rt, alloc, word)).expect(rt, "memory");
+    }
+    list
+}
+
+// Asserts that the words over an input of one line end so: what is told, and what is answered.
+fn assert_obeyed(
+    rt: &impl Abort,
     alloc: Global,
     words: &str,
     input: &str,
-    status: &str,
-    told: &str,
-    answer: &str,
-) -> Result<bool, Fail> {
-    let mut list = Vec::new(alloc);
-    for word in words.split_whitespace() {
-        list.push(String::from_str(alloc, word)?)?;
-    }
+    status: u8,
+    lines: (&str, &str),
+) {
+    let list = list_of(rt, alloc, words);
     let mut reader = input.as_bytes();
     let mut written = Vec::new(alloc);
     let mut errors = Vec::new(alloc);
     let ending = obey(alloc, &list, &mut reader, &mut written, &mut errors);
-    let number = format!(in alloc; "{}", ending.status)?;
-    Ok(
-        number.as_str() == status
-            && ending.told.is_ok()
-            && is_line(&errors, told)
-            && is_line(&written, answer),
-    )
-}
-
-// Whether a row holds: the words and the input, and the status, what is told, and what is answered.
-fn is_obeyed(alloc: Global, row: &str) -> Result<bool, Fail> {
-    let mut columns = row.split('|');
-    let words = columns.next().ok_or("no words")?;
-    let input = columns.next().ok_or("no input")?;
-    let status = columns.next().ok_or("no status")?;
-    let told = columns.next().ok_or("nothing told")?;
-    let answer = columns.next().ok_or("no answer")?;
-    obeys(alloc, words, input, status, told, answer)
+    assert!(rt; ending.status == status && ending.told.is_ok(), "{words}");
+    assert!(rt;
+        is_line(&errors, lines.0) && is_line(&written, lines.1),
+        "{words}"
+    );
 }
 
 #[test]
-fn words(rt: HostRuntime) -> Result<(), Fail> {
-    let rows = r#"replay||0||
-replay|{"count":1,"do":"brokers","nodes":["n"]}|0||{"brokers":1}
-replay|x|1|line 1: bad command|"#;
-    for row in rows.lines() {
-        assert!(rt; is_obeyed(rt.alloc(), row)?, "{row}");
-    }
+fn words(rt: HostRuntime) {
+    assert_obeyed(&rt, rt.alloc(), "replay", "", 0, ("", ""));
+    let brokers = r#"{"count":1,"do":"brokers","nodes":["n"]}"#;
+    let answer = r#"{"brokers":1}"#;
+    assert_obeyed(&rt, rt.alloc(), "replay", brokers, 0, ("", answer));
+    let bad = "line 1: bad command";
+    assert_obeyed(&rt, rt.alloc(), "replay", "x", 1, (bad, ""));
     let usage = "usage: druid_cluster replay | druid_cluster serve CONFIG";
     for words in ["", "serve", "replay x", "replay replay", "Replay"] {
-        assert!(rt; obeys(rt.alloc(), words, "x", "2", usage, "")?, "{words}");
+        assert_obeyed(&rt, rt.alloc(), words, "x", 2, (usage, ""));
     }
-    Ok(())
 }

@@ -7,7 +7,7 @@ use druid_inventory::Inventory;
 use druid_shard::{Change, Mark, NodeNo};
 use druid_world::{Event, Sim};
 use std::alloc::Global;
-use std::test::Fail;
+use std::process::Abort;
 
 const RUNS: u64 = 1000;
 
@@ -122,24 +122,24 @@ fn draw(draws: &mut Draws, packets: usize) -> Drawn {
     }
 }
 
-fn change(alloc: Global, load: bool, partition: u16) -> Result<Change, Fail> {
-    let segment = segment(alloc, partition)?;
-    Ok(if load {
+fn change(rt: &impl Abort, alloc: Global, load: bool, partition: u16) -> Change {
+    let segment = segment(rt, alloc, partition);
+    if load {
         Change::Load(segment)
     } else {
         Change::Drop(segment)
-    })
+    }
 }
 
-fn event(alloc: Global, drawn: Drawn) -> Result<Event, Fail> {
-    Ok(match drawn {
+fn event(rt: &impl Abort, alloc: Global, drawn: Drawn) -> Event {
+    match drawn {
         Drawn::Record {
             node,
             load,
             partition,
         } => Event::Record {
             node,
-            change: change(alloc, load, partition)?,
+            change: change(rt, alloc, load, partition),
         },
         Drawn::Restart { node } => Event::Restart { node },
         Drawn::Ask {
@@ -156,7 +156,7 @@ fn event(alloc: Global, drawn: Drawn) -> Result<Event, Fail> {
         Drawn::Deliver { packet } => Event::Deliver { packet },
         Drawn::Cut { packet } => Event::Cut { packet },
         Drawn::Fail { broker, node } => Event::Fail { broker, node },
-    })
+    }
 }
 
 // A change of a node that was recorded: of which incarnation, and the partition that it loads or drops.
@@ -188,28 +188,27 @@ fn incarnation_of(restarts: &[NodeNo], node: NodeNo) -> u64 {
 }
 
 // Keeps an event that happened.
-fn keep(plain: &mut Plain, drawn: Drawn) -> Result<(), Fail> {
+fn keep(rt: &impl Abort, plain: &mut Plain, drawn: Drawn) {
     match drawn {
         Drawn::Record {
             node,
             load,
             partition,
         } => {
-            let incarnation = incarnation_of(&plain.restarts, node);
-            plain.told.push(Told {
+            let told = Told {
                 node,
-                incarnation,
+                incarnation: incarnation_of(&plain.restarts, node),
                 load,
                 partition,
-            })?;
+            };
+            plain.told.push(told).expect(rt, "memory");
         }
-        Drawn::Restart { node } => plain.restarts.push(node)?,
+        Drawn::Restart { node } => plain.restarts.push(node).expect(rt, "memory"),
         Drawn::Ask { .. } | Drawn::Answer { .. } | Drawn::Seed { .. } => {
             plain.packets = plain.packets.wrapping_add(1);
         }
         Drawn::Deliver { .. } | Drawn::Cut { .. } | Drawn::Fail { .. } => {}
     }
-    Ok(())
 }
 
 // The partition as a bit.
@@ -234,19 +233,28 @@ fn replayed(told: &[Told], node: NodeNo, mark: Mark) -> Option<u64> {
     if left == 0 { Some(set) } else { None }
 }
 
+// The partitions of a node that are known, as bits.
+fn held(rt: &impl Abort, inventory: &Inventory, node: NodeNo) -> u64 {
+    let mut held = 0_u64;
+    for segment in inventory.segments(node).expect(rt, "no node") {
+        held |= bit(segment.id().partition());
+    }
+    held
+}
+
+fn mark_of(rt: &impl Abort, inventory: &Inventory, node: NodeNo) -> Mark {
+    inventory.mark(node).expect(rt, "no node")
+}
+
 // Whether what is known of each node is what it served at that mark.
-fn is_true(plain: &Plain, inventory: &Inventory) -> Result<bool, Fail> {
+fn is_true(rt: &impl Abort, plain: &Plain, inventory: &Inventory) -> bool {
     for node in 0..NODES {
-        let mark = inventory.mark(node).ok_or("no node")?;
-        let mut held = 0_u64;
-        for segment in inventory.segments(node).ok_or("no node")? {
-            held |= bit(segment.id().partition());
-        }
-        if replayed(&plain.told, node, mark) != Some(held) {
-            return Ok(false);
+        let served = replayed(&plain.told, node, mark_of(rt, inventory, node));
+        if served != Some(held(rt, inventory, node)) {
+            return false;
         }
     }
-    Ok(true)
+    true
 }
 
 fn have_equal_marks(first: &Inventory, second: &Inventory) -> bool {
@@ -259,85 +267,99 @@ fn have_equal_marks(first: &Inventory, second: &Inventory) -> bool {
 }
 
 // Whether the two are equal where their marks are, and what they are together is true.
-fn agree(plain: &Plain, first: &Inventory, second: &Inventory) -> Result<bool, Fail> {
+fn agree(rt: &impl Abort, plain: &Plain, first: &Inventory, second: &Inventory) -> bool {
     if have_equal_marks(first, second) != (first == second) {
-        return Ok(false);
+        return false;
     }
-    let joined = first.join(second)?;
-    is_true(plain, &joined)
+    let joined = first.join(second).expect(rt, "no join");
+    is_true(rt, plain, &joined)
 }
 
 // Makes the events of a run.
-fn run(alloc: Global, draws: &mut Draws, sim: &mut Sim, plain: &mut Plain) -> Result<(), Fail> {
+fn run(rt: &impl Abort, alloc: Global, draws: &mut Draws, sim: &mut Sim, plain: &mut Plain) {
     for _event in 0..EVENTS {
         let drawn = draw(draws, plain.packets);
-        if sim.step(event(alloc, drawn)?).is_ok() {
-            keep(plain, drawn)?;
+        if sim.step(event(rt, alloc, drawn)).is_ok() {
+            keep(rt, plain, drawn);
         }
     }
-    Ok(())
+}
+
+fn broker_of<'a>(rt: &impl Abort, sim: &'a Sim, broker: usize) -> &'a Inventory {
+    sim.broker(broker).expect(rt, "no broker")
+}
+
+// Whether all that a broker knows is true, and agrees with what the others know.
+fn is_true_beside_others(rt: &impl Abort, sim: &Sim, plain: &Plain, first: &Inventory) -> bool {
+    for j in 0..BROKERS {
+        if !agree(rt, plain, first, broker_of(rt, sim, j)) {
+            return false;
+        }
+    }
+    is_true(rt, plain, first)
 }
 
 // Whether all that the brokers know after a run is true.
-fn are_true(sim: &Sim, plain: &Plain) -> Result<bool, Fail> {
+fn are_true(rt: &impl Abort, sim: &Sim, plain: &Plain) -> bool {
     for i in 0..BROKERS {
-        let first = sim.broker(i).ok_or("no broker")?;
-        if !is_true(plain, first)? {
-            return Ok(false);
+        if !is_true_beside_others(rt, sim, plain, broker_of(rt, sim, i)) {
+            return false;
         }
-        for j in 0..BROKERS {
-            let second = sim.broker(j).ok_or("no broker")?;
-            if !agree(plain, first, second)? {
-                return Ok(false);
+    }
+    true
+}
+
+// In how many entries nodes were synced, and in how many of these they had changes.
+#[derive(Clone, Copy, Drop)]
+struct Entries {
+    synced: u64,
+    changed: u64,
+}
+
+impl Entries {
+    fn count(&mut self, mark: Mark) {
+        if mark != Mark::never() {
+            self.synced = self.synced.wrapping_add(1);
+        }
+        if mark.count() > 0 {
+            self.changed = self.changed.wrapping_add(1);
+        }
+    }
+
+    // Counts the entries of all brokers.
+    fn count_all(&mut self, rt: &impl Abort, sim: &Sim) {
+        for i in 0..BROKERS {
+            let inventory = broker_of(rt, sim, i);
+            for node in 0..NODES {
+                self.count(mark_of(rt, inventory, node));
             }
         }
     }
-    Ok(true)
 }
 
-// In how many entries a node was synced, and in how many of these it had changes.
-fn synced(sim: &Sim) -> Result<(u64, u64), Fail> {
-    let mut synced = 0_u64;
-    let mut changed = 0_u64;
-    for i in 0..BROKERS {
-        let inventory = sim.broker(i).ok_or("no broker")?;
-        for node in 0..NODES {
-            let mark = inventory.mark(node).ok_or("no node")?;
-            if mark != Mark::never() {
-                synced = synced.wrapping_add(1);
-            }
-            if mark.count() > 0 {
-                changed = changed.wrapping_add(1);
-            }
-        }
-    }
-    Ok((synced, changed))
-}
-
-// Whether all is true after a drawn run, and how much brokers came to know.
-fn drawn_run(alloc: Global, seed: u64) -> Result<(bool, (u64, u64)), Fail> {
+// Whether all is true after a drawn run; counts how much brokers came to know.
+fn drawn_run(rt: &impl Abort, alloc: Global, seed: u64, entries: &mut Entries) -> bool {
     let mut draws = Draws { state: seed };
-    let mut sim = Sim::new(alloc, 3, 4, 5)?;
+    let mut sim = Sim::new(alloc, 3, 4, 5).expect(rt, "memory");
     let mut plain = Plain {
         told: Vec::new(alloc),
         restarts: Vec::new(alloc),
         packets: 0,
     };
-    run(alloc, &mut draws, &mut sim, &mut plain)?;
-    Ok((are_true(&sim, &plain)?, synced(&sim)?))
+    run(rt, alloc, &mut draws, &mut sim, &mut plain);
+    entries.count_all(rt, &sim);
+    are_true(rt, &sim, &plain)
 }
 
 #[test]
-fn brokers_at_equal_marks_are_equal(rt: HostRuntime) -> Result<(), Fail> {
-    let mut entries = 0_u64;
-    let mut changed = 0_u64;
+fn brokers_at_equal_marks_are_equal(rt: HostRuntime) {
+    let mut entries = Entries {
+        synced: 0,
+        changed: 0,
+    };
     for seed in 0..RUNS {
-        let (true_run, (some, more)) = drawn_run(rt.alloc(), seed)?;
-        assert!(rt; true_run, "at {seed}");
-        entries = entries.wrapping_add(some);
-        changed = changed.wrapping_add(more);
+        assert!(rt; drawn_run(&rt, rt.alloc(), seed, &mut entries), "at {seed}");
     }
     // of 12 entries in each of 1,000 runs
-    assert!(rt; entries > 3000 && changed > 2000);
-    Ok(())
+    assert!(rt; entries.synced > 3000 && entries.changed > 2000);
 }

@@ -1,11 +1,13 @@
-use crate::printing::printed;
+use crate::printing::{assert_printed, assert_told, owned, printed};
 use druid_inventory::Inventory;
 use druid_segid::{Name, SegmentId, Version};
 use druid_shard::{Change, Descriptor};
 use druid_time::Interval;
 use druid_world::{Event, Sim, SimFault};
 use std::alloc::Global;
-use std::test::Fail;
+use std::fmt::{Debug, Write};
+use std::process::Abort;
+use std::str::FromStr;
 
 // A run of one node and two brokers, where two changes are kept: an event, what it is answered, and what broker 0 has
 // of the node after it. Then broker 1 has the same.
@@ -44,8 +46,10 @@ answer 11 = ok = 1 5 1 2 4
 deliver 12 = ok = 2 0
 deliver 8 = ok = 2 0";
 
-// Events that cannot happen after these two: node 0 of one loaded partition 0, and broker 0 of two asked it.
-const REFUSED: &str = "record 1 +0 = E1: no such node
+// Node 0 of one loads partition 0, broker 0 of two asks it, and these events cannot happen then.
+const REFUSED: &str = "record 0 +0 = ok
+ask 0 0 = ok
+record 1 +0 = E1: no such node
 restart 1 = E1: no such node
 ask 0 1 = E1: no such node
 ask 9 1 = E1: no such node
@@ -65,174 +69,181 @@ record 0 -1 = E4: refused
 seed 0 1 0 = E4: refused";
 
 // Each kind of event, in an order in which it can happen.
-const EACH: &str =
-    "record 0 +0,ask 0 0,answer 0,deliver 1,seed 0 1 0,deliver 2,record 0 -0,restart 0,cut 2,fail 1 0";
+const EACH: &str = "record 0 +0 = ok
+ask 0 0 = ok
+answer 0 = ok
+deliver 1 = ok
+seed 0 1 0 = ok
+deliver 2 = ok
+record 0 -0 = ok
+restart 0 = ok
+cut 2 = ok
+fail 1 0 = ok";
+
+// What a word of a row says.
+fn parsed<T: FromStr<Err: Debug + Drop>>(rt: &impl Abort, word: &str) -> T {
+    word.parse().expect(rt, "another word")
+}
 
 // A segment whose chunk has one core partition.
-pub(crate) fn segment(alloc: Global, partition: u16) -> Result<Descriptor, Fail> {
-    let source = Name::new(alloc, "wiki")?;
-    let day = Interval::parse("2024-01-01/2024-01-02")?;
-    let version = Version::new(alloc, "v1")?;
+pub(crate) fn segment(rt: &impl Abort, alloc: Global, partition: u16) -> Descriptor {
+    let source = Name::new(alloc, "wiki").expect(rt, "no name");
+    let day = Interval::parse("2024-01-01/2024-01-02").expect(rt, "no interval");
+    let version = Version::new(alloc, "v1").expect(rt, "no version");
     let id = SegmentId::new(source, day, version, partition);
-    Ok(Descriptor::new(id, 1, 7).ok_or("core")?)
+    Descriptor::new(id, 1, 7).expect(rt, "core")
 }
 
 // Of `+3` the load of partition 3, and of `-3` the drop.
-fn change(alloc: Global, text: &str) -> Result<Change, Fail> {
+fn change(rt: &impl Abort, alloc: Global, text: &str) -> Change {
     match text.strip_prefix('+') {
-        Some(partition) => Ok(Change::Load(segment(alloc, partition.parse()?)?)),
+        Some(partition) => Change::Load(segment(rt, alloc, parsed(rt, partition))),
         None => {
-            let partition = text.strip_prefix('-').ok_or("no change")?;
-            Ok(Change::Drop(segment(alloc, partition.parse()?)?))
+            let partition = text.strip_prefix('-').expect(rt, "no change");
+            Change::Drop(segment(rt, alloc, parsed(rt, partition)))
         }
     }
 }
 
 // An event of two words.
-fn short_event(word: &str, number: &str) -> Result<Event, Fail> {
-    let packet = number.parse()?;
+fn short_event(rt: &impl Abort, word: &str, number: &str) -> Event {
+    let packet = parsed(rt, number);
     match word {
-        "answer" => Ok(Event::Answer { packet }),
-        "deliver" => Ok(Event::Deliver { packet }),
-        "cut" => Ok(Event::Cut { packet }),
-        "restart" => Ok(Event::Restart {
-            node: number.parse()?,
-        }),
-        _ => Err(Fail::from("no event")),
+        "answer" => Event::Answer { packet },
+        "deliver" => Event::Deliver { packet },
+        "cut" => Event::Cut { packet },
+        "restart" => Event::Restart {
+            node: parsed(rt, number),
+        },
+        _ => panic!(rt; "no event"),
     }
 }
 
 // An event of three words, or a seed of four.
-fn long_event(alloc: Global, word: &str, first: &str, second: &str) -> Result<Event, Fail> {
+fn long_event(rt: &impl Abort, alloc: Global, word: &str, first: &str, second: &str) -> Event {
     match word {
-        "record" => Ok(Event::Record {
-            node: first.parse()?,
-            change: change(alloc, second)?,
-        }),
-        "ask" => ask(first, second, false),
-        "whole" => ask(first, second, true),
-        "fail" => Ok(Event::Fail {
-            broker: first.parse()?,
-            node: second.parse()?,
-        }),
-        _ => seed(first, second),
+        "record" => Event::Record {
+            node: parsed(rt, first),
+            change: change(rt, alloc, second),
+        },
+        "ask" => ask(rt, first, second, false),
+        "whole" => ask(rt, first, second, true),
+        "fail" => Event::Fail {
+            broker: parsed(rt, first),
+            node: parsed(rt, second),
+        },
+        _ => seed(rt, first, second),
     }
 }
 
-fn ask(broker: &str, node: &str, whole: bool) -> Result<Event, Fail> {
-    Ok(Event::Ask {
-        broker: broker.parse()?,
-        node: node.parse()?,
+fn ask(rt: &impl Abort, broker: &str, node: &str, whole: bool) -> Event {
+    Event::Ask {
+        broker: parsed(rt, broker),
+        node: parsed(rt, node),
         whole,
-    })
+    }
 }
 
-fn seed(peer: &str, rest: &str) -> Result<Event, Fail> {
-    let (broker, node) = rest.split_once(' ').ok_or("no seed")?;
-    Ok(Event::Seed {
-        peer: peer.parse()?,
-        broker: broker.parse()?,
-        node: node.parse()?,
-    })
+fn seed(rt: &impl Abort, peer: &str, rest: &str) -> Event {
+    let (broker, node) = rest.split_once(' ').expect(rt, "no seed");
+    Event::Seed {
+        peer: parsed(rt, peer),
+        broker: parsed(rt, broker),
+        node: parsed(rt, node),
+    }
 }
 
-fn event(alloc: Global, text: &str) -> Result<Event, Fail> {
-    let (word, rest) = text.split_once(' ').ok_or("no event")?;
+fn event(rt: &impl Abort, alloc: Global, text: &str) -> Event {
+    let (word, rest) = text.split_once(' ').expect(rt, "no event");
     match rest.split_once(' ') {
-        Some((first, second)) => long_event(alloc, word, first, second),
-        None => short_event(word, rest),
+        Some((first, second)) => long_event(rt, alloc, word, first, second),
+        None => short_event(rt, word, rest),
     }
 }
 
 // What an event is answered.
-fn stepped(alloc: Global, sim: &mut Sim, text: &str) -> Result<String, Fail> {
-    match sim.step(event(alloc, text)?) {
-        Ok(()) => Ok(String::from_str(alloc, "ok")?),
-        Err(fault) => printed(alloc, &fault),
+fn stepped(rt: &impl Abort, alloc: Global, sim: &mut Sim, text: &str) -> String {
+    match sim.step(event(rt, alloc, text)) {
+        Ok(()) => owned(rt, alloc, "ok"),
+        Err(fault) => printed(rt, alloc, &fault),
     }
+}
+
+// The mark of node 0.
+fn mark_told(rt: &impl Abort, alloc: Global, inventory: &Inventory) -> String {
+    let mark = inventory.mark(0).expect(rt, "no node");
+    format!(in alloc; "{} {}", mark.incarnation(), mark.count()).expect(rt, "memory")
 }
 
 // The mark of node 0 and its partitions.
-fn told(alloc: Global, inventory: &Inventory) -> Result<String, Fail> {
-    let mark = inventory.mark(0).ok_or("no node")?;
-    let mut text = format!(in alloc; "{} {}", mark.incarnation(), mark.count())?;
-    for segment in inventory.segments(0).ok_or("no node")? {
-        let partition = format!(in alloc; " {}", segment.id().partition())?;
-        text.push_str(partition.as_str())?;
+fn told(rt: &impl Abort, alloc: Global, inventory: &Inventory) -> String {
+    let mut text = mark_told(rt, alloc, inventory);
+    for segment in inventory.segments(0).expect(rt, "no node") {
+        write!(text, " {}", segment.id().partition()).expect(rt, "memory");
     }
-    Ok(text)
+    text
 }
 
-fn known(alloc: Global, sim: &Sim, broker: usize) -> Result<String, Fail> {
-    told(alloc, sim.broker(broker).ok_or("no broker")?)
+fn broker<'a>(rt: &impl Abort, sim: &'a Sim, broker: usize) -> &'a Inventory {
+    sim.broker(broker).expect(rt, "no broker")
 }
 
-fn new_sim(alloc: Global) -> Result<Sim, Fail> {
-    Ok(Sim::new(alloc, 1, 2, 2)?)
+fn known(rt: &impl Abort, alloc: Global, sim: &Sim, number: usize) -> String {
+    told(rt, alloc, broker(rt, sim, number))
 }
 
-fn are_equal(sim: &Sim) -> Result<bool, Fail> {
-    let first = sim.broker(0).ok_or("no broker")?;
-    let second = sim.broker(1).ok_or("no broker")?;
-    Ok(first == second)
+fn new_sim(rt: &impl Abort, alloc: Global) -> Sim {
+    Sim::new(alloc, 1, 2, 2).expect(rt, "memory")
 }
 
-// Whether each row is answered so, and broker 0 has that after it.
-fn is_so(alloc: Global, sim: &mut Sim, row: &str) -> Result<bool, Fail> {
-    let (text, wanted) = row.split_once(" = ").ok_or("no row")?;
-    let (answer, held) = wanted.split_once(" = ").ok_or("no row")?;
-    let answered = stepped(alloc, sim, text)?;
-    Ok(answered.as_str() == answer && known(alloc, sim, 0)?.as_str() == held)
+fn are_equal(rt: &impl Abort, sim: &Sim) -> bool {
+    broker(rt, sim, 0) == broker(rt, sim, 1)
+}
+
+// Asserts that an event is answered so, and broker 0 has that after it.
+fn assert_event(rt: &impl Abort, alloc: Global, sim: &mut Sim, row: &str) {
+    let (text, wanted) = row.split_once(" = ").expect(rt, "no row");
+    let (answer, held) = wanted.split_once(" = ").expect(rt, "no row");
+    assert_told(rt, row, stepped(rt, alloc, sim, text), answer);
+    assert_told(rt, row, known(rt, alloc, sim, 0), held);
+}
+
+fn assert_run(rt: &impl Abort, alloc: Global, sim: &mut Sim, rows: &str) {
+    for row in rows.lines() {
+        assert_event(rt, alloc, sim, row);
+    }
 }
 
 #[test]
-fn simulated_run(rt: HostRuntime) -> Result<(), Fail> {
-    let mut sim = new_sim(rt.alloc())?;
-    for row in RUN.lines() {
-        assert!(rt; is_so(rt.alloc(), &mut sim, row)?, "at {row}");
-    }
-    assert!(rt; are_equal(&sim)?);
-    for row in LATER.lines() {
-        assert!(rt; is_so(rt.alloc(), &mut sim, row)?, "at {row}");
-    }
-    assert!(rt; !are_equal(&sim)?);
+fn simulated_run(rt: HostRuntime) {
+    let mut sim = new_sim(&rt, rt.alloc());
+    assert_run(&rt, rt.alloc(), &mut sim, RUN);
+    assert!(rt; are_equal(&rt, &sim));
+    assert_run(&rt, rt.alloc(), &mut sim, LATER);
+    assert!(rt; !are_equal(&rt, &sim));
     assert!(rt; sim.broker(2).is_none());
-    Ok(())
+}
+
+// Asserts what these events are answered, one after another.
+fn assert_answers(rt: &impl Abort, alloc: Global, sim: &mut Sim, rows: &str) {
+    for row in rows.lines() {
+        let (text, wanted) = row.split_once(" = ").expect(rt, "no row");
+        assert_told(rt, text, stepped(rt, alloc, sim, text), wanted);
+    }
 }
 
 #[test]
-fn refusals(rt: HostRuntime) -> Result<(), Fail> {
-    let mut sim = new_sim(rt.alloc())?;
-    for text in "record 0 +0,ask 0 0".split(',') {
-        assert_eq!(rt; stepped(rt.alloc(), &mut sim, text)?.as_str(), "ok");
-    }
-    for row in REFUSED.lines() {
-        let (text, wanted) = row.split_once(" = ").ok_or("no row")?;
-        assert_eq!(rt;
-            stepped(rt.alloc(), &mut sim, text)?.as_str(),
-            wanted,
-            "at {text}"
-        );
-    }
-    Ok(())
+fn refusals(rt: HostRuntime) {
+    let mut sim = new_sim(&rt, rt.alloc());
+    assert_answers(&rt, rt.alloc(), &mut sim, REFUSED);
 }
 
 // Each call that may answer want of memory is made, and its answer is another.
 #[test]
-fn ample_memory(rt: HostRuntime) -> Result<(), Fail> {
-    let mut sim = new_sim(rt.alloc())?;
-    assert_eq!(rt; known(rt.alloc(), &sim, 0)?.as_str(), "0 0");
-    for text in EACH.split(',') {
-        assert_eq!(rt;
-            stepped(rt.alloc(), &mut sim, text)?.as_str(),
-            "ok",
-            "at {text}"
-        );
-    }
-    assert_eq!(rt; known(rt.alloc(), &sim, 1)?.as_str(), "1 1 0");
-    assert_eq!(rt;
-        printed(rt.alloc(), &SimFault::Memory)?.as_str(),
-        "E9: out of memory"
-    );
-    Ok(())
+fn ample_memory(rt: HostRuntime) {
+    let mut sim = new_sim(&rt, rt.alloc());
+    assert_told(&rt, "broker 0", known(&rt, rt.alloc(), &sim, 0), "0 0");
+    assert_answers(&rt, rt.alloc(), &mut sim, EACH);
+    assert_told(&rt, "broker 1", known(&rt, rt.alloc(), &sim, 1), "1 1 0");
+    assert_printed(&rt, rt.alloc(), &[(SimFault::Memory, "E9: out of memory")]);
 }

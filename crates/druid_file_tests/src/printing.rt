@@ -1,9 +1,17 @@
 //! Texts of values, whose types say nothing to a proof.
 use std::alloc::Global;
 use std::fmt::Display;
-use std::test::Fail;
+use std::process::Abort;
 
 /// What a value prints. It is of no type in particular, since what a proof knows of the texts of one is long.
-pub(crate) fn printed<T: Display>(alloc: Global, value: &T) -> Result<String, Fail> {
-    Ok(format!(in alloc; "{value}")?)
+pub(crate) fn printed<T: Display>(rt: &impl Abort, alloc: Global, value: &T) -> String {
+    format!(in alloc; "{value}").expect(rt, "memory")
+}
+
+/// Asserts that each value prints the text beside it.
+pub(crate) fn assert_prints<T: Display>(rt: &impl Abort, alloc: Global, values: &[(T, &str)]) {
+    for (value, text) in values {
+        let told = printed(rt, alloc, value);
+        assert!(rt; told.as_str() == *text, "{told}");
+    }
 }

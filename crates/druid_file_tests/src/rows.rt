@@ -1,10 +1,12 @@
-use crate::printing::printed;
+use crate::printing::assert_prints;
 use druid_rows::{Row, RowFault, Schema, Segment, SegmentBuilder};
 use druid_segid::{Name, SegmentId, Version};
 use druid_shard::Descriptor;
 use druid_time::{Instant, Interval};
 use std::alloc::Global;
-use std::test::Fail;
+use std::fmt::Debug;
+use std::process::Abort;
+use std::str::FromStr;
 
 // Segments of one row of the day that begins with 1970: the names of the dimensions and of the metrics, the instant, the
 // values and the numbers, and what is told of it. `*7` is seven letters, `#7` seven names, and `-` null.
@@ -32,70 +34,105 @@ d,e;m;86400000;*1025;5;U4
 d,e;m;86400000;x;5;U3
 d;m;86400000;x;5;U2";
 
-fn instant(ms: i64) -> Result<Instant, Fail> {
-    Ok(Instant::new(ms).ok_or("no instant")?)
+fn instant(rt: &impl Abort, ms: i64) -> Instant {
+    Instant::new(ms).expect(rt, "an instant")
 }
 
-fn descriptor(alloc: Global) -> Result<Descriptor, Fail> {
-    let id = SegmentId::new(
-        Name::new(alloc, "w")?,
-        Interval::parse("1970-01-01/1970-01-02")?,
-        Version::new(alloc, "v")?,
+fn segment_id(rt: &impl Abort, alloc: Global) -> SegmentId {
+    SegmentId::new(
+        Name::new(alloc, "w").expect(rt, "a name"),
+        Interval::parse("1970-01-01/1970-01-02").expect(rt, "an interval"),
+        Version::new(alloc, "v").expect(rt, "a version"),
         0,
-    );
-    Ok(Descriptor::new(id, 1, 0).ok_or("no descriptor")?)
+    )
 }
 
-fn text_of(alloc: Global, word: &str) -> Result<String, Fail> {
+fn descriptor(rt: &impl Abort, alloc: Global) -> Descriptor {
+    Descriptor::new(segment_id(rt, alloc), 1, 0).expect(rt, "a descriptor")
+}
+
+fn letters(rt: &impl Abort, alloc: Global, count: usize) -> String {
+    "a".repeat(alloc, count).expect(rt, "memory")
+}
+
+fn number<T: FromStr<Err: Debug>>(rt: &impl Abort, digits: &str) -> T {
+    digits.parse().expect(rt, "a number")
+}
+
+fn text_of(rt: &impl Abort, alloc: Global, word: &str) -> String {
     match word.strip_prefix("*") {
-        Some(count) => Ok("a".repeat(alloc, count.parse::<usize>()?)?),
-        None => Ok(String::from_str(alloc, word)?),
+        Some(count) => letters(rt, alloc, number(rt, count)),
+        None => String::from_str(alloc, word).expect(rt, "memory"),
     }
 }
 
-fn names(alloc: Global, words: &str) -> Result<Vec<String>, Fail> {
+fn many_names(rt: &impl Abort, alloc: Global, count: usize) -> Vec<String> {
     let mut names = Vec::new(alloc);
-    if let Some(count) = words.strip_prefix("#") {
-        for length in 0..count.parse::<usize>()? {
-            names.push("a".repeat(alloc, length.saturating_add(1))?)?;
-        }
-        return Ok(names);
+    for length in 0..count {
+        names
+            .push(letters(rt, alloc, length.saturating_add(1)))
+            .expect(rt, "memory");
     }
-    for word in words.split(',') {
-        names.push(text_of(alloc, word)?)?;
-    }
-    Ok(names)
+    names
 }
 
-fn texts(alloc: Global, words: &str) -> Result<Vec<Option<String>>, Fail> {
+fn listed_names(rt: &impl Abort, alloc: Global, words: &str) -> Vec<String> {
+    let mut names = Vec::new(alloc);
+    for word in words.split(',') {
+        names.push(text_of(rt, alloc, word)).expect(rt, "memory");
+    }
+    names
+}
+
+fn names(rt: &impl Abort, alloc: Global, words: &str) -> Vec<String> {
+    match words.strip_prefix("#") {
+        Some(count) => many_names(rt, alloc, number(rt, count)),
+        None => listed_names(rt, alloc, words),
+    }
+}
+
+fn text_or_null(rt: &impl Abort, alloc: Global, word: &str) -> Option<String> {
+    match word {
+        "-" => None,
+        _ => Some(text_of(rt, alloc, word)),
+    }
+}
+
+fn number_or_null(rt: &impl Abort, word: &str) -> Option<i64> {
+    match word {
+        "-" => None,
+        _ => Some(number(rt, word)),
+    }
+}
+
+fn texts(rt: &impl Abort, alloc: Global, words: &str) -> Vec<Option<String>> {
     let mut texts = Vec::new(alloc);
     for word in words.split(',') {
-        texts.push(match word {
-            "-" => None,
-            _ => Some(text_of(alloc, word)?),
-        })?;
+        texts
+            .push(text_or_null(rt, alloc, word))
+            .expect(rt, "memory");
     }
-    Ok(texts)
+    texts
 }
 
-fn numbers(alloc: Global, words: &str) -> Result<Vec<Option<i64>>, Fail> {
+fn numbers(rt: &impl Abort, alloc: Global, words: &str) -> Vec<Option<i64>> {
     let mut numbers = Vec::new(alloc);
     for word in words.split(',') {
-        numbers.push(match word {
-            "-" => None,
-            _ => Some(word.parse::<i64>()?),
-        })?;
+        numbers.push(number_or_null(rt, word)).expect(rt, "memory");
     }
-    Ok(numbers)
+    numbers
 }
 
-fn schema(alloc: Global, dimensions: &str, metrics: &str) -> Result<Schema, Fail> {
-    Ok(Schema::new(names(alloc, dimensions)?, names(alloc, metrics)?))
+fn schema(rt: &impl Abort, alloc: Global, dimensions: &str, metrics: &str) -> Schema {
+    Schema::new(names(rt, alloc, dimensions), names(rt, alloc, metrics))
 }
 
-fn row(alloc: Global, ms: &str, values: &str, counts: &str) -> Result<Row, Fail> {
-    let time = instant(ms.parse::<i64>()?)?;
-    Ok(Row::new(time, texts(alloc, values)?, numbers(alloc, counts)?))
+fn row(rt: &impl Abort, alloc: Global, ms: &str, values: &str, counts: &str) -> Row {
+    Row::new(
+        instant(rt, number(rt, ms)),
+        texts(rt, alloc, values),
+        numbers(rt, alloc, counts),
+    )
 }
 
 fn code(fault: RowFault) -> &'static str {
@@ -116,14 +153,19 @@ fn told<T: Drop>(answered: Result<T, RowFault>) -> &'static str {
 }
 
 // A call with a long contract stands alone, so that no other function carries what it says.
-fn new_segment(alloc: Global, schema: Schema, row: Row) -> Result<Result<Segment, RowFault>, Fail> {
+fn new_segment(
+    rt: &impl Abort,
+    alloc: Global,
+    schema: Schema,
+    row: Row,
+) -> Result<Segment, RowFault> {
     let mut rows = Vec::new(alloc);
-    rows.push(row)?;
-    Ok(Segment::new(alloc, descriptor(alloc)?, schema, rows))
+    rows.push(row).expect(rt, "memory");
+    Segment::new(alloc, descriptor(rt, alloc), schema, rows)
 }
 
-fn new_builder(alloc: Global, schema: Schema) -> Result<Result<SegmentBuilder, RowFault>, Fail> {
-    Ok(SegmentBuilder::new(alloc, descriptor(alloc)?, schema))
+fn new_builder(rt: &impl Abort, alloc: Global, schema: Schema) -> Result<SegmentBuilder, RowFault> {
+    SegmentBuilder::new(alloc, descriptor(rt, alloc), schema)
 }
 
 fn push(builder: &mut SegmentBuilder, row: &Row) -> Result<(), RowFault> {
@@ -131,57 +173,64 @@ fn push(builder: &mut SegmentBuilder, row: &Row) -> Result<(), RowFault> {
 }
 
 fn push_values(
+    rt: &impl Abort,
     builder: &mut SegmentBuilder,
     ms: i64,
     text: Option<&str>,
     number: Option<i64>,
-) -> Result<Result<(), RowFault>, Fail> {
-    Ok(builder.push_values(instant(ms)?, &[text], &[number]))
+) -> Result<(), RowFault> {
+    builder.push_values(instant(rt, ms), &[text], &[number])
 }
 
-// What is told of pushing a row.
-fn told_of_push(alloc: Global, schema: Schema, row: &Row) -> Result<&'static str, Fail> {
-    match new_builder(alloc, schema)? {
-        Ok(mut builder) => Ok(told(push(&mut builder, row))),
-        Err(fault) => Ok(code(fault)),
-    }
+// Pushes a row, which alone is there.
+fn push_first(rt: &impl Abort, alloc: Global, schema: Schema, row: &Row) -> Result<(), RowFault> {
+    let mut builder = new_builder(rt, alloc, schema)?;
+    push(&mut builder, row)
 }
 
-// Whether a line of the table is told so, both ways.
-fn is_told(alloc: Global, line: &str) -> Result<bool, Fail> {
+// Whether a row is told so, both ways, in a segment of these names.
+fn is_row_told(
+    rt: &impl Abort,
+    alloc: Global,
+    (dimensions, metrics): (&str, &str),
+    row: Row,
+    wanted: &str,
+) -> bool {
+    told(push_first(rt, alloc, schema(rt, alloc, dimensions, metrics), &row)) == wanted
+        && told(new_segment(rt, alloc, schema(rt, alloc, dimensions, metrics), row)) == wanted
+}
+
+// Whether a line of the table is told so.
+fn is_told(rt: &impl Abort, alloc: Global, line: &str) -> bool {
     let mut parts = line.split(';');
-    let dimensions = parts.next().ok_or("no dimensions")?;
-    let metrics = parts.next().ok_or("no metrics")?;
-    let ms = parts.next().ok_or("no instant")?;
-    let values = parts.next().ok_or("no values")?;
-    let counts = parts.next().ok_or("no numbers")?;
-    let wanted = parts.next().ok_or("nothing wanted")?;
-    let one = row(alloc, ms, values, counts)?;
-    let pushed = told_of_push(alloc, schema(alloc, dimensions, metrics)?, &one)?;
-    let made = told(new_segment(alloc, schema(alloc, dimensions, metrics)?, one)?);
-    Ok(made == wanted && pushed == wanted)
+    let dimensions = parts.next().expect(rt, "dimensions");
+    let metrics = parts.next().expect(rt, "metrics");
+    let ms = parts.next().expect(rt, "an instant");
+    let values = parts.next().expect(rt, "values");
+    let counts = parts.next().expect(rt, "numbers");
+    let wanted = parts.next().expect(rt, "an answer");
+    let one = row(rt, alloc, ms, values, counts);
+    is_row_told(rt, alloc, (dimensions, metrics), one, wanted)
 }
 
 #[test]
-fn one_row(rt: HostRuntime) -> Result<(), Fail> {
+fn one_row(rt: HostRuntime) {
     for line in JUDGED.lines() {
-        assert!(rt; is_told(rt.alloc(), line)?, "{line}");
+        assert!(rt; is_told(&rt, rt.alloc(), line), "{line}");
     }
-    Ok(())
 }
 
+const TEXTS_OF_FAULTS: [(RowFault, &str); 5] = [
+    (RowFault::BadSchema, "U1: a bad schema"),
+    (RowFault::RowOutside, "U2: a row outside the interval"),
+    (RowFault::RowShape, "U3: a row of another shape"),
+    (RowFault::TooLong, "U4: too long"),
+    (RowFault::Memory, "U9: out of memory"),
+];
+
 #[test]
-fn printed_faults(rt: HostRuntime) -> Result<(), Fail> {
-    for (fault, text) in [
-        (RowFault::BadSchema, "U1: a bad schema"),
-        (RowFault::RowOutside, "U2: a row outside the interval"),
-        (RowFault::RowShape, "U3: a row of another shape"),
-        (RowFault::TooLong, "U4: too long"),
-        (RowFault::Memory, "U9: out of memory"),
-    ] {
-        assert_eq!(rt; printed(rt.alloc(), &fault)?.as_str(), text);
-    }
-    Ok(())
+fn printed_faults(rt: HostRuntime) {
+    assert_prints(&rt, rt.alloc(), &TEXTS_OF_FAULTS);
 }
 
 // Whether the readers of a segment tell this of a row.
@@ -203,59 +252,77 @@ fn has_row(
         && segment.metric(row, 0) == number
 }
 
+fn is_text(found: Option<&Option<String>>, text: Option<&str>) -> bool {
+    match (found, text) {
+        (Some(Some(value)), Some(text)) => value.as_str() == text,
+        (Some(None), None) => true,
+        _ => false,
+    }
+}
+
 // Whether a copy of a row has these values.
 fn copies_row(
+    rt: &impl Abort,
     segment: &Segment,
     row: usize,
     text: Option<&str>,
     number: Option<i64>,
-) -> Result<bool, Fail> {
+) -> bool {
     if row >= segment.len() {
-        return Ok(false);
+        return false;
     }
-    let copy = segment.row(row)?;
-    let is_text = match (copy.dimensions().first(), text) {
-        (Some(Some(value)), Some(text)) => value.as_str() == text,
-        (Some(None), None) => true,
-        _ => false,
-    };
-    Ok(is_text && copy.metrics().first() == Some(&number))
+    let copy = segment.row(row).expect(rt, "memory");
+    is_text(copy.dimensions().first(), text) && copy.metrics().first() == Some(&number)
+}
+
+fn builder(rt: &impl Abort, alloc: Global) -> SegmentBuilder {
+    new_builder(rt, alloc, schema(rt, alloc, "d", "m")).expect(rt, "a builder")
 }
 
 // Three rows: a null and a number, an empty text and the least number, and a text that is not ASCII and null.
-fn three_rows(alloc: Global) -> Result<Segment, Fail> {
-    let mut builder = new_builder(alloc, schema(alloc, "d", "m")?)??;
-    let first = row(alloc, "7", "-", "5")?;
-    push(&mut builder, &first)?;
-    push_values(&mut builder, 0, Some(""), Some(i64::MIN))??;
-    push_values(&mut builder, 9, Some("\u{e9}t\u{e9}"), None)??;
-    Ok(builder.finish())
+fn three_rows(rt: &impl Abort, alloc: Global) -> Segment {
+    let mut builder = builder(rt, alloc);
+    push(&mut builder, &row(rt, alloc, "7", "-", "5")).expect(rt, "a first row");
+    push_values(rt, &mut builder, 0, Some(""), Some(i64::MIN)).expect(rt, "a second row");
+    push_values(rt, &mut builder, 9, Some("\u{e9}t\u{e9}"), None).expect(rt, "a third row");
+    builder.finish()
+}
+
+// The instants, the texts and the numbers of the three.
+const THREE_ROWS: [(i64, Option<&str>, Option<i64>); 3] = [
+    (7, None, Some(5)),
+    (0, Some(""), Some(i64::MIN)),
+    (9, Some("\u{e9}t\u{e9}"), None),
+];
+
+// Whether the readers and a copy both tell this of a row.
+fn is_row(
+    rt: &impl Abort,
+    segment: &Segment,
+    row: usize,
+    (ms, text, number): &(i64, Option<&str>, Option<i64>),
+) -> bool {
+    has_row(segment, row, *ms, *text, *number) && copies_row(rt, segment, row, *text, *number)
 }
 
 #[test]
-fn ample_memory(rt: HostRuntime) -> Result<(), Fail> {
-    let segment = three_rows(rt.alloc())?;
-    assert!(rt; has_row(&segment, 0, 7, None, Some(5)));
-    assert!(rt; has_row(&segment, 1, 0, Some(""), Some(i64::MIN)));
-    assert!(rt; has_row(&segment, 2, 9, Some("\u{e9}t\u{e9}"), None));
-    assert!(rt; copies_row(&segment, 0, None, Some(5))?);
-    assert!(rt; copies_row(&segment, 2, Some("\u{e9}t\u{e9}"), None)?);
-    Ok(())
-}
-
-// What is told of the last of so many equal rows.
-fn told_of_last(alloc: Global, count: u32) -> Result<&'static str, Fail> {
-    let mut builder = new_builder(alloc, schema(alloc, "d", "m")?)??;
-    let mut last = Ok(());
-    for _ in 0..count {
-        last = push_values(&mut builder, 0, Some("x"), Some(5))?;
+fn ample_memory(rt: HostRuntime) {
+    let segment = three_rows(&rt, rt.alloc());
+    for (row, told) in THREE_ROWS.iter().enumerate() {
+        assert!(rt; is_row(&rt, &segment, row, told), "{row}");
     }
-    Ok(told(last))
+}
+
+// Pushes a row that is equal to those before it.
+fn push_equal(rt: &impl Abort, builder: &mut SegmentBuilder) -> Result<(), RowFault> {
+    push_values(rt, builder, 0, Some("x"), Some(5))
 }
 
 #[test]
-fn most_rows(rt: HostRuntime) -> Result<(), Fail> {
-    assert_eq!(rt; told_of_last(rt.alloc(), 100_000)?, "ok");
-    assert_eq!(rt; told_of_last(rt.alloc(), 100_001)?, "U4");
-    Ok(())
+fn most_rows(rt: HostRuntime) {
+    let mut builder = builder(&rt, rt.alloc());
+    for _ in 0..100_000u32 {
+        push_equal(&rt, &mut builder).expect(&rt, "a row");
+    }
+    assert!(rt; told(push_equal(&rt, &mut builder)) == "U4");
 }

@@ -1,10 +1,9 @@
-use crate::printing::printed;
+use crate::printing::assert_prints;
 use druid_rows::Segment;
 use druid_segfile::{FileFault, read_segment, write_segment};
 use std::alloc::Global;
 use std::io::{Error, ErrorKind, Read, Result as IoResult, Write};
 use std::process::Abort;
-use std::test::Fail;
 
 // One row of the source `w`, as other programs spell it: examples/vector.dsg.
 fn vector() -> &'static str {
@@ -25,24 +24,21 @@ fn nibble(digit: u8) -> u8 {
     }
 }
 
-fn push_pair(bytes: &mut Vec<u8>, high: u8, low: u8) -> Result<(), Fail> {
-    Ok(bytes.push(high.wrapping_mul(16).wrapping_add(low))?)
+// The byte of a pair of digits.
+fn byte(pair: &[u8]) -> u8 {
+    match pair {
+        [high, low] => nibble(*high).wrapping_mul(16).wrapping_add(nibble(*low)),
+        _ => 0,
+    }
 }
 
 // The bytes of hexadecimal digits.
-fn bytes_of(alloc: Global, digits: &str) -> Result<Vec<u8>, Fail> {
+fn bytes_of(rt: &impl Abort, alloc: Global, digits: &str) -> Vec<u8> {
     let mut bytes = Vec::new(alloc);
-    let mut high = None;
-    for digit in digits.as_bytes() {
-        match high {
-            None => high = Some(nibble(*digit)),
-            Some(first) => {
-                push_pair(&mut bytes, first, nibble(*digit))?;
-                high = None;
-            }
-        }
+    for pair in digits.as_bytes().chunks(2) {
+        bytes.push(byte(pair)).expect(rt, "memory");
     }
-    Ok(bytes)
+    bytes
 }
 
 fn read(alloc: Global, mut bytes: &[u8]) -> Result<Segment, FileFault> {
@@ -84,25 +80,21 @@ fn put(bytes: &mut Vec<u8>, place: usize, patch: &[u8]) {
     }
 }
 
-// Whether the vector is told so once the hexadecimal bytes stand at that place: `4 00 F3`.
-fn is_told(alloc: Global, line: &str) -> Result<bool, Fail> {
-    let mut words = line.split(' ');
-    let place = words.next().ok_or("no place")?;
-    let patch = bytes_of(alloc, words.next().ok_or("no bytes")?)?;
-    let wanted = words.next().ok_or("no fault")?;
-    let mut bytes = bytes_of(alloc, vector())?;
-    put(&mut bytes, place.parse::<usize>()?, &patch);
-    Ok(told(alloc, &bytes) == wanted)
+// The vector, once those hexadecimal bytes stand at that place.
+fn patched(rt: &impl Abort, alloc: Global, place: usize, digits: &str) -> Vec<u8> {
+    let mut bytes = bytes_of(rt, alloc, vector());
+    put(&mut bytes, place, &bytes_of(rt, alloc, digits));
+    bytes
 }
 
-// The first line that is not told so.
-fn first_wrong<'a>(alloc: Global, table: &'a str) -> Result<Option<&'a str>, Fail> {
-    for line in table.lines() {
-        if !is_told(alloc, line)? {
-            return Ok(Some(line));
-        }
-    }
-    Ok(None)
+// Whether the vector is told so once the hexadecimal bytes stand at that place: `4 00 F3`.
+fn is_told(rt: &impl Abort, alloc: Global, line: &str) -> bool {
+    let mut words = line.split(' ');
+    let place = words.next().expect(rt, "a place");
+    let digits = words.next().expect(rt, "bytes");
+    let wanted = words.next().expect(rt, "an answer");
+    let place: usize = place.parse().expect(rt, "a place");
+    told(alloc, &patched(rt, alloc, place, digits)) == wanted
 }
 
 // F1, F4, and what is not refused.
@@ -170,12 +162,12 @@ fn passed_limits() -> &'static str {
 }
 
 #[test]
-fn changed_bytes(rt: HostRuntime) -> Result<(), Fail> {
-    let alloc = rt.alloc();
-    assert_eq!(rt; first_wrong(alloc, few_changes())?, None);
-    assert_eq!(rt; first_wrong(alloc, broken_rules())?, None);
-    assert_eq!(rt; first_wrong(alloc, passed_limits())?, None);
-    Ok(())
+fn changed_bytes(rt: HostRuntime) {
+    for table in [few_changes(), broken_rules(), passed_limits()] {
+        for line in table.lines() {
+            assert!(rt; is_told(&rt, rt.alloc(), line), "{line}");
+        }
+    }
 }
 
 // The first length at which the front of the bytes is not told as cut.
@@ -189,110 +181,136 @@ fn first_uncut(alloc: Global, bytes: &[u8]) -> usize {
 }
 
 // Whether each front is cut, all of it is read, and one byte more is one too many.
-fn ends_there(alloc: Global, digits: &str) -> Result<bool, Fail> {
-    let mut bytes = bytes_of(alloc, digits)?;
-    let is_cut = first_uncut(alloc, &bytes) == bytes.len();
-    let whole = told(alloc, &bytes);
-    bytes.push(0)?;
-    Ok(is_cut && whole == "ok" && told(alloc, &bytes) == "F6")
+fn ends_there(rt: &impl Abort, alloc: Global, digits: &str) -> bool {
+    let mut bytes = bytes_of(rt, alloc, digits);
+    if first_uncut(alloc, &bytes) != bytes.len() || told(alloc, &bytes) != "ok" {
+        return false;
+    }
+    bytes.push(0).expect(rt, "memory");
+    told(alloc, &bytes) == "F6"
 }
 
 #[test]
-fn cut_or_long_files(rt: HostRuntime) -> Result<(), Fail> {
-    let alloc = rt.alloc();
-    assert!(rt; ends_there(alloc, vector())?);
-    assert!(rt; ends_there(alloc, three_rows())?);
-    Ok(())
+fn cut_or_long_files(rt: HostRuntime) {
+    assert!(rt; ends_there(&rt, rt.alloc(), vector()));
+    assert!(rt; ends_there(&rt, rt.alloc(), three_rows()));
+}
+
+// Puts each of these behind the bytes.
+fn extend(rt: &impl Abort, bytes: &mut Vec<u8>, parts: &[&[u8]]) {
+    for part in parts {
+        bytes.extend_from_slice(part).expect(rt, "memory");
+    }
 }
 
 // A row at 1,000 with a text of that many bytes, its length spelled, and a null.
-fn push_long_row(bytes: &mut Vec<u8>, length: [u8; 2], text: &str) -> Result<(), Fail> {
-    bytes.extend_from_slice(&[0, 0, 0, 0, 0, 0, 3, 232, 1])?;
-    bytes.extend_from_slice(&length)?;
-    bytes.extend_from_slice(text.as_bytes())?;
-    bytes.push(0)?;
-    Ok(())
+fn push_long_row(rt: &impl Abort, bytes: &mut Vec<u8>, length: [u8; 2], text: &str) {
+    extend(
+        rt,
+        bytes,
+        &[
+            &[0, 0, 0, 0, 0, 0, 3, 232, 1],
+            &length,
+            text.as_bytes(),
+            &[0],
+        ],
+    );
+}
+
+fn letters(rt: &impl Abort, alloc: Global, count: usize) -> String {
+    "a".repeat(alloc, count).expect(rt, "memory")
 }
 
 // A file of 46 bytes, 16,194 rows of 1,036 bytes each, and one row of 12 bytes and a text of that many.
-fn large(alloc: Global, last: u8) -> Result<Vec<u8>, Fail> {
+fn large(rt: &impl Abort, alloc: Global, last: u8) -> Vec<u8> {
     let mut bytes = bytes_of(
+        rt,
         alloc,
         "44534731017700000000000000000000000005265c00017600000001000000000000000001016401016d00003f43",
-    )?;
-    let text = "a".repeat(alloc, 1_024)?;
+    );
+    let text = letters(rt, alloc, 1_024);
     for _ in 0..16_194u32 {
-        push_long_row(&mut bytes, [4, 0], text.as_str())?;
+        push_long_row(rt, &mut bytes, [4, 0], text.as_str());
     }
-    let short = "a".repeat(alloc, usize::from(last))?;
-    push_long_row(&mut bytes, [0, last], short.as_str())?;
-    Ok(bytes)
+    let short = letters(rt, alloc, usize::from(last));
+    push_long_row(rt, &mut bytes, [0, last], short.as_str());
+    bytes
 }
 
 // What is told of such a file, once it has that many bytes more.
-fn told_of_large(alloc: Global, last: u8, more: usize) -> Result<(usize, &'static str), Fail> {
-    let mut bytes = large(alloc, last)?;
+fn told_of_large(rt: &impl Abort, alloc: Global, last: u8, more: usize) -> (usize, &'static str) {
+    let mut bytes = large(rt, alloc, last);
     for _ in 0..more {
-        bytes.push(0)?;
+        bytes.push(0).expect(rt, "memory");
     }
-    Ok((bytes.len(), told(alloc, &bytes)))
+    (bytes.len(), told(alloc, &bytes))
 }
+
+// Two parameters of such a file, its length, and what is told of it.
+const LARGE_FILES: [(u8, usize, usize, &str); 5] = [
+    (173, 0, 16_777_215, "ok"),
+    (174, 0, 16_777_216, "ok"),
+    (175, 0, 16_777_217, "F5"),
+    (173, 1, 16_777_216, "F6"),
+    (174, 1, 16_777_217, "F6"),
+];
 
 #[test]
-fn files_of_16_mib(rt: HostRuntime) -> Result<(), Fail> {
-    let alloc = rt.alloc();
-    assert_eq!(rt; told_of_large(alloc, 173, 0)?, (16_777_215, "ok"));
-    assert_eq!(rt; told_of_large(alloc, 174, 0)?, (16_777_216, "ok"));
-    assert_eq!(rt; told_of_large(alloc, 175, 0)?, (16_777_217, "F5"));
-    assert_eq!(rt; told_of_large(alloc, 173, 1)?, (16_777_216, "F6"));
-    assert_eq!(rt; told_of_large(alloc, 174, 1)?, (16_777_217, "F6"));
-    Ok(())
+fn files_of_16_mib(rt: HostRuntime) {
+    for (last, more, len, answer) in &LARGE_FILES {
+        let told = told_of_large(&rt, rt.alloc(), *last, *more);
+        assert!(rt; told == (*len, *answer), "{told:?}");
+    }
 }
 
-fn written(alloc: Global, segment: &Segment) -> Result<Vec<u8>, Fail> {
+fn written(rt: &impl Abort, alloc: Global, segment: &Segment) -> Vec<u8> {
     let mut bytes = Vec::new(alloc);
-    write_segment(alloc, segment, &mut bytes)?;
-    Ok(bytes)
+    write_segment(alloc, segment, &mut bytes).expect(rt, "a written file");
+    bytes
 }
 
 // What is read of these bytes, and written again, is the same bytes.
-fn is_written_again(alloc: Global, bytes: &[u8]) -> Result<bool, Fail> {
-    Ok(written(alloc, &read(alloc, bytes)?)?.as_slice() == bytes)
+fn is_written_again(rt: &impl Abort, alloc: Global, bytes: &[u8]) -> bool {
+    let segment = read(alloc, bytes).expect(rt, "a segment");
+    written(rt, alloc, &segment).as_slice() == bytes
 }
 
 // A file of 300 rows, each of a null, a text of 300 letters, an empty text, a number, a null and the least number.
-fn many_rows(alloc: Global) -> Result<Vec<u8>, Fail> {
+fn many_rows(rt: &impl Abort, alloc: Global) -> Vec<u8> {
     let mut bytes = bytes_of(
+        rt,
         alloc,
-        "44534731017700000000000000000000000005265c0001760000000100000000000000000301610162016303016401650166",
-    )?;
-    bytes.extend_from_slice(&300u32.to_be_bytes())?;
-    let text = "a".repeat(alloc, 300)?;
+        "44534731017700000000000000000000000005265c00017600000001000000000000000003016101620163030164016501660000012c",
+    );
+    let text = letters(rt, alloc, 300);
     for number in 0..300u64 {
-        push_many(&mut bytes, number, text.as_bytes())?;
+        push_many(rt, &mut bytes, &number.to_be_bytes(), text.as_bytes());
     }
-    Ok(bytes)
+    bytes
 }
 
-fn push_many(bytes: &mut Vec<u8>, number: u64, text: &[u8]) -> Result<(), Fail> {
-    bytes.extend_from_slice(&number.to_be_bytes())?;
-    bytes.extend_from_slice(&[0, 1, 1, 44])?;
-    bytes.extend_from_slice(text)?;
-    bytes.extend_from_slice(&[1, 0, 0, 1])?;
-    bytes.extend_from_slice(&number.to_be_bytes())?;
-    bytes.extend_from_slice(&[0, 1, 128, 0, 0, 0, 0, 0, 0, 0])?;
-    Ok(())
+fn push_many(rt: &impl Abort, bytes: &mut Vec<u8>, number: &[u8], text: &[u8]) {
+    extend(
+        rt,
+        bytes,
+        &[
+            number,
+            &[0, 1, 1, 44],
+            text,
+            &[1, 0, 0, 1],
+            number,
+            &[0, 1, 128, 0, 0, 0, 0, 0, 0, 0],
+        ],
+    );
 }
 
 #[test]
-fn ample_memory(rt: HostRuntime) -> Result<(), Fail> {
-    let alloc = rt.alloc();
-    assert!(rt; is_written_again(alloc, &bytes_of(alloc, vector())?)?);
-    assert!(rt; is_written_again(alloc, &bytes_of(alloc, three_rows())?)?);
-    let many = many_rows(alloc)?;
-    assert!(rt; many.len() > 99_000);
-    assert!(rt; is_written_again(alloc, &many)?);
-    Ok(())
+fn ample_memory(rt: HostRuntime) {
+    for digits in [vector(), three_rows()] {
+        assert!(rt; is_written_again(&rt, rt.alloc(), &bytes_of(&rt, rt.alloc(), digits)));
+    }
+    let many = many_rows(&rt, rt.alloc());
+    assert!(rt; many.len() > 99_000 && is_written_again(&rt, rt.alloc(), &many));
 }
 
 // Gives its bytes, a few at a time, and counts them. Then it fails, if it has a fault, gives zeros for ever, or ends.
@@ -342,35 +360,40 @@ fn reader_of(bytes: &[u8], step: usize, fault: Option<ErrorKind>) -> Source<'_> 
 
 // What is told of a reader of the vector's first bytes that then fails.
 fn told_of_broken(
+    rt: &impl Abort,
     alloc: Global,
     len: usize,
     fault: Option<ErrorKind>,
-) -> Result<&'static str, Fail> {
-    let bytes = bytes_of(alloc, vector())?;
+) -> &'static str {
+    let bytes = bytes_of(rt, alloc, vector());
     let mut reader = reader_of(&bytes[..len.min(bytes.len())], 1, fault);
-    Ok(answer(read_segment(alloc, &mut reader)))
+    answer(read_segment(alloc, &mut reader))
+}
+
+// How many bytes are read, what happens then, and what is told.
+const READS: [(usize, Option<ErrorKind>, &str); 5] = [
+    (67, None, "ok"),
+    (66, None, "F2"),
+    (66, Some(ErrorKind::BrokenPipe), "F7"),
+    (0, Some(ErrorKind::BrokenPipe), "F7"),
+    (66, Some(ErrorKind::OutOfMemory), "F9"),
+];
+
+#[test]
+fn readers_fail(rt: HostRuntime) {
+    for (len, fault, wanted) in &READS {
+        let told = told_of_broken(&rt, rt.alloc(), *len, *fault);
+        assert!(rt; told == *wanted, "{len} {fault:?}: {told}");
+    }
 }
 
 #[test]
-fn readers_fail(rt: HostRuntime) -> Result<(), Fail> {
-    let alloc = rt.alloc();
-    let (broken, lack) = (Some(ErrorKind::BrokenPipe), Some(ErrorKind::OutOfMemory));
-    assert_eq!(rt; told_of_broken(alloc, 67, None)?, "ok");
-    assert_eq!(rt; told_of_broken(alloc, 66, None)?, "F2");
-    assert_eq!(rt; told_of_broken(alloc, 66, broken)?, "F7");
-    assert_eq!(rt; told_of_broken(alloc, 0, broken)?, "F7");
-    assert_eq!(rt; told_of_broken(alloc, 66, lack)?, "F9");
-    Ok(())
-}
-
-#[test]
-fn no_more_is_asked(rt: HostRuntime) -> Result<(), Fail> {
-    let bytes = bytes_of(rt.alloc(), vector())?;
+fn no_more_is_asked(rt: HostRuntime) {
+    let bytes = bytes_of(&rt, rt.alloc(), vector());
     let mut reader = reader_of(&bytes, 100, None);
     reader.is_endless = true;
-    assert_eq!(rt; answer(read_segment(rt.alloc(), &mut reader)), "F6");
+    assert!(rt; answer(read_segment(rt.alloc(), &mut reader)) == "F6");
     assert!(rt; reader.given <= 16_777_217);
-    Ok(())
 }
 
 // Takes one byte at each second call, up to so many, and then fails. The calls between are interrupted.
@@ -403,46 +426,50 @@ impl Write for Narrow {
 }
 
 fn told_of_narrow(
+    rt: &impl Abort,
     alloc: Global,
     room: usize,
     fault: Option<ErrorKind>,
-) -> Result<&'static str, Fail> {
-    let segment = read(alloc, &bytes_of(alloc, vector())?)?;
+) -> &'static str {
+    let segment = read(alloc, &bytes_of(rt, alloc, vector())).expect(rt, "a segment");
     let mut writer = Narrow {
         room,
         is_interrupted: false,
         fault,
     };
-    Ok(answer(write_segment(alloc, &segment, &mut writer)))
+    answer(write_segment(alloc, &segment, &mut writer))
 }
 
-#[test]
-fn writers_fail(rt: HostRuntime) -> Result<(), Fail> {
-    let alloc = rt.alloc();
-    let (broken, lack) = (Some(ErrorKind::BrokenPipe), Some(ErrorKind::OutOfMemory));
-    assert_eq!(rt; told_of_narrow(alloc, 67, None)?, "ok");
-    assert_eq!(rt; told_of_narrow(alloc, 66, None)?, "F8");
-    assert_eq!(rt; told_of_narrow(alloc, 66, broken)?, "F8");
-    assert_eq!(rt; told_of_narrow(alloc, 0, broken)?, "F8");
-    assert_eq!(rt; told_of_narrow(alloc, 30, lack)?, "F9");
-    Ok(())
-}
+// How many bytes are written, what happens then, and what is told.
+const WRITES: [(usize, Option<ErrorKind>, &str); 5] = [
+    (67, None, "ok"),
+    (66, None, "F8"),
+    (66, Some(ErrorKind::BrokenPipe), "F8"),
+    (0, Some(ErrorKind::BrokenPipe), "F8"),
+    (30, Some(ErrorKind::OutOfMemory), "F9"),
+];
 
 #[test]
-fn printed_faults(rt: HostRuntime) -> Result<(), Fail> {
-    let alloc = rt.alloc();
-    for (fault, text) in [
-        (FileFault::Magic, "F1: not a segment file"),
-        (FileFault::Cut, "F2: a cut file"),
-        (FileFault::Field, "F3: a bad field"),
-        (FileFault::RowOutside, "F4: a row outside the interval"),
-        (FileFault::TooLong, "F5: too long"),
-        (FileFault::Trailing, "F6: bytes behind the last row"),
-        (FileFault::Read, "F7: a read failed"),
-        (FileFault::Write, "F8: a write failed"),
-        (FileFault::Memory, "F9: out of memory"),
-    ] {
-        assert_eq!(rt; printed(alloc, &fault)?.as_str(), text);
+fn writers_fail(rt: HostRuntime) {
+    for (room, fault, wanted) in &WRITES {
+        let told = told_of_narrow(&rt, rt.alloc(), *room, *fault);
+        assert!(rt; told == *wanted, "{room} {fault:?}: {told}");
     }
-    Ok(())
+}
+
+const TEXTS_OF_FAULTS: [(FileFault, &str); 9] = [
+    (FileFault::Magic, "F1: not a segment file"),
+    (FileFault::Cut, "F2: a cut file"),
+    (FileFault::Field, "F3: a bad field"),
+    (FileFault::RowOutside, "F4: a row outside the interval"),
+    (FileFault::TooLong, "F5: too long"),
+    (FileFault::Trailing, "F6: bytes behind the last row"),
+    (FileFault::Read, "F7: a read failed"),
+    (FileFault::Write, "F8: a write failed"),
+    (FileFault::Memory, "F9: out of memory"),
+];
+
+#[test]
+fn printed_faults(rt: HostRuntime) {
+    assert_prints(&rt, rt.alloc(), &TEXTS_OF_FAULTS);
 }

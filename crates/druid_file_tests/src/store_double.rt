@@ -6,7 +6,6 @@ use std::io::{ErrorKind, Read, Seek, SeekFrom, Write};
 use std::process::Abort;
 use std::rc::Rc;
 use std::rt::Files;
-use std::test::Fail;
 use std::{io, str};
 
 // What was called, each call with a space behind it, and which call is to fail.
@@ -187,145 +186,161 @@ impl OpenFile for Opened {
 
 // A folder over a double of which that call, counted from 1, fails in that way. None does for 0.
 fn folder_of(
+    rt: &impl Abort,
     alloc: Global,
     failing: u64,
     kind: ErrorKind,
-) -> Result<(DiskFolder<Double>, Rc<Tape>), Fail> {
+) -> (DiskFolder<Double>, Rc<Tape>) {
     let tape = Tape {
         made: RefCell::new(String::new(alloc)),
         before_failure: Cell::new(failing),
         kind,
     };
-    let tape = Rc::new(alloc, tape)?;
+    let tape = Rc::new(alloc, tape).expect(rt, "memory");
     let double = Double {
         alloc,
-        tape: tape.clone()?,
+        tape: tape.clone().expect(rt, "memory"),
     };
-    Ok((DiskFolder::new(double, String::from_str(alloc, "d")?), tape))
+    let path = String::from_str(alloc, "d").expect(rt, "memory");
+    (DiskFolder::new(double, path), tape)
 }
 
 // What a call on a folder answers, as a text: names and bytes as they are, and a fault as it is printed.
-fn answer_of<F: Folder>(alloc: Global, folder: &mut F, call: &str) -> Result<String, Fail> {
+fn answer_of<F: Folder>(rt: &impl Abort, alloc: Global, folder: &mut F, call: &str) -> String {
     let answer = match call {
-        "list" => names_listed(alloc, folder),
-        "read" => bytes_read(alloc, folder),
-        "write" => done(alloc, folder.write("a", b"pq")),
-        "sync" => done(alloc, folder.sync()),
-        "rename" => done(alloc, folder.rename("a", "b")),
-        _ => done(alloc, folder.remove("a")),
+        "list" => names_listed(rt, alloc, folder),
+        "read" => bytes_read(rt, alloc, folder),
+        "write" => done(rt, alloc, folder.write("a", b"pq")),
+        "sync" => done(rt, alloc, folder.sync()),
+        "rename" => done(rt, alloc, folder.rename("a", "b")),
+        _ => done(rt, alloc, folder.remove("a")),
     };
     match answer {
-        Ok(text) => Ok(text),
-        Err(fault) => Ok(format!(in alloc; "{fault}, {}", folder.faults())?),
+        Ok(text) => text,
+        Err(fault) => format!(in alloc; "{fault}, {}", folder.faults()).expect(rt, "memory"),
     }
 }
 
-fn names_listed<F: Folder>(alloc: Global, folder: &mut F) -> Result<String, StoreFault> {
+fn owned(rt: &impl Abort, alloc: Global, text: &str) -> String {
+    String::from_str(alloc, text).expect(rt, "memory")
+}
+
+fn names_listed<F: Folder>(
+    rt: &impl Abort,
+    alloc: Global,
+    folder: &mut F,
+) -> Result<String, StoreFault> {
     let mut text = String::new(alloc);
     for name in folder.list(alloc)? {
-        text.push_str(name.as_str())?;
+        text.push_str(name.as_str()).expect(rt, "memory");
     }
     Ok(text)
 }
 
-fn bytes_read<F: Folder>(alloc: Global, folder: &mut F) -> Result<String, StoreFault> {
-    let mut text = String::new(alloc);
-    match folder.read(alloc, "a")? {
-        Some(bytes) => text.push_str(str::from_utf8(&bytes).unwrap_or("no text"))?,
-        None => text.push_str("no file")?,
+fn bytes_read<F: Folder>(
+    rt: &impl Abort,
+    alloc: Global,
+    folder: &mut F,
+) -> Result<String, StoreFault> {
+    match folder.read(alloc, "a") {
+        Ok(Some(bytes)) => Ok(owned(rt, alloc, str::from_utf8(&bytes).unwrap_or("no text"))),
+        Ok(None) => Ok(owned(rt, alloc, "no file")),
+        Err(fault) => Err(fault),
     }
-    Ok(text)
 }
 
-fn done(alloc: Global, answer: Result<(), StoreFault>) -> Result<String, StoreFault> {
-    answer?;
-    Ok(String::from_str(alloc, "done")?)
+fn done(
+    rt: &impl Abort,
+    alloc: Global,
+    answer: Result<(), StoreFault>,
+) -> Result<String, StoreFault> {
+    match answer {
+        Ok(()) => Ok(owned(rt, alloc, "done")),
+        Err(fault) => Err(fault),
+    }
 }
 
 // The text of the calls that a tape keeps.
-fn made_on(alloc: Global, tape: &Tape) -> Result<String, Fail> {
-    match tape.made.try_borrow() {
-        Ok(made) => Ok(String::from_str(alloc, made.as_str())?),
-        Err(_) => Ok(String::new(alloc)),
-    }
+fn made_on(rt: &impl Abort, alloc: Global, tape: &Tape) -> String {
+    let made = tape.made.try_borrow().expect(rt, "the calls");
+    owned(rt, alloc, made.as_str())
 }
 
 // Whether a call answers that, with those calls of the system. The file takes a byte at a time.
-fn makes(alloc: Global, call: &str, answer: &str, calls: &str) -> Result<bool, Fail> {
-    let (mut folder, tape) = folder_of(alloc, 0, ErrorKind::Other)?;
-    let given = answer_of(alloc, &mut folder, call)?;
-    Ok(given.as_str() == answer && made_on(alloc, &tape)?.as_str() == calls)
+fn makes(rt: &impl Abort, alloc: Global, call: &str, answer: &str, calls: &str) -> bool {
+    let (mut folder, tape) = folder_of(rt, alloc, 0, ErrorKind::Other);
+    answer_of(rt, alloc, &mut folder, call).as_str() == answer
+        && made_on(rt, alloc, &tape).as_str() == calls
 }
 
 // What a call answers where one call of the system fails in that way.
-fn answer_with(alloc: Global, call: &str, failing: u64, kind: ErrorKind) -> Result<String, Fail> {
-    let (mut folder, _tape) = folder_of(alloc, failing, kind)?;
-    answer_of(alloc, &mut folder, call)
+fn answer_with(
+    rt: &impl Abort,
+    alloc: Global,
+    call: &str,
+    failing: u64,
+    kind: ErrorKind,
+) -> String {
+    let (mut folder, _tape) = folder_of(rt, alloc, failing, kind);
+    answer_of(rt, alloc, &mut folder, call)
 }
 
 // A call, what it answers, and the calls of the system.
-fn calls_made() -> [(&'static str, &'static str, &'static str); 6] {
-    [
-        (
-            "list",
-            "abcde",
-            "folder:d/ read status:d/e status:d/c status:d/a status:d/d status:d/b read ",
-        ),
-        ("read", "xxx", "status:d/a open:d/a read read read read "),
-        ("write", "done", "create:d/a write write sync "),
-        ("sync", "done", "open:d sync "),
-        ("rename", "done", "from:d/a to:d/b "),
-        ("remove", "done", "remove:d/a "),
-    ]
-}
+const CALLS_MADE: [(&str, &str, &str); 6] = [
+    (
+        "list",
+        "abcde",
+        "folder:d/ read status:d/e status:d/c status:d/a status:d/d status:d/b read ",
+    ),
+    ("read", "xxx", "status:d/a open:d/a read read read read "),
+    ("write", "done", "create:d/a write write sync "),
+    ("sync", "done", "open:d sync "),
+    ("rename", "done", "from:d/a to:d/b "),
+    ("remove", "done", "remove:d/a "),
+];
 
 #[test]
-fn calls_of_the_system(rt: HostRuntime) -> Result<(), Fail> {
-    for (call, answer, calls) in calls_made() {
-        assert!(rt; makes(rt.alloc(), call, answer, calls)?, "{call}");
+fn calls_of_the_system(rt: HostRuntime) {
+    for (call, answer, calls) in &CALLS_MADE {
+        assert!(rt; makes(&rt, rt.alloc(), call, answer, calls), "{call}");
     }
-    Ok(())
 }
 
 // Whether a call answers O1, once counted, whichever of that many calls of the system fails.
-fn fails_at_each(alloc: Global, call: &str, calls: u64) -> Result<bool, Fail> {
+fn fails_at_each(rt: &impl Abort, alloc: Global, call: &str, calls: u64) -> bool {
     for failing in 1..=calls {
-        let answer = answer_with(alloc, call, failing, ErrorKind::PermissionDenied)?;
+        let answer = answer_with(rt, alloc, call, failing, ErrorKind::PermissionDenied);
         if answer.as_str() != "O1: the device failed, 1" {
-            return Ok(false);
+            return false;
         }
     }
-    Ok(true)
+    true
 }
 
 #[test]
-fn each_call_of_the_system_fails(rt: HostRuntime) -> Result<(), Fail> {
-    for (call, _answer, calls) in calls_made() {
+fn each_call_of_the_system_fails(rt: HostRuntime) {
+    for (call, _answer, calls) in &CALLS_MADE {
         let number = calls.matches(' ').count() as u64;
-        assert!(rt; fails_at_each(rt.alloc(), call, number)?, "{call}");
+        assert!(rt; fails_at_each(&rt, rt.alloc(), call, number), "{call}");
     }
-    Ok(())
 }
 
 // A call, which call of the system finds nothing, and the answer.
-fn calls_in_vain() -> [(&'static str, u64, &'static str); 8] {
-    [
-        ("list", 1, "O1: the device failed, 1"),
-        ("list", 3, "abcd"),
-        ("read", 1, "no file"),
-        ("read", 2, "O1: the device failed, 1"),
-        ("write", 1, "O1: the device failed, 1"),
-        ("sync", 1, "O1: the device failed, 1"),
-        ("rename", 1, "O1: the device failed, 1"),
-        ("remove", 1, "done"),
-    ]
-}
+const CALLS_IN_VAIN: [(&str, u64, &str); 8] = [
+    ("list", 1, "O1: the device failed, 1"),
+    ("list", 3, "abcd"),
+    ("read", 1, "no file"),
+    ("read", 2, "O1: the device failed, 1"),
+    ("write", 1, "O1: the device failed, 1"),
+    ("sync", 1, "O1: the device failed, 1"),
+    ("rename", 1, "O1: the device failed, 1"),
+    ("remove", 1, "done"),
+];
 
 #[test]
-fn nothing_of_the_name(rt: HostRuntime) -> Result<(), Fail> {
-    for (call, failing, answer) in calls_in_vain() {
-        let given = answer_with(rt.alloc(), call, failing, ErrorKind::NotFound)?;
-        assert_eq!(rt; given.as_str(), answer, "{call}");
+fn nothing_of_the_name(rt: HostRuntime) {
+    for (call, failing, answer) in &CALLS_IN_VAIN {
+        let given = answer_with(&rt, rt.alloc(), call, *failing, ErrorKind::NotFound);
+        assert!(rt; given.as_str() == *answer, "{call}: {given}");
     }
-    Ok(())
 }

@@ -1,13 +1,13 @@
 //! Readers and writers that fail, that are interrupted, and that take a byte at a time.
 use crate::printing::{beside, printed};
-use crate::rows::told_otherwise;
+use crate::rows::{Table, assert_row, assert_rows, assert_told, is_told};
 use crate::wire::{spelled, told_of};
 use druid_wire::{WireFault, read_request, read_response, write_response};
 use http::StatusCode;
 use std::alloc::Global;
 use std::io;
-use std::io::{BufReader, ErrorKind, Read, Write};
-use std::test::Fail;
+use std::io::{BufRead, BufReader, ErrorKind, Read, Write};
+use std::process::Abort;
 
 // What the calls of a device do: a letter for each, of which the last is for all calls behind it too.
 #[derive(Drop)]
@@ -72,51 +72,67 @@ impl Write for PlannedWriter<'_> {
     }
 }
 
-// What reading a message tells.
-fn told_over(
+// A reader of this text over a device with that plan.
+fn reader_over<'a>(
+    rt: &impl Abort,
     alloc: Global,
-    reader: &mut BufReader<PlannedReader<'_>>,
-    is_response: bool,
-) -> Result<String, Fail> {
-    if is_response {
-        return match read_response(alloc, reader) {
-            Ok((status, body)) => beside(alloc, &status.as_u16(), &body.len()),
-            Err(fault) => printed(alloc, &fault),
-        };
-    }
-    match read_request(alloc, reader) {
-        Ok(request) => beside(alloc, &request.target(), &request.body().len()),
-        Err(fault) => printed(alloc, &fault),
-    }
-}
-
-// The same of this message, over a device with that plan.
-fn read_over(alloc: Global, plan: &str, text: &str, is_response: bool) -> Result<String, Fail> {
-    let text = spelled(alloc, text)?;
+    plan: &'a str,
+    text: &'a [u8],
+) -> BufReader<PlannedReader<'a>> {
     let input = PlannedReader {
         plan: Plan {
             letters: plan.as_bytes(),
         },
-        rest: &text,
+        rest: text,
     };
-    let mut reader = BufReader::with_capacity(alloc, 16, input)?;
-    told_over(alloc, &mut reader, is_response)
+    BufReader::with_capacity(alloc, 16, input).expect(rt, "memory")
+}
+
+// What reading a request tells.
+fn request_from<R: BufRead>(rt: &impl Abort, alloc: Global, reader: &mut R) -> String {
+    match read_request(alloc, reader) {
+        Ok(request) => beside(rt, alloc, &request.target(), &request.body().len()),
+        Err(fault) => printed(rt, alloc, &fault),
+    }
+}
+
+// What reading a response tells.
+fn response_from<R: BufRead>(rt: &impl Abort, alloc: Global, reader: &mut R) -> String {
+    match read_response(alloc, reader) {
+        Ok((status, body)) => beside(rt, alloc, &status.as_u16(), &body.len()),
+        Err(fault) => printed(rt, alloc, &fault),
+    }
+}
+
+// The same over a device with that plan.
+fn request_over(rt: &impl Abort, alloc: Global, plan: &str) -> String {
+    let text = spelled(rt, alloc, "|POST /q HTTP/1.1|Content-Length: 3||abc");
+    request_from(rt, alloc, &mut reader_over(rt, alloc, plan, &text))
+}
+
+fn response_over(rt: &impl Abort, alloc: Global, plan: &str) -> String {
+    let text = spelled(rt, alloc, "HTTP/1.1 200 OK|Content-Length: 4||true");
+    response_from(rt, alloc, &mut reader_over(rt, alloc, plan, &text))
 }
 
 // What reading a request and a response over devices with that plan tells.
-fn both_over(alloc: Global, plan: &str) -> Result<String, Fail> {
-    let request = read_over(
-        alloc,
-        plan,
-        "|POST /q HTTP/1.1|Content-Length: 3||abc",
-        false,
-    )?;
-    let response = read_over(alloc, plan, "HTTP/1.1 200 OK|Content-Length: 4||true", true)?;
-    Ok(format!(in alloc; "{request}={response}")?)
+fn both_over(rt: &impl Abort, alloc: Global, plan: &str) -> String {
+    let request = request_over(rt, alloc, plan);
+    let response = response_over(rt, alloc, plan);
+    format!(in alloc; "{request}={response}").expect(rt, "memory")
+}
+
+// Plans, and what reading tells.
+struct ReaderPlans;
+
+impl Table for ReaderPlans {
+    fn holds(&self, rt: &impl Abort, alloc: Global, what: &str, wanted: &str) -> bool {
+        is_told(both_over(rt, alloc, what), wanted)
+    }
 }
 
 #[test]
-fn readers(rt: HostRuntime) -> Result<(), Fail> {
+fn readers(rt: HostRuntime) {
     let rows = "a=/q 3=200 4
 1=/q 3=200 4
 i1iiia=/q 3=200 4
@@ -128,15 +144,21 @@ aaaf=/q 3=200 4
 aam=X9: out of memory=X9: out of memory
 111110=X1: the message is cut off=X1: the message is cut off
 aa0=X1: the message is cut off=X1: the message is cut off";
-    assert_eq!(rt; told_otherwise(rt.alloc(), rows, "=", both_over)?, None);
-    Ok(())
+    assert_rows(&rt, rt.alloc(), &ReaderPlans, rows, "=");
 }
 
 const WHOLE: &str =
     "HTTP/1.1 200 OK|Content-Type: application/json|Content-Length: 4|Connection: close||true";
 
+// How many bytes of the whole were written.
+fn written_of(rt: &impl Abort, alloc: Global, written: &[u8]) -> usize {
+    let whole = spelled(rt, alloc, WHOLE);
+    assert_row(rt, "another text", whole.starts_with(written));
+    written.len()
+}
+
 // What writing a response over a device with that plan tells, and how much of it was written.
-fn written_over(alloc: Global, plan: &str) -> Result<String, Fail> {
+fn written_over(rt: &impl Abort, alloc: Global, plan: &str) -> String {
     let mut writer = PlannedWriter {
         plan: Plan {
             letters: plan.as_bytes(),
@@ -144,14 +166,20 @@ fn written_over(alloc: Global, plan: &str) -> Result<String, Fail> {
         written: Vec::new(alloc),
     };
     let end = write_response(StatusCode::OK, b"true", &mut writer);
-    if !spelled(alloc, WHOLE)?.starts_with(&writer.written) {
-        return Ok(String::from_str(alloc, "another text")?);
+    told_of(rt, alloc, end, written_of(rt, alloc, &writer.written))
+}
+
+// Plans, and what writing tells.
+struct WriterPlans;
+
+impl Table for WriterPlans {
+    fn holds(&self, rt: &impl Abort, alloc: Global, what: &str, wanted: &str) -> bool {
+        is_told(written_over(rt, alloc, what), wanted)
     }
-    told_of(alloc, end, writer.written.len())
 }
 
 #[test]
-fn writers(rt: HostRuntime) -> Result<(), Fail> {
+fn writers(rt: HostRuntime) {
     let rows = "a=ok 93
 1=ok 93
 iia=ok 93
@@ -165,15 +193,13 @@ m=X9: out of memory 0
 af=X3: the message could not be written 9
 aaaaaaaaf=X3: the message could not be written 89
 aaaaaaaa1i=X3: the message could not be written 90";
-    assert_eq!(rt; told_otherwise(rt.alloc(), rows, "=", written_over)?, None);
-    Ok(())
+    assert_rows(&rt, rt.alloc(), &WriterPlans, rows, "=");
 }
 
 #[test]
-fn faults_print_this(rt: HostRuntime) -> Result<(), Fail> {
-    let connect = printed(rt.alloc(), &WireFault::Connect)?;
-    assert_eq!(rt; connect.as_str(), "X8: no connection");
-    let memory = printed(rt.alloc(), &WireFault::Memory)?;
-    assert_eq!(rt; memory.as_str(), "X9: out of memory");
-    Ok(())
+fn faults_print_this(rt: HostRuntime) {
+    let connect = printed(&rt, rt.alloc(), &WireFault::Connect);
+    assert_told(&rt, connect, "X8: no connection");
+    let memory = printed(&rt, rt.alloc(), &WireFault::Memory);
+    assert_told(&rt, memory, "X9: out of memory");
 }

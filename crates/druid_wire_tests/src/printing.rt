@@ -1,23 +1,24 @@
 //! Texts of values, whose types say nothing to a proof.
 use std::alloc::Global;
 use std::fmt::Display;
-use std::test::Fail;
+use std::process::Abort;
 
 /// What a value prints. It is of no type in particular, since what a proof knows of the texts of one is long.
-pub(crate) fn printed<T: Display>(alloc: Global, value: &T) -> Result<String, Fail> {
-    Ok(format!(in alloc; "{value}")?)
+pub(crate) fn printed<T: Display>(rt: &impl Abort, alloc: Global, value: &T) -> String {
+    format!(in alloc; "{value}").expect(rt, "memory")
 }
 
 /// What two values print, one beside the other.
 pub(crate) fn beside<T: Display, U: Display>(
+    rt: &impl Abort,
     alloc: Global,
     first: &T,
     second: &U,
-) -> Result<String, Fail> {
-    Ok(format!(in alloc; "{first} {second}")?)
+) -> String {
+    format!(in alloc; "{first} {second}").expect(rt, "memory")
 }
 
 /// The text of these bytes.
-pub(crate) fn text_of(alloc: Global, bytes: &[u8]) -> Result<String, Fail> {
-    Ok(String::from_utf8_lossy(alloc, bytes)?)
+pub(crate) fn text_of(rt: &impl Abort, alloc: Global, bytes: &[u8]) -> String {
+    String::from_utf8_lossy(alloc, bytes).expect(rt, "memory")
 }

@@ -1,26 +1,43 @@
-//! Tables of rows, each with what is to be told of it.
+//! Tables of rows.
 use std::alloc::Global;
-use std::test::Fail;
+use std::process::Abort;
 
-/// What stands before the first such text in a row, and what behind it.
-pub(crate) fn halves<'a>(row: &'a str, between: &str) -> Result<(&'a str, &'a str), Fail> {
-    Ok(row.split_once(between).ok_or("no row")?)
+/// What the rows of a table say.
+pub(crate) trait Table {
+    /// Whether the second half of a row is what its first gives.
+    fn holds(&self, rt: &impl Abort, alloc: Global, what: &str, wanted: &str) -> bool;
 }
 
-/// The first row of whose first half something else is told than its second.
-pub(crate) fn told_otherwise<F: Fn(Global, &str) -> Result<String, Fail>>(
+/// What stands before the first such text in a row, and what behind it.
+pub(crate) fn halves<'a>(rt: &impl Abort, row: &'a str, between: &str) -> (&'a str, &'a str) {
+    row.split_once(between).expect(rt, "no row")
+}
+
+/// Whether this is told.
+pub(crate) fn is_told(told: String, wanted: &str) -> bool {
+    told.as_str() == wanted
+}
+
+/// Asserts that this holds of a row.
+pub(crate) fn assert_row(rt: &impl Abort, row: &str, holds: bool) {
+    assert!(rt; holds, "{row}");
+}
+
+/// Asserts that this is told.
+pub(crate) fn assert_told(rt: &impl Abort, told: String, wanted: &str) {
+    assert!(rt; told.as_str() == wanted, "{told}");
+}
+
+/// Asserts that each row holds. Its halves stand to both sides of the first such text in it.
+pub(crate) fn assert_rows(
+    rt: &impl Abort,
     alloc: Global,
-    rows: &'static str,
+    table: &impl Table,
+    rows: &str,
     between: &str,
-    told: F,
-) -> Result<Option<&'static str>, Fail>
-    requires { F.IsAlwaysCallable told }
-{
+) {
     for row in rows.lines() {
-        let (what, wanted) = halves(row, between)?;
-        if told(alloc, what)?.as_str() != wanted {
-            return Ok(Some(row));
-        }
+        let (what, wanted) = halves(rt, row, between);
+        assert_row(rt, row, table.holds(rt, alloc, what, wanted));
     }
-    Ok(None)
 }

@@ -1,18 +1,27 @@
 //! Links over sockets of this machine.
 use crate::links::exchanged;
 use crate::printing::printed;
-use crate::rows::halves;
+use crate::rows::{assert_row, assert_told, halves, is_told};
 use druid_wire::{Link, TcpLink};
 use std::alloc::Global;
 use std::io::{Read, Write};
 use std::net::{Net, TcpListener, TcpStream};
-use std::test::Fail;
+use std::process::Abort;
 use std::thread::{Threads, join};
 use std::time::{Clock, Duration};
 use std::{io, thread};
 
 // How many milliseconds an exchange may take with a server that does not end it in that time.
 const LIMIT: u64 = 1_000;
+
+// Writes a byte now and then, for longer than an exchange may take.
+fn drip<C: Clock>(clock: &C, socket: &mut TcpStream) -> io::Result<()> {
+    for _ in 0..12 {
+        socket.write_all(b"x")?;
+        thread::sleep(clock, Duration::from_millis(LIMIT / 6));
+    }
+    Ok(())
+}
 
 // What a server does after it was called and has read a request, before it closes.
 fn serve<C: Clock>(clock: &C, socket: &mut TcpStream, row: &str) -> io::Result<()> {
@@ -24,13 +33,7 @@ fn serve<C: Clock>(clock: &C, socket: &mut TcpStream, row: &str) -> io::Result<(
             thread::sleep(clock, Duration::from_millis(LIMIT * 2));
             Ok(())
         }
-        "drips" => {
-            for _ in 0..12 {
-                socket.write_all(b"x")?;
-                thread::sleep(clock, Duration::from_millis(LIMIT / 6));
-            }
-            Ok(())
-        }
+        "drips" => drip(clock, socket),
         _ => Ok(()),
     }
 }
@@ -40,14 +43,14 @@ fn serve_once<C: Clock>(clock: &C, listener: &TcpListener, row: &str) -> io::Res
     serve(clock, &mut socket, row)
 }
 
-// A listener of this machine, and its address.
-fn listening<N: Net<Listener = TcpListener, Stream = TcpStream>>(
-    alloc: Global,
-    net: &N,
-) -> Result<(TcpListener, String), Fail> {
-    let listener = TcpListener::bind(net, "127.0.0.1:0")?;
-    let address = printed(alloc, &listener.local_addr()?)?;
-    Ok((listener, address))
+// A listener of this machine.
+fn listening<N: Net<Listener = TcpListener, Stream = TcpStream> + Abort>(net: &N) -> TcpListener {
+    TcpListener::bind(net, "127.0.0.1:0").expect(net, "a listener")
+}
+
+fn address_of(rt: &impl Abort, alloc: Global, listener: &TcpListener) -> String {
+    let address = listener.local_addr().expect(rt, "an address");
+    printed(rt, alloc, &address)
 }
 
 // A link to a server that does what the row says.
@@ -60,54 +63,69 @@ fn linked<N: Net + Clock + Drop>(net: N, address: String, row: &str) -> TcpLink<
 }
 
 // What an exchange gives, and how often the device has failed then.
-fn told<L: Link>(alloc: Global, link: &mut L) -> Result<String, Fail> {
-    let came = exchanged(alloc, link)?;
-    let faults = printed(alloc, &link.faults())?;
-    Ok(format!(in alloc; "{came}, {faults}")?)
+fn told<L: Link>(rt: &impl Abort, alloc: Global, link: &mut L) -> String {
+    let came = exchanged(rt, alloc, link);
+    let faults = printed(rt, alloc, &link.faults());
+    format!(in alloc; "{came}, {faults}").expect(rt, "memory")
 }
 
-// What an exchange tells with a server that does what the row says.
-fn told_with<R: Net<Listener = TcpListener, Stream = TcpStream> + Clock + Threads + Sync>(
-    alloc: Global,
+// What an exchange tells with a server that is gone.
+fn told_alone<R: Net<Listener = TcpListener, Stream = TcpStream> + Clock + Abort>(
     rt: &R,
+    alloc: Global,
+) -> String {
+    let address = address_of(rt, alloc, &listening(rt));
+    told(rt, alloc, &mut linked(rt, address, "is gone"))
+}
+
+// What an exchange tells with a server that is there.
+fn told_beside<R: Net<Listener = TcpListener, Stream = TcpStream> + Clock + Threads + Abort + Sync>(
+    rt: &R,
+    alloc: Global,
     row: &str,
-) -> Result<String, Fail> {
-    let (listener, address) = listening(alloc, rt)?;
-    let mut link = linked(rt, address, row);
-    if row == "is gone" {
-        drop(listener);
-        return told(alloc, &mut link);
-    }
+) -> String {
+    let listener = listening(rt);
+    let mut link = linked(rt, address_of(rt, alloc, &listener), row);
     let (_served, told) = join(
         rt,
         || serve_once(rt, &listener, row).is_ok(),
-        || told(alloc, &mut link),
+        || told(rt, alloc, &mut link),
     );
     told
 }
 
+// What an exchange tells with a server that does what the row says.
+fn told_with<R: Net<Listener = TcpListener, Stream = TcpStream> + Clock + Threads + Abort + Sync>(
+    rt: &R,
+    alloc: Global,
+    row: &str,
+) -> String {
+    match row {
+        "is gone" => told_alone(rt, alloc),
+        _ => told_beside(rt, alloc, row),
+    }
+}
+
 #[test]
-fn links_over_sockets(rt: HostRuntime) -> Result<(), Fail> {
+fn links_over_sockets(rt: HostRuntime) {
     let rows = "answers = one, 0
 closes = , 0
 stalls = X2: the message could not be read, 1
 drips = X2: the message could not be read, 1
 is gone = X8: no connection, 1";
     for row in rows.lines() {
-        let (server, wanted) = halves(row, " = ")?;
-        assert!(rt;
-            told_with(rt.alloc(), &rt, server)?.as_str() == wanted,
-            "{row}"
+        let (server, wanted) = halves(&rt, row, " = ");
+        assert_row(
+            &rt,
+            row,
+            is_told(told_with(&rt, rt.alloc(), server), wanted),
         );
     }
-    Ok(())
 }
 
 #[test]
-fn an_address_that_is_none(rt: HostRuntime) -> Result<(), Fail> {
-    let mut address = String::new(rt.alloc());
-    address.push_str("nowhere")?;
-    let mut link = TcpLink::new(&rt, address);
-    assert!(rt; told(rt.alloc(), &mut link)?.as_str() == "X8: no connection, 1");
-    Ok(())
+fn an_address_that_is_none(rt: HostRuntime) {
+    let address = printed(&rt, rt.alloc(), &"nowhere");
+    let told = told(&rt, rt.alloc(), &mut TcpLink::new(&rt, address));
+    assert_told(&rt, told, "X8: no connection, 1");
 }

@@ -1,13 +1,13 @@
 //! Messages, read and written.
 use crate::printing::{beside, printed, text_of};
-use crate::rows::{halves, told_otherwise};
+use crate::rows::{Table, assert_row, assert_rows, assert_told, halves, is_told};
 use druid_wire::{
     Request, WireFault, read_request, read_response, request_bytes, response_of, send_response,
     write_request, write_response,
 };
 use http::{Method, StatusCode};
 use std::alloc::Global;
-use std::test::Fail;
+use std::process::Abort;
 
 // Texts that are read as requests, and what each is: its method, its target, its body and what is left, or its fault. `|`
 // stands for a carriage return and a line feed, `_` for a line feed and `^` for a carriage return alone, `%` for a control
@@ -135,133 +135,132 @@ fn byte_of(letter: u8) -> u8 {
 }
 
 // The bytes that a text stands for.
-pub(crate) fn spelled(alloc: Global, text: &str) -> Result<Vec<u8>, Fail> {
-    let mut out = Vec::new(alloc);
-    for letter in text.bytes() {
-        if letter == b'|' {
-            out.extend_from_slice(b"\r\n")?;
-        } else {
-            out.push(byte_of(letter))?;
-        }
+pub(crate) fn spelled(rt: &impl Abort, alloc: Global, text: &str) -> Vec<u8> {
+    let text = text.replace(alloc, "|", "\r\n").expect(rt, "memory");
+    let mut bytes = text.into_bytes();
+    for byte in bytes.iter_mut() {
+        *byte = byte_of(*byte);
     }
-    Ok(out)
+    bytes
 }
 
 // The bytes as a text of a table, which shows a line end as `|`.
-fn shown(alloc: Global, bytes: &[u8]) -> Result<String, Fail> {
-    let text = text_of(alloc, bytes)?;
-    Ok(text.as_str().replace(alloc, "\r\n", "|")?)
+fn shown(rt: &impl Abort, alloc: Global, bytes: &[u8]) -> String {
+    let text = text_of(rt, alloc, bytes);
+    text.as_str()
+        .replace(alloc, "\r\n", "|")
+        .expect(rt, "memory")
 }
 
-// A request, and what is left behind it.
-fn told_request(alloc: Global, request: &Request, rest: &[u8]) -> Result<String, Fail> {
+// What is told, and what is left behind it.
+fn with_rest(rt: &impl Abort, alloc: Global, told: String, rest: &[u8]) -> String {
+    let left = shown(rt, alloc, rest);
+    format!(in alloc; "{told} [{left}]").expect(rt, "memory")
+}
+
+// A request, without what is left behind it.
+fn shown_request(rt: &impl Abort, alloc: Global, request: &Request) -> String {
     let method = request.method().as_str();
     let target = request.target();
-    let body = shown(alloc, request.body())?;
-    let left = shown(alloc, rest)?;
-    Ok(format!(in alloc; "{method} {target} [{body}] [{left}]")?)
+    let body = shown(rt, alloc, request.body());
+    format!(in alloc; "{method} {target} [{body}]").expect(rt, "memory")
 }
 
 // What a text is, read as a request.
-fn request_in(alloc: Global, text: &[u8]) -> Result<String, Fail> {
+fn request_in(rt: &impl Abort, alloc: Global, text: &[u8]) -> String {
     let mut rest = text;
     match read_request(alloc, &mut rest) {
-        Ok(request) => told_request(alloc, &request, rest),
-        Err(fault) => printed(alloc, &fault),
+        Ok(request) => with_rest(rt, alloc, shown_request(rt, alloc, &request), rest),
+        Err(fault) => printed(rt, alloc, &fault),
     }
 }
 
 // A response, without what is left behind it.
-fn shown_response(alloc: Global, status: StatusCode, body: &[u8]) -> Result<String, Fail> {
-    let code = printed(alloc, &status.as_u16())?;
-    let body = shown(alloc, body)?;
-    Ok(format!(in alloc; "{code} [{body}]")?)
-}
-
-fn shown_with_rest(alloc: Global, told: &str, rest: &[u8]) -> Result<String, Fail> {
-    let left = shown(alloc, rest)?;
-    Ok(format!(in alloc; "{told} [{left}]")?)
+fn shown_response(rt: &impl Abort, alloc: Global, status: StatusCode, body: &[u8]) -> String {
+    let code = printed(rt, alloc, &status.as_u16());
+    let body = shown(rt, alloc, body);
+    format!(in alloc; "{code} [{body}]").expect(rt, "memory")
 }
 
 // What a text is, read as a response.
-fn response_in(alloc: Global, text: &[u8]) -> Result<String, Fail> {
+fn response_in(rt: &impl Abort, alloc: Global, text: &[u8]) -> String {
     let mut rest = text;
     match read_response(alloc, &mut rest) {
-        Ok((status, body)) => {
-            let told = shown_response(alloc, status, &body)?;
-            shown_with_rest(alloc, told.as_str(), rest)
-        }
-        Err(fault) => printed(alloc, &fault),
+        Ok((status, body)) => with_rest(rt, alloc, shown_response(rt, alloc, status, &body), rest),
+        Err(fault) => printed(rt, alloc, &fault),
     }
 }
 
 // What the response is that stands in these bytes.
-fn found_in(alloc: Global, text: &[u8]) -> Result<String, Fail> {
+fn found_in(rt: &impl Abort, alloc: Global, text: &[u8]) -> String {
     match response_of(text) {
-        Ok((status, body)) => shown_response(alloc, status, body),
-        Err(fault) => printed(alloc, &fault),
+        Ok((status, body)) => shown_response(rt, alloc, status, body),
+        Err(fault) => printed(rt, alloc, &fault),
     }
 }
 
-fn request_told(alloc: Global, text: &str) -> Result<String, Fail> {
-    request_in(alloc, &spelled(alloc, text)?)
+// Texts that are read as requests, and what each is.
+struct RequestTexts;
+
+impl Table for RequestTexts {
+    fn holds(&self, rt: &impl Abort, alloc: Global, what: &str, wanted: &str) -> bool {
+        is_told(request_in(rt, alloc, &spelled(rt, alloc, what)), wanted)
+    }
 }
 
-fn response_told(alloc: Global, text: &str) -> Result<String, Fail> {
-    response_in(alloc, &spelled(alloc, text)?)
+// Texts that are read as responses, and what each is.
+struct ResponseTexts;
+
+impl Table for ResponseTexts {
+    fn holds(&self, rt: &impl Abort, alloc: Global, what: &str, wanted: &str) -> bool {
+        is_told(response_in(rt, alloc, &spelled(rt, alloc, what)), wanted)
+    }
 }
 
-// Whether the same response is found where its bytes are at hand. What follows it is not told.
-fn is_found(alloc: Global, row: &str) -> Result<bool, Fail> {
-    let (text, wanted) = halves(row, " = ")?;
-    Ok(wanted.starts_with(found_in(alloc, &spelled(alloc, text)?)?.as_str()))
+// The same where their bytes are at hand. What follows a response is not told.
+struct ResponseBytes;
+
+impl Table for ResponseBytes {
+    fn holds(&self, rt: &impl Abort, alloc: Global, what: &str, wanted: &str) -> bool {
+        let told = found_in(rt, alloc, &spelled(rt, alloc, what));
+        wanted.starts_with(told.as_str())
+    }
 }
 
 #[test]
-fn ample_memory(rt: HostRuntime) -> Result<(), Fail> {
-    assert_eq!(rt;
-        told_otherwise(rt.alloc(), REQUESTS, " = ", request_told)?,
-        None
-    );
-    assert_eq!(rt;
-        told_otherwise(rt.alloc(), RESPONSES, " = ", response_told)?,
-        None
-    );
-    for row in RESPONSES.lines() {
-        assert!(rt; is_found(rt.alloc(), row)?, "{row}");
-    }
-    Ok(())
+fn ample_memory(rt: HostRuntime) {
+    assert_rows(&rt, rt.alloc(), &RequestTexts, REQUESTS, " = ");
+    assert_rows(&rt, rt.alloc(), &ResponseTexts, RESPONSES, " = ");
+    assert_rows(&rt, rt.alloc(), &ResponseBytes, RESPONSES, " = ");
 }
 
-const CUT: &str = "X1: the message is cut off";
+fn is_cut(told: String) -> bool {
+    is_told(told, "X1: the message is cut off")
+}
 
-fn is_cut(alloc: Global, front: &[u8], is_response: bool) -> Result<bool, Fail> {
+fn is_cut_front(rt: &impl Abort, alloc: Global, front: &[u8], is_response: bool) -> bool {
     if is_response {
-        return Ok(
-            response_in(alloc, front)?.as_str() == CUT && found_in(alloc, front)?.as_str() == CUT,
-        );
+        is_cut(response_in(rt, alloc, front)) && is_cut(found_in(rt, alloc, front))
+    } else {
+        is_cut(request_in(rt, alloc, front))
     }
-    Ok(request_in(alloc, front)?.as_str() == CUT)
 }
 
-// Whether each front of a message that is not the whole is cut, read as a request or as a response.
-fn is_cut_everywhere(alloc: Global, text: &str, is_response: bool) -> Result<bool, Fail> {
-    let whole = spelled(alloc, text)?;
+// Asserts that each front of a message that is not the whole is cut, read as a request or as a response.
+fn assert_cut_everywhere(rt: &impl Abort, alloc: Global, text: &str, is_response: bool) {
+    let whole = spelled(rt, alloc, text);
     for i in 0..whole.len() {
-        if !is_cut(alloc, &whole[..i], is_response)? {
-            return Ok(false);
-        }
+        let is_cut = is_cut_front(rt, alloc, &whole[..i], is_response);
+        assert_row(rt, text, is_cut);
     }
-    Ok(true)
 }
 
 #[test]
-fn cut_messages(rt: HostRuntime) -> Result<(), Fail> {
+fn cut_messages(rt: HostRuntime) {
     let request = "|POST /q HTTP/1.1|Host: h|Content-Length: 3||abc";
-    assert!(rt; is_cut_everywhere(rt.alloc(), request, false)?);
+    assert_cut_everywhere(&rt, rt.alloc(), request, false);
     let response = "HTTP/1.1 200 OK|Content-Length: 4||true";
-    assert!(rt; is_cut_everywhere(rt.alloc(), response, true)?);
-    Ok(())
+    assert_cut_everywhere(&rt, rt.alloc(), response, true);
 }
 
 // How the head of a request begins, and how that of a response does.
@@ -269,57 +268,63 @@ const REQUEST_LINE: &str = "GET / HTTP/1.1|";
 
 const RESPONSE_LINES: &str = "HTTP/1.1 200 OK|Content-Length: 0|";
 
-fn number(text: &str) -> Result<usize, Fail> {
-    Ok(text.parse()?)
+fn number(rt: &impl Abort, text: &str) -> usize {
+    text.parse().expect(rt, "a number")
 }
 
-fn repeated(alloc: Global, part: &str, count: usize) -> Result<String, Fail> {
-    let mut text = String::new(alloc);
-    for _ in 0..count {
-        text.push_str(part)?;
-    }
-    Ok(text)
+fn repeated(rt: &impl Abort, alloc: Global, part: &str, count: usize) -> String {
+    part.repeat(alloc, count).expect(rt, "memory")
 }
 
-// A head of so many bytes, with one long field behind these lines.
-fn long_head(alloc: Global, lines: &str, length: &str) -> Result<String, Fail> {
+// What is to stand behind these lines of a head so that it has so many bytes: one long field.
+fn long_field(rt: &impl Abort, alloc: Global, lines: &str, length: usize) -> String {
     // Seven are those of the field's name and of the two line ends.
-    let least = spelled(alloc, lines)?.len().saturating_add(7);
-    let value = repeated(alloc, "x", number(length)?.saturating_sub(least))?;
-    Ok(format!(in alloc; "{lines}A: {value}||")?)
+    let least = spelled(rt, alloc, lines).len().saturating_add(7);
+    let value = repeated(rt, alloc, "x", length.saturating_sub(least));
+    format!(in alloc; "A: {value}|").expect(rt, "memory")
 }
 
-// A head of so many fields more than these lines.
-fn wide_head(alloc: Global, lines: &str, count: &str) -> Result<String, Fail> {
-    let fields = repeated(alloc, "A: b|", number(count)?)?;
-    Ok(format!(in alloc; "{lines}{fields}|")?)
+// Fields behind these lines of a head: so many, or one that makes it so many bytes.
+fn fields(rt: &impl Abort, alloc: Global, lines: &str, kind: &str, size: usize) -> String {
+    if kind == "bytes" {
+        long_field(rt, alloc, lines, size)
+    } else {
+        repeated(rt, alloc, "A: b|", size)
+    }
 }
 
 // A head behind these lines: what is large in it and how large, and how many blank lines stand before it.
-fn large_head(alloc: Global, lines: &str, what: &str) -> Result<Vec<u8>, Fail> {
-    let (kind, rest) = halves(what, " ")?;
-    let (size, blank) = halves(rest, " ")?;
-    let head = if kind == "bytes" {
-        long_head(alloc, lines, size)?
-    } else {
-        wide_head(alloc, lines, size)?
-    };
-    let blank = repeated(alloc, "|", number(blank)?)?;
-    spelled(alloc, format!(in alloc; "{blank}{head}")?.as_str())
+fn large_head(rt: &impl Abort, alloc: Global, lines: &str, what: &str) -> Vec<u8> {
+    let (kind, sizes) = halves(rt, what, " ");
+    let (size, blank) = halves(rt, sizes, " ");
+    let blank = repeated(rt, alloc, "|", number(rt, blank));
+    let fields = fields(rt, alloc, lines, kind, number(rt, size));
+    let head = format!(in alloc; "{blank}{lines}{fields}|").expect(rt, "memory");
+    spelled(rt, alloc, head.as_str())
 }
 
-// What a request with a large head is.
-fn told_within(alloc: Global, what: &str) -> Result<String, Fail> {
-    request_in(alloc, &large_head(alloc, REQUEST_LINE, what)?)
+// Requests with large heads, and what each is.
+struct LargeRequests;
+
+impl Table for LargeRequests {
+    fn holds(&self, rt: &impl Abort, alloc: Global, what: &str, wanted: &str) -> bool {
+        let text = large_head(rt, alloc, REQUEST_LINE, what);
+        is_told(request_in(rt, alloc, &text), wanted)
+    }
 }
 
-// What a response with a large head is.
-fn found_within(alloc: Global, what: &str) -> Result<String, Fail> {
-    found_in(alloc, &large_head(alloc, RESPONSE_LINES, what)?)
+// The same of responses.
+struct LargeResponses;
+
+impl Table for LargeResponses {
+    fn holds(&self, rt: &impl Abort, alloc: Global, what: &str, wanted: &str) -> bool {
+        let text = large_head(rt, alloc, RESPONSE_LINES, what);
+        is_told(found_in(rt, alloc, &text), wanted)
+    }
 }
 
 #[test]
-fn limits(rt: HostRuntime) -> Result<(), Fail> {
+fn limits(rt: HostRuntime) {
     let requests = "bytes 16383 0 = GET / [] []
 bytes 16384 0 = GET / [] []
 bytes 16384 9000 = GET / [] []
@@ -329,10 +334,7 @@ bytes 50000 1 = X5: the head is too long
 fields 64 0 = GET / [] []
 fields 65 0 = X5: the head is too long
 fields 200 0 = X5: the head is too long";
-    assert_eq!(rt;
-        told_otherwise(rt.alloc(), requests, " = ", told_within)?,
-        None
-    );
+    assert_rows(&rt, rt.alloc(), &LargeRequests, requests, " = ");
     let responses = "bytes 16384 0 = 200 []
 bytes 16384 9000 = 200 []
 bytes 16385 0 = X5: the head is too long
@@ -340,46 +342,49 @@ bytes 16386 0 = X5: the head is too long
 bytes 50000 1 = X5: the head is too long
 fields 63 0 = 200 []
 fields 64 0 = X5: the head is too long";
-    assert_eq!(rt;
-        told_otherwise(rt.alloc(), responses, " = ", found_within)?,
-        None
-    );
-    Ok(())
+    assert_rows(&rt, rt.alloc(), &LargeResponses, responses, " = ");
 }
 
-fn response_bytes(alloc: Global, status: StatusCode, body: &[u8]) -> Result<Vec<u8>, Fail> {
+fn response_bytes(rt: &impl Abort, alloc: Global, status: StatusCode, body: &[u8]) -> Vec<u8> {
     let mut written = Vec::new(alloc);
-    if write_response(status, body, &mut written).is_err() {
-        return Err("the response is not written".into());
+    write_response(status, body, &mut written).expect(rt, "the response is written");
+    written
+}
+
+fn status(rt: &impl Abort, code: &str) -> StatusCode {
+    let code = code.parse().expect(rt, "a number");
+    StatusCode::from_u16(code).expect(rt, "a status")
+}
+
+// The response with that status and body.
+fn written_response(rt: &impl Abort, alloc: Global, what: &str) -> Vec<u8> {
+    let (code, body) = halves(rt, what, " ");
+    response_bytes(rt, alloc, status(rt, code), body.as_bytes())
+}
+
+fn is_same(first: Vec<u8>, second: Vec<u8>) -> bool {
+    first.as_slice() == second.as_slice()
+}
+
+// Statuses and bodies, and how each response is written.
+struct WrittenResponses;
+
+impl Table for WrittenResponses {
+    fn holds(&self, rt: &impl Abort, alloc: Global, what: &str, wanted: &str) -> bool {
+        is_same(
+            written_response(rt, alloc, what),
+            spelled(rt, alloc, wanted),
+        )
     }
-    Ok(written)
 }
 
-fn status(code: &str) -> Result<StatusCode, Fail> {
-    match StatusCode::from_u16(code.parse()?) {
-        Ok(status) => Ok(status),
-        Err(_) => Err("no status".into()),
-    }
+fn method(rt: &impl Abort, alloc: Global, name: &str) -> Method {
+    Method::from_bytes(alloc, name.as_bytes()).expect(rt, "a method")
 }
 
-// Whether a response with that status and body is written so.
-fn is_response_text(alloc: Global, row: &str) -> Result<bool, Fail> {
-    let (what, wanted) = halves(row, " = ")?;
-    let (code, body) = halves(what, " ")?;
-    let written = response_bytes(alloc, status(code)?, body.as_bytes())?;
-    Ok(written.as_slice() == spelled(alloc, wanted)?.as_slice())
-}
-
-fn method(alloc: Global, name: &str) -> Result<Method, Fail> {
-    match Method::from_bytes(alloc, name.as_bytes()) {
-        Ok(method) => Ok(method),
-        Err(_) => Err("no method".into()),
-    }
-}
-
-fn request(alloc: Global, name: &str, target: &str, body: Vec<u8>) -> Result<Request, Fail> {
-    let target = String::from_str(alloc, target)?;
-    Ok(Request::new(method(alloc, name)?, target, body))
+fn request(rt: &impl Abort, alloc: Global, name: &str, target: &str, body: Vec<u8>) -> Request {
+    let target = String::from_str(alloc, target).expect(rt, "memory");
+    Request::new(method(rt, alloc, name), target, body)
 }
 
 fn is_written(alloc: Global, request: &Request, wanted: &[u8]) -> bool {
@@ -387,27 +392,35 @@ fn is_written(alloc: Global, request: &Request, wanted: &[u8]) -> bool {
     write_request(request, &mut written).is_ok() && written.as_slice() == wanted
 }
 
-fn has_bytes(alloc: Global, request: &Request, wanted: &[u8]) -> Result<bool, Fail> {
-    Ok(request_bytes(alloc, request)?.as_slice() == wanted)
+fn has_bytes(rt: &impl Abort, alloc: Global, request: &Request, wanted: &[u8]) -> bool {
+    let bytes = request_bytes(alloc, request).expect(rt, "memory");
+    bytes.as_slice() == wanted
 }
 
 // The request of that method, target and body.
-fn request_of(alloc: Global, what: &str) -> Result<Request, Fail> {
-    let (method, rest) = halves(what, " ")?;
-    let (target, body) = halves(rest, " ")?;
-    request(alloc, method, target, body.as_bytes().to_vec(alloc)?)
+fn request_of(rt: &impl Abort, alloc: Global, what: &str) -> Request {
+    let (method, rest) = halves(rt, what, " ");
+    let (target, body) = halves(rt, rest, " ");
+    let body = body.as_bytes().to_vec(alloc).expect(rt, "memory");
+    request(rt, alloc, method, target, body)
 }
 
-// Whether a request is written so.
-fn is_request_text(alloc: Global, row: &str) -> Result<bool, Fail> {
-    let (what, wanted) = halves(row, " = ")?;
-    let request = request_of(alloc, what)?;
-    let wanted = spelled(alloc, wanted)?;
-    Ok(is_written(alloc, &request, &wanted) && has_bytes(alloc, &request, &wanted)?)
+fn is_request_text(rt: &impl Abort, alloc: Global, request: &Request, wanted: &[u8]) -> bool {
+    is_written(alloc, request, wanted) && has_bytes(rt, alloc, request, wanted)
+}
+
+// Methods, targets and bodies, and how each request is written.
+struct WrittenRequests;
+
+impl Table for WrittenRequests {
+    fn holds(&self, rt: &impl Abort, alloc: Global, what: &str, wanted: &str) -> bool {
+        let request = request_of(rt, alloc, what);
+        is_request_text(rt, alloc, &request, &spelled(rt, alloc, wanted))
+    }
 }
 
 #[test]
-fn written_texts(rt: HostRuntime) -> Result<(), Fail> {
+fn written_texts(rt: HostRuntime) {
     let responses =
         "200 true = HTTP/1.1 200 OK|Content-Type: application/json|Content-Length: 4|Connection: close||true
 200  = HTTP/1.1 200 OK|Content-Type: application/json|Content-Length: 0|Connection: close||
@@ -416,75 +429,83 @@ fn written_texts(rt: HostRuntime) -> Result<(), Fail> {
 405 {} = HTTP/1.1 405 Method Not Allowed|Content-Type: application/json|Content-Length: 2|Connection: close||{}
 500 {} = HTTP/1.1 500 Internal Server Error|Content-Type: application/json|Content-Length: 2|Connection: close||{}
 503 {} = HTTP/1.1 503 Service Unavailable|Content-Type: application/json|Content-Length: 2|Connection: close||{}";
-    for row in responses.lines() {
-        assert!(rt; is_response_text(rt.alloc(), row)?, "{row}");
-    }
+    assert_rows(&rt, rt.alloc(), &WrittenResponses, responses, " = ");
     let requests =
         "GET /status/health  = GET /status/health HTTP/1.1|Host: localhost|Content-Type: application/json|Content-Length: 0|Connection: close||
 POST /q abcdefghijkl = POST /q HTTP/1.1|Host: localhost|Content-Type: application/json|Content-Length: 12|Connection: close||abcdefghijkl";
-    for row in requests.lines() {
-        assert!(rt; is_request_text(rt.alloc(), row)?, "{row}");
-    }
-    Ok(())
+    assert_rows(&rt, rt.alloc(), &WrittenRequests, requests, " = ");
 }
 
 // A body of so many bytes.
-pub(crate) fn large(alloc: Global, length: usize) -> Result<Vec<u8>, Fail> {
-    Ok(vec![in alloc; b'x'; length]?)
+pub(crate) fn large(rt: &impl Abort, alloc: Global, length: usize) -> Vec<u8> {
+    vec![in alloc; b'x'; length].expect(rt, "memory")
 }
 
-// Whether a response with a body of so many bytes is written with that head, and that much of a body.
-fn is_large_response(alloc: Global, length: usize, head: &str, count: usize) -> Result<bool, Fail> {
-    let written = response_bytes(alloc, StatusCode::OK, &large(alloc, length)?)?;
-    let head = spelled(alloc, head)?;
-    Ok(written.starts_with(&head) && written.len() == head.len().saturating_add(count))
+fn is_text(written: &[u8], head: &[u8], count: usize) -> bool {
+    written.starts_with(head) && written.len() == head.len().saturating_add(count)
+}
+
+// Asserts that a response with a body of so many bytes is written with that head, and that much of a body.
+fn assert_large_response(rt: &impl Abort, alloc: Global, length: usize, head: &str, count: usize) {
+    let written = response_bytes(rt, alloc, StatusCode::OK, &large(rt, alloc, length));
+    assert_row(
+        rt,
+        head,
+        is_text(&written, &spelled(rt, alloc, head), count),
+    );
 }
 
 // The status that is written with a body of so many bytes; 0 where none is.
-fn large_status(alloc: Global, length: usize) -> Result<u16, Fail> {
-    let body = large(alloc, length)?;
+fn large_status(rt: &impl Abort, alloc: Global, length: usize) -> u16 {
+    let body = large(rt, alloc, length);
     let mut written = Vec::new(alloc);
-    Ok(send_response(StatusCode::OK, &body, &mut written).unwrap_or(0))
+    send_response(StatusCode::OK, &body, &mut written).unwrap_or(0)
 }
 
 /// What the end of writing tells, beside how many bytes are written.
 pub(crate) fn told_of(
+    rt: &impl Abort,
     alloc: Global,
     end: Result<(), WireFault>,
     count: usize,
-) -> Result<String, Fail> {
+) -> String {
     match end {
-        Ok(()) => beside(alloc, &"ok", &count),
-        Err(fault) => beside(alloc, &fault, &count),
+        Ok(()) => beside(rt, alloc, &"ok", &count),
+        Err(fault) => beside(rt, alloc, &fault, &count),
     }
 }
 
-fn written_of(alloc: Global, request: &Request) -> Result<String, Fail> {
+fn written_of(rt: &impl Abort, alloc: Global, request: &Request) -> String {
     let mut written = Vec::new(alloc);
     let end = write_request(request, &mut written);
-    told_of(alloc, end, written.len())
+    told_of(rt, alloc, end, written.len())
+}
+
+fn length_of(rt: &impl Abort, alloc: Global, request: &Request) -> usize {
+    request_bytes(alloc, request).expect(rt, "memory").len()
 }
 
 // What writing a request with a body of so many bytes tells, how many bytes are written, and how many its text has.
-fn large_request(alloc: Global, length: usize) -> Result<String, Fail> {
-    let request = request(alloc, "POST", "/", large(alloc, length)?)?;
-    let written = written_of(alloc, &request)?;
-    beside(alloc, &written, &request_bytes(alloc, &request)?.len())
+fn large_request(rt: &impl Abort, alloc: Global, length: usize) -> String {
+    let request = request(rt, alloc, "POST", "/", large(rt, alloc, length));
+    let written = written_of(rt, alloc, &request);
+    beside(rt, alloc, &written, &length_of(rt, alloc, &request))
 }
 
 #[test]
-fn large_bodies(rt: HostRuntime) -> Result<(), Fail> {
+fn large_bodies(rt: HostRuntime) {
     let whole =
         "HTTP/1.1 200 OK|Content-Type: application/json|Content-Length: 16777216|Connection: close||";
-    assert!(rt; is_large_response(rt.alloc(), 16_777_216, whole, 16_777_216)?);
+    assert_large_response(&rt, rt.alloc(), 16_777_216, whole, 16_777_216);
     let other =
         "HTTP/1.1 500 Internal Server Error|Content-Type: application/json|Content-Length: 20|Connection: close||{\"error\":\"TooLarge\"}";
-    assert!(rt; is_large_response(rt.alloc(), 16_777_217, other, 0)?);
-    assert!(rt; large_status(rt.alloc(), 16_777_216)? == 200);
-    assert!(rt; large_status(rt.alloc(), 16_777_217)? == 500);
-    let request = large_request(rt.alloc(), 16_777_216)?;
-    assert!(rt; request.as_str() == "ok 16777329 16777329");
-    let request = large_request(rt.alloc(), 16_777_217)?;
-    assert!(rt; request.as_str() == "X7: the body is too long 0 16777330");
-    Ok(())
+    assert_large_response(&rt, rt.alloc(), 16_777_217, other, 0);
+    let status = large_status(&rt, rt.alloc(), 16_777_216);
+    assert_row(&rt, "a status with the longest body", status == 200);
+    let status = large_status(&rt, rt.alloc(), 16_777_217);
+    assert_row(&rt, "a status with a longer body", status == 500);
+    let request = large_request(&rt, rt.alloc(), 16_777_216);
+    assert_told(&rt, request, "ok 16777329 16777329");
+    let request = large_request(&rt, rt.alloc(), 16_777_217);
+    assert_told(&rt, request, "X7: the body is too long 0 16777330");
 }
