@@ -8,8 +8,8 @@ use Rattle.serde_json.specs.Data.{Items, string}
 use Rattle.serde_json.specs.View.{items_of}
 use Rattle.serde_json.specs.Written.{compact_text}
 use Rattle.serde_json.proofs.Texts.{print-outline}
-use Rattle.druid_partial.specs.Tokens.{tokens_of, rest_of}
-use Rattle.druid_partial.proofs.TokenLemmas.{begun, more, ended}
+use Rattle.druid_partial_text.specs.Tokens.{tokens_of, rest_of}
+use Rattle.druid_partial_text.proofs.TokenLemmas.{begun, more, ended}
 use Rattle.druid_broker.specs.Routes.{names_data}
 
 abbrev pub name_items : List (List ℕ) → Items

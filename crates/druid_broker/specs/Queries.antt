@@ -8,8 +8,8 @@ use Rattle.druid_query.specs.Refused.{refusal_text}
 use Rattle.druid_query.specs.declared.fault.QueryFault.{QueryFault}
 use Rattle.druid_query.specs.declared.fault.QueryFault.TheVariants.{Memory}
 use Rattle.druid_partial.specs.Groups.{Group}
-use Rattle.druid_partial.specs.Written.{result_text}
-use Rattle.druid_partial.specs.Answers.{shortfall_text}
+use Rattle.druid_partial_text.specs.Written.{result_text}
+use Rattle.druid_partial_text.specs.Answers.{shortfall_text}
 use Rattle.druid_scatter.specs.Plan.{Pair, IsPlanOf}
 use Rattle.druid_scatter.specs.Gathered.{Exchange, AreMade, IsGathered}
 use Rattle.druid_wire.specs.Links.{Came}

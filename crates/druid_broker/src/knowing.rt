@@ -5,7 +5,7 @@ ghost use Rattle.serde_json.specs.Written.{compact_text};
 ghost use Rattle.druid_segid.specs.Numbers.{number_at};
 ghost use Rattle.druid_sync.specs.Written.{reply_text};
 ghost use Rattle.druid_wire.specs.Served.{Tells};
-ghost use Rattle.druid_partial.specs.Tokens.{tokens_of};
+ghost use Rattle.druid_partial_text.specs.Tokens.{tokens_of};
 ghost use Rattle.druid_broker.specs.Routes.{names_data, AnswersSources, is_loaded, loaded_text, OrOutOfMemory, AnswersNode, AnswersEntry};
 
 use crate::response::Response;

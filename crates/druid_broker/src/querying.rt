@@ -9,7 +9,7 @@ ghost use Rattle.druid_broker.specs.Routes.{IsOutOfMemory, AnswersPost};
 
 use crate::response::Response;
 use druid_inventory::Inventory;
-use druid_partial::{result_text, shortfall_text};
+use druid_partial_text::{result_text, shortfall_text};
 use druid_query::{Query, QueryFault, read_query, refusal_text};
 use druid_scatter::{Answer, Pick, gather, plan};
 use druid_wire::Link;

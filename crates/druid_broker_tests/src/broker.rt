@@ -3,12 +3,13 @@ ghost use Rattle.std.specs.Prelude.{◌≡◌};
 ghost use Rattle.druid_inventory.specs.Join.{names_of};
 
 use crate::cluster::{
-    Behind, Cluster, Handle, Setup, answered, followed, made_by, posted, set, set_up,
+    Behind, Cluster, Handle, Setup, answered, followed, made_by_two, posted, set, set_up,
 };
+use crate::printing::{assert_holds, assert_told, halves, printed, replaced};
 use druid_published::NodeList;
 use std::alloc::Global;
 use std::marker::Brand;
-use std::test::Fail;
+use std::process::Abort;
 
 // Clusters, and queries over their first day of 2024, with their answers. A cluster is its nodes, between which `|` stands, each
 // with its segments, between which `+` stands: the version, the hours of the chunk, the partition and how many the chunk has; the
@@ -39,41 +40,35 @@ v1/0/24/0/1 d:m 0/a/1 => [ = 400 {"error":"Q1"}"#;
 const COMMON: &str =
     "{\"dataSource\":\"w\",\"granularity\":\"all\",\"intervals\":\"2024-01-01/2024-01-02\",\"queryType\":";
 
+// A query of a kind over the day.
+fn with_kind(rt: &impl Abort, alloc: Global, kind: &str, rest: &str) -> String {
+    format!(in alloc; "{COMMON}\"{kind}\"{rest}").expect(rt, "memory")
+}
+
 /// The query that a short text stands for.
-pub(crate) fn query(alloc: Global, text: &str) -> Result<String, Fail> {
-    let (kind, rest) = if let Some(rest) = text.strip_prefix("@") {
-        ("\"timeseries\"", rest)
-    } else if let Some(rest) = text.strip_prefix("#") {
-        ("\"groupBy\"", rest)
-    } else {
-        return Ok(String::from_str(alloc, text)?);
-    };
-    Ok(format!(in alloc; "{COMMON}{kind}{rest}")?)
-}
-
-// The text of a cluster without the marks of nodes that fail.
-fn without_marks(alloc: Global, text: &str) -> Result<String, Fail> {
-    let mut plain = String::new(alloc);
-    for letter in text.chars() {
-        if letter != '!' {
-            plain.push(letter)?;
-        }
+pub(crate) fn query(rt: &impl Abort, alloc: Global, text: &str) -> String {
+    if let Some(rest) = text.strip_prefix("@") {
+        return with_kind(rt, alloc, "timeseries", rest);
     }
-    Ok(plain)
+    if let Some(rest) = text.strip_prefix("#") {
+        return with_kind(rt, alloc, "groupBy", rest);
+    }
+    printed(rt, alloc, &text)
 }
 
-// The places of the nodes that the text marks.
-fn marked(alloc: Global, text: &str) -> Result<Vec<usize>, Fail> {
+// The places of the nodes that the text of a cluster marks.
+fn marked(rt: &impl Abort, alloc: Global, nodes: &str) -> Vec<usize> {
     let mut places = Vec::new(alloc);
-    for (place, node) in text.split(" | ").enumerate() {
+    for (place, node) in nodes.split(" | ").enumerate() {
         if node.starts_with("!") {
-            places.push(place)?;
+            places.push(place).expect(rt, "memory");
         }
     }
-    Ok(places)
+    places
 }
 
-// What a broker over these parts answers to the query at a turn, once the nodes at these places fail.
+// What a broker over these parts answers to the query at a turn, once the nodes at these places fail. (Its signature has no
+// `&str`: no ghost member can be picked at a call of one that has.)
 fn answer_to<R: Handle, N: NodeList>(
     rt: R,
     alloc: Global,
@@ -81,45 +76,43 @@ fn answer_to<R: Handle, N: NodeList>(
     failing: Vec<usize>,
     query: String,
     turn: u64,
-) -> Result<String, Fail>
+) -> String
     requires { names_of setup.inventory ≡ N.names }
 {
-    let mut made: Cluster<R, N> = followed(rt, alloc, setup, 64)?;
+    let mut made: Cluster<R, N> = followed(rt, alloc, setup, 64);
     for place in failing {
-        set(&mut made, place, Behind::Nothing)?;
+        set(&mut made, place, Behind::Nothing);
     }
     posted(alloc, &mut made, turn, query.as_str())
 }
 
-/// Whether a broker over that cluster answers the query so, at a turn.
-pub(crate) fn is_answered_by<R: Handle>(
+/// What a broker over that cluster answers to the query, at a turn.
+pub(crate) fn answer_of<R: Handle>(
     rt: R,
     alloc: Global,
     nodes: &str,
     asked: &str,
-    wanted: &str,
     turn: u64,
-) -> Result<bool, Fail> {
-    let setup = set_up(rt, alloc, without_marks(alloc, nodes)?.as_str())?;
-    let failing = marked(alloc, nodes)?;
-    let query = query(alloc, asked)?;
-    let told = answer_to::<R, Brand>(rt, alloc, setup, failing, query, turn)?;
-    Ok(told.as_str() == wanted)
+) -> String {
+    let setup = set_up(rt, alloc, replaced(&rt, alloc, nodes, "!", "").as_str());
+    let failing = marked(&rt, alloc, nodes);
+    let query = query(&rt, alloc, asked);
+    answer_to::<R, Brand>(rt, alloc, setup, failing, query, turn)
 }
 
-fn is_answered<R: Handle>(rt: R, alloc: Global, line: &str, turn: u64) -> Result<bool, Fail> {
-    let (nodes, rest) = line.split_once(" => ").ok_or("no query")?;
-    let (asked, wanted) = rest.split_once(" = ").ok_or("no answer")?;
-    is_answered_by(rt, alloc, nodes, asked, wanted, turn)
+// Asserts that the query of a line is answered so, at a turn.
+fn assert_line<R: Handle>(rt: R, alloc: Global, line: &str, turn: u64) {
+    let (nodes, rest) = halves(&rt, line, " => ");
+    let (asked, wanted) = halves(&rt, rest, " = ");
+    assert_told(&rt, line, answer_of(rt, alloc, nodes, asked, turn), wanted);
 }
 
 #[test]
-fn ample_memory(rt: HostRuntime) -> Result<(), Fail> {
+fn ample_memory(rt: HostRuntime) {
     for line in ANSWERS.lines() {
-        assert!(rt; is_answered(&rt, rt.alloc(), line, 0)?, "{line}");
-        assert!(rt; is_answered(&rt, rt.alloc(), line, 1)?, "{line}");
+        assert_line(&rt, rt.alloc(), line, 0);
+        assert_line(&rt, rt.alloc(), line, 1);
     }
-    Ok(())
 }
 
 // Other messages, to a broker that has followed the first of two nodes, and what it answers. `|` stands for a carriage return and
@@ -152,54 +145,41 @@ POST /druid/v2 HTTP/1.1|| = 400 {\"error\":\"X6\"}
 GET / HTTP/9|| = 400 {\"error\":\"X4\"}
 POST /druid/v2 HTTP/1.1|Content-Length: 16777217|| = 400 {\"error\":\"X7\"}";
 
-fn spelled(alloc: Global, text: &str) -> Result<Vec<u8>, Fail> {
-    let mut out = Vec::new(alloc);
-    for byte in text.bytes() {
-        if byte == b'|' {
-            out.extend_from_slice(b"\r\n")?;
-        } else {
-            out.push(byte)?;
-        }
+// Asserts that a broker answers the message of a line so.
+fn assert_message<R: Handle, N: NodeList>(alloc: Global, made: &mut Cluster<R, N>, line: &str) {
+    let rt = made.rt;
+    let (message, wanted) = halves(&rt, line, " = ");
+    let message = replaced(&rt, alloc, message, "|", "\r\n");
+    assert_told(
+        &rt,
+        line,
+        answered(alloc, made, 0, message.as_bytes()),
+        wanted,
+    );
+}
+
+fn assert_all<R: Handle, N: NodeList>(alloc: Global, made: &mut Cluster<R, N>) {
+    for line in MESSAGES.lines() {
+        assert_message(alloc, made, line);
     }
-    Ok(out)
 }
 
-fn is_told<R: Handle, N: NodeList>(
-    alloc: Global,
-    made: &mut Cluster<R, N>,
-    line: &str,
-) -> Result<bool, Fail> {
-    let (message, wanted) = line.split_once(" = ").ok_or("no answer")?;
-    let message = spelled(alloc, message)?;
-    Ok(answered(alloc, made, 0, &message)?.as_str() == wanted)
-}
-
-// The first line that a broker over these parts answers otherwise, once it has followed the first node.
-fn told_otherwise<R: Handle, N: NodeList>(
-    rt: R,
-    alloc: Global,
-    setup: Setup<R>,
-) -> Result<Option<&'static str>, Fail>
+// Asserts what a broker over these parts answers, once it has followed the first node.
+fn assert_messages<R: Handle, N: NodeList>(rt: R, alloc: Global, setup: Setup<R>)
     requires { names_of setup.inventory ≡ N.names }
 {
-    let mut made: Cluster<R, N> = followed(rt, alloc, setup, 1)?;
-    for line in MESSAGES.lines() {
-        if !is_told(alloc, &mut made, line)? {
-            return Ok(Some(line));
-        }
-    }
-    Ok(None)
+    let mut made: Cluster<R, N> = followed(rt, alloc, setup, 1);
+    assert_all(alloc, &mut made);
 }
 
-fn told_of<R: Handle>(rt: R, alloc: Global) -> Result<Option<&'static str>, Fail> {
-    let setup = set_up(rt, alloc, "v1/0/24/0/1 d:m 0/a/1 | .")?;
-    told_otherwise::<R, Brand>(rt, alloc, setup)
+fn assert_answers<R: Handle>(rt: R, alloc: Global) {
+    let setup = set_up(rt, alloc, "v1/0/24/0/1 d:m 0/a/1 | .");
+    assert_messages::<R, Brand>(rt, alloc, setup);
 }
 
 #[test]
-fn messages(rt: HostRuntime) -> Result<(), Fail> {
-    assert_eq!(rt; told_of(&rt, rt.alloc())?, None);
-    Ok(())
+fn messages(rt: HostRuntime) {
+    assert_answers(&rt, rt.alloc());
 }
 
 // What a server that is no data node answers, in the place of one or of both of the replicas that have the only row. `*` stands for
@@ -229,96 +209,94 @@ const COUNTED: &str = "200 [{\"result\":{\"n\":1},\"timestamp\":\"2024-01-01T00:
 const NOT_COUNTED: &str =
     "503 {\"error\":\"SegmentsMissing\",\"missing\":[{\"chunk\":\"2024-01-01T00:00:00.000Z/2024-01-02T00:00:00.000Z\",\"itvl\":\"2024-01-01T00:00:00.000Z/2024-01-02T00:00:00.000Z\",\"part\":0,\"ver\":\"v1\"}],\"partial\":[]}";
 
-// A body, with the milliseconds of the bucket in the place of `*`.
-fn with_bucket(alloc: Global, text: &str) -> Result<String, Fail> {
-    let mut body = String::new(alloc);
-    for letter in text.chars() {
-        match letter {
-            '*' => body.push_str("1704067200000")?,
-            _ => body.push(letter)?,
-        }
-    }
-    Ok(body)
+// The head of an answer, in which `#` is the length of the body and the empty line.
+fn hostile_head(rt: &impl Abort, alloc: Global, head: &str, length: usize) -> String {
+    let end = format!(in alloc; "{length}||").expect(rt, "memory");
+    let head = replaced(rt, alloc, head, "#", end.as_str());
+    replaced(rt, alloc, head.as_str(), "|", "\r\n")
 }
 
-// The bytes of an answer: its head, in which `#` is the length of the body and the empty line, and its body.
-fn hostile(alloc: Global, head: &str, body: &str) -> Result<Vec<u8>, Fail> {
-    let body = with_bucket(alloc, body)?;
-    let length = body.as_str().len();
-    let mut bytes = Vec::new(alloc);
-    for byte in head.bytes() {
-        match byte {
-            b'|' => bytes.extend_from_slice(b"\r\n")?,
-            b'#' => bytes.extend_from_slice(format!(in alloc; "{length}\r\n\r\n")?.as_bytes())?,
-            _ => bytes.push(byte)?,
-        }
-    }
-    bytes.extend_from_slice(body.as_bytes())?;
-    Ok(bytes)
+// An answer: its head and its body.
+fn hostile(rt: &impl Abort, alloc: Global, head: &str, body: &str) -> String {
+    let body = replaced(rt, alloc, body, "*", "1704067200000");
+    let head = hostile_head(rt, alloc, head, body.as_str().len());
+    format!(in alloc; "{head}{body}").expect(rt, "memory")
 }
 
-// Whether the query is answered so at a turn, and each of the two links was asked once.
+/// What a broker answers to a count at a turn.
+pub(crate) fn counted<R: Handle, N: NodeList>(
+    alloc: Global,
+    made: &mut Cluster<R, N>,
+    turn: u64,
+) -> String {
+    let count = "@,\"aggregations\":[{\"type\":\"count\",\"name\":\"n\"}]}";
+    let query = query(&made.rt, alloc, count);
+    posted(alloc, made, turn, query.as_str())
+}
+
+// Whether a count is answered so at a turn, and each of the two links was asked once.
 fn is_asked_once<R: Handle, N: NodeList>(
     alloc: Global,
     made: &mut Cluster<R, N>,
     turn: u64,
     wanted: &str,
-) -> Result<bool, Fail> {
-    made_by(made, 0)?;
-    made_by(made, 1)?;
-    let query = query(
-        alloc,
-        "@,\"aggregations\":[{\"type\":\"count\",\"name\":\"n\"}]}",
-    )?;
-    let told = posted(alloc, made, turn, query.as_str())?;
-    let once = made_by(made, 0)? == 1 && made_by(made, 1)? == 1;
-    Ok(once && told.as_str() == wanted)
+) -> bool {
+    made_by_two(made);
+    let told = counted(alloc, made, turn);
+    made_by_two(made) == (1, 1) && told.as_str() == wanted
 }
 
-// Whether a broker over two replicas counts the row where one of them answers these bytes, and lists it as missing where both
-// do.
-fn passes_on<R: Handle, N: NodeList>(
-    rt: R,
+// Puts a server that answers these bytes behind a link.
+fn set_bytes<R: Handle, N: NodeList>(
     alloc: Global,
-    setup: Setup<R>,
+    made: &mut Cluster<R, N>,
+    place: usize,
     bytes: &[u8],
-) -> Result<bool, Fail>
+) {
+    let bytes = bytes.to_vec(alloc).expect(&made.rt, "memory");
+    set(made, place, Behind::Bytes(bytes));
+}
+
+// Whether a broker with two replicas counts the row where one of them answers these bytes, and lists it as missing where both
+// do.
+fn passes<R: Handle, N: NodeList>(alloc: Global, made: &mut Cluster<R, N>, bytes: &[u8]) -> bool {
+    set_bytes(alloc, made, 0, bytes);
+    let counts = is_asked_once(alloc, made, 0, COUNTED);
+    set_bytes(alloc, made, 1, bytes);
+    counts && is_asked_once(alloc, made, 1, NOT_COUNTED)
+}
+
+// The same of a broker over these parts.
+fn passes_on<R: Handle, N: NodeList>(rt: R, alloc: Global, setup: Setup<R>, bytes: &[u8]) -> bool
     requires { names_of setup.inventory ≡ N.names }
 {
-    let mut made: Cluster<R, N> = followed(rt, alloc, setup, 2)?;
-    set(&mut made, 0, Behind::Bytes(bytes.to_vec(alloc)?))?;
-    if !is_asked_once(alloc, &mut made, 0, COUNTED)? {
-        return Ok(false);
-    }
-    set(&mut made, 1, Behind::Bytes(bytes.to_vec(alloc)?))?;
-    is_asked_once(alloc, &mut made, 1, NOT_COUNTED)
+    let mut made: Cluster<R, N> = followed(rt, alloc, setup, 2);
+    passes(alloc, &mut made, bytes)
 }
 
-fn is_passed_on<R: Handle>(rt: R, alloc: Global, bytes: &[u8]) -> Result<bool, Fail> {
-    let setup = set_up(rt, alloc, "v1/0/24/0/1 d:m 0/a/1 | v1/0/24/0/1 d:m 0/a/1")?;
+fn is_passed_on<R: Handle>(rt: R, alloc: Global, bytes: &[u8]) -> bool {
+    let setup = set_up(rt, alloc, "v1/0/24/0/1 d:m 0/a/1 | v1/0/24/0/1 d:m 0/a/1");
     passes_on::<R, Brand>(rt, alloc, setup, bytes)
 }
 
-fn is_hostile<R: Handle>(rt: R, alloc: Global, line: &str) -> Result<bool, Fail> {
-    let (head, body) = line.split_once(" = ").ok_or("no body")?;
-    is_passed_on(rt, alloc, &hostile(alloc, head, body)?)
+fn is_hostile<R: Handle>(rt: R, alloc: Global, line: &str) -> bool {
+    let (head, body) = halves(&rt, line, " = ");
+    is_passed_on(rt, alloc, hostile(&rt, alloc, head, body).as_bytes())
 }
 
 #[test]
-fn hostile_answers(rt: HostRuntime) -> Result<(), Fail> {
+fn hostile_answers(rt: HostRuntime) {
     for line in HOSTILE.lines() {
-        assert!(rt; is_hostile(&rt, rt.alloc(), line)?, "{line}");
+        assert_holds(&rt, line, is_hostile(&rt, rt.alloc(), line));
     }
-    Ok(())
 }
 
 #[test]
-fn many_brackets(rt: HostRuntime) -> Result<(), Fail> {
-    let mut bytes = Vec::new(rt.alloc());
-    bytes.extend_from_slice(b"HTTP/1.1 200 OK\r\nContent-Length: 16777216\r\n\r\n")?;
+fn many_brackets(rt: HostRuntime) {
+    let head = b"HTTP/1.1 200 OK\r\nContent-Length: 16777216\r\n\r\n";
+    let mut bytes = head.to_vec(rt.alloc()).expect(&rt, "memory");
     for _ in 0..16_777_216 {
-        bytes.push(b'[')?;
+        bytes.push(b'[').expect(&rt, "memory");
     }
-    assert!(rt; is_passed_on(&rt, rt.alloc(), &bytes)?);
-    Ok(())
+    assert!(rt; is_passed_on(&rt, rt.alloc(), &bytes));
 }

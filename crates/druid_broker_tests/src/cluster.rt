@@ -9,19 +9,21 @@ use druid_published::{NodeList, Publisher, View, open};
 use druid_rows::{Row, Schema, Segment};
 use druid_scatter::Rotate;
 use druid_segid::{Name, SegmentId, Version};
-use druid_shard::{Descriptor, Mark};
+use druid_shard::{Descriptor, Mark, NodeNo};
 use druid_time::{Instant, Interval};
 use druid_wire::{Link, MAX_EXCHANGE, WireFault, response_of};
 use std::alloc::Global;
+use std::fmt::Debug;
+use std::process::Abort;
 use std::str;
+use std::str::{FromStr, Split};
 use std::sync::Wait;
-use std::test::Fail;
 use std::thread::Threads;
 
 /// What clusters do with the handle.
-pub(crate) trait Handle: Wait + Threads + Copy + Send + Sync {}
+pub(crate) trait Handle: Abort + Wait + Threads + Copy + Send + Sync {}
 
-impl<R: Wait + Threads + Copy + Send + Sync> Handle for R {}
+impl<R: Abort + Wait + Threads + Copy + Send + Sync> Handle for R {}
 
 /// What stands behind a link.
 #[derive(Drop)]
@@ -141,137 +143,193 @@ pub(crate) struct Cluster<R: Handle, N: NodeList> {
 }
 
 // An instant of the first day of 2024, by its milliseconds.
-fn instant(ms: i64) -> Result<Instant, Fail> {
-    let start = Instant::parse("2024-01-01")?.ms();
-    Ok(Instant::new(start.saturating_add(ms)).ok_or("no instant")?)
+fn instant(rt: &impl Abort, ms: i64) -> Instant {
+    let start = Instant::parse("2024-01-01").expect(rt, "a day").ms();
+    Instant::new(start.saturating_add(ms)).expect(rt, "an instant")
 }
 
-/// An interval of that day, by its hours.
-pub(crate) fn hours(start: i64, end: i64) -> Result<Interval, Fail> {
-    let start = instant(start.saturating_mul(3_600_000))?;
-    let end = instant(end.saturating_mul(3_600_000))?;
-    Ok(Interval::new(start, end).ok_or("no interval")?)
+// An interval of that day, by its hours.
+fn hours(rt: &impl Abort, start: i64, end: i64) -> Interval {
+    let start = instant(rt, start.saturating_mul(3_600_000));
+    let end = instant(rt, end.saturating_mul(3_600_000));
+    Interval::new(start, end).expect(rt, "an interval")
 }
 
-fn names(alloc: Global, words: &str) -> Result<Vec<String>, Fail> {
+// The next of the words of a text.
+fn next<'a>(rt: &impl Abort, words: &mut Split<'a, char>) -> &'a str {
+    words.next().expect(rt, "a word")
+}
+
+// What a number's word says.
+fn parsed<N: FromStr>(rt: &impl Abort, word: &str) -> N
+where
+    N::Err: Debug,
+{
+    word.parse().expect(rt, "a number")
+}
+
+fn text_of(rt: &impl Abort, alloc: Global, word: &str) -> String {
+    String::from_str(alloc, word).expect(rt, "memory")
+}
+
+fn names(rt: &impl Abort, alloc: Global, words: &str) -> Vec<String> {
     let mut names = Vec::new(alloc);
     for word in words.split(',') {
-        names.push(String::from_str(alloc, word)?)?;
+        names.push(text_of(rt, alloc, word)).expect(rt, "memory");
     }
-    Ok(names)
+    names
 }
 
-fn value(alloc: Global, word: &str) -> Result<Option<String>, Fail> {
-    if word == "-" {
-        return Ok(None);
-    }
-    Ok(Some(String::from_str(alloc, word)?))
+// The only value of a row.
+fn values(rt: &impl Abort, alloc: Global, word: &str) -> Vec<Option<String>> {
+    let value = match word {
+        "-" => None,
+        _ => Some(text_of(rt, alloc, word)),
+    };
+    vec![in alloc; value].expect(rt, "memory")
 }
 
-fn number(word: &str) -> Result<Option<i64>, Fail> {
-    if word == "-" {
-        return Ok(None);
-    }
-    Ok(Some(word.parse::<i64>()?))
+// The only number of a row.
+fn numbers(rt: &impl Abort, alloc: Global, word: &str) -> Vec<Option<i64>> {
+    let number = match word {
+        "-" => None,
+        _ => Some(parsed(rt, word)),
+    };
+    vec![in alloc; number].expect(rt, "memory")
 }
 
 // A row: the milliseconds of the day, a value and a number.
-fn row(alloc: Global, text: &str) -> Result<Row, Fail> {
+fn row(rt: &impl Abort, alloc: Global, text: &str) -> Row {
     let mut words = text.split('/');
-    let ms: i64 = words.next().ok_or("no instant")?.parse()?;
-    let mut values = Vec::new(alloc);
-    values.push(value(alloc, words.next().ok_or("no value")?)?)?;
-    let mut numbers = Vec::new(alloc);
-    numbers.push(number(words.next().ok_or("no number")?)?)?;
-    Ok(Row::new(instant(ms)?, values, numbers))
+    let time = instant(rt, parsed(rt, next(rt, &mut words)));
+    let values = values(rt, alloc, next(rt, &mut words));
+    let numbers = numbers(rt, alloc, next(rt, &mut words));
+    Row::new(time, values, numbers)
 }
 
-// The descriptor of a segment: its version, the hours of its chunk, its partition and how many the chunk has.
-fn descriptor(alloc: Global, text: &str) -> Result<Descriptor, Fail> {
-    let mut words = text.split('/');
-    let version = Version::new(alloc, words.next().ok_or("no version")?)?;
-    let start: i64 = words.next().ok_or("no start")?.parse()?;
-    let end: i64 = words.next().ok_or("no end")?.parse()?;
-    let partition: u16 = words.next().ok_or("no partition")?.parse()?;
-    let core: u16 = words.next().ok_or("no core")?.parse()?;
-    let id = SegmentId::new(
-        Name::new(alloc, "w")?,
-        hours(start, end)?,
+fn version(rt: &impl Abort, alloc: Global, word: &str) -> Version {
+    Version::new(alloc, word).expect(rt, "a version")
+}
+
+fn name(rt: &impl Abort, alloc: Global, word: &str) -> Name {
+    Name::new(alloc, word).expect(rt, "a name")
+}
+
+// The name of a segment of the source `w`: its version, the hours of its chunk and its partition.
+fn segment_id(rt: &impl Abort, alloc: Global, words: &mut Split<'_, char>) -> SegmentId {
+    let version = version(rt, alloc, next(rt, words));
+    let start = parsed(rt, next(rt, words));
+    let end = parsed(rt, next(rt, words));
+    let partition = parsed(rt, next(rt, words));
+    SegmentId::new(
+        name(rt, alloc, "w"),
+        hours(rt, start, end),
         version,
         partition,
-    );
-    Ok(Descriptor::new(id, core, 0).ok_or("no descriptor")?)
+    )
+}
+
+// The descriptor of a segment: its name, and how many core partitions the chunk has.
+fn descriptor(rt: &impl Abort, alloc: Global, text: &str) -> Descriptor {
+    let mut words = text.split('/');
+    let id = segment_id(rt, alloc, &mut words);
+    let core = parsed(rt, next(rt, &mut words));
+    Descriptor::new(id, core, 0).expect(rt, "a descriptor")
+}
+
+// A schema: the names of its dimensions and those of its metrics.
+fn schema(rt: &impl Abort, alloc: Global, text: &str) -> Schema {
+    let (dimensions, metrics) = text.split_once(":").expect(rt, "a schema");
+    Schema::new(names(rt, alloc, dimensions), names(rt, alloc, metrics))
 }
 
 // A segment of the source `w`: its descriptor, the names of its dimension and of its metric, and its rows.
-fn segment(alloc: Global, text: &str) -> Result<Segment, Fail> {
+fn segment(rt: &impl Abort, alloc: Global, text: &str) -> Segment {
     let mut words = text.split(' ');
-    let descriptor = descriptor(alloc, words.next().ok_or("no descriptor")?)?;
-    let (dimensions, metrics) = words
-        .next()
-        .ok_or("no schema")?
-        .split_once(":")
-        .ok_or("no schema")?;
-    let schema = Schema::new(names(alloc, dimensions)?, names(alloc, metrics)?);
+    let descriptor = descriptor(rt, alloc, next(rt, &mut words));
+    let schema = schema(rt, alloc, next(rt, &mut words));
     let mut rows = Vec::new(alloc);
     for word in words {
-        rows.push(row(alloc, word)?)?;
+        rows.push(row(rt, alloc, word)).expect(rt, "memory");
     }
-    Ok(Segment::new(alloc, descriptor, schema, rows)?)
+    Segment::new(alloc, descriptor, schema, rows).expect(rt, "a segment")
+}
+
+// Loads a segment.
+fn load(rt: &impl Abort, alloc: Global, state: &mut NodeState, text: &str) {
+    state.load(segment(rt, alloc, text)).expect(rt, "a load");
 }
 
 // A data node with segments, between which `+` stands; `.` is none.
-fn node(alloc: Global, text: &str) -> Result<DataNode, Fail> {
-    let mut state = NodeState::new(alloc, 1, 1000)?;
+fn node(rt: &impl Abort, alloc: Global, text: &str) -> DataNode {
+    let mut state = NodeState::new(alloc, 1, 1000).expect(rt, "a node");
     for one in text.split(" + ") {
         if one != "." {
-            state.load(segment(alloc, one)?)?;
+            load(rt, alloc, &mut state, one);
         }
     }
-    Ok(DataNode::new(state))
+    DataNode::new(state)
 }
 
-// Follows the first nodes, and tells the view of it.
-fn follow<R: Handle, N: NodeList>(
-    alloc: Global,
-    cluster: &mut Cluster<R, N>,
-    count: usize,
-) -> Result<(), Fail> {
+// Follows a node, and tells the view of it.
+fn follow_node<R: Handle, N: NodeList>(alloc: Global, cluster: &mut Cluster<R, N>, node: NodeNo) {
     let rt = cluster.rt;
-    for node in 0..64_u16 {
-        let place = node as usize;
-        if place >= count || place >= cluster.links.len() {
-            return Ok(());
-        }
-        if node >= cluster.publisher.inventory().node_count() {
-            return Err("more links than nodes".into());
-        }
-        let link = &mut cluster.links[place];
-        let (_, receipt) = sync_turn(&rt, alloc, node, link, &mut cluster.publisher)?;
-        cluster.view.learn(&receipt);
+    if node >= cluster.publisher.inventory().node_count() {
+        panic!(rt; "more links than nodes");
     }
-    Ok(())
+    let link = cluster.links.get_mut(node as usize).expect(&rt, "a link");
+    let (_, receipt) = sync_turn(&rt, alloc, node, link, &mut cluster.publisher).expect(
+        &rt, "a turn",
+    );
+    cluster.view.learn(&receipt);
 }
 
-fn inventory(alloc: Global, count: usize) -> Result<Inventory, Fail> {
+// Follows the first nodes.
+fn follow<R: Handle, N: NodeList>(alloc: Global, cluster: &mut Cluster<R, N>, count: usize) {
+    let count = count.min(cluster.links.len());
+    for node in 0..64_u16 {
+        if (node as usize) < count {
+            follow_node(alloc, cluster, node);
+        }
+    }
+}
+
+fn node_name(rt: &impl Abort, alloc: Global, place: usize) -> Name {
+    let text = format!(in alloc; "n{place}").expect(rt, "memory");
+    name(rt, alloc, text.as_str())
+}
+
+fn node_names(rt: &impl Abort, alloc: Global, count: usize) -> Vec<Name> {
     let mut names = Vec::new(alloc);
     for place in 0..count {
-        names.push(Name::new(alloc, format!(in alloc; "n{place}")?.as_str())?)?;
+        names.push(node_name(rt, alloc, place)).expect(rt, "memory");
     }
+    names
+}
+
+fn inventory(rt: &impl Abort, alloc: Global, count: usize) -> Inventory {
+    let names = node_names(rt, alloc, count);
     if names.is_empty() || MAX_NODES < names.len() {
-        return Err("no list of nodes".into());
+        panic!(rt; "no list of nodes");
     }
-    Ok(Inventory::new(alloc, names)?)
+    Inventory::new(alloc, names).expect(rt, "an inventory")
+}
+
+// A link to a data node.
+fn node_link<R: Handle>(rt: R, alloc: Global, text: &str) -> TestLink<R> {
+    TestLink::new(rt, Behind::Node(node(&rt, alloc, text)))
 }
 
 /// The parts of a cluster of nodes, between which `|` stands.
-pub(crate) fn set_up<R: Handle>(rt: R, alloc: Global, text: &str) -> Result<Setup<R>, Fail> {
+pub(crate) fn set_up<R: Handle>(rt: R, alloc: Global, text: &str) -> Setup<R> {
     let mut links = Vec::new(alloc);
     for one in text.split(" | ") {
-        links.push(TestLink::new(rt, Behind::Node(node(alloc, one)?)))?;
+        links.push(node_link(rt, alloc, one)).expect(&rt, "memory");
     }
-    let inventory = inventory(alloc, links.len())?;
-    Ok(Setup { inventory, links })
+    Setup {
+        inventory: inventory(&rt, alloc, links.len()),
+        links,
+    }
 }
 
 /// A cluster of these parts, whose broker has followed the first nodes.
@@ -280,19 +338,19 @@ pub(crate) fn followed<R: Handle, N: NodeList>(
     alloc: Global,
     setup: Setup<R>,
     count: usize,
-) -> Result<Cluster<R, N>, Fail>
+) -> Cluster<R, N>
     requires { names_of setup.inventory ≡ N.names }
 {
-    let (publisher, mut views) = open::<N>(alloc, setup.inventory, 1)?;
-    let view = views.pop().ok_or("no view")?;
+    let (publisher, mut views) = open::<N>(alloc, setup.inventory, 1).expect(&rt, "memory");
+    let view = views.pop().expect(&rt, "a view");
     let mut cluster = Cluster {
         rt,
         publisher,
         view,
         links: setup.links,
     };
-    follow(alloc, &mut cluster, count)?;
-    Ok(cluster)
+    follow(alloc, &mut cluster, count);
+    cluster
 }
 
 /// Whether there is a link to each node that the view reads of.
@@ -310,34 +368,57 @@ pub(crate) fn is_linked<R: Handle, N: NodeList>(cluster: &mut Cluster<R, N>) -> 
     true
 }
 
+// Serves a message at a turn.
+fn serve<R: Handle, N: NodeList>(
+    alloc: Global,
+    cluster: &mut Cluster<R, N>,
+    turn: u64,
+    message: &[u8],
+    written: &mut Vec<u8>,
+) {
+    let rt = cluster.rt;
+    let routes = Routes::new(alloc).expect(&rt, "routes");
+    let mut reader = message;
+    if !is_linked(cluster) {
+        panic!(rt; "fewer links than nodes");
+    }
+    serve_one(
+        &rt,
+        alloc,
+        &routes,
+        &mut reader,
+        written,
+        &mut cluster.view,
+        turn,
+        &Rotate,
+        &mut cluster.links,
+    )
+    .expect(&rt, "an answer");
+}
+
 // What the broker writes for a message, at a turn.
 fn written<R: Handle, N: NodeList>(
     alloc: Global,
     cluster: &mut Cluster<R, N>,
     turn: u64,
     message: &[u8],
-) -> Result<Vec<u8>, Fail> {
-    let mut reader = message;
+) -> Vec<u8> {
     let mut written = Vec::new(alloc);
-    if !is_linked(cluster) {
-        return Err("fewer links than nodes".into());
+    serve(alloc, cluster, turn, message, &mut written);
+    written
+}
+
+fn code_and_body(rt: &impl Abort, alloc: Global, code: u16, body: &[u8]) -> String {
+    let body = str::from_utf8(body).expect(rt, "a text");
+    format!(in alloc; "{code} {body}").expect(rt, "memory")
+}
+
+// A response: `200 true`.
+fn told_response(rt: &impl Abort, alloc: Global, bytes: &[u8]) -> String {
+    match response_of(bytes) {
+        Ok((status, body)) => code_and_body(rt, alloc, status.as_u16(), body),
+        Err(_) => panic!(rt; "no response"),
     }
-    let Ok(routes) = Routes::new(alloc) else {
-        return Err("no routes".into());
-    };
-    let rt = cluster.rt;
-    serve_one(
-        &rt,
-        alloc,
-        &routes,
-        &mut reader,
-        &mut written,
-        &mut cluster.view,
-        turn,
-        &Rotate,
-        &mut cluster.links,
-    )?;
-    Ok(written)
 }
 
 /// What the broker answers to a message, at a turn: `200 true`.
@@ -346,14 +427,17 @@ pub(crate) fn answered<R: Handle, N: NodeList>(
     cluster: &mut Cluster<R, N>,
     turn: u64,
     message: &[u8],
-) -> Result<String, Fail> {
-    let bytes = written(alloc, cluster, turn, message)?;
-    let Ok(response) = response_of(&bytes) else {
-        return Err("no response".into());
-    };
-    let code = response.0.as_u16();
-    let body = str::from_utf8(response.1)?;
-    Ok(format!(in alloc; "{code} {body}")?)
+) -> String {
+    let bytes = written(alloc, cluster, turn, message);
+    told_response(&cluster.rt, alloc, &bytes)
+}
+
+// The message that posts a query.
+fn message_of(rt: &impl Abort, alloc: Global, query: &str) -> String {
+    let length = query.len();
+    format!(in alloc; "POST /druid/v2/ HTTP/1.1\r\nContent-Length: {length}\r\n\r\n{query}").expect(
+        rt, "memory",
+    )
 }
 
 /// What it answers to a query.
@@ -362,12 +446,15 @@ pub(crate) fn posted<R: Handle, N: NodeList>(
     cluster: &mut Cluster<R, N>,
     turn: u64,
     query: &str,
-) -> Result<String, Fail> {
-    let length = query.len();
-    let message = format!(in alloc;
-        "POST /druid/v2/ HTTP/1.1\r\nContent-Length: {length}\r\n\r\n{query}"
-    )?;
+) -> String {
+    let message = message_of(&cluster.rt, alloc, query);
     answered(alloc, cluster, turn, message.as_bytes())
+}
+
+// The link at a place.
+fn link_at<R: Handle, N: NodeList>(cluster: &mut Cluster<R, N>, place: usize) -> &mut TestLink<R> {
+    let rt = cluster.rt;
+    cluster.links.get_mut(place).expect(&rt, "a link")
 }
 
 /// Puts something else behind a link.
@@ -375,23 +462,12 @@ pub(crate) fn set<R: Handle, N: NodeList>(
     cluster: &mut Cluster<R, N>,
     place: usize,
     behind: Behind,
-) -> Result<(), Fail> {
-    match cluster.links.get_mut(place) {
-        Some(link) => {
-            link.set(behind);
-            Ok(())
-        }
-        None => Err("no such link".into()),
-    }
+) {
+    link_at(cluster, place).set(behind);
 }
 
-/// How many exchanges a link made since the last time that this was asked.
-pub(crate) fn made_by<R: Handle, N: NodeList>(
-    cluster: &mut Cluster<R, N>,
-    place: usize,
-) -> Result<u64, Fail> {
-    match cluster.links.get_mut(place) {
-        Some(link) => Ok(link.take_made()),
-        None => Err("no such link".into()),
-    }
+/// How many exchanges each of the first two links made since the last time that this was asked.
+pub(crate) fn made_by_two<R: Handle, N: NodeList>(cluster: &mut Cluster<R, N>) -> (u64, u64) {
+    let first = link_at(cluster, 0).take_made();
+    (first, link_at(cluster, 1).take_made())
 }

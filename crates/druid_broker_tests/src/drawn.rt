@@ -1,11 +1,11 @@
 //! Drawn clusters: what a broker answers is what a plain computation over all rows gives.
 ghost use Rattle.std.specs.Prelude.{◌<◌};
 
-use crate::broker::is_answered_by;
+use crate::broker::answer_of;
 use crate::cluster::Handle;
 use crate::plain::{HOURS, Plain, PlainChunk, PlainQuery, PlainRow, PlainSegment, query_text};
 use std::alloc::Global;
-use std::test::Fail;
+use std::process::Abort;
 
 const CLUSTERS: u64 = 300;
 
@@ -67,25 +67,32 @@ fn drawn_row(draws: &mut Draws, chunk: PlainChunk) -> PlainRow {
     }
 }
 
+// Of each of three nodes whether it serves a segment; one does.
+fn drawn_nodes(draws: &mut Draws) -> [bool; 3] {
+    let mut nodes = [draws.is_one_in(2), draws.is_one_in(2), draws.is_one_in(2)];
+    nodes[draws.below(3)] = true;
+    nodes
+}
+
 fn drawn_segment(
+    rt: &impl Abort,
     alloc: Global,
     draws: &mut Draws,
     place: usize,
     chunk: PlainChunk,
     partition: u16,
-) -> Result<PlainSegment, Fail> {
-    let mut nodes = [draws.is_one_in(2), draws.is_one_in(2), draws.is_one_in(2)];
-    nodes[draws.below(3)] = true;
+) -> PlainSegment {
+    let nodes = drawn_nodes(draws);
     let mut rows = Vec::new(alloc);
     for _ in 0..draws.below(5) {
-        rows.push(drawn_row(draws, chunk))?;
+        rows.push(drawn_row(draws, chunk)).expect(rt, "memory");
     }
-    Ok(PlainSegment {
+    PlainSegment {
         chunk: place,
         partition,
         nodes,
         rows,
-    })
+    }
 }
 
 // A chunk that is not there yet.
@@ -103,30 +110,48 @@ fn drawn_chunk(draws: &mut Draws, chunks: &[PlainChunk]) -> Option<PlainChunk> {
     })
 }
 
-// A cluster. Now and then a core partition of a chunk is not there.
-fn drawn_cluster(alloc: Global, draws: &mut Draws) -> Result<Plain, Fail> {
-    let mut plain = Plain {
-        chunks: Vec::new(alloc),
-        segments: Vec::new(alloc),
-        failing: [false; 3],
-    };
-    for _ in 0..5 {
-        if let Some(chunk) = drawn_chunk(draws, &plain.chunks) {
-            let place = plain.chunks.len();
-            plain.chunks.push(chunk)?;
-            for partition in 0..4_u16 {
-                if partition < chunk.core && !draws.is_one_in(12) || draws.is_one_in(4) {
-                    let segment = drawn_segment(alloc, draws, place, chunk, partition)?;
-                    plain.segments.push(segment)?;
-                }
-            }
+// Draws the segments of a chunk. Now and then a core partition is not there.
+fn draw_segments(
+    rt: &impl Abort,
+    alloc: Global,
+    draws: &mut Draws,
+    segments: &mut Vec<PlainSegment>,
+    place: usize,
+    chunk: PlainChunk,
+) {
+    for partition in 0..4_u16 {
+        if partition < chunk.core && !draws.is_one_in(12) || draws.is_one_in(4) {
+            let segment = drawn_segment(rt, alloc, draws, place, chunk, partition);
+            segments.push(segment).expect(rt, "memory");
         }
     }
-    plain.failing[draws.below(3)] = true;
+}
+
+// Of each of three nodes whether it fails; one or two do.
+fn drawn_failing(draws: &mut Draws) -> [bool; 3] {
+    let mut failing = [false; 3];
+    failing[draws.below(3)] = true;
     if draws.is_one_in(2) {
-        plain.failing[draws.below(3)] = true;
+        failing[draws.below(3)] = true;
     }
-    Ok(plain)
+    failing
+}
+
+// A cluster.
+fn drawn_cluster(rt: &impl Abort, alloc: Global, draws: &mut Draws) -> Plain {
+    let mut chunks = Vec::new(alloc);
+    let mut segments = Vec::new(alloc);
+    for _ in 0..5 {
+        if let Some(chunk) = drawn_chunk(draws, &chunks) {
+            draw_segments(rt, alloc, draws, &mut segments, chunks.len(), chunk);
+            chunks.push(chunk).expect(rt, "memory");
+        }
+    }
+    Plain {
+        chunks,
+        segments,
+        failing: drawn_failing(draws),
+    }
 }
 
 fn drawn_query(draws: &mut Draws) -> PlainQuery {
@@ -140,35 +165,39 @@ fn drawn_query(draws: &mut Draws) -> PlainQuery {
     }
 }
 
-// Whether a broker over a drawn cluster answers as it should, and whether something was missing.
-fn drawn_answer<R: Handle>(rt: R, alloc: Global, seed: u64) -> Result<(bool, bool), Fail> {
+// Whether a broker over a drawn cluster answers the query so.
+fn is_answered<R: Handle>(
+    rt: R,
+    alloc: Global,
+    plain: &Plain,
+    query: PlainQuery,
+    turn: u64,
+    wanted: &str,
+) -> bool {
+    let nodes = plain.text(&rt, alloc);
+    let asked = query_text(&rt, alloc, query);
+    let told = answer_of(rt, alloc, nodes.as_str(), asked.as_str(), turn);
+    told.as_str() == wanted
+}
+
+// Asserts that a broker over a drawn cluster answers as it should, and gives whether something was missing.
+fn is_short<R: Handle>(rt: R, alloc: Global, seed: u64) -> bool {
     let mut draws = Draws { state: seed };
-    let plain = drawn_cluster(alloc, &mut draws)?;
+    let plain = drawn_cluster(&rt, alloc, &mut draws);
     let query = drawn_query(&mut draws);
-    let wanted = plain.answer(alloc, query)?;
-    let asked = query_text(alloc, query)?;
-    let text = plain.text(alloc)?;
-    let same = is_answered_by(
-        rt,
-        alloc,
-        text.as_str(),
-        asked.as_str(),
-        wanted.as_str(),
-        seed,
-    )?;
-    Ok((same, wanted.as_str().starts_with("503")))
+    let wanted = plain.answer(&rt, alloc, query);
+    let same = is_answered(rt, alloc, &plain, query, seed, wanted.as_str());
+    assert!(rt; same, "at {seed}");
+    wanted.as_str().starts_with("503")
 }
 
 #[test]
-fn drawn_clusters(rt: HostRuntime) -> Result<(), Fail> {
+fn drawn_clusters(rt: HostRuntime) {
     let mut short = 0_u64;
     for seed in 0..CLUSTERS {
-        let (same, missing) = drawn_answer(&rt, rt.alloc(), seed)?;
-        assert!(rt; same, "at {seed}");
-        if missing {
+        if is_short(&rt, rt.alloc(), seed) {
             short = short.wrapping_add(1);
         }
     }
     assert!(rt; short > 30 && short < 270);
-    Ok(())
 }

@@ -5,8 +5,8 @@ use crate::cluster::{Handle, copy_of};
 use druid_scatter::ask_round;
 use druid_wire::{Link, WireFault};
 use std::alloc::Global;
+use std::process::Abort;
 use std::sync::{Arc, Mutex, Wait};
-use std::test::Fail;
 use std::thread;
 use std::time::{Clock, Duration};
 
@@ -63,33 +63,56 @@ impl<R: Handle + Clock> Link for GateLink<R> {
     }
 }
 
-// How many of three links give an answer that each gives once all three were asked.
-fn answered<R: Handle + Clock>(rt: R, alloc: Global) -> Result<u64, Fail> {
-    let left = Arc::new(alloc, Mutex::new(3_u64))?;
-    let mut links = Vec::new(alloc);
-    let mut requests = Vec::new(alloc);
-    for _ in 0..3 {
-        links.push(GateLink {
-            rt,
-            left: Arc::try_clone(&left)?,
-            faults: 0,
-        })?;
-        requests.push(Some(b"?".to_vec(alloc)?))?;
+// A link of such a gate.
+fn gate_link<R: Handle + Clock>(rt: R, left: &Arc<Mutex<u64>, Global>) -> GateLink<R> {
+    GateLink {
+        rt,
+        left: Arc::try_clone(left).expect(&rt, "memory"),
+        faults: 0,
     }
-    if links.len() != requests.len() {
-        return Err("as many links as requests".into());
-    }
+}
+
+// How many of these answers are there and no fault.
+fn count_of(answers: &[Option<Result<Vec<u8>, WireFault>>]) -> u64 {
     let mut count = 0_u64;
-    for answer in ask_round(&rt, alloc, &mut links, &requests)? {
+    for answer in answers {
         if let Some(Ok(_)) = answer {
             count = count.saturating_add(1);
         }
     }
-    Ok(count)
+    count
+}
+
+// Three links of a gate.
+fn three_links<R: Handle + Clock>(rt: R, alloc: Global) -> Vec<GateLink<R>> {
+    let left = Arc::new(alloc, Mutex::new(3_u64)).expect(&rt, "memory");
+    let mut links = Vec::new(alloc);
+    for _ in 0..3 {
+        links.push(gate_link(rt, &left)).expect(&rt, "memory");
+    }
+    links
+}
+
+fn three_requests(rt: &impl Abort, alloc: Global) -> Vec<Option<Vec<u8>>> {
+    let mut requests = Vec::new(alloc);
+    for _ in 0..3 {
+        let request = b"?".to_vec(alloc).expect(rt, "memory");
+        requests.push(Some(request)).expect(rt, "memory");
+    }
+    requests
+}
+
+// How many of three links give an answer that each gives once all three were asked.
+fn answered<R: Handle + Clock>(rt: R, alloc: Global) -> u64 {
+    let mut links = three_links(rt, alloc);
+    let requests = three_requests(&rt, alloc);
+    if links.len() != requests.len() {
+        panic!(rt; "as many links as requests");
+    }
+    count_of(&ask_round(&rt, alloc, &mut links, &requests).expect(&rt, "memory"))
 }
 
 #[test]
-fn gate_gather(rt: HostRuntime) -> Result<(), Fail> {
-    assert_eq!(rt; answered(&rt, rt.alloc())?, 3);
-    Ok(())
+fn gate_gather(rt: HostRuntime) {
+    assert!(rt; answered(&rt, rt.alloc()) == 3);
 }

@@ -1,7 +1,8 @@
 //! Drawn clusters, kept plainly, and what a query answers over all their rows by a plain computation: instant by instant (here an
 //! hour), all chunks at each.
+use crate::printing::printed;
 use std::alloc::Global;
-use std::test::Fail;
+use std::process::Abort;
 
 /// The hours of the day that clusters have.
 pub(crate) const HOURS: usize = 12;
@@ -89,28 +90,103 @@ fn with_row(told: Told, row: PlainRow) -> Told {
 }
 
 // An hour in two digits.
-fn digits(alloc: Global, hour: usize) -> Result<String, Fail> {
-    if hour < 10 {
-        return Ok(format!(in alloc; "0{hour}")?);
-    }
-    Ok(format!(in alloc; "{hour}")?)
+fn digits(rt: &impl Abort, alloc: Global, hour: usize) -> String {
+    let zero = if hour < 10 { "0" } else { "" };
+    format!(in alloc; "{zero}{hour}").expect(rt, "memory")
 }
 
 // An interval of hours as it is printed.
-fn interval(alloc: Global, start: usize, end: usize) -> Result<String, Fail> {
-    let start = digits(alloc, start)?;
-    let start = start.as_str();
-    let end = digits(alloc, end)?;
-    let end = end.as_str();
-    Ok(format!(in alloc; "2024-01-01T{start}:00:00.000Z/2024-01-01T{end}:00:00.000Z")?)
+fn interval(rt: &impl Abort, alloc: Global, start: usize, end: usize) -> String {
+    let start = digits(rt, alloc, start);
+    let end = digits(rt, alloc, end);
+    format!(in alloc; "2024-01-01T{start}:00:00.000Z/2024-01-01T{end}:00:00.000Z").expect(
+        rt, "memory",
+    )
 }
 
-// A number or null.
-fn number(alloc: Global, number: Option<i64>) -> Result<String, Fail> {
+// A number, or what stands for none.
+fn number(rt: &impl Abort, alloc: Global, number: Option<i64>, none: &str) -> String {
     match number {
-        Some(number) => Ok(format!(in alloc; "{number}")?),
-        None => Ok(String::from_str(alloc, "null")?),
+        Some(number) => printed(rt, alloc, &number),
+        None => printed(rt, alloc, &none),
     }
+}
+
+// Adds a part to a text, behind what stands between two.
+fn push_part(rt: &impl Abort, text: &mut String, between: &str, part: &str) {
+    if !text.as_str().is_empty() {
+        text.push_str(between).expect(rt, "memory");
+    }
+    text.push_str(part).expect(rt, "memory");
+}
+
+// What a result row tells of a group, with this text in the place of its value.
+fn fields(rt: &impl Abort, alloc: Global, told: Told, value: &str) -> String {
+    let least = number(rt, alloc, told.least, "null");
+    let greatest = number(rt, alloc, told.greatest, "null");
+    let sum = number(rt, alloc, told.sum, "null");
+    let count = told.count;
+    format!(in alloc; "\"a\":{least},\"b\":{greatest},{value}\"n\":{count},\"s\":{sum}").expect(
+        rt, "memory",
+    )
+}
+
+// The field of a group's value.
+fn value_field(rt: &impl Abort, alloc: Global, value: Option<&str>) -> String {
+    match value {
+        Some(text) => format!(in alloc; "\"d\":\"{text}\",").expect(rt, "memory"),
+        None => printed(rt, alloc, &"\"d\":null,"),
+    }
+}
+
+// The result row of a group without a value.
+fn result_row(rt: &impl Abort, alloc: Global, hour: &str, told: Told) -> String {
+    let fields = fields(rt, alloc, told, "");
+    format!(in alloc;
+        "{{\"result\":{{{fields}}},\"timestamp\":\"2024-01-01T{hour}:00:00.000Z\"}}"
+    ).expect(rt, "memory")
+}
+
+// The result row of a group with one.
+fn event_row(
+    rt: &impl Abort,
+    alloc: Global,
+    hour: &str,
+    told: Told,
+    value: Option<&str>,
+) -> String {
+    let value = value_field(rt, alloc, value);
+    let fields = fields(rt, alloc, told, value.as_str());
+    format!(in alloc;
+        "{{\"event\":{{{fields}}},\"timestamp\":\"2024-01-01T{hour}:00:00.000Z\",\"version\":\"v1\"}}"
+    ).expect(rt, "memory")
+}
+
+// The result row of a group.
+fn row(rt: &impl Abort, alloc: Global, query: PlainQuery, place: usize, told: Told) -> String {
+    let hour = digits(rt, alloc, place / 4);
+    if query.by_value {
+        event_row(rt, alloc, hour.as_str(), told, VALUES[place % 4])
+    } else {
+        result_row(rt, alloc, hour.as_str(), told)
+    }
+}
+
+// A piece of a chunk that no node answers.
+fn piece(
+    rt: &impl Abort,
+    alloc: Global,
+    chunk: PlainChunk,
+    partition: u16,
+    start: usize,
+    end: usize,
+) -> String {
+    let version = chunk.version;
+    let whole = interval(rt, alloc, chunk.start, chunk.end);
+    let piece = interval(rt, alloc, start, end);
+    format!(in alloc;
+        "{{\"chunk\":\"{whole}\",\"itvl\":\"{piece}\",\"part\":{partition},\"ver\":\"v{version}\"}}"
+    ).expect(rt, "memory")
 }
 
 impl Plain {
@@ -162,73 +238,48 @@ impl Plain {
         false
     }
 
-    // What is told of each group, by its place: four for each hour.
-    fn groups(&self, alloc: Global, query: PlainQuery) -> Result<Vec<Told>, Fail> {
-        let mut groups = Vec::new(alloc);
-        for _ in 0..HOURS.saturating_mul(4) {
-            groups.push(NOTHING)?;
+    // The place of the group of a row, if it is asked for and shown: four for each hour.
+    fn place(&self, query: PlainQuery, segment: &PlainSegment, row: PlainRow) -> Option<usize> {
+        let asked = query.start <= row.hour && row.hour < query.end;
+        let shown = self.visible(row.hour) == Some(segment.chunk);
+        if !asked || !shown || !self.is_answered(segment) {
+            return None;
         }
-        for segment in &self.segments {
-            for row in &segment.rows {
-                let asked = query.start <= row.hour && row.hour < query.end;
-                let shown = self.visible(row.hour) == Some(segment.chunk);
-                if asked && shown && self.is_answered(segment) {
-                    let bucket = if query.by_hour { row.hour } else { query.start };
-                    let value = if query.by_value { row.value } else { 0 };
-                    let place = bucket.saturating_mul(4).saturating_add(value);
-                    if let Some(told) = groups.get_mut(place) {
-                        *told = with_row(*told, *row);
-                    }
-                }
-            }
-        }
-        Ok(groups)
+        let bucket = if query.by_hour { row.hour } else { query.start };
+        let value = if query.by_value { row.value } else { 0 };
+        Some(bucket.saturating_mul(4).saturating_add(value))
     }
 
-    // The result row of a group.
-    fn row(
-        &self,
-        alloc: Global,
-        query: PlainQuery,
-        place: usize,
-        told: Told,
-    ) -> Result<String, Fail> {
-        let hour = digits(alloc, place / 4)?;
-        let hour = hour.as_str();
-        let count = told.count;
-        let sum = number(alloc, told.sum)?;
-        let sum = sum.as_str();
-        let least = number(alloc, told.least)?;
-        let least = least.as_str();
-        let greatest = number(alloc, told.greatest)?;
-        let greatest = greatest.as_str();
-        if !query.by_value {
-            return Ok(format!(in alloc;
-                "{{\"result\":{{\"a\":{least},\"b\":{greatest},\"n\":{count},\"s\":{sum}}},\"timestamp\":\"2024-01-01T{hour}:00:00.000Z\"}}"
-            )?);
+    // Adds the rows of a segment to what is told of the groups.
+    fn add_rows(&self, groups: &mut [Told], query: PlainQuery, segment: &PlainSegment) {
+        for row in &segment.rows {
+            if let Some(place) = self.place(query, segment, *row)
+                && let Some(told) = groups.get_mut(place)
+            {
+                *told = with_row(*told, *row);
+            }
         }
-        let value = match VALUES[place % 4] {
-            Some(text) => format!(in alloc; "\"{text}\"")?,
-            None => String::from_str(alloc, "null")?,
-        };
-        let value = value.as_str();
-        Ok(format!(in alloc;
-            "{{\"event\":{{\"a\":{least},\"b\":{greatest},\"d\":{value},\"n\":{count},\"s\":{sum}}},\"timestamp\":\"2024-01-01T{hour}:00:00.000Z\",\"version\":\"v1\"}}"
-        )?)
+    }
+
+    // What is told of each group, by its place.
+    fn groups(&self, rt: &impl Abort, alloc: Global, query: PlainQuery) -> Vec<Told> {
+        let mut groups = vec![in alloc; NOTHING; HOURS.saturating_mul(4)].expect(rt, "memory");
+        for segment in &self.segments {
+            self.add_rows(&mut groups, query, segment);
+        }
+        groups
     }
 
     // The rows of the result.
-    fn rows(&self, alloc: Global, query: PlainQuery) -> Result<String, Fail> {
+    fn rows(&self, rt: &impl Abort, alloc: Global, query: PlainQuery) -> String {
         let mut text = String::new(alloc);
-        for (place, told) in self.groups(alloc, query)?.iter().enumerate() {
+        for (place, told) in self.groups(rt, alloc, query).iter().enumerate() {
             if told.count > 0 {
-                if !text.as_str().is_empty() {
-                    text.push_str(",")?;
-                }
-                text.push_str(self.row(alloc, query, place, *told)?.as_str())?;
+                let row = row(rt, alloc, query, place, *told);
+                push_part(rt, &mut text, ",", row.as_str());
             }
         }
-        Ok(text)
+        text
     }
 
     // The hour behind the last of a run of one chunk.
@@ -241,41 +292,34 @@ impl Plain {
         end
     }
 
+    // Whether no node answers that partition of a chunk, which is served.
+    fn is_missing(&self, chunk: usize, partition: u16) -> bool {
+        self.segments.iter().any(|s| s.chunk == chunk
+            && s.partition == partition
+            && !self.is_answered(s))
+    }
+
     // Adds the pieces of a run that no node answers.
     fn push_missing(
         &self,
+        rt: &impl Abort,
         alloc: Global,
         text: &mut String,
         chunk: usize,
         start: usize,
         end: usize,
-    ) -> Result<(), Fail> {
-        let whole = *self.chunks.get(chunk).ok_or("no chunk")?;
-        let version = whole.version;
-        let chunk_text = interval(alloc, whole.start, whole.end)?;
-        let chunk_text = chunk_text.as_str();
-        let piece = interval(alloc, start, end)?;
-        let piece = piece.as_str();
+    ) {
+        let whole = *self.chunks.get(chunk).expect(rt, "a chunk");
         for partition in 0..8_u16 {
-            for segment in &self.segments {
-                if segment.chunk == chunk
-                    && segment.partition == partition
-                    && !self.is_answered(segment)
-                {
-                    if !text.as_str().is_empty() {
-                        text.push_str(",")?;
-                    }
-                    text.push_str(format!(in alloc;
-                        "{{\"chunk\":\"{chunk_text}\",\"itvl\":\"{piece}\",\"part\":{partition},\"ver\":\"v{version}\"}}"
-                    )?.as_str())?;
-                }
+            if self.is_missing(chunk, partition) {
+                let piece = piece(rt, alloc, whole, partition, start, end);
+                push_part(rt, text, ",", piece.as_str());
             }
         }
-        Ok(())
     }
 
     // The pieces that no node answers, run by run.
-    fn missing(&self, alloc: Global, query: PlainQuery) -> Result<String, Fail> {
+    fn missing(&self, rt: &impl Abort, alloc: Global, query: PlainQuery) -> String {
         let mut text = String::new(alloc);
         let mut next = query.start;
         for hour in query.start..query.end {
@@ -283,95 +327,107 @@ impl Plain {
                 next = hour.saturating_add(1);
                 if let Some(chunk) = self.visible(hour) {
                     next = self.run_end(chunk, hour, query.end);
-                    self.push_missing(alloc, &mut text, chunk, hour, next)?;
+                    self.push_missing(rt, alloc, &mut text, chunk, hour, next);
                 }
             }
         }
-        Ok(text)
+        text
     }
 
     /// What a broker answers to the query.
-    pub(crate) fn answer(&self, alloc: Global, query: PlainQuery) -> Result<String, Fail> {
-        let rows = self.rows(alloc, query)?;
-        let rows = rows.as_str();
-        let missing = self.missing(alloc, query)?;
-        let missing = missing.as_str();
-        if missing.is_empty() {
-            return Ok(format!(in alloc; "200 [{rows}]")?);
-        }
-        Ok(format!(in alloc;
-            "503 {{\"error\":\"SegmentsMissing\",\"missing\":[{missing}],\"partial\":[{rows}]}}"
-        )?)
+    pub(crate) fn answer(&self, rt: &impl Abort, alloc: Global, query: PlainQuery) -> String {
+        let rows = self.rows(rt, alloc, query);
+        let missing = self.missing(rt, alloc, query);
+        answer_text(rt, alloc, rows.as_str(), missing.as_str())
     }
+}
+
+// An answer with these rows, and with these pieces missing.
+fn answer_text(rt: &impl Abort, alloc: Global, rows: &str, missing: &str) -> String {
+    if missing.is_empty() {
+        return format!(in alloc; "200 [{rows}]").expect(rt, "memory");
+    }
+    format!(in alloc;
+        "503 {{\"error\":\"SegmentsMissing\",\"missing\":[{missing}],\"partial\":[{rows}]}}"
+    ).expect(rt, "memory")
 }
 
 /// The text of the query, as the tables of other tests shorten it.
-pub(crate) fn query_text(alloc: Global, query: PlainQuery) -> Result<String, Fail> {
+pub(crate) fn query_text(rt: &impl Abort, alloc: Global, query: PlainQuery) -> String {
     let kind = if query.by_value { "#" } else { "@" };
     let granularity = if query.by_hour { "hour" } else { "all" };
-    let interval = interval(alloc, query.start, query.end)?;
-    let interval = interval.as_str();
-    Ok(format!(in alloc;
+    let interval = interval(rt, alloc, query.start, query.end);
+    format!(in alloc;
         "{kind},\"granularity\":\"{granularity}\",\"intervals\":\"{interval}\",\"dimensions\":[\"d\"],\"aggregations\":[{{\"type\":\"count\",\"name\":\"n\"}},{{\"type\":\"longSum\",\"name\":\"s\",\"fieldName\":\"m\"}},{{\"type\":\"longMin\",\"name\":\"a\",\"fieldName\":\"m\"}},{{\"type\":\"longMax\",\"name\":\"b\",\"fieldName\":\"m\"}}]}}"
-    )?)
+    ).expect(rt, "memory")
 }
 
 // A row, as those tables have it.
-fn row_text(alloc: Global, row: PlainRow) -> Result<String, Fail> {
+fn row_text(rt: &impl Abort, alloc: Global, row: PlainRow) -> String {
     let late = if row.late { 3_599_999 } else { 0 };
     let ms = row.hour.saturating_mul(3_600_000).saturating_add(late);
     let value = VALUES[row.value % 4].unwrap_or("-");
-    match row.number {
-        Some(number) => Ok(format!(in alloc; " {ms}/{value}/{number}")?),
-        None => Ok(format!(in alloc; " {ms}/{value}/-")?),
-    }
+    let number = number(rt, alloc, row.number, "-");
+    format!(in alloc; " {ms}/{value}/{number}").expect(rt, "memory")
 }
 
-// A segment, as those tables have it.
-fn segment_text(alloc: Global, chunk: PlainChunk, segment: &PlainSegment) -> Result<String, Fail> {
+// A segment without its rows, as those tables have it.
+fn head_text(rt: &impl Abort, alloc: Global, chunk: PlainChunk, segment: &PlainSegment) -> String {
     let version = chunk.version;
     let start = chunk.start;
     let end = chunk.end;
     let core = chunk.core;
     let partition = segment.partition;
-    let mut text = format!(in alloc; "v{version}/{start}/{end}/{partition}/{core} d:m")?;
+    format!(in alloc; "v{version}/{start}/{end}/{partition}/{core} d:m").expect(rt, "memory")
+}
+
+// A segment, as those tables have it.
+fn segment_text(
+    rt: &impl Abort,
+    alloc: Global,
+    chunk: PlainChunk,
+    segment: &PlainSegment,
+) -> String {
+    let mut text = head_text(rt, alloc, chunk, segment);
     for row in &segment.rows {
-        text.push_str(row_text(alloc, *row)?.as_str())?;
+        text.push_str(row_text(rt, alloc, *row).as_str())
+            .expect(rt, "memory");
     }
-    Ok(text)
+    text
 }
 
 impl Plain {
-    // A node, as those tables have it.
-    fn node_text(&self, alloc: Global, node: usize) -> Result<String, Fail> {
+    // The segments of a node, as those tables have them.
+    fn segments_text(&self, rt: &impl Abort, alloc: Global, node: usize) -> String {
         let mut text = String::new(alloc);
         for segment in &self.segments {
-            if *segment.nodes.get(node).ok_or("no node")? {
-                if !text.as_str().is_empty() {
-                    text.push_str(" + ")?;
-                }
-                let chunk = *self.chunks.get(segment.chunk).ok_or("no chunk")?;
-                text.push_str(segment_text(alloc, chunk, segment)?.as_str())?;
+            if *segment.nodes.get(node).expect(rt, "a node") {
+                let chunk = *self.chunks.get(segment.chunk).expect(rt, "a chunk");
+                let segment = segment_text(rt, alloc, chunk, segment);
+                push_part(rt, &mut text, " + ", segment.as_str());
             }
         }
+        text
+    }
+
+    // A node, as those tables have it.
+    fn node_text(&self, rt: &impl Abort, alloc: Global, node: usize) -> String {
+        let text = self.segments_text(rt, alloc, node);
         if text.as_str().is_empty() {
-            text.push_str(".")?;
+            return printed(rt, alloc, &".");
         }
-        Ok(text)
+        text
     }
 
     /// The cluster, as those tables have it.
-    pub(crate) fn text(&self, alloc: Global) -> Result<String, Fail> {
+    pub(crate) fn text(&self, rt: &impl Abort, alloc: Global) -> String {
         let mut text = String::new(alloc);
         for node in 0..3_usize {
-            if node > 0 {
-                text.push_str(" | ")?;
-            }
-            if self.failing[node] {
-                text.push_str("!")?;
-            }
-            text.push_str(self.node_text(alloc, node)?.as_str())?;
+            let mark = if self.failing[node] { "!" } else { "" };
+            push_part(rt, &mut text, " | ", mark);
+            let node = self.node_text(rt, alloc, node);
+            text.push_str(node.as_str()).expect(rt, "memory");
         }
-        Ok(text)
+        text
     }
 }

@@ -1,9 +1,29 @@
-//! Texts of values, whose types say nothing to a proof.
+//! Texts, and lines of tables.
 use std::alloc::Global;
 use std::fmt::Display;
-use std::test::Fail;
+use std::process::Abort;
 
 /// What a value prints. It is of no type in particular, since what a proof knows of the texts of one is long.
-pub(crate) fn printed<T: Display>(alloc: Global, value: &T) -> Result<String, Fail> {
-    Ok(format!(in alloc; "{value}")?)
+pub(crate) fn printed<T: Display>(rt: &impl Abort, alloc: Global, value: &T) -> String {
+    format!(in alloc; "{value}").expect(rt, "memory")
+}
+
+/// The text with another in each place of a part.
+pub(crate) fn replaced(rt: &impl Abort, alloc: Global, text: &str, part: &str, by: &str) -> String {
+    text.replace(alloc, part, by).expect(rt, "memory")
+}
+
+/// What stands before the first such text in a line, and what behind it.
+pub(crate) fn halves<'a>(rt: &impl Abort, line: &'a str, between: &str) -> (&'a str, &'a str) {
+    line.split_once(between).expect(rt, "no line")
+}
+
+/// Asserts that this is told of a line.
+pub(crate) fn assert_told(rt: &impl Abort, line: &str, told: String, wanted: &str) {
+    assert!(rt; told.as_str() == wanted, "{line}");
+}
+
+/// Asserts that this holds of a line.
+pub(crate) fn assert_holds(rt: &impl Abort, line: &str, holds: bool) {
+    assert!(rt; holds, "{line}");
 }

@@ -2,16 +2,16 @@
 ghost use Rattle.std.specs.Prelude.{◌≡◌};
 ghost use Rattle.druid_inventory.specs.Join.{names_of};
 
-use crate::printing::printed;
-use crate::turns::{link, one_node};
+use crate::printing::{assert_told, printed};
+use crate::turns::{first_mark, link, one_node};
 use druid_broker::fetch;
 use druid_inventory::Inventory;
 use druid_published::{NodeList, Publisher, View, open};
 use druid_shard::Reply;
 use std::alloc::Global;
 use std::marker::Brand;
+use std::process::Abort;
 use std::sync::Wait;
-use std::test::Fail;
 
 // A snapshot with one segment at (1, 3), and a delta that fits nowhere.
 const SNAPSHOT: &str =
@@ -20,67 +20,86 @@ const SNAPSHOT: &str =
 const GAP: &str =
     "200 {\"counter\":{\"counter\":8,\"hash\":1},\"from\":{\"counter\":7,\"hash\":1},\"requests\":[@],\"resetCause\":null,\"resetCounter\":false}";
 
-fn reply<N: NodeList>(alloc: Global, publisher: &Publisher<N>, text: &str) -> Result<Reply, Fail> {
-    let mut link = link(alloc, text)?;
+fn reply<N: NodeList>(
+    rt: &impl Abort,
+    alloc: Global,
+    publisher: &Publisher<N>,
+    text: &str,
+) -> Reply {
+    let mut link = link(rt, alloc, text);
     if publisher.inventory().node_count() == 0 {
-        return Err("no node".into());
+        panic!(rt; "no node");
     }
-    Ok(fetch(alloc, publisher.inventory(), 0, &mut link)?)
+    fetch(alloc, publisher.inventory(), 0, &mut link).expect(rt, "a reply")
 }
 
 // The mark of the first node that a view reads.
-fn read<N: NodeList>(rt: &impl Wait, alloc: Global, view: &mut View<N>) -> Result<String, Fail> {
-    let found = view.read(rt)?;
-    let mark = found.mark(0).ok_or("no node")?;
-    let incarnation = mark.incarnation();
-    let count = mark.count();
-    Ok(format!(in alloc; "({incarnation}, {count})")?)
+fn read<R: Wait + Abort, N: NodeList>(rt: &R, alloc: Global, view: &mut View<N>) -> String {
+    let found = view.read(rt).expect(rt, "an inventory");
+    first_mark(rt, alloc, &found)
 }
 
 // What is told of a reply that is not published.
-fn refused<N: NodeList>(
-    rt: &impl Wait,
+fn refused<R: Wait + Abort, N: NodeList>(
+    rt: &R,
     alloc: Global,
     publisher: &mut Publisher<N>,
     text: &str,
-) -> Result<String, Fail> {
-    let reply = reply(alloc, publisher, text)?;
+) -> String {
+    let reply = reply(rt, alloc, publisher, text);
     match publisher.publish(rt, 0, &reply) {
-        Ok(_) => Ok(String::from_str(alloc, "published")?),
-        Err(fault) => Ok(printed(alloc, &fault)?),
+        Ok(_) => printed(rt, alloc, &"published"),
+        Err(fault) => printed(rt, alloc, &fault),
     }
 }
 
-// A snapshot is published, and its receipt told to the second of two views.
-fn views_read<W: Wait, N: NodeList>(
-    rt: &W,
+// Publishes a reply, and tells the view of its receipt.
+fn publish_to<R: Wait + Abort, N: NodeList>(
+    rt: &R,
     alloc: Global,
-    inventory: Inventory,
-) -> Result<String, Fail>
-    requires { names_of inventory ≡ N.names }
-{
-    let (mut publisher, mut views) = open::<N>(alloc, inventory, 2)?;
-    let mut told = views.pop().ok_or("no view")?;
-    let mut untold = views.pop().ok_or("no view")?;
-    let before = read(rt, alloc, &mut untold)?;
-    let snapshot = reply(alloc, &publisher, SNAPSHOT)?;
-    let (_, receipt) = publisher.publish(rt, 0, &snapshot)?;
-    told.learn(&receipt);
-    let first = read(rt, alloc, &mut told)?;
-    let other = read(rt, alloc, &mut untold)?;
-    let refused = refused(rt, alloc, &mut publisher, GAP)?;
-    let after = read(rt, alloc, &mut told)?;
-    Ok(format!(in alloc; "{before} {first} {other} {refused} {after}")?)
+    publisher: &mut Publisher<N>,
+    view: &mut View<N>,
+    text: &str,
+) {
+    let reply = reply(rt, alloc, publisher, text);
+    let (_, receipt) = publisher.publish(rt, 0, &reply).expect(rt, "a receipt");
+    view.learn(&receipt);
 }
 
-fn read_of<W: Wait>(rt: &W, alloc: Global) -> Result<String, Fail> {
-    let inventory = one_node(alloc)?;
-    views_read::<W, Brand>(rt, alloc, inventory)
+// What the views read before a snapshot is published and its receipt told to the first of them, then, and once a reply was refused.
+fn views_read<R: Wait + Abort, N: NodeList>(
+    rt: &R,
+    alloc: Global,
+    publisher: &mut Publisher<N>,
+    told: &mut View<N>,
+    untold: &mut View<N>,
+) -> String {
+    let before = read(rt, alloc, untold);
+    publish_to(rt, alloc, publisher, told, SNAPSHOT);
+    let first = read(rt, alloc, told);
+    let other = read(rt, alloc, untold);
+    let refused = refused(rt, alloc, publisher, GAP);
+    let after = read(rt, alloc, told);
+    format!(in alloc; "{before}, {first}, {other}, {refused}, {after}").expect(rt, "memory")
+}
+
+// The same of the two views of a new publisher.
+fn both_read<R: Wait + Abort, N: NodeList>(rt: &R, alloc: Global, inventory: Inventory) -> String
+    requires { names_of inventory ≡ N.names }
+{
+    let (mut publisher, mut views) = open::<N>(alloc, inventory, 2).expect(rt, "memory");
+    let mut told = views.pop().expect(rt, "a view");
+    let mut untold = views.pop().expect(rt, "a view");
+    views_read(rt, alloc, &mut publisher, &mut told, &mut untold)
+}
+
+fn read_of<R: Wait + Abort>(rt: &R, alloc: Global) -> String {
+    let inventory = one_node(rt, alloc);
+    both_read::<R, Brand>(rt, alloc, inventory)
 }
 
 #[test]
-fn ample_memory(rt: HostRuntime) -> Result<(), Fail> {
-    let read = read_of(&rt, rt.alloc())?;
-    assert_eq!(rt; read.as_str(), "(0, 0) (1, 3) (1, 3) B1: A2: a gap (1, 3)");
-    Ok(())
+fn ample_memory(rt: HostRuntime) {
+    let read = read_of(&rt, rt.alloc());
+    assert_told(&rt, "two views", read, "0 0, 1 3, 1 3, B1: A2: a gap, 1 3");
 }

@@ -2,28 +2,28 @@
 ghost use Rattle.std.specs.Prelude.{◌≡◌};
 ghost use Rattle.druid_inventory.specs.Join.{names_of};
 
-use crate::broker::query;
-use crate::cluster::{Cluster, Handle, Setup, followed, made_by, posted, set_up};
+use crate::broker::counted;
+use crate::cluster::{Cluster, Handle, Setup, followed, made_by_two, set_up};
 use druid_published::NodeList;
 use druid_scatter::{Pick, Rotate};
 use druid_shard::NodeNo;
 use std::alloc::Global;
 use std::marker::Brand;
-use std::test::Fail;
+use std::process::Abort;
 
-fn rotated(alloc: Global, turn: u64, nodes: &[NodeNo]) -> Result<Vec<NodeNo>, Fail> {
-    let mut nodes = nodes.to_vec(alloc)?;
+// Asserts that nodes are in this order at a turn.
+fn assert_rotated(rt: &impl Abort, alloc: Global, turn: u64, nodes: &[NodeNo], wanted: &[NodeNo]) {
+    let mut nodes = nodes.to_vec(alloc).expect(rt, "memory");
     Rotate.order(turn, &mut nodes);
-    Ok(nodes)
+    assert!(rt; nodes.as_slice() == wanted, "at {turn}");
 }
 
 #[test]
-fn rotation(rt: HostRuntime) -> Result<(), Fail> {
-    assert!(rt; rotated(rt.alloc(), 1, &[0, 2, 5])?.as_slice() == [2, 5, 0].as_slice());
-    assert!(rt; rotated(rt.alloc(), 3, &[0, 2, 5])?.as_slice() == [0, 2, 5].as_slice());
-    assert!(rt; rotated(rt.alloc(), u64::MAX, &[0, 2])?.as_slice() == [2, 0].as_slice());
-    assert!(rt; rotated(rt.alloc(), 7, &[])?.is_empty());
-    Ok(())
+fn rotation(rt: HostRuntime) {
+    assert_rotated(&rt, rt.alloc(), 1, &[0, 2, 5], &[2, 5, 0]);
+    assert_rotated(&rt, rt.alloc(), 3, &[0, 2, 5], &[0, 2, 5]);
+    assert_rotated(&rt, rt.alloc(), u64::MAX, &[0, 2], &[2, 0]);
+    assert_rotated(&rt, rt.alloc(), 7, &[], &[]);
 }
 
 // How many exchanges each link of two makes for a count at a turn.
@@ -31,41 +31,31 @@ fn made<R: Handle, N: NodeList>(
     alloc: Global,
     cluster: &mut Cluster<R, N>,
     turn: u64,
-) -> Result<(u64, u64), Fail> {
-    made_by(cluster, 0)?;
-    made_by(cluster, 1)?;
-    let query = query(
-        alloc,
-        "@,\"aggregations\":[{\"type\":\"count\",\"name\":\"n\"}]}",
-    )?;
-    posted(alloc, cluster, turn, query.as_str())?;
-    Ok((made_by(cluster, 0)?, made_by(cluster, 1)?))
+) -> (u64, u64) {
+    made_by_two(cluster);
+    counted(alloc, cluster, turn);
+    made_by_two(cluster)
 }
 
 // The same at the first two turns.
-fn made_in_turn<R: Handle, N: NodeList>(
-    rt: R,
-    alloc: Global,
-    setup: Setup<R>,
-) -> Result<[(u64, u64); 2], Fail>
+fn made_in_turn<R: Handle, N: NodeList>(rt: R, alloc: Global, setup: Setup<R>) -> [(u64, u64); 2]
     requires { names_of setup.inventory ≡ N.names }
 {
-    let mut cluster: Cluster<R, N> = followed(rt, alloc, setup, 2)?;
-    let first = made(alloc, &mut cluster, 0)?;
-    Ok([first, made(alloc, &mut cluster, 1)?])
+    let mut cluster: Cluster<R, N> = followed(rt, alloc, setup, 2);
+    let first = made(alloc, &mut cluster, 0);
+    [first, made(alloc, &mut cluster, 1)]
 }
 
-fn made_over<R: Handle>(rt: R, alloc: Global, nodes: &str) -> Result<[(u64, u64); 2], Fail> {
-    let setup = set_up(rt, alloc, nodes)?;
+fn made_over<R: Handle>(rt: R, alloc: Global, nodes: &str) -> [(u64, u64); 2] {
+    let setup = set_up(rt, alloc, nodes);
     made_in_turn::<R, Brand>(rt, alloc, setup)
 }
 
 // One request for each node and round, to the first of the turned replicas.
 #[test]
-fn ample_memory(rt: HostRuntime) -> Result<(), Fail> {
+fn ample_memory(rt: HostRuntime) {
     let replicas = "v1/0/24/0/1 d:m 0/a/1 | v1/0/24/0/1 d:m 0/a/1";
-    assert!(rt; made_over(&rt, rt.alloc(), replicas)? == [(1, 0), (0, 1)]);
+    assert!(rt; made_over(&rt, rt.alloc(), replicas) == [(1, 0), (0, 1)]);
     let parts = "v1/0/24/0/3 d:m 0/a/1 + v1/0/24/1/3 d:m 0/a/1 + v2/6/12/0/1 d:m | v1/0/24/2/3 d:m";
-    assert!(rt; made_over(&rt, rt.alloc(), parts)? == [(1, 1), (1, 1)]);
-    Ok(())
+    assert!(rt; made_over(&rt, rt.alloc(), parts) == [(1, 1), (1, 1)]);
 }

@@ -14,7 +14,7 @@ use std::alloc::Global;
 use std::io::BufReader;
 use std::marker::Brand;
 use std::net::{Net, TcpListener, TcpStream};
-use std::test::Fail;
+use std::process::Abort;
 use std::thread::join;
 use std::time::Clock;
 
@@ -65,38 +65,51 @@ fn is_seeded_over<R: Handle + Net + Clock, N: NodeList>(
     seed_turn(&rt, alloc, 0, &mut link, publisher).is_ok()
 }
 
-// Whether a broker that was seeded by this one over a socket equals it.
+fn address_of(rt: &impl Abort, alloc: Global, listener: &TcpListener) -> String {
+    let address = listener.local_addr().expect(rt, "an address");
+    printed(rt, alloc, &address)
+}
+
+// Whether a broker that is seeded by this one over a socket equals it then.
+fn equals_once_seeded<
+    R: Handle + Net<Listener = TcpListener, Stream = TcpStream> + Clock,
+    N: NodeList + Send,
+    M: NodeList + Send,
+>(rt: R, alloc: Global, peer: &mut Cluster<R, N>, publisher: &mut Publisher<M>) -> bool {
+    let listener = TcpListener::bind(&rt, "127.0.0.1:0").expect(&rt, "a listener");
+    let address = address_of(&rt, alloc, &listener);
+    let (served, seeded) = join(
+        &rt,
+        || answers_once(alloc, &listener, peer),
+        || is_seeded_over(rt, alloc, address, publisher),
+    );
+    served && seeded && publisher.inventory() == peer.publisher.inventory()
+}
+
+// The same of a broker of these parts, and of one of this inventory.
 fn equals_its_peer<
     R: Handle + Net<Listener = TcpListener, Stream = TcpStream> + Clock,
     N: NodeList + Send,
     M: NodeList + Send,
->(rt: R, alloc: Global, setup: Setup<R>, inventory: Inventory) -> Result<bool, Fail>
+>(rt: R, alloc: Global, setup: Setup<R>, inventory: Inventory) -> bool
     requires peer { names_of setup.inventory ≡ N.names }
     requires seeded { names_of inventory ≡ M.names }
 {
-    let mut peer: Cluster<R, N> = followed(rt, alloc, setup, 1)?;
-    let (mut publisher, _views) = open::<M>(alloc, inventory, 1)?;
-    let listener = TcpListener::bind(&rt, "127.0.0.1:0")?;
-    let address = printed(alloc, &listener.local_addr()?)?;
-    let (served, seeded) = join(
-        &rt,
-        || answers_once(alloc, &listener, &mut peer),
-        || is_seeded_over(rt, alloc, address, &mut publisher),
-    );
-    Ok(served && seeded && publisher.inventory() == peer.publisher.inventory())
+    let mut peer: Cluster<R, N> = followed(rt, alloc, setup, 1);
+    let (mut publisher, _views) = open::<M>(alloc, inventory, 1).expect(&rt, "memory");
+    equals_once_seeded(rt, alloc, &mut peer, &mut publisher)
 }
 
 fn seeded<R: Handle + Net<Listener = TcpListener, Stream = TcpStream> + Clock>(
     rt: R,
     alloc: Global,
-) -> Result<bool, Fail> {
-    let setup = set_up(rt, alloc, "v1/0/24/0/1 d:m 0/a/1")?;
-    let inventory = one_node(alloc)?;
+) -> bool {
+    let setup = set_up(rt, alloc, "v1/0/24/0/1 d:m 0/a/1");
+    let inventory = one_node(&rt, alloc);
     equals_its_peer::<R, Brand, Brand>(rt, alloc, setup, inventory)
 }
 
 #[test]
-fn seed_over_sockets(rt: HostRuntime) -> Result<(), Fail> {
-    assert!(rt; seeded(&rt, rt.alloc())?);
-    Ok(())
+fn seed_over_sockets(rt: HostRuntime) {
+    assert!(rt; seeded(&rt, rt.alloc()));
 }

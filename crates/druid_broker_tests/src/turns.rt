@@ -3,7 +3,7 @@ ghost use Rattle.std.specs.Prelude.{◌≡◌};
 ghost use Rattle.druid_inventory.specs.Join.{names_of};
 
 use crate::cluster::{Cluster, Handle, Setup, answered, followed, set_up};
-use crate::printing::printed;
+use crate::printing::{assert_told, halves, printed, replaced};
 use druid_broker::{fetch_entry, seed_turn, sync_turn};
 use druid_inventory::{Inventory, Outcome};
 use druid_published::{NodeList, Publisher, open};
@@ -11,8 +11,8 @@ use druid_segid::Name;
 use druid_wire::MemoryLink;
 use std::alloc::Global;
 use std::marker::Brand;
+use std::process::Abort;
 use std::sync::Wait;
-use std::test::Fail;
 
 // Replies in turn, and what following the node tells: the outcome, or the fault. A reply is a status and a body; with `-` in front
 // its last byte is cut off. `@` stands for the load of a segment. The mark that is then held stands behind.
@@ -34,107 +34,132 @@ const TURNS: &str =
 const LOAD: &str =
     "{\"action\":\"load\",\"dataSource\":\"w\",\"interval\":\"2024-01-01/2024-01-02\",\"shardSpec\":{\"partitionNum\":0,\"partitions\":1,\"type\":\"numbered\"},\"size\":0,\"version\":\"v1\"}";
 
+// The bytes of a reply with this status and body.
+fn whole_reply(rt: &impl Abort, alloc: Global, code: &str, body: &str) -> Vec<u8> {
+    let body = replaced(rt, alloc, body, "@", LOAD);
+    let length = body.as_str().len();
+    format!(in alloc; "HTTP/1.1 {code} X\r\nContent-Length: {length}\r\n\r\n{body}")
+        .expect(rt, "memory")
+        .into_bytes()
+}
+
 // The bytes of a reply.
-fn reply(alloc: Global, text: &str) -> Result<Vec<u8>, Fail> {
-    let mut bytes = Vec::new(alloc);
-    let (status, body) = match text.split_once(" ") {
-        Some(parts) => parts,
-        None => return Ok(bytes),
+fn reply(rt: &impl Abort, alloc: Global, text: &str) -> Vec<u8> {
+    let Some((status, body)) = text.split_once(" ") else {
+        return Vec::new(alloc);
     };
-    let mut spelled = String::new(alloc);
-    for letter in body.chars() {
-        match letter {
-            '@' => spelled.push_str(LOAD)?,
-            _ => spelled.push(letter)?,
-        }
-    }
-    let length = spelled.as_str().len();
-    let code = status.strip_prefix("-").unwrap_or(status);
-    let head = format!(in alloc; "HTTP/1.1 {code} X\r\nContent-Length: {length}\r\n\r\n")?;
-    bytes.extend_from_slice(head.as_bytes())?;
-    bytes.extend_from_slice(spelled.as_bytes())?;
-    if status.starts_with("-") {
-        bytes.pop();
-    }
-    Ok(bytes)
+    let Some(code) = status.strip_prefix("-") else {
+        return whole_reply(rt, alloc, status, body);
+    };
+    let mut bytes = whole_reply(rt, alloc, code, body);
+    bytes.pop();
+    bytes
 }
 
 /// A link that gives these replies.
-pub(crate) fn link(alloc: Global, text: &str) -> Result<MemoryLink, Fail> {
+pub(crate) fn link(rt: &impl Abort, alloc: Global, text: &str) -> MemoryLink {
     let mut replies = Vec::new(alloc);
     for one in text.split(';') {
-        replies.push(reply(alloc, one)?)?;
+        replies.push(reply(rt, alloc, one)).expect(rt, "memory");
     }
-    Ok(MemoryLink::new(replies, 64))
+    MemoryLink::new(replies, 64)
 }
 
 /// An inventory of one node.
-pub(crate) fn one_node(alloc: Global) -> Result<Inventory, Fail> {
-    let mut names = Vec::new(alloc);
-    names.push(Name::new(alloc, "n0")?)?;
-    Ok(Inventory::new(alloc, names)?)
+pub(crate) fn one_node(rt: &impl Abort, alloc: Global) -> Inventory {
+    let name = Name::new(alloc, "n0").expect(rt, "a name");
+    let names = vec![in alloc; name].expect(rt, "memory");
+    Inventory::new(alloc, names).expect(rt, "an inventory")
 }
 
-// What following the node tells, and the mark that is then held.
-fn told_of<N: NodeList>(
-    rt: &impl Wait,
+/// The mark of the first node: `1 5`.
+pub(crate) fn first_mark(rt: &impl Abort, alloc: Global, inventory: &Inventory) -> String {
+    let mark = inventory.mark(0).expect(rt, "a node");
+    let incarnation = mark.incarnation();
+    let count = mark.count();
+    format!(in alloc; "{incarnation} {count}").expect(rt, "memory")
+}
+
+fn outcome_of(outcome: Outcome) -> &'static str {
+    match outcome {
+        Outcome::Moved => "Moved",
+        Outcome::AlreadyHave => "AlreadyHave",
+        Outcome::AskWhole => "AskWhole",
+    }
+}
+
+// What following the node tells.
+fn followed_once<R: Wait + Abort, N: NodeList>(
+    rt: &R,
     alloc: Global,
     publisher: &mut Publisher<N>,
     replies: &str,
-) -> Result<String, Fail> {
-    let mut link = link(alloc, replies)?;
+) -> String {
+    let mut link = link(rt, alloc, replies);
     if publisher.inventory().node_count() == 0 {
-        return Err("no node".into());
+        panic!(rt; "no node");
     }
-    let told = match sync_turn(rt, alloc, 0, &mut link, publisher) {
-        Ok((Outcome::Moved, _)) => String::from_str(alloc, "Moved")?,
-        Ok((Outcome::AlreadyHave, _)) => String::from_str(alloc, "AlreadyHave")?,
-        Ok((Outcome::AskWhole, _)) => String::from_str(alloc, "AskWhole")?,
-        Err(fault) => printed(alloc, &fault)?,
-    };
-    let told = told.as_str();
-    let mark = publisher.inventory().mark(0).ok_or("no node")?;
-    let incarnation = mark.incarnation();
-    let count = mark.count();
-    Ok(format!(in alloc; "{told} {incarnation} {count}")?)
+    match sync_turn(rt, alloc, 0, &mut link, publisher) {
+        Ok((outcome, _)) => printed(rt, alloc, &outcome_of(outcome)),
+        Err(fault) => printed(rt, alloc, &fault),
+    }
 }
 
-fn is_followed<N: NodeList>(
-    rt: &impl Wait,
+// What following the node tells, and the mark that is then held.
+fn told_of<R: Wait + Abort, N: NodeList>(
+    rt: &R,
+    alloc: Global,
+    publisher: &mut Publisher<N>,
+    replies: &str,
+) -> String {
+    let told = followed_once(rt, alloc, publisher, replies);
+    let mark = first_mark(rt, alloc, publisher.inventory());
+    format!(in alloc; "{told} {mark}").expect(rt, "memory")
+}
+
+// Asserts that the replies of a line are followed so.
+fn assert_line<R: Wait + Abort, N: NodeList>(
+    rt: &R,
     alloc: Global,
     publisher: &mut Publisher<N>,
     line: &str,
-) -> Result<bool, Fail> {
-    let (replies, wanted) = line.split_once(" = ").ok_or("no outcome")?;
-    Ok(told_of(rt, alloc, publisher, replies)?.as_str() == wanted)
+) {
+    let (replies, wanted) = halves(rt, line, " = ");
+    assert_told(rt, line, told_of(rt, alloc, publisher, replies), wanted);
 }
 
-// The first line whose replies are followed otherwise.
-fn followed_otherwise<W: Wait, N: NodeList>(
-    rt: &W,
-    alloc: Global,
-    inventory: Inventory,
-) -> Result<Option<&'static str>, Fail>
+fn assert_lines<R: Wait + Abort, N: NodeList>(rt: &R, alloc: Global, inventory: Inventory)
     requires { names_of inventory ≡ N.names }
 {
-    let (mut publisher, _views) = open::<N>(alloc, inventory, 1)?;
+    let (mut publisher, _views) = open::<N>(alloc, inventory, 1).expect(rt, "memory");
     for line in TURNS.lines() {
-        if !is_followed(rt, alloc, &mut publisher, line)? {
-            return Ok(Some(line));
-        }
+        assert_line(rt, alloc, &mut publisher, line);
     }
-    Ok(None)
 }
 
-fn turns_of<W: Wait>(rt: &W, alloc: Global) -> Result<Option<&'static str>, Fail> {
-    let inventory = one_node(alloc)?;
-    followed_otherwise::<W, Brand>(rt, alloc, inventory)
+fn assert_turns<R: Wait + Abort>(rt: &R, alloc: Global) {
+    let inventory = one_node(rt, alloc);
+    assert_lines::<R, Brand>(rt, alloc, inventory);
 }
 
 #[test]
-fn turns(rt: HostRuntime) -> Result<(), Fail> {
-    assert_eq!(rt; turns_of(&rt, rt.alloc())?, None);
-    Ok(())
+fn turns(rt: HostRuntime) {
+    assert_turns(&rt, rt.alloc());
+}
+
+// Seeds a broker that has followed nothing with this entry, and gives whether it moved.
+fn moves<R: Handle, N: NodeList>(
+    rt: R,
+    alloc: Global,
+    publisher: &mut Publisher<N>,
+    entry: &str,
+) -> bool {
+    let mut first = link(&rt, alloc, entry);
+    if publisher.inventory().node_count() == 0 {
+        panic!(rt; "no node");
+    }
+    let (outcome, _) = seed_turn(&rt, alloc, 0, &mut first, publisher).expect(&rt, "a turn");
+    outcome == Outcome::Moved
 }
 
 // Whether a broker that has followed nothing is seeded with what another knows of its first node.
@@ -143,41 +168,41 @@ fn is_seeded<R: Handle, N: NodeList, M: NodeList>(
     alloc: Global,
     setup: Setup<R>,
     inventory: Inventory,
-) -> Result<bool, Fail>
+) -> bool
     requires peer { names_of setup.inventory ≡ N.names }
     requires seeded { names_of inventory ≡ M.names }
 {
-    let mut peer: Cluster<R, N> = followed(rt, alloc, setup, 1)?;
+    let mut peer: Cluster<R, N> = followed(rt, alloc, setup, 1);
     let request = b"GET /druid-internal/v1/inventory/0 HTTP/1.1\r\n\r\n";
-    let entry = answered(alloc, &mut peer, 0, request)?;
-    let (mut publisher, _views) = open::<M>(alloc, inventory, 1)?;
-    if publisher.inventory().node_count() == 0 {
-        return Err("no node".into());
-    }
-    let mut first = link(alloc, entry.as_str())?;
-    let (outcome, _) = seed_turn(&rt, alloc, 0, &mut first, &mut publisher)?;
-    Ok(outcome == Outcome::Moved && publisher.inventory() == peer.publisher.inventory())
+    let entry = answered(alloc, &mut peer, 0, request);
+    let (mut publisher, _views) = open::<M>(alloc, inventory, 1).expect(&rt, "memory");
+    moves(rt, alloc, &mut publisher, entry.as_str())
+        && publisher.inventory() == peer.publisher.inventory()
 }
 
-fn seeds_of<R: Handle>(rt: R, alloc: Global) -> Result<bool, Fail> {
-    let setup = set_up(rt, alloc, "v1/0/24/0/1 d:m 0/a/1")?;
-    let inventory = one_node(alloc)?;
+fn seeds_of<R: Handle>(rt: R, alloc: Global) -> bool {
+    let setup = set_up(rt, alloc, "v1/0/24/0/1 d:m 0/a/1");
+    let inventory = one_node(&rt, alloc);
     is_seeded::<R, Brand, Brand>(rt, alloc, setup, inventory)
 }
 
 #[test]
-fn seeds(rt: HostRuntime) -> Result<(), Fail> {
-    assert!(rt; seeds_of(&rt, rt.alloc())?);
-    Ok(())
+fn seeds(rt: HostRuntime) {
+    assert!(rt; seeds_of(&rt, rt.alloc()));
+}
+
+// What a peer tells of the first node.
+fn fetched(rt: &impl Abort, alloc: Global, peer: &mut MemoryLink) -> String {
+    match fetch_entry(alloc, peer, 0) {
+        Ok(_) => printed(rt, alloc, &"an entry"),
+        Err(fault) => printed(rt, alloc, &fault),
+    }
 }
 
 // What a peer tells that was never synced with the node.
 #[test]
-fn unsynced_peer(rt: HostRuntime) -> Result<(), Fail> {
-    let mut link = link(rt.alloc(), "404 {\"error\":\"V3\"}")?;
-    match fetch_entry(rt.alloc(), &mut link, 0) {
-        Ok(_) => assert!(rt; false),
-        Err(fault) => assert_eq!(rt; printed(rt.alloc(), &fault)?.as_str(), "K4: status 404"),
-    }
-    Ok(())
+fn unsynced_peer(rt: HostRuntime) {
+    let mut peer = link(&rt, rt.alloc(), "404 {\"error\":\"V3\"}");
+    let told = fetched(&rt, rt.alloc(), &mut peer);
+    assert_told(&rt, "an unsynced peer", told, "K4: status 404");
 }

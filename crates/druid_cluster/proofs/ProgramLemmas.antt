@@ -1,5 +1,5 @@
--- The words behind the program's name, and a run over buffers that were just made.
-use Rattle.std.proofs.Common.{◌≡◌, ℕ, List, [], ◌∷◌, append-nil, length, get_or, map, string_bytes, Global, String, Option, Some, None, Err, Result, arith, refl, sym, ap, subst}
+-- A run over buffers that were just made.
+use Rattle.std.proofs.Common.{◌≡◌, ℕ, List, [], append-nil, Option, Some, None, Err, Result, refl, ap, subst}
 use Rattle.std.specs.declared.io.buffered.BufReader.{BufReader}
 use Rattle.std.specs.declared.io.buffered.BufWriter.{BufWriter}
 use Rattle.std.specs.Io.Buffered.{reader_remaining, reader_capacity, reader_buffer, reader_inner, writer_contents, writer_buffer, writer_inner}
@@ -9,12 +9,6 @@ use Rattle.druid_cluster.specs.Program.{Replays}
 use Rattle.druid_cluster.specs.declared.fault.ReplayFault.{ReplayFault}
 use Rattle.druid_cluster.specs.declared.fault.ReplayFault.TheVariants.{Device}
 use Rattle.druid_cluster.proofs.RunLemmas.{starts, stops}
-
--- where there is one word
-pub one_word : (ws : List (String Global)) (w : String Global) → length ws ≡ 1 → w ≡ get_or ws 0 w → map string_bytes ws ≡ string_bytes w ∷ []
-one_word [] w one is = absurd (omega arith)
-one_word (x ∷ []) w one is = ap (λ (s : String Global). string_bytes s ∷ []) (sym is)
-one_word (x ∷ y ∷ ws) w one is = absurd (omega arith)
 
 -- where nothing is read or written, a device may have failed at the first line
 pub begins_broken : (input old : Option (List ℕ)) → Replays input old old (Err (Device 1))

@@ -1,12 +1,8 @@
 -- What the program does with the words behind its name.
-use Rattle.std.specs.Prelude.{◌≡◌, ℕ, List, [], ◌∷◌, ◌++◌, codes, ⊤, Option, Result, Ok, Err}
+use Rattle.std.specs.Prelude.{ℕ, List, [], ◌∷◌, ◌++◌, codes, ⊤, Option, Result, Ok, Err}
 use Rattle.druid_cluster.specs.Runs.{done, Writes, EndsBy}
 use Rattle.druid_cluster.specs.Status.{status_of, fault_text}
 use Rattle.druid_cluster.specs.declared.fault.ReplayFault.{ReplayFault}
-
--- the one word `replay`
-abbrev pub AsksForReplay : List (List ℕ) → Type 0
-AsksForReplay words = words ≡ codes "replay" ∷ []
 
 abbrev pub usage_line : List ℕ
 usage_line = codes "usage: druid_cluster replay | druid_cluster serve CONFIG\n"

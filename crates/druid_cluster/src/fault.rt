@@ -1,6 +1,7 @@
 ghost use Rattle.std.specs.Prelude.{◌≡◌, Some};
 ghost use Rattle.druid_cluster.specs.Status.{line_of, status_of, fault_text};
 
+use druid_command_line::Exit;
 use std::error::Error;
 use std::fmt;
 
@@ -28,8 +29,8 @@ impl ReplayFault {
         ensures { result ≡ status_of self.now }
     {
         match self {
-            ReplayFault::BadCommand(_) => 1,
-            ReplayFault::Device(_) => 3,
+            ReplayFault::BadCommand(_) => Exit::Refused.status(),
+            ReplayFault::Device(_) => Exit::Device.status(),
         }
     }
 }

@@ -1,18 +1,17 @@
 //! The program: what it does with its arguments, its input and its two outputs.
-ghost use Rattle.std.specs.Prelude.{◌≡◌, ◌↔◌, ◌∷◌, ◌++◌, ℕ, List, [], ⊤, Option, Result, map, codes, string_bytes, IsTrue, IfOk, OnOk, OnErr};
+ghost use Rattle.std.specs.Prelude.{◌≡◌, ◌∷◌, ◌++◌, ℕ, List, [], ⊤, Option, Result, map, codes, string_bytes, IfOk, OnOk, OnErr};
 ghost use Rattle.std.specs.Io.KnownBytes.{Appends, Keeps};
-ghost use Rattle.druid_cluster.specs.Program.{AsksForReplay, usage_line, Replays, exit_status, fault_line};
+ghost use Rattle.druid_command_line.specs.Words.{AsksForReplay};
+ghost use Rattle.druid_cluster.specs.Program.{usage_line, Replays, exit_status, fault_line};
 ghost use Rattle.druid_cluster.specs.Status.{status_of, fault_text};
 ghost use Rattle.druid_cluster.specs.declared.fault.ReplayFault.{ReplayFault};
 
 use crate::fault::ReplayFault;
 use crate::run::replay;
+use druid_command_line::{Exit, asks_for_replay};
 use std::alloc::Global;
 use std::io;
 use std::io::{BufRead, BufReader, BufWriter, Read, Write};
-
-/// Exit status of arguments that the program has no use for.
-const USAGE: u8 = 2;
 
 /// How the program ends: its exit status, and whether the error writer took what it was told.
 #[derive(Drop)]
@@ -21,16 +20,6 @@ pub struct Ending {
     pub status: u8,
     /// What became of the line on the error writer.
     pub told: io::Result<()>,
-}
-
-// Whether there is the one word `replay`.
-fn asks_for_replay(words: &[String]) -> bool
-    ensures { IsTrue result ↔ AsksForReplay (map string_bytes words.now) }
-{
-    if words.len() != 1 {
-        return false;
-    }
-    words[0].as_str() == "replay"
 }
 
 // Ends with the status of a fault, and tells it.
@@ -52,7 +41,7 @@ fn tell_usage<E: Write>(errors: &mut E) -> Ending
         (Appends (E.contents errors.old) (E.contents errors.new) usage_line) }
 {
     Ending {
-        status: USAGE,
+        status: Exit::Usage.status(),
         told: writeln!(
             errors,
             "usage: druid_cluster replay | druid_cluster serve CONFIG"
@@ -74,7 +63,7 @@ fn replay_all<R: BufRead, W: Write, E: Write>(
 {
     match replay(alloc, reader, writer) {
         Ok(()) => Ending {
-            status: 0,
+            status: Exit::Done.status(),
             told: Ok(()),
         },
         Err(fault) => tell_fault(errors, fault),

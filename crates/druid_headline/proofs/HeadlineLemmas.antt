@@ -10,7 +10,7 @@ use Rattle.druid_rows.specs.Segment.{Segment}
 use Rattle.druid_query.specs.Query.{Query}
 use Rattle.druid_query.specs.Asked.{Asked}
 use Rattle.druid_partial.specs.Groups.{Group}
-use Rattle.druid_partial.specs.Written.{result_text}
+use Rattle.druid_partial_text.specs.Written.{result_text}
 use Rattle.druid_scatter.specs.Exact.{AreServed}
 use Rattle.druid_broker.specs.Queries.{TellsRows}
 use Rattle.druid_world.specs.World.{Life, IsTrueEntry, IsInventoryOf, marks_of, eras_of, set_at}

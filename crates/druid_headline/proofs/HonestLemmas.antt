@@ -20,11 +20,11 @@ use Rattle.druid_query.proofs.SubBackLemmas.{sub_back}
 use Rattle.druid_partial.specs.Groups.{Group, IsResult}
 use Rattle.druid_partial.specs.Rows.{kinds_of}
 use Rattle.druid_partial.specs.Once.{segment_named, told_in, told_of, told}
-use Rattle.druid_partial.specs.Read.{TellsGroups}
-use Rattle.druid_partial.specs.PieceOrder.{same_asked-true}
-use Rattle.druid_partial.specs.Answers.{NodeAnswer, TellsAnswer, WereAsked, answer_data, answer_text}
-use Rattle.druid_partial.specs.Missed.{IsOfSegment}
-use Rattle.druid_partial.proofs.ReadBackLemmas.{answer_back, one_reading}
+use Rattle.druid_partial_text.specs.Read.{TellsGroups}
+use Rattle.druid_partial_text.specs.PieceOrder.{same_asked-true}
+use Rattle.druid_partial_text.specs.Answers.{NodeAnswer, TellsAnswer, WereAsked, answer_data, answer_text}
+use Rattle.druid_partial_text.specs.Missed.{IsOfSegment}
+use Rattle.druid_partial_text.proofs.ReadBackLemmas.{answer_back, one_reading}
 use Rattle.druid_wire.specs.Messages.{IsResponse}
 use Rattle.druid_wire.specs.Written.{response_text}
 use Rattle.druid_wire.specs.Written as wire

@@ -27,12 +27,12 @@ use Rattle.druid_query.specs.declared.query_type.QueryType.{QueryType}
 use Rattle.druid_query.specs.declared.query_type.QueryType.TheVariants.{Timeseries, GroupBy}
 use Rattle.druid_query.proofs.DepthLemmas.{subquery_deep}
 use Rattle.druid_partial.specs.Groups.{Group}
-use Rattle.druid_partial.specs.Written.{number_data, group_data, IsHeld}
-use Rattle.druid_partial.specs.Answers.{answer_data}
-use Rattle.druid_partial.specs.Missed.{IsOfSegment}
-use Rattle.druid_partial.specs.Tokens.{tokens_of}
-use Rattle.druid_partial.proofs.TextBackLemmas.{read_tokens, bucket_fits}
-use Rattle.druid_partial.proofs.AnswerTextLemmas.{answer_read}
+use Rattle.druid_partial_text.specs.Written.{number_data, group_data, IsHeld}
+use Rattle.druid_partial_text.specs.Answers.{answer_data}
+use Rattle.druid_partial_text.specs.Missed.{IsOfSegment}
+use Rattle.druid_partial_text.specs.Tokens.{tokens_of}
+use Rattle.druid_partial_text.proofs.TextBackLemmas.{read_tokens, bucket_fits}
+use Rattle.druid_partial_text.proofs.AnswerTextLemmas.{answer_read}
 
 -- ---- the text of any JSON
 

@@ -27,7 +27,7 @@ use Rattle.druid_query.proofs.QueryBackLemmas.{query_sound}
 use Rattle.druid_partial.specs.Groups.{Key, Group, AreWords, key_cmp, known, column, number_at, IsTold, IsAggregate, IsGroupOf, IsResult}
 use Rattle.druid_partial.specs.Rows.{number_in, earliest, one_or, taken, tells, passes_if, is_asked, kinds_of}
 use Rattle.druid_partial.specs.Once.{segment_named, told_in, told_of, told}
-use Rattle.druid_partial.specs.Written.{IsHeld}
+use Rattle.druid_partial_text.specs.Written.{IsHeld}
 use Rattle.druid_node.proofs.HeldLemmas.{found_each}
 use Rattle.druid_headline.specs.Headline.{HasWords}
 

@@ -11,7 +11,7 @@ ghost use Rattle.druid_query.specs.SubQuery.{IsAsked};
 ghost use Rattle.druid_partial.specs.Groups.{Group, IsResult};
 ghost use Rattle.druid_partial.specs.Rows.{kinds_of};
 ghost use Rattle.druid_partial.specs.Once.{segment_named};
-ghost use Rattle.druid_partial.specs.Written.{result_text};
+ghost use Rattle.druid_partial_text.specs.Written.{result_text};
 ghost use Rattle.druid_wire.specs.Written.{answer_text};
 ghost use Rattle.druid_node.specs.State.{State};
 ghost use Rattle.druid_node.specs.Routes.{RespondsInTurn};

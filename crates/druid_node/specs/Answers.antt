@@ -3,7 +3,7 @@ use Rattle.std.specs.Prelude.{◌≡◌, List, filter, Bool, not, is_some}
 use Rattle.druid_rows.specs.Segment.{Segment}
 use Rattle.druid_query.specs.Asked.{Asked}
 use Rattle.druid_query.specs.SubQuery.{SubQuery}
-use Rattle.druid_partial.specs.Answers.{NodeAnswer}
+use Rattle.druid_partial_text.specs.Answers.{NodeAnswer}
 use Rattle.druid_partial.specs.Groups.{IsResult}
 use Rattle.druid_partial.specs.Rows.{kinds_of, IsPartialFor}
 use Rattle.druid_partial.specs.Once.{segment_named, told}

@@ -13,7 +13,7 @@ use Rattle.druid_query.specs.SubQuery.{SubQuery, subquery_at}
 use Rattle.druid_query.specs.declared.fault.QueryFault.{QueryFault}
 use Rattle.druid_query.specs.declared.fault.QueryFault.TheVariants.{Memory}
 use Rattle.druid_query.specs.Refused.{refusal_text}
-use Rattle.druid_partial.specs.Answers.{NodeAnswer, answer_text}
+use Rattle.druid_partial_text.specs.Answers.{NodeAnswer, answer_text}
 use Rattle.druid_wire.specs.Messages.{RequestValue}
 use Rattle.druid_wire.specs.Served.{path_of, parameters_of, Tells, Allows}
 use Rattle.druid_node.specs.State.{State}

@@ -7,7 +7,8 @@ ghost use Rattle.druid_node.specs.Answers.{missing, IsAnswerOf};
 ghost use Rattle.druid_partial.specs.Once.{told_of, told};
 
 use crate::held::Held;
-use druid_partial::{NodeAnswer, Partial, merge, partial_of};
+use druid_partial::{Partial, merge, partial_of};
+use druid_partial_text::NodeAnswer;
 use druid_query::{Asked, Query, SubQuery};
 use std::alloc::{AllocError, Global};
 

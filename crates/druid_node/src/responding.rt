@@ -6,7 +6,7 @@ ghost use Rattle.druid_node.specs.Routes.{AnswersFound, AnswersAsk, AnswersSub, 
 
 use crate::routes::{Route, route_of};
 use crate::{NodeFault, NodeState};
-use druid_partial::node_answer_text;
+use druid_partial_text::node_answer_text;
 use druid_query::{QueryFault, SubQuery, read_subquery, refusal_text};
 use druid_shard::Ask;
 use druid_sync::{read_ask, reply_text};

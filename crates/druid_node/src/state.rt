@@ -13,7 +13,7 @@ use crate::NodeFault;
 use crate::answering::answer_of;
 use crate::held::Held;
 use druid_changes::{History, HistoryFault};
-use druid_partial::NodeAnswer;
+use druid_partial_text::NodeAnswer;
 use druid_query::SubQuery;
 use druid_rows::Segment;
 use druid_segid::SegmentId;

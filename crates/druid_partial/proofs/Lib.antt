@@ -8,15 +8,4 @@ pub mod PlaceLemmas
 pub mod EntryLemmas
 pub mod TellLemmas
 pub mod TestLemmas
-pub mod TokenLemmas
-pub mod TextBackLemmas
-pub mod ReadLemmas
-pub mod RowLemmas
-pub mod MadeLemmas
-pub mod NamedLemmas
-pub mod ResultLemmas
-pub mod ReadBackLemmas
-pub mod AnswerLemmas
-pub mod MissedLemmas
-pub mod AnswerTextLemmas
 pub mod OnceLemmas

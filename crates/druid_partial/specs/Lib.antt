@@ -7,12 +7,4 @@ pub mod Places
 pub mod Entries
 pub mod Tests
 pub mod Plans
-pub mod Written
-pub mod Read
-pub mod Tokens
-pub mod Lent
-pub mod Named
-pub mod Answers
-pub mod Missed
-pub mod PieceOrder
 pub mod Once

@@ -31,7 +31,7 @@ fn first_of(intervals: &[Interval]) -> Option<Instant>
 
 /// The earliest instant that a query asks for.
 #[tactic(auto, using(crate::proofs::BucketLemmas::first_there, crate::proofs::BucketLemmas::query_asks, crate::proofs::BucketLemmas::not_none))]
-pub(crate) fn earliest(query: &Query) -> Instant
+pub fn earliest(query: &Query) -> Instant
     ensures { result ≡ earliest query.now.intervals }
 {
     // Known of each query: it asks for some interval.
@@ -43,7 +43,7 @@ pub(crate) fn earliest(query: &Query) -> Instant
 }
 
 /// Whether an instant labels a bucket of a query, whose earliest instant is given.
-pub(crate) fn is_bucket(query: &Query, first: Instant, label: Instant) -> bool
+pub fn is_bucket(query: &Query, first: Instant, label: Instant) -> bool
     requires { first ≡ earliest query.now.intervals }
     ensures { IsTrue result ↔ IsBucketOf query.now label }
 {

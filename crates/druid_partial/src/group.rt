@@ -33,12 +33,8 @@ impl Model for Group {
 }
 
 impl Group {
-    // The group of these parts.
-    pub(crate) fn new(
-        bucket: Instant,
-        values: Vec<Option<String>>,
-        numbers: Vec<Option<i64>>,
-    ) -> Group
+    /// The group of these parts: a text or null for each dimension, and a number or null for each aggregator.
+    pub fn new(bucket: Instant, values: Vec<Option<String>>, numbers: Vec<Option<i64>>) -> Group
         requires { AreWords numbers.items }
         ensures { result ≡ record {
           key = record { bucket = bucket; values = nullable_texts_of values.items };
@@ -81,8 +77,8 @@ impl Group {
         join_numbers(kinds, &mut self.numbers, &other.numbers);
     }
 
-    // How it stands to another in the order of a result.
-    pub(crate) fn cmp_key(&self, other: &Group) -> Ordering
+    /// How it stands to another in the order of a result.
+    pub fn cmp_key(&self, other: &Group) -> Ordering
         ensures { result ≡ key_cmp self.now.key other.now.key }
     {
         match self.bucket.cmp(&other.bucket) {

@@ -25,8 +25,8 @@ impl Model for Partial {
     ghost invariant = { λ a. IsPartial (record { kinds = a.kinds.items; groups = a.groups.items }) };
 }
 
-// What each aggregator of the query tells.
-pub(crate) fn kinds_of(alloc: Global, query: &Query) -> Result<Vec<AggregatorKind>, AllocError>
+/// What each aggregator of the query tells.
+pub fn kinds_of(alloc: Global, query: &Query) -> Result<Vec<AggregatorKind>, AllocError>
     ensures { IfOk result (λ kinds. kinds.items ≡ kinds_of query.now) }
 {
     query
@@ -37,8 +37,8 @@ pub(crate) fn kinds_of(alloc: Global, query: &Query) -> Result<Vec<AggregatorKin
 }
 
 impl Partial {
-    // The partial of these groups.
-    pub(crate) fn new(kinds: Vec<AggregatorKind>, groups: Vec<Group>) -> Partial
+    /// The partial of these groups, which are in order and have a number or null for each of the kinds.
+    pub fn new(kinds: Vec<AggregatorKind>, groups: Vec<Group>) -> Partial
         requires { IsPartial (record { kinds = kinds.items; groups = groups.items }) }
         ensures { result ≡ record { kinds = kinds.items; groups = groups.items } }
     {

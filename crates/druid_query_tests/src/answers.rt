@@ -1,9 +1,9 @@
 //! Answers of nodes, read and written again.
-use crate::printing::printed;
-use druid_partial::{node_answer_text, read_node_answer};
+use crate::printing::{filled, printed};
+use druid_partial_text::{node_answer_text, read_node_answer};
 use druid_query::read_subquery;
 use std::alloc::Global;
-use std::test::Fail;
+use std::process::Abort;
 
 // A count by hours of two pieces of one segment and one of another.
 const ASKED: &str =
@@ -38,37 +38,28 @@ const OTHER: &str =
     "{\"chunk\":\"2024-01-01T00:00:00.000Z/2024-01-02T00:00:00.000Z\",\"itvl\":\"2024-01-01T01:00:00.000Z/2024-01-01T02:00:00.000Z\",\"part\":0,\"ver\":\"v\"}";
 
 // A text with the pieces in the places of their letters.
-fn spelled(alloc: Global, text: &str) -> Result<String, Fail> {
-    let mut whole = String::new(alloc);
-    for letter in text.chars() {
-        match letter {
-            '@' => whole.push_str(THIRD)?,
-            '#' => whole.push_str(OTHER)?,
-            _ => whole.push(letter)?,
-        }
-    }
-    Ok(whole)
+fn spelled(rt: &impl Abort, alloc: Global, text: &str) -> String {
+    let text = filled(rt, alloc, text, '@', THIRD);
+    filled(rt, alloc, text.as_str(), '#', OTHER)
 }
 
-fn written(alloc: Global, text: &str) -> Result<String, Fail> {
-    let sub = read_subquery(alloc, ASKED.as_bytes())?;
+fn written(rt: &impl Abort, alloc: Global, text: &str) -> String {
+    let sub = read_subquery(alloc, ASKED.as_bytes()).expect(rt, "a subquery");
     match read_node_answer(alloc, &sub, text.as_bytes()) {
-        Ok(answer) => Ok(node_answer_text(alloc, &answer)?),
-        Err(fault) => printed(alloc, &fault),
+        Ok(answer) => node_answer_text(alloc, &answer).expect(rt, "memory"),
+        Err(fault) => printed(rt, alloc, &fault),
     }
 }
 
-fn is_written(alloc: Global, row: &str) -> Result<bool, Fail> {
-    let (given, wanted) = row.split_once(" = ").ok_or("no row")?;
-    let text = spelled(alloc, given)?;
-    let wanted = spelled(alloc, wanted)?;
-    Ok(written(alloc, text.as_str())?.as_str() == wanted.as_str())
+fn is_written(rt: &impl Abort, alloc: Global, row: &str) -> bool {
+    let (given, wanted) = row.split_once(" = ").expect(rt, "a row");
+    let text = spelled(rt, alloc, given);
+    written(rt, alloc, text.as_str()) == spelled(rt, alloc, wanted)
 }
 
 #[test]
-fn ample_memory(rt: HostRuntime) -> Result<(), Fail> {
+fn ample_memory(rt: HostRuntime) {
     for row in ANSWERS.lines() {
-        assert!(rt; is_written(rt.alloc(), row)?, "{row}");
+        assert!(rt; is_written(&rt, rt.alloc(), row), "{row}");
     }
-    Ok(())
 }

@@ -1,6 +1,5 @@
 //! What no contract says of queries, of partials and of data nodes: worked examples over texts, files and messages, printed
-//! texts, and that calls succeed with ample memory. `partial`, `answers` and `results` are of `druid_partial`, `node` and
-//! `queries` of `druid_node`.
+//! texts, and that calls succeed with ample memory. `answers` is of `druid_partial_text`, `node` and `queries` of `druid_node`.
 #![tactic(auto)]
 
 #[cfg(test)]
@@ -10,12 +9,12 @@ mod node;
 #[cfg(test)]
 mod partial;
 #[cfg(test)]
+mod partial_text;
+#[cfg(test)]
 mod printing;
 #[cfg(test)]
 mod queries;
 #[cfg(test)]
 mod query;
-#[cfg(test)]
-mod results;
 #[cfg(test)]
 mod subquery;

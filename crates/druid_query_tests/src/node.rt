@@ -1,13 +1,14 @@
 //! Data nodes over folders in memory, and what they answer to messages.
-use crate::printing::printed;
+use crate::printing::{assert_prints, filled, printed};
 use druid_node::{DataNode, NodeFault, NodeState};
+use druid_rows::Segment;
 use druid_segfile::{read_segment, write_segment};
 use druid_segid::{Name, SegmentId};
 use druid_shard::Mark;
 use druid_store::{Folder, MemoryFolder};
 use std::alloc::Global;
+use std::process::Abort;
 use std::sync::Wait;
-use std::test::Fail;
 
 // One row of the source `w` at a second of 1970, of `x` and 5, as another program spells it: examples/vector.dsg.
 fn vector() -> &'static str {
@@ -32,117 +33,97 @@ fn nibble(digit: u8) -> u8 {
     }
 }
 
-fn push_pair(bytes: &mut Vec<u8>, high: u8, low: u8) -> Result<(), Fail> {
-    Ok(bytes.push(high.wrapping_mul(16).wrapping_add(low))?)
+// The byte of a pair of digits.
+fn byte(pair: &[u8]) -> u8 {
+    match pair {
+        [high, low] => nibble(*high).wrapping_mul(16).wrapping_add(nibble(*low)),
+        _ => 0,
+    }
 }
 
 // The bytes of hexadecimal digits.
-fn bytes_of(alloc: Global, digits: &str) -> Result<Vec<u8>, Fail> {
+fn bytes_of(rt: &impl Abort, alloc: Global, digits: &str) -> Vec<u8> {
     let mut bytes = Vec::new(alloc);
-    let mut high = None;
-    for digit in digits.as_bytes() {
-        match high {
-            None => high = Some(nibble(*digit)),
-            Some(first) => {
-                push_pair(&mut bytes, first, nibble(*digit))?;
-                high = None;
-            }
-        }
+    for pair in digits.as_bytes().chunks(2) {
+        bytes.push(byte(pair)).expect(rt, "memory");
     }
-    Ok(bytes)
+    bytes
+}
+
+fn segment(rt: &impl Abort, alloc: Global, digits: &str) -> Segment {
+    let bytes = bytes_of(rt, alloc, digits);
+    read_segment(alloc, &mut bytes.as_slice()).expect(rt, "a segment")
 }
 
 // Puts the segment of these digits, written again, into a file.
-fn put(alloc: Global, folder: &mut MemoryFolder, name: &str, digits: &str) -> Result<(), Fail> {
-    let bytes = bytes_of(alloc, digits)?;
-    let mut reader = bytes.as_slice();
-    let segment = read_segment(alloc, &mut reader)?;
+fn put(rt: &impl Abort, alloc: Global, folder: &mut MemoryFolder, name: &str, digits: &str) {
     let mut written = Vec::new(alloc);
-    write_segment(alloc, &segment, &mut written)?;
-    folder.write(name, &written)?;
-    Ok(())
+    write_segment(alloc, &segment(rt, alloc, digits), &mut written).expect(rt, "a written file");
+    folder.write(name, &written).expect(rt, "a write");
 }
 
 // A folder of two files, and two that are no files of segments.
-fn folder(alloc: Global) -> Result<MemoryFolder, Fail> {
+fn folder(rt: &impl Abort, alloc: Global) -> MemoryFolder {
     let mut folder = MemoryFolder::new(alloc);
-    put(alloc, &mut folder, VECTOR_FILE, vector())?;
-    put(alloc, &mut folder, THREE_FILE, three_rows())?;
-    put(alloc, &mut folder, "other.seg", vector())?;
-    folder.write("broken.seg", b"DSG")?;
-    Ok(folder)
+    put(rt, alloc, &mut folder, VECTOR_FILE, vector());
+    put(rt, alloc, &mut folder, THREE_FILE, three_rows());
+    put(rt, alloc, &mut folder, "other.seg", vector());
+    folder.write("broken.seg", b"DSG").expect(rt, "a write");
+    folder
 }
 
 /// A node of incarnation 1 without segments, which keeps two changes.
-pub(crate) fn empty_node(alloc: Global) -> Result<DataNode, Fail> {
-    Ok(DataNode::new(NodeState::new(alloc, 1, 2)?))
+pub(crate) fn empty_node(rt: &impl Abort, alloc: Global) -> DataNode {
+    DataNode::new(NodeState::new(alloc, 1, 2).expect(rt, "memory"))
 }
 
 /// The same node, with the segment of `w`.
-pub(crate) fn node(rt: &impl Wait, alloc: Global) -> Result<DataNode, Fail> {
-    let node = empty_node(alloc)?;
-    let mut seen = Mark::never();
-    load(rt, alloc, &node, VECTOR_FILE, &mut seen)??;
-    Ok(node)
+pub(crate) fn node<R: Abort + Wait>(rt: &R, alloc: Global) -> DataNode {
+    let node = empty_node(rt, alloc);
+    load(rt, alloc, &node, VECTOR_FILE, &mut Mark::never()).expect(rt, "a segment");
+    node
 }
 
 // What a file of the folder above tells.
-fn load(
-    rt: &impl Wait,
+fn load<R: Abort + Wait>(
+    rt: &R,
     alloc: Global,
     node: &DataNode,
     name: &str,
     seen: &mut Mark,
-) -> Result<Result<(), NodeFault>, Fail> {
-    let mut folder = folder(alloc)?;
-    Ok(node.load_file(rt, &mut folder, name, seen))
-}
-
-// What loading a file tells.
-fn loaded(
-    rt: &impl Wait,
-    alloc: Global,
-    node: &DataNode,
-    name: &str,
-    seen: &mut Mark,
-) -> Result<String, Fail> {
-    match load(rt, alloc, node, name, seen)? {
-        Ok(()) => Ok(String::from_str(alloc, "ok")?),
-        Err(fault) => printed(alloc, &fault),
-    }
+) -> Result<(), NodeFault> {
+    node.load_file(rt, &mut folder(rt, alloc), name, seen)
 }
 
 // What dropping a segment of `w` tells, by the text of its identifier.
-fn dropped(
-    rt: &impl Wait,
+fn drop_named<R: Abort + Wait>(
+    rt: &R,
     alloc: Global,
     node: &DataNode,
     id: &str,
     seen: &mut Mark,
-) -> Result<String, Fail> {
-    let source = Name::new(alloc, "w")?;
-    let id = SegmentId::parse(alloc, &source, id)?;
-    match node.drop_segment(rt, &id, seen) {
-        Ok(()) => Ok(String::from_str(alloc, "ok")?),
-        Err(fault) => printed(alloc, &fault),
-    }
+) -> Result<(), NodeFault> {
+    let source = Name::new(alloc, "w").expect(rt, "a name");
+    let id = SegmentId::parse(alloc, &source, id).expect(rt, "an identifier");
+    node.drop_segment(rt, &id, seen)
 }
 
 /// A text in which `|` stands for a carriage return and a line feed, `_` for a line feed, `^` for a carriage return, `%` for
 /// a control byte, and `~` for a byte that is no text.
-pub(crate) fn spelled(alloc: Global, text: &str) -> Result<Vec<u8>, Fail> {
+pub(crate) fn spelled(rt: &impl Abort, alloc: Global, text: &str) -> Vec<u8> {
     let mut out = Vec::new(alloc);
     for byte in text.bytes() {
-        match byte {
-            b'|' => out.extend_from_slice(b"\r\n")?,
-            b'_' => out.push(b'\n')?,
-            b'^' => out.push(b'\r')?,
-            b'%' => out.push(1)?,
-            b'~' => out.push(255)?,
-            _ => out.push(byte)?,
-        }
+        let pushed = match byte {
+            b'|' => out.extend_from_slice(b"\r\n"),
+            b'_' => out.extend_from_slice(b"\n"),
+            b'^' => out.extend_from_slice(b"\r"),
+            b'%' => out.extend_from_slice(&[1]),
+            b'~' => out.extend_from_slice(&[255]),
+            _ => out.extend_from_slice(&[byte]),
+        };
+        pushed.expect(rt, "memory");
     }
-    Ok(out)
+    out
 }
 
 // The status line of a status.
@@ -157,39 +138,40 @@ fn status_line(status: u16) -> &'static str {
 }
 
 // The whole response of that status and body.
-fn response(alloc: Global, status: u16, body: &str) -> Result<String, Fail> {
+fn response(rt: &impl Abort, alloc: Global, status: u16, body: &str) -> String {
     let line = status_line(status);
     let length = body.len();
-    Ok(format!(in alloc;
+    format!(in alloc;
         "{line}\r\nContent-Type: application/json\r\nContent-Length: {length}\r\nConnection: close\r\n\r\n{body}"
-    )?)
+    ).expect(rt, "memory")
 }
 
-// Whether the node answers the message so: `200 true`, or the fault, where nothing is written.
-pub(crate) fn answers(
-    rt: &impl Wait,
+// Whether these bytes are the response of that status, and that is the one of `200 true`.
+fn is_response(rt: &impl Abort, alloc: Global, status: u16, bytes: &[u8], wanted: &str) -> bool {
+    let (code, body) = wanted.split_once(" ").expect(rt, "a status");
+    code.parse() == Ok(status) && response(rt, alloc, status, body).as_bytes() == bytes
+}
+
+/// Whether the node answers the message so: `200 true`, or the fault, where nothing is written.
+pub(crate) fn answers<R: Abort + Wait>(
+    rt: &R,
     alloc: Global,
     node: &DataNode,
-    message: &[u8],
+    mut message: &[u8],
     wanted: &str,
     seen: &mut Mark,
-) -> Result<bool, Fail> {
-    let mut reader = message;
+) -> bool {
     let mut written = Vec::new(alloc);
-    match node.serve_one(rt, &mut reader, &mut written, seen) {
-        Ok(status) => {
-            let (code, body) = wanted.split_once(" ").ok_or("no status")?;
-            let whole = response(alloc, status, body)?;
-            Ok(code.parse::<u16>()? == status && written.as_slice() == whole.as_bytes())
-        }
-        Err(fault) => Ok(written.is_empty() && printed(alloc, &fault)?.as_str() == wanted),
+    match node.serve_one(rt, &mut message, &mut written, seen) {
+        Ok(status) => is_response(rt, alloc, status, &written, wanted),
+        Err(fault) => written.is_empty() && printed(rt, alloc, &fault).as_str() == wanted,
     }
 }
 
-fn is_answered(rt: &impl Wait, alloc: Global, node: &DataNode, row: &str) -> Result<bool, Fail> {
-    let (text, wanted) = row.split_once(" = ").ok_or("no row")?;
-    let mut seen = Mark::never();
-    answers(rt, alloc, node, &spelled(alloc, text)?, wanted, &mut seen)
+fn is_answered<R: Abort + Wait>(rt: &R, alloc: Global, node: &DataNode, row: &str) -> bool {
+    let (text, wanted) = row.split_once(" = ").expect(rt, "a row");
+    let message = spelled(rt, alloc, text);
+    answers(rt, alloc, node, &message, wanted, &mut Mark::never())
 }
 
 // Messages to a node with the segment of `w`, and what it answers.
@@ -261,62 +243,48 @@ POST /druid/v2 HTTP/1.1|Content-Length: 16777217||{} = 400 {\"error\":\"X7\"}
 POST /druid/v2 HTTP/1.1|Content-Length: 99999999999999999999||{} = 400 {\"error\":\"X7\"}";
 
 #[test]
-fn ample_memory(rt: HostRuntime) -> Result<(), Fail> {
-    let node = node(&rt, rt.alloc())?;
+fn ample_memory(rt: HostRuntime) {
+    let node = node(&rt, rt.alloc());
     for row in MESSAGES.lines() {
-        assert!(rt; is_answered(&rt, rt.alloc(), &node, row)?, "{row}");
+        assert!(rt; is_answered(&rt, rt.alloc(), &node, row), "{row}");
     }
-    Ok(())
+}
+
+// The fields of a head: so many, or one in a head of so many bytes, of which 36 are not of its value.
+fn fields(rt: &impl Abort, alloc: Global, kind: &str, size: usize) -> String {
+    if kind == "fields" {
+        return "A: b\r\n".repeat(alloc, size).expect(rt, "memory");
+    }
+    let value = "x"
+        .repeat(alloc, size.saturating_sub(36))
+        .expect(rt, "memory");
+    format!(in alloc; "A: {value}\r\n").expect(rt, "memory")
 }
 
 // A head of so many bytes, or of so many fields.
-fn head(alloc: Global, kind: &str, size: usize) -> Result<Vec<u8>, Fail> {
-    let mut head = spelled(alloc, "GET /status/health HTTP/1.1|")?;
-    if kind == "fields" {
-        for _ in 0..size {
-            head.extend_from_slice(b"A: b\r\n")?;
-        }
-    } else {
-        head.extend_from_slice(b"A: ")?;
-        for _ in 0..size.saturating_sub(head.len().saturating_add(4)) {
-            head.push(b'x')?;
-        }
-        head.extend_from_slice(b"\r\n")?;
-    }
-    head.extend_from_slice(b"\r\n")?;
-    Ok(head)
+fn head(rt: &impl Abort, alloc: Global, kind: &str, size: usize) -> String {
+    let fields = fields(rt, alloc, kind, size);
+    format!(in alloc; "GET /status/health HTTP/1.1\r\n{fields}\r\n").expect(rt, "memory")
 }
 
-fn is_head_answered(
-    rt: &impl Wait,
-    alloc: Global,
-    node: &DataNode,
-    row: &str,
-) -> Result<bool, Fail> {
-    let (what, wanted) = row.split_once(" = ").ok_or("no row")?;
-    let (kind, size) = what.split_once(" ").ok_or("no size")?;
-    let mut seen = Mark::never();
-    answers(
-        rt,
-        alloc,
-        node,
-        &head(alloc, kind, size.parse()?)?,
-        wanted,
-        &mut seen,
-    )
+fn is_head_answered<R: Abort + Wait>(rt: &R, alloc: Global, node: &DataNode, row: &str) -> bool {
+    let (what, wanted) = row.split_once(" = ").expect(rt, "a row");
+    let (kind, size) = what.split_once(" ").expect(rt, "a size");
+    let head = head(rt, alloc, kind, size.parse().expect(rt, "a size"));
+    answers(rt, alloc, node, head.as_bytes(), wanted, &mut Mark::never())
 }
 
-#[test]
-fn long_heads(rt: HostRuntime) -> Result<(), Fail> {
-    let node = node(&rt, rt.alloc())?;
-    let rows = "bytes 16384 = 200 true
+const HEADS: &str = "bytes 16384 = 200 true
 bytes 16385 = 400 {\"error\":\"X5\"}
 fields 64 = 200 true
 fields 65 = 400 {\"error\":\"X5\"}";
-    for row in rows.lines() {
-        assert!(rt; is_head_answered(&rt, rt.alloc(), &node, row)?, "{row}");
+
+#[test]
+fn long_heads(rt: HostRuntime) {
+    let node = node(&rt, rt.alloc());
+    for row in HEADS.lines() {
+        assert!(rt; is_head_answered(&rt, rt.alloc(), &node, row), "{row}");
     }
-    Ok(())
 }
 
 // The load and the drop of the segment of `w`, for which `@` and `#` stand in the tables below.
@@ -326,59 +294,48 @@ const LOAD: &str =
 const DROP: &str =
     "{\"action\":\"drop\",\"dataSource\":\"w\",\"interval\":\"1970-01-01T00:00:00.000Z/1970-01-02T00:00:00.000Z\",\"shardSpec\":{\"partitionNum\":0,\"partitions\":1,\"type\":\"numbered\"},\"size\":0,\"version\":\"v\"}";
 
-fn with_changes(alloc: Global, text: &str) -> Result<String, Fail> {
-    let mut whole = String::new(alloc);
-    for letter in text.chars() {
-        match letter {
-            '@' => whole.push_str(LOAD)?,
-            '#' => whole.push_str(DROP)?,
-            _ => whole.push(letter)?,
-        }
-    }
-    Ok(whole)
+fn with_changes(rt: &impl Abort, alloc: Global, text: &str) -> String {
+    let text = filled(rt, alloc, text, '@', LOAD);
+    filled(rt, alloc, text.as_str(), '#', DROP)
 }
 
 // Whether the node answers an ask so.
-fn is_told(
-    rt: &impl Wait,
+fn is_told<R: Abort + Wait>(
+    rt: &R,
     alloc: Global,
     node: &DataNode,
     row: &str,
     seen: &mut Mark,
-) -> Result<bool, Fail> {
-    let (parameters, wanted) = row.split_once(" = ").ok_or("no row")?;
-    let message = format!(in alloc;
-        "GET /druid-internal/v1/segments{parameters} HTTP/1.1\r\n\r\n"
-    )?;
-    let wanted = with_changes(alloc, wanted)?;
+) -> bool {
+    let (parameters, wanted) = row.split_once(" = ").expect(rt, "a row");
+    let message = format!(in alloc; "GET /druid-internal/v1/segments{parameters} HTTP/1.1\r\n\r\n");
+    let message = message.expect(rt, "memory");
+    let wanted = with_changes(rt, alloc, wanted);
     answers(rt, alloc, node, message.as_bytes(), wanted.as_str(), seen)
 }
 
-fn is_told_each(
-    rt: &impl Wait,
+// Asserts that the node answers each ask so.
+fn assert_told<R: Abort + Wait>(
+    rt: &R,
     alloc: Global,
     node: &DataNode,
     rows: &str,
     seen: &mut Mark,
-) -> Result<bool, Fail> {
+) {
     for row in rows.lines() {
-        if !is_told(rt, alloc, node, row, seen)? {
-            return Ok(false);
-        }
+        assert!(rt; is_told(rt, alloc, node, row, seen), "{row}");
     }
-    Ok(true)
 }
 
-#[test]
-fn fresh_node(rt: HostRuntime) -> Result<(), Fail> {
-    let node = empty_node(rt.alloc())?;
-    let rows =
-        " = 200 {\"counter\":{\"counter\":0,\"hash\":1},\"from\":null,\"requests\":[],\"resetCause\":null,\"resetCounter\":false}
+const FRESH: &str =
+    " = 200 {\"counter\":{\"counter\":0,\"hash\":1},\"from\":null,\"requests\":[],\"resetCause\":null,\"resetCounter\":false}
 ?counter=0&hash=1 = 200 {\"counter\":{\"counter\":0,\"hash\":1},\"from\":{\"counter\":0,\"hash\":1},\"requests\":[],\"resetCause\":null,\"resetCounter\":false}
 ?counter=0 = 400 {\"error\":\"Y6\"}";
-    let mut seen = Mark::never();
-    assert!(rt; is_told_each(&rt, rt.alloc(), &node, rows, &mut seen)?);
-    Ok(())
+
+#[test]
+fn fresh_node(rt: HostRuntime) {
+    let node = empty_node(&rt, rt.alloc());
+    assert_told(&rt, rt.alloc(), &node, FRESH, &mut Mark::never());
 }
 
 const AFTER_LOAD: &str =
@@ -398,46 +355,33 @@ const AFTER_MORE: &str =
     "?counter=0&hash=1 = 200 {\"counter\":{\"counter\":3,\"hash\":1},\"from\":null,\"requests\":[],\"resetCause\":\"TooOld\",\"resetCounter\":true}";
 
 // What is done to the node: a file is loaded, or a segment dropped by the text of its identifier.
-fn done(
-    rt: &impl Wait,
+fn done<R: Abort + Wait>(
+    rt: &R,
     alloc: Global,
     node: &DataNode,
-    what: &str,
-    name: &str,
+    step: &str,
     seen: &mut Mark,
-) -> Result<String, Fail> {
-    if what == "load" {
-        return loaded(rt, alloc, node, name, seen);
+) -> Result<(), NodeFault> {
+    let (what, name) = step.split_once(" ").expect(rt, "a name");
+    match what {
+        "load" => load(rt, alloc, node, name, seen),
+        _ => drop_named(rt, alloc, node, name, seen),
     }
-    dropped(rt, alloc, node, name, seen)
 }
 
 // Whether a row holds: what is done, and what that tells.
-fn is_done(
-    rt: &impl Wait,
+fn is_done<R: Abort + Wait>(
+    rt: &R,
     alloc: Global,
     node: &DataNode,
     row: &str,
     seen: &mut Mark,
-) -> Result<bool, Fail> {
-    let (step, wanted) = row.split_once(" = ").ok_or("no row")?;
-    let (what, name) = step.split_once(" ").ok_or("no name")?;
-    Ok(done(rt, alloc, node, what, name, seen)?.as_str() == wanted)
-}
-
-fn is_done_each(
-    rt: &impl Wait,
-    alloc: Global,
-    node: &DataNode,
-    rows: &str,
-    seen: &mut Mark,
-) -> Result<bool, Fail> {
-    for row in rows.lines() {
-        if !is_done(rt, alloc, node, row, seen)? {
-            return Ok(false);
-        }
+) -> bool {
+    let (step, wanted) = row.split_once(" = ").expect(rt, "a row");
+    match done(rt, alloc, node, step, seen) {
+        Ok(()) => wanted == "ok",
+        Err(fault) => printed(rt, alloc, &fault).as_str() == wanted,
     }
-    Ok(true)
 }
 
 const FIRST: &str = "load w_1970-01-01T00:00:00.000Z_1970-01-02T00:00:00.000Z_v.seg = ok";
@@ -456,48 +400,52 @@ const LOADED: &str =
     "drop w_1970-01-01T00:00:00.000Z_1970-01-02T00:00:00.000Z_v = N4: H2: not served
 load wiki_2024-01-01T00:00:00.000Z_2024-01-02T00:00:00.000Z_v1_3.seg = ok";
 
-// Whether the rows hold, and the node then answers so.
-fn goes_on(
-    rt: &impl Wait,
+// Asserts that the rows hold, and that the node then answers so.
+fn assert_goes_on<R: Abort + Wait>(
+    rt: &R,
     alloc: Global,
     node: &DataNode,
-    steps: &str,
-    told: &str,
+    (steps, told): &(&str, &str),
     seen: &mut Mark,
-) -> Result<bool, Fail> {
-    if !is_done_each(rt, alloc, node, steps, seen)? {
-        return Ok(false);
+) {
+    for row in steps.lines() {
+        assert!(rt; is_done(rt, alloc, node, row, seen), "{row}");
     }
-    is_told_each(rt, alloc, node, told, seen)
+    assert_told(rt, alloc, node, told, seen);
 }
 
+// What is done one after the other, and what is answered then.
+const STEPS: [(&str, &str); 4] = [
+    (FIRST, AFTER_LOAD),
+    (REFUSED, AFTER_LOAD),
+    (DROPPED, AFTER_DROP),
+    (LOADED, AFTER_MORE),
+];
+
 #[test]
-fn node_after_load(rt: HostRuntime) -> Result<(), Fail> {
-    let node = empty_node(rt.alloc())?;
+fn node_after_load(rt: HostRuntime) {
+    let node = empty_node(&rt, rt.alloc());
     let mut seen = Mark::never();
-    assert!(rt; goes_on(&rt, rt.alloc(), &node, FIRST, AFTER_LOAD, &mut seen)?);
-    assert!(rt; goes_on(&rt, rt.alloc(), &node, REFUSED, AFTER_LOAD, &mut seen)?);
-    assert!(rt; goes_on(&rt, rt.alloc(), &node, DROPPED, AFTER_DROP, &mut seen)?);
-    assert!(rt; goes_on(&rt, rt.alloc(), &node, LOADED, AFTER_MORE, &mut seen)?);
+    for rows in &STEPS {
+        assert_goes_on(&rt, rt.alloc(), &node, rows, &mut seen);
+    }
     let mut ahead = Mark::new(9, 0);
-    assert!(rt;
-        is_told(
-            &rt,
-            rt.alloc(),
-            &node,
-            " = N8: behind what was seen",
-            &mut ahead
-        )?
+    assert_told(
+        &rt,
+        rt.alloc(),
+        &node,
+        " = N8: behind what was seen",
+        &mut ahead,
     );
     assert!(rt; seen == Mark::new(1, 3) && ahead == Mark::new(9, 0));
-    Ok(())
 }
 
+const TEXTS_OF_FAULTS: [(NodeFault, &str); 2] = [
+    (NodeFault::Device, "N1: the device failed"),
+    (NodeFault::Memory, "N9: out of memory"),
+];
+
 #[test]
-fn faults_print_this(rt: HostRuntime) -> Result<(), Fail> {
-    let device = printed(rt.alloc(), &NodeFault::Device)?;
-    assert_eq!(rt; device.as_str(), "N1: the device failed");
-    let memory = printed(rt.alloc(), &NodeFault::Memory)?;
-    assert_eq!(rt; memory.as_str(), "N9: out of memory");
-    Ok(())
+fn faults_print_this(rt: HostRuntime) {
+    assert_prints(&rt, rt.alloc(), &TEXTS_OF_FAULTS);
 }

@@ -1,109 +1,181 @@
-//! Partials, read and written again, and the results that they are written as.
-use crate::printing::printed;
-use druid_partial::{PartialFault, partial_text, read_partial, result_text};
+//! What queries answer over rows of segments, put together in either order.
+ghost use Rattle.druid_partial.specs.Rows.{IsPartialFor};
+
+use druid_partial::{Partial, merge, partial_of};
+use druid_partial_text::result_text;
 use druid_query::{Query, read_query};
-use serde_json::Value;
+use druid_rows::{Row, Schema, Segment};
+use druid_segid::{Name, SegmentId, Version};
+use druid_shard::Descriptor;
+use druid_time::{Instant, Interval};
 use std::alloc::Global;
-use std::test::Fail;
+use std::process::Abort;
 
-// The queries of the tables below. `T` is a `timeseries` by hours that counts rows, sums f, and tells its least value; `G`
-// is a `groupBy` in one bucket that counts the rows of each d and e, which it calls `z` and `a`.
-const BY_HOUR: &str =
-    "{\"queryType\":\"timeseries\",\"dataSource\":\"w\",\"granularity\":\"hour\",\"intervals\":\"2024-01-01/2024-01-02\",\"aggregations\":[{\"type\":\"count\",\"name\":\"n\"},{\"type\":\"longSum\",\"name\":\"s\",\"fieldName\":\"f\"},{\"type\":\"longMin\",\"name\":\"a\",\"fieldName\":\"f\"}]}";
+// A query, the segments that it is asked of, and its result. `@` stands for the keys of a `timeseries` over the first two
+// days of 2024, and `#` for those of a `groupBy`; a later key of the same name counts. A segment of the first day is the
+// names of its dimensions and of its metrics, and its rows: the milliseconds of the day, the values, and the numbers. `-` is
+// null, and `+` stands between two segments.
+const RESULTS: &str =
+    r#"@,"aggregations":[{"type":"longSum","name":"s","fieldName":"m"}]} => d:m 0/x/9223372036854775807 + d:m 0/x/1 = [{"result":{"s":-9223372036854775808},"timestamp":"2024-01-01T00:00:00.000Z"}]
+@,"aggregations":[{"type":"longMin","name":"a","fieldName":"f"},{"type":"longSum","name":"b","fieldName":"f"}]} => d:m 0/x/1 + d:m 0/x/2 = [{"result":{"a":null,"b":null},"timestamp":"2024-01-01T00:00:00.000Z"}]
+#,"dimensions":["d"],"aggregations":[{"type":"count","name":"n"}]} => d:m 0/a/1 0//1 + e:m 5/x/1 = [{"event":{"d":null,"n":1},"timestamp":"2024-01-01T00:00:00.000Z","version":"v1"},{"event":{"d":"","n":1},"timestamp":"2024-01-01T00:00:00.000Z","version":"v1"},{"event":{"d":"a","n":1},"timestamp":"2024-01-01T00:00:00.000Z","version":"v1"}]
+#,"dimensions":["d"],"aggregations":[{"type":"count","name":"n"}]} => d:m 0/-/1 0//1 0/a/1 = [{"event":{"d":null,"n":1},"timestamp":"2024-01-01T00:00:00.000Z","version":"v1"},{"event":{"d":"","n":1},"timestamp":"2024-01-01T00:00:00.000Z","version":"v1"},{"event":{"d":"a","n":1},"timestamp":"2024-01-01T00:00:00.000Z","version":"v1"}]
+#,"dimensions":["m"],"aggregations":[{"type":"longSum","name":"s","fieldName":"d"}]} => d:m 0/a/1 = [{"event":{"m":null,"s":null},"timestamp":"2024-01-01T00:00:00.000Z","version":"v1"}]
+@,"aggregations":[{"type":"count","name":"n"}]} => d:m = []
+@,"granularity":"hour","aggregations":[{"type":"count","name":"n"}]} => d:m 3600000/a/1 3599999/a/1 + d:m 7199999/a/1 = [{"result":{"n":1},"timestamp":"2024-01-01T00:00:00.000Z"},{"result":{"n":2},"timestamp":"2024-01-01T01:00:00.000Z"}]
+@,"intervals":["2024-01-01T12:00/2024-01-02","2024-01-01T06:00/2024-01-01T07:00"],"aggregations":[{"type":"count","name":"n"}]} => d:m 43200000/a/1 = [{"result":{"n":1},"timestamp":"2024-01-01T06:00:00.000Z"}]
+@,"aggregations":[{"type":"longMin","name":"a","fieldName":"m"},{"type":"longMax","name":"b","fieldName":"m"},{"type":"count","name":"c"}]} => d:m 0/a/3 0/a/- 0/a/-4 + d:m 0/a/9 = [{"result":{"a":-4,"b":9,"c":4},"timestamp":"2024-01-01T00:00:00.000Z"}]
+@,"aggregations":[{"type":"longSum","name":"s","fieldName":"m"}]} => d:m 0/a/- + e:f 0/a/7 = [{"result":{"s":null},"timestamp":"2024-01-01T00:00:00.000Z"}]
+@,"filter":{"type":"not","field":{"type":"selector","dimension":"d","value":"a"}},"aggregations":[{"type":"count","name":"n"}]} => d:m 0/a/1 0/-/1 0//1 = [{"result":{"n":2},"timestamp":"2024-01-01T00:00:00.000Z"}]
+@,"filter":{"type":"in","dimension":"d","values":["b",null,"c"]},"aggregations":[{"type":"count","name":"n"}]} => d:m 0/a/1 0/-/1 0/c/1 0//1 + e:m 0/b/1 = [{"result":{"n":3},"timestamp":"2024-01-01T00:00:00.000Z"}]
+@,"filter":{"type":"in","dimension":"d","values":[]},"aggregations":[{"type":"count","name":"n"}]} => d:m 0/a/1 0/-/1 = []
+@,"filter":{"type":"or","fields":[{"type":"and","fields":[{"type":"selector","dimension":"d","value":"a"},{"type":"selector","dimension":"e","value":"x"}]},{"type":"selector","dimension":"e","value":null}]},"aggregations":[{"type":"longSum","name":"s","fieldName":"m"}]} => d,e:m 0/a/x/1 0/a/y/2 0/b/-/4 0/b/x/8 + d:m 0/z/16 = [{"result":{"s":21},"timestamp":"2024-01-01T00:00:00.000Z"}]
+#,"granularity":"day","dimensions":["e",{"type":"default","dimension":"d","outputName":"x"}],"aggregations":[{"type":"count","name":"n"}]} => d,e:m 0/b/x/1 0/a/y/1 0/a/x/1 + d,e:m 1/a/x/1 = [{"event":{"e":"x","n":2,"x":"a"},"timestamp":"2024-01-01T00:00:00.000Z","version":"v1"},{"event":{"e":"x","n":1,"x":"b"},"timestamp":"2024-01-01T00:00:00.000Z","version":"v1"},{"event":{"e":"y","n":1,"x":"a"},"timestamp":"2024-01-01T00:00:00.000Z","version":"v1"}]
+#,"aggregations":[]} => d:m 0/a/1 = [{"event":{},"timestamp":"2024-01-01T00:00:00.000Z","version":"v1"}]
+#,"dimensions":["d"]} => d:m 0/\u{0}"\é/1 = [{"event":{"d":"\\u{0}\"\\é"},"timestamp":"2024-01-01T00:00:00.000Z","version":"v1"}]"#;
 
-const BY_VALUES: &str =
-    "{\"queryType\":\"groupBy\",\"dataSource\":\"w\",\"granularity\":\"all\",\"intervals\":[\"1970-01-01T00:00:01/1970-01-02\",\"1970-01-01/1970-01-01T00:00:00.001\"],\"dimensions\":[{\"type\":\"default\",\"dimension\":\"d\",\"outputName\":\"z\"},{\"type\":\"default\",\"dimension\":\"e\",\"outputName\":\"a\"}],\"aggregations\":[{\"type\":\"count\",\"name\":\"n\"}]}";
+const COMMON: &str =
+    "{\"dataSource\":\"w\",\"granularity\":\"all\",\"intervals\":\"2024-01-01/2024-01-03\",\"queryType\":";
 
-// A query, the text of a partial, and the text that is written of it, or the fault.
-const PARTIALS: &str = "T [] = []
-T [[1704067200000,[],[2,5,null]]] = [[1704067200000,[],[2,5,null]]]
-T [[3600000,[],[1,-9223372036854775808,0]],[-3600000,[],[-1,9223372036854775807,1]],[0,[],[0,null,null]]] = [[-3600000,[],[-1,9223372036854775807,1]],[0,[],[0,null,null]],[3600000,[],[1,-9223372036854775808,0]]]
-T {} = P2: another shape
-T null = P2: another shape
-T [7] = P2: another shape
-T [[]] = P2: another shape
-T [[0,[]]] = P2: another shape
-T [[0,[],[1,2,3],[]]] = P2: another shape
-T [[0,[],[1,2]]] = P2: another shape
-T [[0,[],[1,2,3,4]]] = P2: another shape
-T [[0,[null],[1,2,3]]] = P2: another shape
-T [[1,[],[1,2,3]]] = P2: another shape
-T [[0.0,[],[1,2,3]]] = P2: another shape
-T [[\"0\",[],[1,2,3]]] = P2: another shape
-T [[253402300800000,[],[1,2,3]]] = P2: another shape
-T [[0,[],[null,2,3]]] = P2: another shape
-T [[0,[],[1,2,3.5]]] = P2: another shape
-T [[0,[],[1,2,9223372036854775808]]] = P2: another shape
-T [[0,[],[1,2,\"3\"]]] = P2: another shape
-T [[0,[],[1,2,3]],[3600000,[],[1,2,3]],[0,[],[4,5,6]]] = P2: another shape
-G [[0,[\"x\",null],[1]],[0,[null,\"y\"],[2]],[0,[\"\",\"y\"],[3]],[0,[\"x\",\"\"],[4]]] = [[0,[null,\"y\"],[2]],[0,[\"\",\"y\"],[3]],[0,[\"x\",null],[1]],[0,[\"x\",\"\"],[4]]]
-G [[0,[\"\\u0001\\\"\\\\/\\n\",\"\\u00e9\"],[1]]] = [[0,[\"\\u0001\\\"\\\\/\\n\",\"é\"],[1]]]
-G [[1000,[\"x\",null],[1]]] = P2: another shape
-G [[0,[\"x\"],[1]]] = P2: another shape
-G [[0,[\"x\",7],[1]]] = P2: another shape
-G [[0,[\"x\",null],[1]],[0,[\"x\",null],[1]]] = P2: another shape";
-
-// A query, the text of a partial, and the text of the result that it is.
-const RESULTS: &str = "T [] = []
-T [[1704067200000,[],[2,5,null]],[0,[],[1,-1,-1]]] = [{\"result\":{\"a\":-1,\"n\":1,\"s\":-1},\"timestamp\":\"1970-01-01T00:00:00.000Z\"},{\"result\":{\"a\":null,\"n\":2,\"s\":5},\"timestamp\":\"2024-01-01T00:00:00.000Z\"}]
-G [[0,[\"x\",null],[1]],[0,[null,\"\\\"\"],[2]]] = [{\"event\":{\"a\":\"\\\"\",\"n\":2,\"z\":null},\"timestamp\":\"1970-01-01T00:00:00.000Z\",\"version\":\"v1\"},{\"event\":{\"a\":null,\"n\":1,\"z\":\"x\"},\"timestamp\":\"1970-01-01T00:00:00.000Z\",\"version\":\"v1\"}]";
-
-/// The query of that letter.
-pub(crate) fn query_named(alloc: Global, name: &str) -> Result<Query, Fail> {
-    let text = if name == "T" { BY_HOUR } else { BY_VALUES };
-    Ok(read_query(alloc, text.as_bytes())?)
+// The text of a query of that type.
+fn typed(rt: &impl Abort, alloc: Global, kind: &str, rest: &str) -> String {
+    format!(in alloc; "{COMMON}\"{kind}\"{rest}").expect(rt, "memory")
 }
 
-fn written(alloc: Global, name: &str, text: &str) -> Result<String, Fail> {
-    let query = query_named(alloc, name)?;
-    let value = Value::from_str(alloc, text)?;
-    match read_partial(alloc, &query, &value) {
-        Ok(partial) => Ok(partial_text(alloc, &partial)?),
-        Err(fault) => printed(alloc, &fault),
+fn query(rt: &impl Abort, alloc: Global, text: &str) -> Query {
+    let text = match text.strip_prefix("@") {
+        Some(rest) => typed(rt, alloc, "timeseries", rest),
+        None => typed(
+            rt,
+            alloc,
+            "groupBy",
+            text.strip_prefix("#").expect(rt, "a query"),
+        ),
+    };
+    read_query(alloc, text.as_str().as_bytes()).expect(rt, "a query")
+}
+
+fn owned(rt: &impl Abort, alloc: Global, text: &str) -> String {
+    String::from_str(alloc, text).expect(rt, "memory")
+}
+
+fn names(rt: &impl Abort, alloc: Global, words: &str) -> Vec<String> {
+    let mut names = Vec::new(alloc);
+    for word in words.split(',') {
+        names.push(owned(rt, alloc, word)).expect(rt, "memory");
+    }
+    names
+}
+
+fn value(rt: &impl Abort, alloc: Global, word: &str) -> Option<String> {
+    match word {
+        "-" => None,
+        _ => Some(owned(rt, alloc, word)),
     }
 }
 
-fn told(alloc: Global, name: &str, text: &str) -> Result<String, Fail> {
-    let query = query_named(alloc, name)?;
-    let value = Value::from_str(alloc, text)?;
-    match read_partial(alloc, &query, &value) {
-        Ok(partial) => Ok(result_text(alloc, &query, &partial)?),
-        Err(fault) => printed(alloc, &fault),
+fn number(rt: &impl Abort, word: &str) -> Option<i64> {
+    match word {
+        "-" => None,
+        _ => Some(word.parse().expect(rt, "a number")),
     }
 }
 
-fn is_written(alloc: Global, row: &str) -> Result<bool, Fail> {
-    let (given, wanted) = row.split_once(" = ").ok_or("no row")?;
-    let (name, text) = given.split_once(" ").ok_or("no query")?;
-    Ok(written(alloc, name, text)?.as_str() == wanted)
+// The instant so many milliseconds behind the begin of the first day.
+fn instant(rt: &impl Abort, digits: &str) -> Instant {
+    let start = Instant::parse("2024-01-01").expect(rt, "an instant");
+    let ms: i64 = digits.parse().expect(rt, "milliseconds");
+    Instant::new(start.ms().saturating_add(ms)).expect(rt, "an instant")
 }
 
-fn is_told(alloc: Global, row: &str) -> Result<bool, Fail> {
-    let (given, wanted) = row.split_once(" = ").ok_or("no row")?;
-    let (name, text) = given.split_once(" ").ok_or("no query")?;
-    Ok(told(alloc, name, text)?.as_str() == wanted)
+fn row(rt: &impl Abort, alloc: Global, text: &str, count: usize) -> Row {
+    let mut words = text.split('/');
+    let time = instant(rt, words.next().expect(rt, "an instant"));
+    let mut values = Vec::new(alloc);
+    let mut numbers = Vec::new(alloc);
+    for word in words {
+        if values.len() < count {
+            values.push(value(rt, alloc, word)).expect(rt, "memory");
+        } else {
+            numbers.push(number(rt, word)).expect(rt, "memory");
+        }
+    }
+    Row::new(time, values, numbers)
+}
+
+fn day(rt: &impl Abort) -> Interval {
+    Interval::parse("2024-01-01/2024-01-02").expect(rt, "an interval")
+}
+
+fn descriptor(rt: &impl Abort, alloc: Global) -> Descriptor {
+    let source = Name::new(alloc, "w").expect(rt, "a name");
+    let version = Version::new(alloc, "v").expect(rt, "a version");
+    let id = SegmentId::new(source, day(rt), version, 0);
+    Descriptor::new(id, 1, 0).expect(rt, "a descriptor")
+}
+
+fn rows(rt: &impl Abort, alloc: Global, texts: &str, count: usize) -> Vec<Row> {
+    let mut rows = Vec::new(alloc);
+    for text in texts.split_terminator(' ') {
+        rows.push(row(rt, alloc, text, count)).expect(rt, "memory");
+    }
+    rows
+}
+
+fn segment(rt: &impl Abort, alloc: Global, text: &str) -> Segment {
+    let (names_of, texts) = text.split_once(" ").unwrap_or((text, ""));
+    let (dimensions, metrics) = names_of.split_once(":").expect(rt, "a schema");
+    let dimensions = names(rt, alloc, dimensions);
+    let rows = rows(rt, alloc, texts, dimensions.len());
+    let schema = Schema::new(dimensions, names(rt, alloc, metrics));
+    Segment::new(alloc, descriptor(rt, alloc), schema, rows).expect(rt, "a segment")
+}
+
+fn part(rt: &impl Abort, alloc: Global, query: &Query, text: &str) -> Partial
+    ensures { IsPartialFor query.now result }
+{
+    let segment = segment(rt, alloc, text);
+    partial_of(alloc, query, &segment, day(rt)).expect(rt, "memory")
+}
+
+fn both(rt: &impl Abort, alloc: Global, query: &Query, first: Partial, second: Partial) -> Partial
+    requires first { IsPartialFor query.now first }
+    requires second { IsPartialFor query.now second }
+    ensures { IsPartialFor query.now result }
+{
+    merge(alloc, first, second).expect(rt, "memory")
+}
+
+// What the segments tell, each put behind those before it or in front of them.
+fn told(rt: &impl Abort, alloc: Global, query: &Query, segments: &str, in_front: bool) -> Partial
+    ensures { IsPartialFor query.now result }
+{
+    let mut whole = Partial::empty(alloc, query).expect(rt, "memory");
+    for text in segments.split(" + ") {
+        let next = part(rt, alloc, query, text);
+        whole = if in_front {
+            both(rt, alloc, query, next, whole)
+        } else {
+            both(rt, alloc, query, whole, next)
+        };
+    }
+    whole
+}
+
+fn is_result(rt: &impl Abort, alloc: Global, line: &str, in_front: bool) -> bool {
+    let (asked, rest) = line.split_once(" => ").expect(rt, "a query");
+    let (segments, wanted) = rest.split_once(" = ").expect(rt, "a result");
+    let query = query(rt, alloc, asked);
+    let partial = told(rt, alloc, &query, segments, in_front);
+    let text = result_text(alloc, &query, &partial).expect(rt, "memory");
+    text.as_str() == wanted
 }
 
 #[test]
-fn ample_memory(rt: HostRuntime) -> Result<(), Fail> {
-    for row in PARTIALS.lines() {
-        assert!(rt; is_written(rt.alloc(), row)?, "{row}");
+fn ample_memory(rt: HostRuntime) {
+    for line in RESULTS.lines() {
+        for in_front in [false, true] {
+            assert!(rt; is_result(&rt, rt.alloc(), line, in_front), "{line}");
+        }
     }
-    for row in RESULTS.lines() {
-        assert!(rt; is_told(rt.alloc(), row)?, "{row}");
-    }
-    Ok(())
-}
-
-#[test]
-fn faults_print_this(rt: HostRuntime) -> Result<(), Fail> {
-    assert_eq!(rt;
-        printed(rt.alloc(), &PartialFault::NotJson)?.as_str(),
-        "P1: not JSON"
-    );
-    assert_eq!(rt;
-        printed(rt.alloc(), &PartialFault::Memory)?.as_str(),
-        "P9: out of memory"
-    );
-    Ok(())
 }

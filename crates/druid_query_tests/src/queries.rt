@@ -1,58 +1,62 @@
 //! Queries to a data node.
 use crate::node::{answers, node};
+use crate::printing::filled;
 use druid_node::DataNode;
 use druid_shard::Mark;
 use std::alloc::Global;
+use std::process::Abort;
 use std::sync::Wait;
-use std::test::Fail;
 
 // A query of the source `w`, or of another, over pieces of a day of 1970: its kind, what follows its source, and the pieces.
-fn query(alloc: Global, source: &str, more: &str, pieces: &str) -> Result<String, Fail> {
-    Ok(format!(in alloc;
+fn query(rt: &impl Abort, alloc: Global, source: &str, more: &str, pieces: &str) -> String {
+    format!(in alloc;
         "{{\"queryType\":\"timeseries\",\"dataSource\":\"{source}\",\"granularity\":\"all\",\"intervals\":{{\"type\":\"segments\",\"segments\":[{pieces}]}},\"queryIntervals\":[\"1970-01-01/1970-01-02\"],{more}\"aggregations\":[{{\"type\":\"count\",\"name\":\"n\"}},{{\"type\":\"longSum\",\"name\":\"s\",\"fieldName\":\"m\"}}]}}"
-    )?)
+    ).expect(rt, "memory")
 }
 
 // A piece of a partition, by its ends behind midnight.
-fn piece(alloc: Global, text: &str) -> Result<String, Fail> {
-    let mut words = text.split(' ');
-    let part = words.next().ok_or("no partition")?;
-    let start = words.next().ok_or("no start")?;
-    let end = words.next().ok_or("no end")?;
-    Ok(format!(in alloc;
+fn piece(rt: &impl Abort, alloc: Global, text: &str) -> String {
+    let (part, ends) = text.split_once(" ").expect(rt, "a partition");
+    let (start, end) = ends.split_once(" ").expect(rt, "two ends");
+    format!(in alloc;
         "{{\"chunk\":\"1970-01-01T00:00:00.000Z/1970-01-02T00:00:00.000Z\",\"itvl\":\"1970-01-01T{start}.000Z/{end}.000Z\",\"part\":{part},\"ver\":\"v\"}}"
-    )?)
+    ).expect(rt, "memory")
 }
 
 // The pieces of a list, whose members `,` parts.
-fn pieces(alloc: Global, text: &str) -> Result<String, Fail> {
+fn pieces(rt: &impl Abort, alloc: Global, text: &str) -> String {
     let mut all = String::new(alloc);
-    for (place, one) in text.split(',').enumerate() {
-        if one.is_empty() {
-            return Ok(all);
+    for one in text.split_terminator(',') {
+        if !all.is_empty() {
+            all.push_str(",").expect(rt, "memory");
         }
-        if place > 0 {
-            all.push_str(",")?;
-        }
-        all.push_str(piece(alloc, one)?.as_str())?;
+        all.push_str(piece(rt, alloc, one).as_str())
+            .expect(rt, "memory");
     }
-    Ok(all)
+    all
 }
 
 // Whether a node with the segment of `w` answers the query so.
-fn is_answered(
-    rt: &impl Wait,
+fn is_answered<R: Abort + Wait>(
+    rt: &R,
     alloc: Global,
     node: &DataNode,
     body: &str,
     wanted: &str,
-) -> Result<bool, Fail> {
+) -> bool {
     let length = body.len();
     let message = format!(in alloc;
         "POST /druid/v2/ HTTP/1.1\r\nContent-Length: {length}\r\n\r\n{body}"
-    )?;
-    let mut seen = Mark::never();
-    answers(rt, alloc, node, message.as_bytes(), wanted, &mut seen)
+    );
+    let message = message.expect(rt, "memory");
+    answers(
+        rt,
+        alloc,
+        node,
+        message.as_bytes(),
+        wanted,
+        &mut Mark::never(),
+    )
 }
 
 // The source, the pieces, the pieces that are missing, and the rows.
@@ -66,25 +70,29 @@ w;2 00:00:00 1970-01-01T00:00:01,0 00:00:00 1970-01-02T00:00:00,1 00:00:00 1970-
 w;1 00:00:00 1970-01-02T00:00:00;1 00:00:00 1970-01-02T00:00:00;[]
 x;0 00:00:00 1970-01-02T00:00:00;0 00:00:00 1970-01-02T00:00:00;[]";
 
-fn is_asked(rt: &impl Wait, alloc: Global, node: &DataNode, row: &str) -> Result<bool, Fail> {
+// The answer that a row has: the pieces that are missing, and the rows.
+fn told(rt: &impl Abort, alloc: Global, missing: &str, rows: &str) -> String {
+    let missing = pieces(rt, alloc, missing);
+    format!(in alloc; "200 {{\"missing\":[{missing}],\"rows\":{rows}}}").expect(rt, "memory")
+}
+
+fn is_asked<R: Abort + Wait>(rt: &R, alloc: Global, node: &DataNode, row: &str) -> bool {
     let mut columns = row.split(';');
-    let source = columns.next().ok_or("no source")?;
-    let asked = pieces(alloc, columns.next().ok_or("no pieces")?)?;
-    let missing = pieces(alloc, columns.next().ok_or("none missing")?)?;
-    let rows = columns.next().ok_or("no rows")?;
-    let body = query(alloc, source, "", asked.as_str())?;
-    let missing = missing.as_str();
-    let wanted = format!(in alloc; "200 {{\"missing\":[{missing}],\"rows\":{rows}}}")?;
+    let source = columns.next().expect(rt, "a source");
+    let asked = columns.next().expect(rt, "pieces");
+    let missing = columns.next().expect(rt, "what is missing");
+    let rows = columns.next().expect(rt, "rows");
+    let body = query(rt, alloc, source, "", pieces(rt, alloc, asked).as_str());
+    let wanted = told(rt, alloc, missing, rows);
     is_answered(rt, alloc, node, body.as_str(), wanted.as_str())
 }
 
 #[test]
-fn pieces_are_answered(rt: HostRuntime) -> Result<(), Fail> {
-    let node = node(&rt, rt.alloc())?;
+fn pieces_are_answered(rt: HostRuntime) {
+    let node = node(&rt, rt.alloc());
     for row in ASKED.lines() {
-        assert!(rt; is_asked(&rt, rt.alloc(), &node, row)?, "{row}");
+        assert!(rt; is_asked(&rt, rt.alloc(), &node, row), "{row}");
     }
-    Ok(())
 }
 
 // The source, what else the query has, its pieces, and the answer.
@@ -99,60 +107,44 @@ w;;0 00:00:01 1970-01-01T00:00:01;400 {\"error\":\"Q4\"}
 w;;0 00:00:00 1970-01-02T00:00:00,0 00:00:00 1970-01-02T00:00:00;400 {\"error\":\"Q4\"}
 w;;0 00:00:00 1970-01-01T00:00:02,1 00:00:00 1970-01-02T00:00:00,0 00:00:01 1970-01-02T00:00:00;400 {\"error\":\"Q4\"}";
 
-fn is_refused(rt: &impl Wait, alloc: Global, node: &DataNode, row: &str) -> Result<bool, Fail> {
+fn is_refused<R: Abort + Wait>(rt: &R, alloc: Global, node: &DataNode, row: &str) -> bool {
     let mut columns = row.split(';');
-    let source = columns.next().ok_or("no source")?;
-    let more = columns.next().ok_or("no more")?;
-    let asked = pieces(alloc, columns.next().ok_or("no pieces")?)?;
-    let wanted = columns.next().ok_or("no answer")?;
-    let body = query(alloc, source, more, asked.as_str())?;
+    let source = columns.next().expect(rt, "a source");
+    let more = columns.next().expect(rt, "what else it has");
+    let asked = columns.next().expect(rt, "pieces");
+    let wanted = columns.next().expect(rt, "an answer");
+    let body = query(rt, alloc, source, more, pieces(rt, alloc, asked).as_str());
     is_answered(rt, alloc, node, body.as_str(), wanted)
 }
 
 #[test]
-fn subqueries_are_refused(rt: HostRuntime) -> Result<(), Fail> {
-    let node = node(&rt, rt.alloc())?;
+fn subqueries_are_refused(rt: HostRuntime) {
+    let node = node(&rt, rt.alloc());
     for row in REFUSED.lines() {
-        assert!(rt; is_refused(&rt, rt.alloc(), &node, row)?, "{row}");
+        assert!(rt; is_refused(&rt, rt.alloc(), &node, row), "{row}");
     }
-    Ok(())
 }
 
-const WHOLE: &str =
-    "{\"chunk\":\"1970-01-01/1970-01-02\",\"itvl\":\"1970-01-01/1970-01-02\",\"part\":0,\"ver\":\"v\"}";
+// What a query has behind its type, and its answer: a name that stands twice, and the values of a dimension. `@` stands for
+// the keys that are common to both.
+const OTHERS: &str =
+    "\"timeseries\",@,\"aggregations\":[{\"type\":\"count\",\"name\":\"n\"},{\"type\":\"count\",\"name\":\"n\"}]} = 400 {\"error\":\"Q6\"}
+\"groupBy\",@,\"dimensions\":[{\"type\":\"default\",\"dimension\":\"d\",\"outputName\":\"e\"}],\"aggregations\":[{\"type\":\"longMax\",\"name\":\"n\",\"fieldName\":\"m\"}]} = 200 {\"missing\":[],\"rows\":[[0,[\"x\"],[5]]]}";
 
-// A name that stands twice, and the values of a dimension.
+const COMMON: &str =
+    "\"dataSource\":\"w\",\"granularity\":\"all\",\"intervals\":{\"type\":\"segments\",\"segments\":[{\"chunk\":\"1970-01-01/1970-01-02\",\"itvl\":\"1970-01-01/1970-01-02\",\"part\":0,\"ver\":\"v\"}]},\"queryIntervals\":[\"1970-01-01/1970-01-02\"]";
+
+fn is_told<R: Abort + Wait>(rt: &R, alloc: Global, node: &DataNode, row: &str) -> bool {
+    let (text, wanted) = row.split_once(" = ").expect(rt, "a row");
+    let text = filled(rt, alloc, text, '@', COMMON);
+    let body = format!(in alloc; "{{\"queryType\":{text}").expect(rt, "memory");
+    is_answered(rt, alloc, node, body.as_str(), wanted)
+}
+
 #[test]
-fn other_queries(rt: HostRuntime) -> Result<(), Fail> {
-    let alloc = rt.alloc();
-    let node = node(&rt, alloc)?;
-    let front = format!(in alloc;
-        "\"dataSource\":\"w\",\"granularity\":\"all\",\"intervals\":{{\"type\":\"segments\",\"segments\":[{WHOLE}]}},\"queryIntervals\":[\"1970-01-01/1970-01-02\"]"
-    )?;
-    let front = front.as_str();
-    let doubled = format!(in alloc;
-        "{{\"queryType\":\"timeseries\",{front},\"aggregations\":[{{\"type\":\"count\",\"name\":\"n\"}},{{\"type\":\"count\",\"name\":\"n\"}}]}}"
-    )?;
-    assert!(rt;
-        is_answered(
-            &rt,
-            alloc,
-            &node,
-            doubled.as_str(),
-            "400 {\"error\":\"Q6\"}"
-        )?
-    );
-    let grouped = format!(in alloc;
-        "{{\"queryType\":\"groupBy\",{front},\"dimensions\":[{{\"type\":\"default\",\"dimension\":\"d\",\"outputName\":\"e\"}}],\"aggregations\":[{{\"type\":\"longMax\",\"name\":\"n\",\"fieldName\":\"m\"}}]}}"
-    )?;
-    assert!(rt;
-        is_answered(
-            &rt,
-            alloc,
-            &node,
-            grouped.as_str(),
-            "200 {\"missing\":[],\"rows\":[[0,[\"x\"],[5]]]}"
-        )?
-    );
-    Ok(())
+fn other_queries(rt: HostRuntime) {
+    let node = node(&rt, rt.alloc());
+    for row in OTHERS.lines() {
+        assert!(rt; is_told(&rt, rt.alloc(), &node, row), "{row}");
+    }
 }

@@ -1,8 +1,8 @@
 //! Queries, read and written again.
-use crate::printing::printed;
+use crate::printing::{assert_prints, printed};
 use druid_query::{QueryFault, query_text, read_query};
 use std::alloc::Global;
-use std::test::Fail;
+use std::process::Abort;
 
 // Texts of queries, and the text of the query that each is, or its fault. `@` stands for the keys of a `timeseries` that is
 // in order, and `#` for those of a `groupBy`; a later key of the same name counts.
@@ -95,103 +95,115 @@ const DEEP: &str = "49 taken
 const COMMON: &str =
     "{\"dataSource\":\"w\",\"granularity\":\"all\",\"intervals\":\"2024-01-01/2024-01-02\",\"queryType\":";
 
-fn told(alloc: Global, text: &str) -> Result<String, Fail> {
+fn told(rt: &impl Abort, alloc: Global, text: &str) -> String {
     match read_query(alloc, text.as_bytes()) {
-        Ok(query) => Ok(query_text(alloc, &query)?),
-        Err(fault) => printed(alloc, &fault),
+        Ok(query) => query_text(alloc, &query).expect(rt, "memory"),
+        Err(fault) => printed(rt, alloc, &fault),
     }
+}
+
+// A text behind the keys that are common to all, with that type.
+fn typed(rt: &impl Abort, alloc: Global, kind: &str, rest: &str) -> String {
+    format!(in alloc; "{COMMON}\"{kind}\"{rest}").expect(rt, "memory")
 }
 
 // The text that a row has.
-fn spelled(alloc: Global, text: &str) -> Result<String, Fail> {
-    let (kind, rest) = match text.strip_prefix("@") {
-        Some(rest) => ("\"timeseries\"", rest),
-        None => match text.strip_prefix("#") {
-            Some(rest) => ("\"groupBy\"", rest),
-            None => return Ok(String::from_str(alloc, text)?),
-        },
-    };
-    let mut whole = String::from_str(alloc, COMMON)?;
-    whole.push_str(kind)?;
-    whole.push_str(rest)?;
-    Ok(whole)
+fn spelled(rt: &impl Abort, alloc: Global, text: &str) -> String {
+    if let Some(rest) = text.strip_prefix("@") {
+        return typed(rt, alloc, "timeseries", rest);
+    }
+    match text.strip_prefix("#") {
+        Some(rest) => typed(rt, alloc, "groupBy", rest),
+        None => String::from_str(alloc, text).expect(rt, "memory"),
+    }
 }
 
-fn is_told(alloc: Global, row: &str) -> Result<bool, Fail> {
-    let (text, wanted) = row.split_once(" = ").ok_or("no row")?;
-    let text = spelled(alloc, text)?;
-    Ok(told(alloc, text.as_str())?.as_str() == wanted)
+fn is_told(rt: &impl Abort, alloc: Global, row: &str) -> bool {
+    let (text, wanted) = row.split_once(" = ").expect(rt, "a row");
+    let text = spelled(rt, alloc, text);
+    told(rt, alloc, text.as_str()).as_str() == wanted
 }
 
 // What is told of a text: `taken`, where it is a query that is written and read again, or its fault.
-fn is_taken(alloc: Global, text: &str, wanted: &str) -> Result<bool, Fail> {
-    let once = told(alloc, text)?;
+fn is_taken(rt: &impl Abort, alloc: Global, text: &str, wanted: &str) -> bool {
+    let once = told(rt, alloc, text);
     if wanted != "taken" {
-        return Ok(once.as_str() == wanted);
+        return once.as_str() == wanted;
     }
-    Ok(once.starts_with("{") && told(alloc, once.as_str())? == once)
+    once.starts_with("{") && told(rt, alloc, once.as_str()) == once
 }
 
-fn repeated(alloc: Global, item: &str, count: u64, between: &str) -> Result<String, Fail> {
+fn repeated(rt: &impl Abort, alloc: Global, item: &str, count: u64, between: &str) -> String {
     let mut text = String::new(alloc);
     for place in 0..count {
         if place > 0 {
-            text.push_str(between)?;
+            text.push_str(between).expect(rt, "memory");
         }
-        text.push_str(item)?;
+        text.push_str(item).expect(rt, "memory");
     }
-    Ok(text)
+    text
 }
 
-fn is_limited(alloc: Global, row: &str) -> Result<bool, Fail> {
+fn number(rt: &impl Abort, digits: &str) -> u64 {
+    digits.parse().expect(rt, "a number")
+}
+
+// The text of a row at a limit: what stands in front, an item and how often it stands, what is between two, and what stands
+// behind.
+fn limited(rt: &impl Abort, alloc: Global, row: &str) -> String {
     let mut parts = row.split("|");
-    let front = parts.next().ok_or("no front")?;
-    let item = parts.next().ok_or("no item")?;
-    let count: u64 = parts.next().ok_or("no count")?.parse()?;
-    let between = parts.next().ok_or("nothing between")?;
-    let back = parts.next().ok_or("no back")?;
-    let wanted = parts.next().ok_or("nothing wanted")?;
-    let mut text = spelled(alloc, front)?;
-    text.push_str(repeated(alloc, item, count, between)?.as_str())?;
-    text.push_str(back)?;
-    is_taken(alloc, text.as_str(), wanted)
+    let front = parts.next().expect(rt, "a front");
+    let item = parts.next().expect(rt, "an item");
+    let count = parts.next().expect(rt, "a count");
+    let between = parts.next().expect(rt, "what is between");
+    let back = parts.next().expect(rt, "a back");
+    let front = spelled(rt, alloc, front);
+    let items = repeated(rt, alloc, item, number(rt, count), between);
+    format!(in alloc; "{front}{items}{back}").expect(rt, "memory")
 }
 
-fn is_deep(alloc: Global, row: &str) -> Result<bool, Fail> {
-    let (count, wanted) = row.split_once(" ").ok_or("no row")?;
-    let count: u64 = count.parse()?;
-    let mut text = spelled(alloc, "@,\"filter\":")?;
-    text.push_str(repeated(alloc, "{\"type\":\"not\",\"field\":", count, "")?.as_str())?;
-    text.push_str("{\"type\":\"or\",\"fields\":[]}")?;
-    text.push_str(repeated(alloc, "}", count, "")?.as_str())?;
-    text.push_str("}")?;
-    is_taken(alloc, text.as_str(), wanted)
+fn is_limited(rt: &impl Abort, alloc: Global, row: &str) -> bool {
+    let (parts, wanted) = row.rsplit_once("|").expect(rt, "a row");
+    let text = limited(rt, alloc, parts);
+    is_taken(rt, alloc, text.as_str(), wanted)
+}
+
+// A query whose filter stands in that many others.
+fn deep(rt: &impl Abort, alloc: Global, count: u64) -> String {
+    let front = spelled(rt, alloc, "@,\"filter\":");
+    let opened = repeated(rt, alloc, "{\"type\":\"not\",\"field\":", count, "");
+    let closed = repeated(rt, alloc, "}", count, "");
+    format!(in alloc; "{front}{opened}{{\"type\":\"or\",\"fields\":[]}}{closed}}}").expect(
+        rt, "memory",
+    )
+}
+
+fn is_deep(rt: &impl Abort, alloc: Global, row: &str) -> bool {
+    let (count, wanted) = row.split_once(" ").expect(rt, "a row");
+    let text = deep(rt, alloc, number(rt, count));
+    is_taken(rt, alloc, text.as_str(), wanted)
 }
 
 #[test]
-fn ample_memory(rt: HostRuntime) -> Result<(), Fail> {
+fn ample_memory(rt: HostRuntime) {
     for row in QUERIES.lines() {
-        assert!(rt; is_told(rt.alloc(), row)?, "{row}");
+        assert!(rt; is_told(&rt, rt.alloc(), row), "{row}");
     }
-    Ok(())
 }
 
 #[test]
-fn limits(rt: HostRuntime) -> Result<(), Fail> {
+fn limits(rt: HostRuntime) {
     for row in LIMITS.lines() {
-        assert!(rt; is_limited(rt.alloc(), row)?, "{row}");
+        assert!(rt; is_limited(&rt, rt.alloc(), row), "{row}");
     }
     for row in DEEP.lines() {
-        assert!(rt; is_deep(rt.alloc(), row)?, "{row}");
+        assert!(rt; is_deep(&rt, rt.alloc(), row), "{row}");
     }
-    Ok(())
 }
 
+const WANT_OF_MEMORY: [(QueryFault, &str); 1] = [(QueryFault::Memory, "Q9: out of memory")];
+
 #[test]
-fn want_of_memory_prints_this(rt: HostRuntime) -> Result<(), Fail> {
-    assert_eq!(rt;
-        printed(rt.alloc(), &QueryFault::Memory)?.as_str(),
-        "Q9: out of memory"
-    );
-    Ok(())
+fn want_of_memory_prints_this(rt: HostRuntime) {
+    assert_prints(&rt, rt.alloc(), &WANT_OF_MEMORY);
 }

@@ -1,11 +1,11 @@
 //! Subqueries, read and written again.
-use crate::printing::printed;
+use crate::printing::{filled, printed};
 use druid_query::{
     SubQuery, asked_value, asked_values, read_asked, read_subquery, subquery_of, subquery_text,
     subquery_value,
 };
 use std::alloc::Global;
-use std::test::Fail;
+use std::process::Abort;
 
 // In each row `~` stands for the printed interval of 2024-01-01. A later key of the same name counts.
 
@@ -79,158 +79,154 @@ const MIDDLE: &str = "],\"type\":\"segments\"},\"queryIntervals\":[";
 
 const BACK: &str = "],\"queryType\":\"timeseries\"";
 
-fn told(alloc: Global, text: &str) -> Result<String, Fail> {
+fn told(rt: &impl Abort, alloc: Global, text: &str) -> String {
     match read_subquery(alloc, text.as_bytes()) {
-        Ok(subquery) => Ok(subquery_text(alloc, &subquery)?),
-        Err(fault) => printed(alloc, &fault),
+        Ok(subquery) => subquery_text(alloc, &subquery).expect(rt, "memory"),
+        Err(fault) => printed(rt, alloc, &fault),
     }
 }
 
-fn spelled(alloc: Global, text: &str) -> Result<String, Fail> {
-    let mut whole = String::new(alloc);
-    let mut first = true;
-    for part in text.split("~") {
-        if !first {
-            whole.push_str(DAY)?;
-        }
-        first = false;
-        whole.push_str(part)?;
-    }
-    Ok(whole)
+fn spelled(rt: &impl Abort, alloc: Global, text: &str) -> String {
+    filled(rt, alloc, text, '~', DAY)
 }
 
 // A subquery for those pieces, with these intervals of its own.
-fn asking(alloc: Global, pieces: &str, intervals: &str, back: &str) -> Result<String, Fail> {
-    let mut text = String::from_str(alloc, FRONT)?;
-    text.push_str(spelled(alloc, pieces)?.as_str())?;
-    text.push_str(MIDDLE)?;
-    text.push_str(spelled(alloc, intervals)?.as_str())?;
-    text.push_str(BACK)?;
-    text.push_str(spelled(alloc, back)?.as_str())?;
-    Ok(text)
+fn asking(rt: &impl Abort, alloc: Global, pieces: &str, intervals: &str, back: &str) -> String {
+    let text = format!(in alloc; "{FRONT}{pieces}{MIDDLE}{intervals}{BACK}{back}");
+    spelled(rt, alloc, text.expect(rt, "memory").as_str())
 }
 
 // Whether a text is told so: `taken`, where it is written as it stands, or its fault.
-fn is_told(alloc: Global, text: &str, wanted: &str) -> Result<bool, Fail> {
-    let told = told(alloc, text)?;
-    if wanted == "taken" {
-        Ok(told.as_str() == text)
-    } else {
-        Ok(told.as_str() == wanted)
-    }
+fn is_told(rt: &impl Abort, alloc: Global, text: &str, wanted: &str) -> bool {
+    let wanted = if wanted == "taken" { text } else { wanted };
+    told(rt, alloc, text).as_str() == wanted
 }
 
-fn are_pieces_told(alloc: Global, row: &str) -> Result<bool, Fail> {
-    let (pieces, wanted) = row.split_once(" = ").ok_or("no row")?;
+fn are_pieces_told(rt: &impl Abort, alloc: Global, row: &str) -> bool {
+    let (pieces, wanted) = row.split_once(" = ").expect(rt, "a row");
     let pieces = if pieces == "#" { "" } else { pieces };
-    let text = asking(alloc, pieces, "\"~\"", "}")?;
-    is_told(alloc, text.as_str(), wanted)
+    let text = asking(rt, alloc, pieces, "\"~\"", "}");
+    is_told(rt, alloc, text.as_str(), wanted)
 }
 
-fn is_row_told(alloc: Global, row: &str) -> Result<bool, Fail> {
-    let (back, wanted) = row.split_once(" = ").ok_or("no row")?;
-    let text = asking(alloc, ONE, "\"~\"", back)?;
-    let wanted = spelled(alloc, wanted)?;
-    is_told(alloc, text.as_str(), wanted.as_str())
+fn is_row_told(rt: &impl Abort, alloc: Global, row: &str) -> bool {
+    let (back, wanted) = row.split_once(" = ").expect(rt, "a row");
+    let text = asking(rt, alloc, ONE, "\"~\"", back);
+    let wanted = spelled(rt, alloc, wanted);
+    is_told(rt, alloc, text.as_str(), wanted.as_str())
+}
+
+// A piece of a segment of that partition.
+fn numbered_piece(rt: &impl Abort, alloc: Global, partition: u64) -> String {
+    format!(in alloc;
+        "{{\"chunk\":\"~\",\"itvl\":\"~\",\"part\":{partition},\"ver\":\"v\"}}"
+    ).expect(rt, "memory")
 }
 
 // That many pieces of segments that differ by their partitions.
-fn numbered(alloc: Global, count: u64) -> Result<String, Fail> {
+fn numbered(rt: &impl Abort, alloc: Global, count: u64) -> String {
     let mut text = String::new(alloc);
     for place in 0..count {
         if place > 0 {
-            text.push_str(",")?;
+            text.push_str(",").expect(rt, "memory");
         }
-        text.push_str(format!(in alloc;
-            "{{\"chunk\":\"~\",\"itvl\":\"~\",\"part\":{place},\"ver\":\"v\"}}"
-        )?.as_str())?;
+        let piece = numbered_piece(rt, alloc, place);
+        text.push_str(piece.as_str()).expect(rt, "memory");
     }
-    Ok(text)
+    text
 }
 
-fn intervals(alloc: Global, count: u64) -> Result<String, Fail> {
-    let mut text = String::from_str(alloc, "\"~\"")?;
+fn intervals(rt: &impl Abort, alloc: Global, count: u64) -> String {
+    let mut text = String::from_str(alloc, "\"~\"").expect(rt, "memory");
     for _ in 1..count {
-        text.push_str(",\"~\"")?;
+        text.push_str(",\"~\"").expect(rt, "memory");
     }
-    Ok(text)
+    text
 }
 
 fn are_many_told(
+    rt: &impl Abort,
     alloc: Global,
     pieces: u64,
     back: &str,
     count: u64,
     wanted: &str,
-) -> Result<bool, Fail> {
-    let mut asked = numbered(alloc, pieces)?;
-    asked.push_str(back)?;
-    let own = intervals(alloc, count)?;
-    let text = asking(alloc, asked.as_str(), own.as_str(), "}")?;
-    is_told(alloc, text.as_str(), wanted)
+) -> bool {
+    let mut asked = numbered(rt, alloc, pieces);
+    asked.push_str(back).expect(rt, "memory");
+    let own = intervals(rt, alloc, count);
+    let text = asking(rt, alloc, asked.as_str(), own.as_str(), "}");
+    is_told(rt, alloc, text.as_str(), wanted)
 }
 
-fn subquery(alloc: Global) -> Result<SubQuery, Fail> {
-    let text = asking(alloc, ONE, "\"~\"", "}")?;
-    Ok(read_subquery(alloc, text.as_bytes())?)
+fn subquery(rt: &impl Abort, alloc: Global) -> SubQuery {
+    let text = asking(rt, alloc, ONE, "\"~\"", "}");
+    read_subquery(alloc, text.as_bytes()).expect(rt, "a subquery")
 }
 
 // Whether each piece is written and read again.
-fn are_pieces_back(alloc: Global) -> Result<bool, Fail> {
-    let subquery = subquery(alloc)?;
+fn are_pieces_back(rt: &impl Abort, alloc: Global) -> bool {
+    let subquery = subquery(rt, alloc);
     for (segment, piece) in subquery.asked() {
-        let asked = (segment.clone()?, *piece);
-        let value = asked_value(alloc, &asked)?;
-        let Some((other, interval)) = read_asked(alloc, subquery.query().source(), &value)? else {
-            return Ok(false);
+        let asked = (segment.clone().expect(rt, "memory"), *piece);
+        let value = asked_value(alloc, &asked).expect(rt, "memory");
+        let read = read_asked(alloc, subquery.query().source(), &value).expect(rt, "a piece");
+        let Some((other, interval)) = read else {
+            return false;
         };
         if other != asked.0 || interval != asked.1 {
-            return Ok(false);
+            return false;
         }
     }
-    Ok(asked_values(alloc, subquery.asked())?.len() == 1)
+    asked_values(alloc, subquery.asked())
+        .expect(rt, "memory")
+        .len()
+        == 1
 }
 
 // Whether a subquery that is made of its parts is written as the same text, and its JSON is read again.
-fn is_made_again(alloc: Global) -> Result<bool, Fail> {
-    let first = subquery(alloc)?;
-    let text = subquery_text(alloc, &first)?;
-    let value = subquery_value(alloc, &first)?;
-    let again = subquery_of(alloc, &value)?;
-    Ok(subquery_text(alloc, &again)? == text)
+fn is_made_again(rt: &impl Abort, alloc: Global) -> bool {
+    let first = subquery(rt, alloc);
+    let value = subquery_value(alloc, &first).expect(rt, "memory");
+    let again = subquery_of(alloc, &value).expect(rt, "a subquery");
+    subquery_text(alloc, &again).expect(rt, "memory")
+        == subquery_text(alloc, &first).expect(rt, "memory")
 }
 
 #[test]
-fn ample_memory(rt: HostRuntime) -> Result<(), Fail> {
+fn ample_memory(rt: HostRuntime) {
     for row in PIECES.lines() {
-        assert!(rt; are_pieces_told(rt.alloc(), row)?, "{row}");
+        assert!(rt; are_pieces_told(&rt, rt.alloc(), row), "{row}");
     }
-    for row in REFUSED.lines() {
-        assert!(rt; is_row_told(rt.alloc(), row)?, "{row}");
+    for table in [REFUSED, WRITTEN] {
+        for row in table.lines() {
+            assert!(rt; is_row_told(&rt, rt.alloc(), row), "{row}");
+        }
     }
-    for row in WRITTEN.lines() {
-        assert!(rt; is_row_told(rt.alloc(), row)?, "{row}");
-    }
-    assert!(rt; is_told(rt.alloc(), "[", "Q1: not JSON")?);
-    assert!(rt; is_told(rt.alloc(), "[]", "Q2: no query of a known type")?);
-    assert!(rt; are_pieces_back(rt.alloc())?);
-    assert!(rt; is_made_again(rt.alloc())?);
-    Ok(())
 }
 
 #[test]
-fn limits(rt: HostRuntime) -> Result<(), Fail> {
+fn ample_memory_for_other_calls(rt: HostRuntime) {
+    assert!(rt; is_told(&rt, rt.alloc(), "[", "Q1: not JSON"));
+    assert!(rt; is_told(&rt, rt.alloc(), "[]", "Q2: no query of a known type"));
+    assert!(rt; are_pieces_back(&rt, rt.alloc()));
+    assert!(rt; is_made_again(&rt, rt.alloc()));
+}
+
+#[test]
+fn limits(rt: HostRuntime) {
     // Pieces are not counted against the limit of intervals.
-    assert!(rt; are_many_told(rt.alloc(), 1_001, "", 1_000, "taken")?);
-    assert!(rt; are_many_told(rt.alloc(), 1, "", 1_001, "Q5: a limit is passed")?);
+    assert!(rt; are_many_told(&rt, rt.alloc(), 1_001, "", 1_000, "taken"));
+    assert!(rt; are_many_told(&rt, rt.alloc(), 1, "", 1_001, "Q5: a limit is passed"));
+    let doubled = ",{\"chunk\":\"~\",\"itvl\":\"~\",\"part\":500,\"ver\":\"v\"}";
     assert!(rt;
         are_many_told(
+            &rt,
             rt.alloc(),
             1_001,
-            ",{\"chunk\":\"~\",\"itvl\":\"~\",\"part\":500,\"ver\":\"v\"}",
+            doubled,
             1_001,
             "Q4: not an interval"
-        )?
+        )
     );
-    Ok(())
 }

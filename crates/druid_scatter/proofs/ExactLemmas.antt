@@ -37,8 +37,8 @@ use Rattle.druid_query.proofs.AskedLemmas.{overlap_seen}
 use Rattle.druid_partial.specs.Groups.{Group as Told, IsResult}
 use Rattle.druid_partial.specs.Rows.{kinds_of, is_asked, passes_if, tells}
 use Rattle.druid_partial.specs.Once.{told, told_of, told_once, is_told}
-use Rattle.druid_partial.specs.Answers.{missing_at}
-use Rattle.druid_partial.specs.PieceOrder.{same_asked-true}
+use Rattle.druid_partial_text.specs.Answers.{missing_at}
+use Rattle.druid_partial_text.specs.PieceOrder.{same_asked-true}
 use Rattle.serde_json.specs.Read.{read}
 use Rattle.druid_wire.specs.Messages.{IsResponse}
 use Rattle.druid_wire.proofs.OnceLemmas.{one_response}

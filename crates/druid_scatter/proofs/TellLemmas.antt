@@ -9,13 +9,13 @@ use Rattle.druid_query.specs.Asked.{Asked}
 use Rattle.druid_query.specs.Read.{ReadsAs}
 use Rattle.druid_query.specs.Query.{Query}
 use Rattle.druid_query.specs.SubQuery.{SubQuery}
-use Rattle.druid_partial.specs.Answers.{IsAnswerOf, TellsAnswer}
-use Rattle.druid_partial.specs.declared.fault.PartialFault.{PartialFault}
-use Rattle.druid_partial.specs.declared.fault.PartialFault.TheVariants.{NotJson, Shape}
-use Rattle.druid_partial.specs.declared.node_answer.NodeAnswer.{NodeAnswer}
+use Rattle.druid_partial_text.specs.Answers.{IsAnswerOf, TellsAnswer}
+use Rattle.druid_partial_text.specs.declared.fault.PartialFault.{PartialFault}
+use Rattle.druid_partial_text.specs.declared.fault.PartialFault.TheVariants.{NotJson, Shape}
+use Rattle.druid_partial_text.specs.declared.node_answer.NodeAnswer.{NodeAnswer}
 use Rattle.druid_partial.specs.Groups.{Group}
-use Rattle.druid_partial.specs.Read.{TellsGroups}
-use Rattle.druid_partial.proofs.ReadBackLemmas as back
+use Rattle.druid_partial_text.specs.Read.{TellsGroups}
+use Rattle.druid_partial_text.proofs.ReadBackLemmas as back
 use Rattle.druid_wire.specs.Links.{Came}
 use Rattle.druid_wire.specs.Messages.{IsResponse}
 use Rattle.druid_wire.proofs.OnceLemmas.{one_response}

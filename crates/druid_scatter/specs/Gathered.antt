@@ -5,7 +5,7 @@ use Rattle.druid_query.specs.Query.{Query}
 use Rattle.druid_query.specs.Asked.{Asked}
 use Rattle.druid_query.specs.Read.{ReadsAs}
 use Rattle.druid_query.specs.SubQuery.{SubQuery, subquery_text}
-use Rattle.druid_partial.specs.Answers.{TellsAnswer}
+use Rattle.druid_partial_text.specs.Answers.{TellsAnswer}
 use Rattle.druid_partial.specs.Groups.{Group, IsResult}
 use Rattle.druid_partial.specs.Rows.{kinds_of}
 use Rattle.druid_wire.specs.Links.{Came}

@@ -6,7 +6,7 @@ ghost use Rattle.druid_scatter.specs.Gathered.{Answers, IsLost};
 ghost use Rattle.druid_scatter.specs.Waiting.{Tells, TellsNothing, exchange_of};
 
 use crate::GatherFault;
-use druid_partial::{NodeAnswer, PartialFault, read_node_answer};
+use druid_partial_text::{NodeAnswer, PartialFault, read_node_answer};
 use druid_query::SubQuery;
 use druid_wire::{WireFault, response_of};
 use http::StatusCode;

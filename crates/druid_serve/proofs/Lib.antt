@@ -1,3 +1,2 @@
 pub mod FolderLemmas
 pub mod ViewLemmas
-pub mod WordLemmas

@@ -1,13 +1,19 @@
--- What the program is asked for.
-use Rattle.std.specs.Prelude.{◌≡◌, ℕ, List, [], ◌∷◌, codes, Some}
+-- How a cluster is served.
+use Rattle.std.specs.Prelude.{◌≡◌, ℕ, List, ⊤, Some, Result, Ok, Err}
 use Rattle.serde_json.specs.Data.{Data}
 use Rattle.druid_config.specs.Configs.{Told, config_at}
 use Rattle.druid_config.specs.Read.{ReadsAs}
-
--- the words ask to serve the cluster of the config at a path
-abbrev pub AsksForServe : List (List ℕ) → Type 0
-AsksForServe words = (path : List ℕ) × (words ≡ codes "serve" ∷ path ∷ [])
+use Rattle.druid_serve.specs.declared.fault.ServeFault.{ServeFault}
+use Rattle.druid_serve.specs.declared.fault.ServeFault.TheVariants.{BadConfig, BadFolder, Device}
 
 -- the bytes are a config
 abbrev pub IsConfig : List ℕ → Type 0
 IsConfig bytes = (d : Data) × (told : Told) × ReadsAs bytes d × (config_at d ≡ Some told)
+
+-- how the bytes are served as a config: they are refused only where they are none, and a folder only where they are one. A device
+-- that fails and want of memory say nothing of the bytes
+abbrev pub ServesAs : List ℕ → Result ⊤ ServeFault → Type 0
+ServesAs bytes (Ok done) = IsConfig bytes
+ServesAs bytes (Err BadConfig) = IsConfig bytes → ⊥
+ServesAs bytes (Err BadFolder) = IsConfig bytes
+ServesAs bytes (Err Device) = ⊤

@@ -1,7 +1,8 @@
 ghost use Rattle.std.specs.Prelude.{◌≡◌};
-ghost use Rattle.druid_serve.specs.Faults.{of_config, of_store, of_node, status_of};
-ghost use Rattle.druid_serve.specs.declared.fault.ServeFault.TheVariants.{Device};
+ghost use Rattle.druid_serve.specs.Faults.{of_cluster, of_config, of_store, of_node, status_of};
+ghost use Rattle.druid_serve.specs.declared.fault.ClusterFault.TheVariants.{Device};
 
+use druid_command_line::Exit;
 use druid_config::ConfigFault;
 use druid_node::NodeFault;
 use druid_store::StoreFault;
@@ -28,25 +29,9 @@ impl ServeFault {
         ensures { result ≡ status_of self.now }
     {
         match self {
-            ServeFault::BadConfig | ServeFault::BadFolder => 1,
-            ServeFault::Device => 3,
+            ServeFault::BadConfig | ServeFault::BadFolder => Exit::Refused.status(),
+            ServeFault::Device => Exit::Device.status(),
         }
-    }
-}
-
-impl From<AllocError> for ServeFault {
-    ghost from_gives = { λ _ fault. fault ≡ Device };
-
-    fn from(_error: AllocError) -> ServeFault {
-        ServeFault::Device
-    }
-}
-
-impl<T: Drop> From<AllocFailed<T>> for ServeFault {
-    ghost from_gives = { λ _ fault. fault ≡ Device };
-
-    fn from(_error: AllocFailed<T>) -> ServeFault {
-        ServeFault::Device
     }
 }
 
@@ -61,29 +46,65 @@ impl From<ConfigFault> for ServeFault {
     }
 }
 
-impl From<StoreFault> for ServeFault {
-    ghost from_gives = { λ fault told. told ≡ of_store fault };
+impl From<ClusterFault> for ServeFault {
+    ghost from_gives = { λ fault told. told ≡ of_cluster fault };
 
-    fn from(fault: StoreFault) -> ServeFault {
+    fn from(fault: ClusterFault) -> ServeFault {
         match fault {
-            StoreFault::BadNumber | StoreFault::AtEnd | StoreFault::BadName =>
-                ServeFault::BadFolder,
-            StoreFault::Device | StoreFault::Memory => ServeFault::Device,
+            ClusterFault::BadFolder => ServeFault::BadFolder,
+            ClusterFault::Device => ServeFault::Device,
         }
     }
 }
 
-impl From<NodeFault> for ServeFault {
+/// Why a cluster whose config was read is not served.
+#[derive(Clone, Copy, Debug, PartialEq, Eq, Drop)]
+pub(crate) enum ClusterFault {
+    /// A segment file or an incarnation file is refused at the start.
+    BadFolder,
+    /// A device failed, or memory was refused.
+    Device,
+}
+
+impl From<AllocError> for ClusterFault {
+    ghost from_gives = { λ _ fault. fault ≡ Device };
+
+    fn from(_error: AllocError) -> ClusterFault {
+        ClusterFault::Device
+    }
+}
+
+impl<T: Drop> From<AllocFailed<T>> for ClusterFault {
+    ghost from_gives = { λ _ fault. fault ≡ Device };
+
+    fn from(_error: AllocFailed<T>) -> ClusterFault {
+        ClusterFault::Device
+    }
+}
+
+impl From<StoreFault> for ClusterFault {
+    ghost from_gives = { λ fault told. told ≡ of_store fault };
+
+    fn from(fault: StoreFault) -> ClusterFault {
+        match fault {
+            StoreFault::BadNumber | StoreFault::AtEnd | StoreFault::BadName =>
+                ClusterFault::BadFolder,
+            StoreFault::Device | StoreFault::Memory => ClusterFault::Device,
+        }
+    }
+}
+
+impl From<NodeFault> for ClusterFault {
     ghost from_gives = { λ fault told. told ≡ of_node fault };
 
-    fn from(fault: NodeFault) -> ServeFault {
+    fn from(fault: NodeFault) -> ClusterFault {
         match fault {
             NodeFault::File(_)
             | NodeFault::NameDiffers
             | NodeFault::History(_)
             | NodeFault::NoFile
-            | NodeFault::Behind(_) => ServeFault::BadFolder,
-            NodeFault::Device | NodeFault::Wire(_) | NodeFault::Memory => ServeFault::Device,
+            | NodeFault::Behind(_) => ClusterFault::BadFolder,
+            NodeFault::Device | NodeFault::Wire(_) | NodeFault::Memory => ClusterFault::Device,
         }
     }
 }

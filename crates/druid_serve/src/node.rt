@@ -6,7 +6,7 @@ ghost use Rattle.druid_shard.specs.Reply.{max_changes};
 ghost use Rattle.druid_store.specs.Folder.{names_of};
 ghost use Rattle.druid_serve.specs.Files.{is_segment_file, IsTaken, HoldsSegments};
 
-use crate::ServeFault;
+use crate::fault::ClusterFault;
 use crate::outside::{REST_MILLISECONDS, limit, listen};
 use druid_config::NodeConfig;
 use druid_node::{DataNode, NodeState};
@@ -50,7 +50,7 @@ fn load_named<R: Wait, F: Folder>(
     folder: &mut F,
     names: &[String],
     seen: &mut Mark,
-) -> Result<(), ServeFault>
+) -> Result<(), ClusterFault>
     ensures ok { F.is_honest folder.new → OnOk result (All (IsTaken (F.content folder.old)) (names_of names.now)) }
     ensures content { F.is_honest folder.new → F.content folder.new ≡ F.content folder.old }
     ensures honest { F.is_honest folder.new → F.is_honest folder.old }
@@ -69,7 +69,7 @@ fn load_files<R: Wait, F: Folder>(
     alloc: Global,
     node: &DataNode,
     folder: &mut F,
-) -> Result<(), ServeFault>
+) -> Result<(), ClusterFault>
     ensures { F.is_honest folder.new → OnOk result (HoldsSegments (F.content folder.new)) }
 {
     let names = folder.list(alloc)?;
@@ -82,7 +82,7 @@ fn loaded<R: Wait, F: Folder>(
     alloc: Global,
     folder: &mut F,
     kept: usize,
-) -> Result<DataNode, ServeFault>
+) -> Result<DataNode, ClusterFault>
     requires some { 1 ≤ kept }
     requires few { kept ≤ max_changes }
     ensures { F.is_honest folder.new → OnOk result (HoldsSegments (F.content folder.new)) }
@@ -90,7 +90,7 @@ fn loaded<R: Wait, F: Folder>(
     let incarnation = next_incarnation(alloc, folder)?;
     // A device that lies may give anything.
     if incarnation < 1 {
-        return Err(ServeFault::Device);
+        return Err(ClusterFault::Device);
     }
     let node = DataNode::new(NodeState::new(alloc, incarnation, kept)?);
     load_files(rt, alloc, &node, folder)?;
@@ -131,7 +131,7 @@ fn start_loader<
     node: &Arc<DataNode, Global>,
     path: String,
     names: Vec<String>,
-) -> Result<JoinHandle<()>, ServeFault>
+) -> Result<JoinHandle<()>, ClusterFault>
 where
     R::Dir: Send,
 {
@@ -140,7 +140,7 @@ where
     let job = move || load_from(&rt, &node, path, &names);
     match thread::spawn(&rt, job) {
         Ok(loader) => Ok(loader),
-        Err(_) => Err(ServeFault::Device),
+        Err(_) => Err(ClusterFault::Device),
     }
 }
 
@@ -186,7 +186,7 @@ fn start_worker<R: Wait + Threads + Clock + Copy + Send + Sync + 'static>(
     alloc: Global,
     node: &Arc<DataNode, Global>,
     listener: &Arc<TcpListener, Global>,
-) -> Result<(), ServeFault> {
+) -> Result<(), ClusterFault> {
     let rt = *rt;
     let node = Arc::try_clone(node)?;
     let listener = Arc::try_clone(listener)?;
@@ -196,7 +196,7 @@ fn start_worker<R: Wait + Threads + Clock + Copy + Send + Sync + 'static>(
             drop(worker);
             Ok(())
         }
-        Err(_) => Err(ServeFault::Device),
+        Err(_) => Err(ClusterFault::Device),
     }
 }
 
@@ -213,7 +213,7 @@ pub(crate) fn start_node<
         + Send
         + Sync
         + 'static,
->(rt: &R, alloc: Global, config: &NodeConfig, kept: usize) -> Result<JoinHandle<()>, ServeFault>
+>(rt: &R, alloc: Global, config: &NodeConfig, kept: usize) -> Result<JoinHandle<()>, ClusterFault>
 where
     R::Dir: Send,
     requires some { 1 ≤ kept }

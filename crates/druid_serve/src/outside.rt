@@ -1,5 +1,5 @@
 //! What comes from outside: sockets, and those who connect to them.
-use crate::ServeFault;
+use crate::fault::ClusterFault;
 use std::alloc::Global;
 use std::net::{Net, SocketAddr, TcpListener, TcpStream};
 use std::time::Duration;
@@ -15,13 +15,13 @@ pub const REST_MILLISECONDS: u64 = 10;
 pub(crate) fn listen<R: Net<Listener = TcpListener, Stream = TcpStream>>(
     rt: &R,
     address: &str,
-) -> Result<TcpListener, ServeFault> {
+) -> Result<TcpListener, ClusterFault> {
     let Ok(address) = address.parse::<SocketAddr>() else {
-        return Err(ServeFault::Device);
+        return Err(ClusterFault::Device);
     };
     match TcpListener::bind(rt, address) {
         Ok(listener) => Ok(listener),
-        Err(_) => Err(ServeFault::Device),
+        Err(_) => Err(ClusterFault::Device),
     }
 }
 

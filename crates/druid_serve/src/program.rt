@@ -1,12 +1,13 @@
 //! What the program does with its words.
-ghost use Rattle.std.specs.Prelude.{◌≡◌, ⊤, ℕ, List, Option, Result, IfOk, OnErr, IsTrue, length, map, string_bytes};
-ghost use Rattle.druid_cluster.specs.Program.{AsksForReplay, Replays, exit_status};
+ghost use Rattle.std.specs.Prelude.{◌≡◌, ◌≢◌, ⊤, ℕ, List, Option, Result, IfOk, OnErr, map, string_bytes};
+ghost use Rattle.druid_command_line.specs.Words.{AsksForReplay, AsksForServe};
+ghost use Rattle.druid_cluster.specs.Program.{Replays, exit_status};
 ghost use Rattle.druid_cluster.specs.declared.fault.ReplayFault.{ReplayFault};
-ghost use Rattle.druid_serve.specs.Program.{AsksForServe};
 
 use crate::ServeFault;
 use crate::serving::{serve, tell};
 use druid_cluster::run_program;
+use druid_command_line::asks_for_serve;
 use std::alloc::Global;
 use std::fs::File;
 use std::io::{BufWriter, Read, Write};
@@ -39,7 +40,7 @@ fn config_at<R: Files>(rt: &R, alloc: Global, path: &str) -> Result<Vec<u8>, Ser
     Ok(bytes)
 }
 
-// Serves the cluster of the config at a path, and gives the exit status.
+// Serves the cluster of the config at a path, and gives the exit status, which is never that of words that ask for nothing.
 fn serve_file<
     R: Files<File = File>
         + Net<Listener = TcpListener, Stream = TcpStream>
@@ -56,6 +57,7 @@ fn serve_file<
 >(rt: &R, alloc: Global, path: &str, output: W, errors: &mut E) -> u8
 where
     R::Dir: Send,
+    ensures { result ≢ 2 }
 {
     let config = match config_at(rt, alloc, path) {
         Ok(config) => config,
@@ -65,14 +67,6 @@ where
         Ok(mut writer) => serve(rt, alloc, &config, &mut writer, errors),
         Err(_) => tell(errors, ServeFault::Device),
     }
-}
-
-// Whether there are two words, the first of which is `serve`.
-fn asks_for_serve(words: &[String]) -> bool
-    ensures two { IsTrue result → length words.now ≡ 2 }
-    ensures asked { IsTrue result → AsksForServe (map string_bytes words.now) }
-{
-    words.len() == 2 && words[0].as_str() == "serve"
 }
 
 /// The whole program, over its handles: the words behind its name, standard input, standard output and standard error. It
@@ -98,6 +92,7 @@ where
     ensures unread { OnErr words (result ≡ 3) }
     ensures usage { IfOk words (λ list. (AsksForReplay (map string_bytes list.items) → ⊥)
         → (AsksForServe (map string_bytes list.items) → ⊥) → result ≡ 2) }
+    ensures served { IfOk words (λ list. AsksForServe (map string_bytes list.items) → result ≢ 2) }
     ensures replayed { IfOk words (λ list. AsksForReplay (map string_bytes list.items)
         → (written : Option (List ℕ)) × (end : Result ⊤ ReplayFault)
         × Replays (I.remaining input) (W.contents output) written end × (result ≡ exit_status end)) }

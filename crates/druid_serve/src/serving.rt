@@ -1,16 +1,18 @@
 //! A cluster, from its config to its end.
-ghost use Rattle.std.specs.Prelude.{◌≡◌, ◌≤◌, IfOk, OnOk, length};
+ghost use Rattle.std.specs.Prelude.{◌≡◌, ◌≢◌, ◌<◌, ◌≤◌, All, IfOk, length};
 ghost use Rattle.druid_shard.specs.Reply.{max_changes};
 ghost use Rattle.druid_inventory.specs.Entry.{max_nodes};
 ghost use Rattle.druid_serve.specs.Faults.{status_of};
-ghost use Rattle.druid_serve.specs.Program.{IsConfig};
+ghost use Rattle.druid_serve.specs.Program.{IsConfig, ServesAs};
 
 use crate::ServeFault;
 use crate::asking::ask;
 use crate::broker::{Broker, Opening, start_broker};
+use crate::fault::ClusterFault;
 use crate::gate::Gate;
 use crate::node::start_node;
 use crate::outside::listen;
+use druid_command_line::Exit;
 use druid_config::{BrokerConfig, Config, NodeConfig, QueryConfig, names_in, read_config};
 use druid_inventory::Inventory;
 use std::alloc::Global;
@@ -40,7 +42,7 @@ fn start_nodes<
     alloc: Global,
     nodes: &[NodeConfig],
     kept: usize,
-) -> Result<Vec<JoinHandle<()>>, ServeFault>
+) -> Result<Vec<JoinHandle<()>>, ClusterFault>
 where
     R::Dir: Send,
     requires some { 1 ≤ kept }
@@ -58,7 +60,7 @@ fn listen_all<R: Net<Listener = TcpListener, Stream = TcpStream>>(
     rt: &R,
     alloc: Global,
     brokers: &[BrokerConfig],
-) -> Result<Vec<Arc<TcpListener, Global>>, ServeFault> {
+) -> Result<Vec<Arc<TcpListener, Global>>, ClusterFault> {
     let mut listeners = Vec::with_capacity(alloc, brokers.len())?;
     for broker in brokers {
         listeners.push(Arc::new(alloc, listen(rt, broker.address())?)?)?;
@@ -67,7 +69,7 @@ fn listen_all<R: Net<Listener = TcpListener, Stream = TcpStream>>(
 }
 
 // What a broker knows first of the nodes.
-fn fresh(alloc: Global, nodes: &[NodeConfig]) -> Result<Inventory, ServeFault>
+fn fresh(alloc: Global, nodes: &[NodeConfig]) -> Result<Inventory, ClusterFault>
     requires some { 1 ≤ length nodes.now }
     requires few { length nodes.now ≤ max_nodes }
     ensures { IfOk result (λ inventory. length inventory ≡ length nodes.now) }
@@ -75,7 +77,7 @@ fn fresh(alloc: Global, nodes: &[NodeConfig]) -> Result<Inventory, ServeFault>
     match Inventory::new(alloc, names_in(alloc, nodes)?) {
         Ok(inventory) => Ok(inventory),
         // No name stands twice, so memory was refused.
-        Err(_) => Err(ServeFault::Device),
+        Err(_) => Err(ClusterFault::Device),
     }
 }
 
@@ -89,7 +91,7 @@ fn start_one<
         + Send
         + Sync
         + 'static,
->(rt: &R, alloc: Global, opening: Opening, nodes: &[NodeConfig]) -> Result<Broker, ServeFault>
+>(rt: &R, alloc: Global, opening: Opening, nodes: &[NodeConfig]) -> Result<Broker, ClusterFault>
     requires { length nodes.now ≡ length opening.inventory }
 {
     start_broker::<R, Brand>(rt, alloc, opening, nodes)
@@ -111,7 +113,7 @@ fn start_brokers<
     brokers: &[BrokerConfig],
     turns: u64,
     nodes: &[NodeConfig],
-) -> Result<Vec<Broker>, ServeFault>
+) -> Result<Vec<Broker>, ClusterFault>
     requires some { 1 ≤ length nodes.now }
     requires few { length nodes.now ≤ max_nodes }
 {
@@ -143,7 +145,7 @@ fn settled<R: Threads>(
     alloc: Global,
     loaders: Vec<JoinHandle<()>>,
     standing: Vec<Broker>,
-) -> Result<Vec<Arc<Gate, Global>>, ServeFault> {
+) -> Result<Vec<Arc<Gate, Global>>, ClusterFault> {
     let mut gates = Vec::with_capacity(alloc, standing.len())?;
     join_all(rt, loaders);
     for broker in standing {
@@ -160,13 +162,12 @@ fn ask_all<R: Net + Clock + Copy, W: Write>(
     queries: &[QueryConfig],
     brokers: &[BrokerConfig],
     out: &mut W,
-) -> Result<(), ServeFault> {
+) -> Result<(), ClusterFault>
+    requires { All (λ q. q.broker < length brokers.now) queries.now }
+{
     for query in queries {
-        match brokers.get(query.broker()) {
-            Some(broker) => ask(rt, alloc, query.text(), broker.address(), out)?,
-            // Each query is to a broker that is there.
-            None => return Err(ServeFault::BadConfig),
-        }
+        let broker = &brokers[query.broker()];
+        ask(rt, alloc, query.text(), broker.address(), out)?;
     }
     Ok(())
 }
@@ -177,27 +178,17 @@ fn wait_for_others<R: Wait, W: Write>(
     gates: &[Arc<Gate, Global>],
     connections: u64,
     out: &mut W,
-) -> Result<(), ServeFault> {
+) -> Result<(), ClusterFault> {
     for gate in gates {
         gate.open(rt);
     }
     if out.flush().is_err() {
-        return Err(ServeFault::Device);
+        return Err(ClusterFault::Device);
     }
     for gate in gates {
         gate.wait(rt, connections);
     }
     Ok(())
-}
-
-// The config that bytes are.
-fn config_of(alloc: Global, bytes: &[u8]) -> Result<Config, ServeFault>
-    ensures { OnOk result (IsConfig bytes.now) }
-{
-    match read_config(alloc, bytes) {
-        Ok(config) => Ok(config),
-        Err(fault) => Err(fault.into()),
-    }
 }
 
 // Serves a cluster to its end.
@@ -213,7 +204,7 @@ fn serve_cluster<
         + Sync
         + 'static,
     W: Write,
->(rt: &R, alloc: Global, config: &Config, out: &mut W) -> Result<(), ServeFault>
+>(rt: &R, alloc: Global, config: &Config, out: &mut W) -> Result<(), ClusterFault>
 where
     R::Dir: Send,
 {
@@ -240,13 +231,11 @@ fn serve_config<
 >(rt: &R, alloc: Global, bytes: &[u8], out: &mut W) -> Result<(), ServeFault>
 where
     R::Dir: Send,
-    ensures config { OnOk result (IsConfig bytes.now) }
+    ensures judged { ServesAs bytes.now result }
     ensures nothing { (IsConfig bytes.now → ⊥) → W.contents out.new ≡ W.contents out.old }
 {
-    match config_of(alloc, bytes) {
-        Ok(config) => serve_cluster(rt, alloc, &config, out),
-        Err(fault) => Err(fault),
-    }
+    let config = read_config(alloc, bytes)?;
+    Ok(serve_cluster(rt, alloc, &config, out)?)
 }
 
 /// Serves the cluster of a config, prints the answers to its queries, and ends once each broker answered the connections from
@@ -270,10 +259,11 @@ pub fn serve<
 where
     R::Dir: Send,
     ensures served { result ≡ 0 → IsConfig config.now }
+    ensures status { result ≢ 2 }
     ensures nothing { (IsConfig config.now → ⊥) → W.contents out.new ≡ W.contents out.old }
 {
     match serve_config(rt, alloc, config, out) {
-        Ok(()) => 0,
+        Ok(()) => Exit::Done.status(),
         Err(fault) => tell(errors, fault),
     }
 }

@@ -1,27 +1,45 @@
 //! Configs that are taken and that are refused.
 use druid_config::{ConfigFault, read_config};
 use std::alloc::Global;
-use std::test::Fail;
+use std::process::Abort;
 
 // A config of one node and one broker, each number at its limit.
 fn whole() -> &'static str {
     "{\"brokers\":[{\"address\":\"127.0.0.1:9001\",\"workers\":16}],\"connections\":0,\"kept\":1000,\"nodes\":[{\"address\":\"127.0.0.1:65535\",\"folder\":\"f\",\"loads\":[\"a.seg\"],\"name\":\"n0\",\"workers\":1}],\"queries\":[{\"broker\":0,\"query\":{}}],\"turns\":1000000}"
 }
 
-// What is told of a config, in which a text stands in the place of another.
-fn told_of(alloc: Global, from: &str, to: &str) -> Result<&'static str, Fail> {
-    let (front, back) = whole().split_once(from).ok_or("no such text")?;
-    let text = format!(in alloc; "{front}{to}{back}")?;
+// What stands before the first such text, and what behind it.
+fn halves<'a>(rt: &impl Abort, text: &'a str, between: &str) -> (&'a str, &'a str) {
+    text.split_once(between).expect(rt, "no such text")
+}
+
+fn told_of(alloc: Global, text: String) -> &'static str {
     match read_config(alloc, text.as_bytes()) {
-        Ok(_) => Ok("taken"),
-        Err(ConfigFault::Refused) => Ok("bad config"),
-        Err(ConfigFault::Memory) => Ok("device"),
+        Ok(_) => "taken",
+        Err(ConfigFault::Refused) => "bad config",
+        Err(ConfigFault::Memory) => "device",
     }
 }
 
-// Each row has a text, and what stands in its place.
+// The config in which a text stands in the place of another.
+fn changed(rt: &impl Abort, alloc: Global, from: &str, to: &str) -> String {
+    let (front, back) = halves(rt, whole(), from);
+    format!(in alloc; "{front}{to}{back}").expect(rt, "memory")
+}
+
+// Asserts what is told of each config. A row has a text, and what stands in its place.
+fn assert_told(rt: &impl Abort, alloc: Global, rows: &str, wanted: &str) {
+    for row in rows.lines() {
+        let (from, to) = halves(rt, row, " = ");
+        assert!(rt;
+            told_of(alloc, changed(rt, alloc, from, to)) == wanted,
+            "{row}"
+        );
+    }
+}
+
 #[test]
-fn taken_configs(rt: HostRuntime) -> Result<(), Fail> {
+fn taken_configs(rt: HostRuntime) {
     let rows = "\"kept\" = \"kept\"
 \"turns\":1000000} = \"turns\":1000000,\"more\":[]}
 \"connections\":0 = \"connections\":1000000
@@ -29,15 +47,11 @@ fn taken_configs(rt: HostRuntime) -> Result<(), Fail> {
 [\"a.seg\"] = []
 [{\"broker\":0,\"query\":{}}] = []
 {} = {\"a\":[1,null]}";
-    for row in rows.lines() {
-        let (from, to) = row.split_once(" = ").ok_or("no row")?;
-        assert!(rt; told_of(rt.alloc(), from, to)? == "taken", "{row}");
-    }
-    Ok(())
+    assert_told(&rt, rt.alloc(), rows, "taken");
 }
 
 #[test]
-fn refused_configs(rt: HostRuntime) -> Result<(), Fail> {
+fn refused_configs(rt: HostRuntime) {
     let rows = "\"turns\":1000000} = \"turns\":1000000
 \"turns\":1000000 = \"turn\":1
 \"turns\":1000000 = \"turns\":1000001
@@ -66,61 +80,65 @@ fn refused_configs(rt: HostRuntime) -> Result<(), Fail> {
 {} = \"\"
 [{\"broker\":0,\"query\":{}}] = {}
 [{\"address\":\"127.0.0.1:9001\",\"workers\":16}] = []";
-    for row in rows.lines() {
-        let (from, to) = row.split_once(" = ").ok_or("no row")?;
-        assert!(rt; told_of(rt.alloc(), from, to)? == "bad config", "{row}");
-    }
-    Ok(())
+    assert_told(&rt, rt.alloc(), rows, "bad config");
 }
 
-// A config of so many nodes, each of the name that a letter and its place give.
-fn with_nodes(alloc: Global, count: usize) -> Result<String, Fail> {
-    let (front, rest) = whole()
-        .split_once("[{\"address\":\"127.0.0.1:65535\"")
-        .ok_or("no nodes")?;
-    let (_, back) = rest.split_once("}]").ok_or("no end of the nodes")?;
-    let mut text = format!(in alloc; "{front}[")?;
+// A node of the name that a letter and its place give.
+fn node(rt: &impl Abort, alloc: Global, place: usize) -> String {
+    let comma = if place == 0 { "" } else { "," };
+    format!(in alloc;
+        "{comma}{{\"address\":\"127.0.0.1:9002\",\"folder\":\"\",\"loads\":[],\"name\":\"n{place}\",\"workers\":1}}"
+    ).expect(rt, "memory")
+}
+
+fn nodes(rt: &impl Abort, alloc: Global, count: usize) -> String {
+    let mut text = String::new(alloc);
     for place in 0..count {
-        let comma = if place == 0 { "" } else { "," };
-        let node = format!(in alloc;
-            "{comma}{{\"address\":\"127.0.0.1:9002\",\"folder\":\"\",\"loads\":[],\"name\":\"n{place}\",\"workers\":1}}"
-        )?;
-        text.push_str(node.as_str())?;
+        let node = node(rt, alloc, place);
+        text.push_str(node.as_str()).expect(rt, "memory");
     }
-    text.push_str("]")?;
-    text.push_str(back)?;
-    Ok(text)
+    text
+}
+
+// A config of so many nodes.
+fn with_nodes(rt: &impl Abort, alloc: Global, count: usize) -> String {
+    let (front, rest) = halves(rt, whole(), "{\"address\":\"127.0.0.1:65535\"");
+    let (_, back) = halves(rt, rest, "}]");
+    let nodes = nodes(rt, alloc, count);
+    format!(in alloc; "{front}{nodes}]{back}").expect(rt, "memory")
 }
 
 #[test]
-fn numbers_of_nodes(rt: HostRuntime) -> Result<(), Fail> {
-    let alloc = rt.alloc();
+fn numbers_of_nodes(rt: HostRuntime) {
     for count in 0..66_usize {
-        let taken = read_config(alloc, with_nodes(alloc, count)?.as_bytes()).is_ok();
-        assert!(rt; taken == (1 <= count && count <= 64), "{count}");
+        let wanted = if 1 <= count && count <= 64 {
+            "taken"
+        } else {
+            "bad config"
+        };
+        let told = told_of(rt.alloc(), with_nodes(&rt, rt.alloc(), count));
+        assert!(rt; told == wanted, "{count}");
     }
-    Ok(())
+}
+
+// A config of two nodes of one name.
+fn with_doubled(rt: &impl Abort, alloc: Global) -> String {
+    let text = with_nodes(rt, alloc, 2);
+    let (front, back) = halves(rt, text.as_str(), "n1");
+    format!(in alloc; "{front}n0{back}").expect(rt, "memory")
 }
 
 #[test]
-fn doubled_names(rt: HostRuntime) -> Result<(), Fail> {
-    let alloc = rt.alloc();
-    let text = with_nodes(alloc, 2)?;
-    let (front, back) = text.as_str().split_once("n1").ok_or("no second node")?;
-    let doubled = format!(in alloc; "{front}n0{back}")?;
-    let told = read_config(alloc, doubled.as_bytes());
-    assert!(rt; matches!(told, Err(ConfigFault::Refused)));
-    Ok(())
+fn doubled_names(rt: HostRuntime) {
+    let told = told_of(rt.alloc(), with_doubled(&rt, rt.alloc()));
+    assert!(rt; told == "bad config");
 }
 
 #[test]
-fn ample_memory(rt: HostRuntime) -> Result<(), Fail> {
-    let Ok(config) = read_config(rt.alloc(), whole().as_bytes()) else {
-        return Err("no config".into());
-    };
+fn ample_memory(rt: HostRuntime) {
+    let config = read_config(rt.alloc(), whole().as_bytes()).expect(&rt, "a config");
     assert!(rt;
         config.nodes().len() == 1 && config.brokers().len() == 1 && config.queries().len() == 1
     );
     assert!(rt; config.kept() == 1000 && config.turns() == 1_000_000 && config.connections() == 0);
-    Ok(())
 }

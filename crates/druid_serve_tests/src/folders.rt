@@ -6,25 +6,39 @@ use druid_shard::Descriptor;
 use druid_time::{Instant, Interval};
 use std::alloc::Global;
 use std::path::{Path, PathBuf};
+use std::process::Abort;
 use std::rt::{Env, Files};
-use std::test::Fail;
 use std::{env, fs};
 
+// The descriptor of a segment of the source `wiki`.
+fn descriptor(rt: &impl Abort, alloc: Global, version: &str, interval: &str) -> Descriptor {
+    let name = Name::new(alloc, "wiki").expect(rt, "a name");
+    let interval = Interval::parse(interval).expect(rt, "an interval");
+    let version = Version::new(alloc, version).expect(rt, "a version");
+    let id = SegmentId::new(name, interval, version, 0);
+    Descriptor::new(id, 1, 0).expect(rt, "a descriptor")
+}
+
+fn row(rt: &impl Abort, alloc: Global, instant: &str) -> Row {
+    let time = Instant::parse(instant).expect(rt, "an instant");
+    Row::new(time, Vec::new(alloc), Vec::new(alloc))
+}
+
 // A segment of the source `wiki` on the first day of 2024, or on a part of it, with a row at each of these instants.
-fn segment(alloc: Global, version: &str, interval: &str, instants: &str) -> Result<Segment, Fail> {
-    let id = SegmentId::new(
-        Name::new(alloc, "wiki")?,
-        Interval::parse(interval)?,
-        Version::new(alloc, version)?,
-        0,
-    );
-    let descriptor = Descriptor::new(id, 1, 0).ok_or("no descriptor")?;
+fn segment(
+    rt: &impl Abort,
+    alloc: Global,
+    version: &str,
+    interval: &str,
+    instants: &str,
+) -> Segment {
+    let descriptor = descriptor(rt, alloc, version, interval);
     let schema = Schema::new(Vec::new(alloc), Vec::new(alloc));
     let mut rows = Vec::new(alloc);
     for instant in instants.split(' ') {
-        rows.push(Row::new(Instant::parse(instant)?, Vec::new(alloc), Vec::new(alloc)))?;
+        rows.push(row(rt, alloc, instant)).expect(rt, "memory");
     }
-    Ok(Segment::new(alloc, descriptor, schema, rows)?)
+    Segment::new(alloc, descriptor, schema, rows).expect(rt, "a segment")
 }
 
 /// The file of the older segment.
@@ -34,9 +48,10 @@ pub(crate) const OLDER_FILE: &str = "wiki_2024-01-01T00:00:00.000Z_2024-01-02T00
 pub(crate) const NEWER_FILE: &str = "wiki_2024-01-01T10:00:00.000Z_2024-01-01T12:00:00.000Z_v2.seg";
 
 // The segment of a file.
-fn segment_of(alloc: Global, name: &str) -> Result<Segment, Fail> {
+fn segment_of(rt: &impl Abort, alloc: Global, name: &str) -> Segment {
     if name == OLDER_FILE {
         return segment(
+            rt,
             alloc,
             "v1",
             "2024-01-01/2024-01-02",
@@ -44,6 +59,7 @@ fn segment_of(alloc: Global, name: &str) -> Result<Segment, Fail> {
         );
     }
     segment(
+        rt,
         alloc,
         "v2",
         "2024-01-01T10:00/2024-01-01T12:00",
@@ -52,40 +68,40 @@ fn segment_of(alloc: Global, name: &str) -> Result<Segment, Fail> {
 }
 
 /// The bytes of a file.
-pub(crate) fn file_bytes(alloc: Global, name: &str) -> Result<Vec<u8>, Fail> {
+pub(crate) fn file_bytes(rt: &impl Abort, alloc: Global, name: &str) -> Vec<u8> {
+    let segment = segment_of(rt, alloc, name);
     let mut written = Vec::new(alloc);
-    write_segment(alloc, &segment_of(alloc, name)?, &mut written)?;
-    Ok(written)
+    write_segment(alloc, &segment, &mut written).expect(rt, "a file");
+    written
 }
 
 /// Puts a file into a folder.
-pub(crate) fn put<R: Files>(
-    rt: &R,
-    alloc: Global,
-    folder: &str,
-    name: &str,
-    bytes: &[u8],
-) -> Result<(), Fail> {
-    let path = Path::new(folder).join(alloc, name)?;
-    fs::write(rt, path.as_path(), bytes)?;
-    Ok(())
+pub(crate) fn put<R: Files + Abort>(rt: &R, alloc: Global, folder: &str, name: &str, bytes: &[u8]) {
+    let path = Path::new(folder).join(alloc, name).expect(rt, "memory");
+    fs::write(rt, path.as_path(), bytes).expect(rt, "a file");
 }
 
 // How many folders of one name there may be: what a run that was ended left.
 const MAX_LEFT: u64 = 1_000;
 
+// The path of the folder of that name and number.
+fn numbered(rt: &impl Abort, alloc: Global, top: &PathBuf, name: &str, number: u64) -> PathBuf {
+    let name = format!(in alloc; "{name}_{number}").expect(rt, "memory");
+    top.join(alloc, name.as_str()).expect(rt, "memory")
+}
+
 /// A new folder, whose name begins so.
-pub(crate) fn fresh_folder<R: Files + Env + AllocGlobal>(
+pub(crate) fn fresh_folder<R: Files + Env + AllocGlobal + Abort>(
     rt: &R,
     alloc: Global,
     name: &str,
-) -> Result<String, Fail> {
-    let top = env::temp_dir(rt)?;
+) -> String {
+    let top = env::temp_dir(rt).expect(rt, "a folder");
     for number in 0..MAX_LEFT {
-        let path: PathBuf = top.join(alloc, format!(in alloc; "{name}_{number}")?.as_str())?;
+        let path = numbered(rt, alloc, &top, name, number);
         if fs::create_dir(rt, path.as_path()).is_ok() {
-            return Ok(String::from_str(alloc, path.as_str())?);
+            return String::from_str(alloc, path.as_str()).expect(rt, "memory");
         }
     }
-    Err("no folder".into())
+    panic!(rt; "no folder")
 }

@@ -5,10 +5,10 @@ use druid_wire::{Link, TcpLink};
 use std::alloc::Global;
 use std::fs::File;
 use std::net::{Net, TcpListener, TcpStream};
+use std::process::Abort;
 use std::rt::{Env, Files};
 use std::sync::Wait;
 use std::sync::atomic::{AtomicBool, Ordering};
-use std::test::Fail;
 use std::thread::{Threads, join};
 use std::time::{Clock, Duration};
 use std::{fs, str, thread};
@@ -24,67 +24,65 @@ struct Place {
 }
 
 // An address of this machine where nobody listens.
-fn free_address<R: Net<Listener = TcpListener, Stream = TcpStream>>(
+fn free_address<R: Net<Listener = TcpListener, Stream = TcpStream> + Abort>(
     rt: &R,
     alloc: Global,
-) -> Result<String, Fail> {
-    let listener = TcpListener::bind(rt, "127.0.0.1:0")?;
-    let address = listener.local_addr()?;
-    Ok(format!(in alloc; "{address}")?)
+) -> String {
+    let listener = TcpListener::bind(rt, "127.0.0.1:0").expect(rt, "a listener");
+    let address = listener.local_addr().expect(rt, "an address");
+    format!(in alloc; "{address}").expect(rt, "memory")
+}
+
+// A new folder of a test with this file.
+fn folder_with<R: Files + Env + AllocGlobal + Abort>(
+    rt: &R,
+    alloc: Global,
+    test: &str,
+    file: &str,
+) -> String {
+    let name = format!(in alloc; "druid_serve_{test}").expect(rt, "memory");
+    let folder = fresh_folder(rt, alloc, name.as_str());
+    put(
+        rt,
+        alloc,
+        folder.as_str(),
+        file,
+        &file_bytes(rt, alloc, file),
+    );
+    folder
 }
 
 // A place with folders of the row's two segments.
 fn place_of<
-    R: Files<File = File> + Env + AllocGlobal + Net<Listener = TcpListener, Stream = TcpStream>,
->(rt: &R, alloc: Global, test: &str) -> Result<Place, Fail> {
-    let older = fresh_folder(
-        rt,
-        alloc,
-        format!(in alloc; "druid_serve_{test}_0")?.as_str(),
-    )?;
-    let newer = fresh_folder(
-        rt,
-        alloc,
-        format!(in alloc; "druid_serve_{test}_1")?.as_str(),
-    )?;
-    put(
-        rt,
-        alloc,
-        older.as_str(),
-        OLDER_FILE,
-        &file_bytes(alloc, OLDER_FILE)?,
-    )?;
-    put(
-        rt,
-        alloc,
-        newer.as_str(),
-        NEWER_FILE,
-        &file_bytes(alloc, NEWER_FILE)?,
-    )?;
-    put(rt, alloc, newer.as_str(), "other", b"no segment")?;
-    Ok(Place {
-        first: free_address(rt, alloc)?,
-        second: free_address(rt, alloc)?,
-        broker: free_address(rt, alloc)?,
+    R: Files<File = File>
+        + Env
+        + AllocGlobal
+        + Net<Listener = TcpListener, Stream = TcpStream>
+        + Abort,
+>(rt: &R, alloc: Global, test: &str) -> Place {
+    let older = folder_with(rt, alloc, test, OLDER_FILE);
+    let newer = folder_with(rt, alloc, test, NEWER_FILE);
+    put(rt, alloc, newer.as_str(), "other", b"no segment");
+    Place {
+        first: free_address(rt, alloc),
+        second: free_address(rt, alloc),
+        broker: free_address(rt, alloc),
         older,
         newer,
-    })
+    }
 }
 
 // The row's query.
 const QUERY: &str =
     "{\"aggregations\":[{\"name\":\"n\",\"type\":\"count\"}],\"dataSource\":\"wiki\",\"granularity\":\"all\",\"intervals\":\"2024-01-01/2024-01-02\",\"queryType\":\"timeseries\"}";
 
-// What is printed of it.
-const PRINTED: &str = "200\n[{\"result\":{\"n\":4},\"timestamp\":\"2024-01-01T00:00:00.000Z\"}]\n";
-
 // A config of two nodes and one broker, to which the query is posted.
-fn config(alloc: Global, place: &Place, connections: u64) -> Result<String, Fail> {
+fn config(rt: &impl Abort, alloc: Global, place: &Place, connections: u64) -> String {
     let (first, second, broker) = (&place.first, &place.second, &place.broker);
     let (older, newer) = (&place.older, &place.newer);
-    Ok(format!(in alloc;
+    format!(in alloc;
         "{{\"brokers\":[{{\"address\":\"{broker}\",\"workers\":2}}],\"connections\":{connections},\"kept\":10,\"nodes\":[{{\"address\":\"{first}\",\"folder\":\"{older}\",\"loads\":[],\"name\":\"n0\",\"workers\":2}},{{\"address\":\"{second}\",\"folder\":\"{newer}\",\"loads\":[\"none.seg\",\"{NEWER_FILE}\",\"other\"],\"name\":\"n1\",\"workers\":2}}],\"queries\":[{{\"broker\":0,\"query\":{QUERY}}}],\"turns\":1}}"
-    )?)
+    ).expect(rt, "memory")
 }
 
 // What a config is told: the status, a line feed, what was printed and what was told on the error writer.
@@ -95,80 +93,105 @@ fn served<
         + Wait
         + Threads
         + Clock
+        + Abort
         + Copy
         + Send
         + Sync
         + 'static,
->(rt: &R, alloc: Global, config: &str) -> Result<String, Fail>
+>(rt: &R, alloc: Global, config: &str) -> String
 where
     R::Dir: Send,
 {
     let mut out = Vec::new(alloc);
     let mut errors = Vec::new(alloc);
     let status = serve(rt, alloc, config.as_bytes(), &mut out, &mut errors);
-    let printed = str::from_utf8(&out)?;
-    let told = str::from_utf8(&errors)?;
-    Ok(format!(in alloc; "{status}\n{printed}{told}")?)
+    let printed = str::from_utf8(&out).expect(rt, "a text");
+    let told = str::from_utf8(&errors).expect(rt, "a text");
+    format!(in alloc; "{status}\n{printed}{told}").expect(rt, "memory")
+}
+
+// What the config of a place is told.
+fn served_at<
+    R: Files<File = File>
+        + Net<Listener = TcpListener, Stream = TcpStream>
+        + AllocGlobal
+        + Wait
+        + Threads
+        + Clock
+        + Abort
+        + Copy
+        + Send
+        + Sync
+        + 'static,
+>(rt: &R, alloc: Global, place: &Place) -> String
+where
+    R::Dir: Send,
+{
+    served(rt, alloc, config(rt, alloc, place, 0).as_str())
+}
+
+fn assert_told(rt: &impl Abort, told: String, wanted: &str) {
+    assert!(rt; told.as_str() == wanted, "{told}");
+}
+
+fn assert_served(rt: &impl Abort, told: String) {
+    assert!(rt; told.as_str().starts_with("0\n200\n"), "{told}");
 }
 
 // The text of a file of a folder.
-fn text_in<R: Files<File = File> + AllocGlobal>(
+fn text_in<R: Files<File = File> + AllocGlobal + Abort>(
     rt: &R,
     alloc: Global,
     folder: &str,
     name: &str,
-) -> Result<String, Fail> {
-    let path = format!(in alloc; "{folder}/{name}")?;
-    Ok(fs::read_to_string(rt, path.as_str())?)
+) -> String {
+    let path = format!(in alloc; "{folder}/{name}").expect(rt, "memory");
+    fs::read_to_string(rt, path.as_str()).expect(rt, "a file")
 }
 
 // Removes the folders of a place.
-fn clear<R: Files + AllocGlobal>(rt: &R, place: &Place) -> Result<(), Fail> {
-    fs::remove_dir_all(rt, place.older.as_str())?;
-    fs::remove_dir_all(rt, place.newer.as_str())?;
-    Ok(())
+fn clear<R: Files + AllocGlobal + Abort>(rt: &R, place: &Place) {
+    fs::remove_dir_all(rt, place.older.as_str()).expect(rt, "a folder");
+    fs::remove_dir_all(rt, place.newer.as_str()).expect(rt, "a folder");
 }
 
 // The files that keep the incarnations of a place.
-fn incarnations<R: Files<File = File> + AllocGlobal>(
+fn incarnations<R: Files<File = File> + AllocGlobal + Abort>(
     rt: &R,
     alloc: Global,
     place: &Place,
-) -> Result<String, Fail> {
-    let mut numbers = text_in(rt, alloc, place.older.as_str(), "incarnation")?;
-    numbers.push_str(text_in(rt, alloc, place.newer.as_str(), "incarnation")?.as_str())?;
-    Ok(numbers)
+) -> String {
+    let older = text_in(rt, alloc, place.older.as_str(), "incarnation");
+    let newer = text_in(rt, alloc, place.newer.as_str(), "incarnation");
+    format!(in alloc; "{older}{newer}").expect(rt, "memory")
+}
+
+// What is told of a config that is served: the answer to its query is printed.
+const SERVED: &str =
+    "0\n200\n[{\"result\":{\"n\":4},\"timestamp\":\"2024-01-01T00:00:00.000Z\"}]\n";
+
+#[test]
+fn served_cluster(rt: HostRuntime) {
+    let place = place_of(&rt, rt.alloc(), "cluster");
+    put(&rt, rt.alloc(), place.newer.as_str(), "incarnation", b"7\n");
+    assert_told(&rt, served_at(&rt, rt.alloc(), &place), SERVED);
+    assert_told(&rt, incarnations(&rt, rt.alloc(), &place), "1\n8\n");
+    clear(&rt, &place);
 }
 
 #[test]
-fn served_cluster(rt: HostRuntime) -> Result<(), Fail> {
-    let alloc = rt.alloc();
-    let wanted = format!(in alloc; "0\n{PRINTED}")?;
-    let place = place_of(&rt, alloc, "cluster")?;
-    put(&rt, alloc, place.newer.as_str(), "incarnation", b"7\n")?;
-    let told = served(&rt, alloc, config(alloc, &place, 0)?.as_str())?;
-    assert!(rt; told.as_str() == wanted.as_str(), "{told}");
-    assert!(rt; incarnations(&rt, alloc, &place)?.as_str() == "1\n8\n");
-    clear(&rt, &place)
+fn ample_memory(rt: HostRuntime) {
+    let place = place_of(&rt, rt.alloc(), "memory");
+    assert_served(&rt, served_at(&rt, rt.alloc(), &place));
+    clear(&rt, &place);
 }
 
 #[test]
-fn ample_memory(rt: HostRuntime) -> Result<(), Fail> {
-    let alloc = rt.alloc();
-    let place = place_of(&rt, alloc, "memory")?;
-    let told = served(&rt, alloc, config(alloc, &place, 0)?.as_str())?;
-    assert!(rt; told.as_str().starts_with("0\n200\n"), "{told}");
-    clear(&rt, &place)
-}
-
-#[test]
-fn no_config(rt: HostRuntime) -> Result<(), Fail> {
-    let alloc = rt.alloc();
+fn no_config(rt: HostRuntime) {
     for text in ["", "{", "no JSON", "[]", "{}"] {
-        let told = served(&rt, alloc, text)?;
+        let told = served(&rt, rt.alloc(), text);
         assert!(rt; told.as_str() == "1\nbad config\n", "{text}");
     }
-    Ok(())
 }
 
 // What the config of a place is told, once a file of a folder has these bytes: the first node's where the name begins with a
@@ -181,26 +204,50 @@ fn told_with<
         + Wait
         + Threads
         + Clock
+        + Abort
         + Copy
         + Send
         + Sync
         + 'static,
->(rt: &R, alloc: Global, name: &str, text: &str) -> Result<String, Fail>
+>(rt: &R, alloc: Global, name: &str, text: &str) -> String
 where
     R::Dir: Send,
 {
-    let place = place_of(rt, alloc, "refused")?;
+    let place = place_of(rt, alloc, "refused");
     match name.strip_prefix('/') {
-        Some(name) => put(rt, alloc, place.older.as_str(), name, text.as_bytes())?,
-        None => put(rt, alloc, place.newer.as_str(), name, text.as_bytes())?,
+        Some(name) => put(rt, alloc, place.older.as_str(), name, text.as_bytes()),
+        None => put(rt, alloc, place.newer.as_str(), name, text.as_bytes()),
     }
-    let told = served(rt, alloc, config(alloc, &place, 0)?.as_str())?;
-    clear(rt, &place)?;
-    Ok(told)
+    let told = served_at(rt, alloc, &place);
+    clear(rt, &place);
+    told
+}
+
+// The same of a row, in whose text `|` stands for a line feed.
+fn told_of<
+    R: Files<File = File>
+        + Env
+        + Net<Listener = TcpListener, Stream = TcpStream>
+        + AllocGlobal
+        + Wait
+        + Threads
+        + Clock
+        + Abort
+        + Copy
+        + Send
+        + Sync
+        + 'static,
+>(rt: &R, alloc: Global, row: &str) -> String
+where
+    R::Dir: Send,
+{
+    let (name, text) = row.split_once(":").expect(rt, "no row");
+    let text = text.replace(alloc, "|", "\n").expect(rt, "memory");
+    told_with(rt, alloc, name, text.as_str())
 }
 
 #[test]
-fn refused_folders(rt: HostRuntime) -> Result<(), Fail> {
+fn refused_folders(rt: HostRuntime) {
     let rows = "z.seg:DSG
 z.seg:
 .seg:DSG1
@@ -211,48 +258,32 @@ incarnation:18446744073709551615|
 /incarnation:x
 /a.seg:x";
     for row in rows.lines() {
-        let (name, text) = row.split_once(":").ok_or("no row")?;
-        let mut bytes = String::from_str(rt.alloc(), text)?;
-        if text.ends_with('|') {
-            bytes.pop();
-            bytes.push('\n')?;
-        }
-        let told = told_with(&rt, rt.alloc(), name, bytes.as_str())?;
+        let told = told_of(&rt, rt.alloc(), row);
         assert!(rt; told.as_str() == "1\nbad folder\n", "{row}");
     }
-    Ok(())
 }
 
 #[test]
-fn file_under_another_name(rt: HostRuntime) -> Result<(), Fail> {
-    let alloc = rt.alloc();
-    let place = place_of(&rt, alloc, "name")?;
-    put(
-        &rt,
-        alloc,
-        place.older.as_str(),
-        "a.seg",
-        &file_bytes(alloc, NEWER_FILE)?,
-    )?;
-    let told = served(&rt, alloc, config(alloc, &place, 0)?.as_str())?;
-    assert!(rt; told.as_str() == "1\nbad folder\n", "{told}");
-    clear(&rt, &place)
+fn file_under_another_name(rt: HostRuntime) {
+    let place = place_of(&rt, rt.alloc(), "name");
+    let bytes = file_bytes(&rt, rt.alloc(), NEWER_FILE);
+    put(&rt, rt.alloc(), place.older.as_str(), "a.seg", &bytes);
+    assert_told(&rt, served_at(&rt, rt.alloc(), &place), "1\nbad folder\n");
+    clear(&rt, &place);
 }
 
 // The first fault decides: the first node's folder before the second node's address, and the other way round.
 #[test]
-fn failing_devices(rt: HostRuntime) -> Result<(), Fail> {
+fn failing_devices(rt: HostRuntime) {
     let alloc = rt.alloc();
-    let place = place_of(&rt, alloc, "devices")?;
-    let _taken = TcpListener::bind(&rt, place.first.as_str())?;
-    let text = config(alloc, &place, 0)?;
-    put(&rt, alloc, place.newer.as_str(), "z.seg", b"x")?;
-    assert!(rt; served(&rt, alloc, text.as_str())?.as_str() == "3\ndevice\n");
-    put(&rt, alloc, place.older.as_str(), "z.seg", b"x")?;
-    assert!(rt; served(&rt, alloc, text.as_str())?.as_str() == "1\nbad folder\n");
-    clear(&rt, &place)?;
-    assert!(rt; served(&rt, alloc, text.as_str())?.as_str() == "3\ndevice\n");
-    Ok(())
+    let place = place_of(&rt, alloc, "devices");
+    let _taken = TcpListener::bind(&rt, place.first.as_str()).expect(&rt, "a listener");
+    put(&rt, alloc, place.newer.as_str(), "z.seg", b"x");
+    assert_told(&rt, served_at(&rt, alloc, &place), "3\ndevice\n");
+    put(&rt, alloc, place.older.as_str(), "z.seg", b"x");
+    assert_told(&rt, served_at(&rt, alloc, &place), "1\nbad folder\n");
+    clear(&rt, &place);
+    assert_told(&rt, served_at(&rt, alloc, &place), "3\ndevice\n");
 }
 
 // Asks a broker whether it is there, until the other thread is done, and gives how often it was answered.
@@ -287,17 +318,19 @@ fn served_to_others<
         + Wait
         + Threads
         + Clock
+        + Abort
         + Copy
         + Send
         + Sync
         + 'static,
->(rt: &R, alloc: Global, config: &str, address: &str) -> Result<(String, u64), Fail>
+>(rt: &R, alloc: Global, config: &str, address: &str) -> (String, u64)
 where
     R::Dir: Send,
 {
     let done = AtomicBool::new(false);
-    let mut link = TcpLink::new(*rt, String::from_str(alloc, address)?);
-    let (told, answered) = join(
+    let address = String::from_str(alloc, address).expect(rt, "memory");
+    let mut link = TcpLink::new(*rt, address);
+    join(
         rt,
         || {
             let told = served(rt, alloc, config);
@@ -305,17 +338,15 @@ where
             told
         },
         || keep_asking(rt, alloc, &mut link, &done),
-    );
-    Ok((told?, answered))
+    )
 }
 
 #[test]
-fn connections_from_outside(rt: HostRuntime) -> Result<(), Fail> {
-    let alloc = rt.alloc();
-    let place = place_of(&rt, alloc, "outside")?;
-    let text = config(alloc, &place, 5)?;
-    let (told, answered) = served_to_others(&rt, alloc, text.as_str(), place.broker.as_str())?;
-    assert!(rt; told.as_str().starts_with("0\n200\n"), "{told}");
+fn connections_from_outside(rt: HostRuntime) {
+    let place = place_of(&rt, rt.alloc(), "outside");
+    let text = config(&rt, rt.alloc(), &place, 5);
+    let (told, answered) = served_to_others(&rt, rt.alloc(), text.as_str(), place.broker.as_str());
+    assert_served(&rt, told);
     assert!(rt; answered >= 5, "{answered}");
-    clear(&rt, &place)
+    clear(&rt, &place);
 }

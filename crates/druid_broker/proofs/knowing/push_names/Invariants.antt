@@ -1,6 +1,6 @@
 use Rattle.std.proofs.Common.{◌≡◌, ◌++◌, drop}
 use Rattle.druid_broker.specs.Routes.{names_data}
-use Rattle.druid_partial.specs.Tokens.{tokens_of, rest_of}
+use Rattle.druid_partial_text.specs.Tokens.{tokens_of, rest_of}
 use Rattle.druid_broker.proofs.NameLemmas.{name_items}
 use Rattle.druid_broker.proofs.knowing.push_names.Given as goal
 

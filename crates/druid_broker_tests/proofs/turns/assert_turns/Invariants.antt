@@ -1,0 +1,5 @@
+use Rattle.druid_inventory.specs.Join.{names_of}
+use Rattle.druid_broker_tests.proofs.turns.assert_turns.Given as goal
+
+abbrev pub ghosts-assert_lines : goal.ghosts-assert_lines
+ghosts-assert_lines g a = record { names = names_of a.inventory }

@@ -1,0 +1,10 @@
+-- What the words behind the program's name ask for.
+use Rattle.std.specs.Prelude.{◌≡◌, ℕ, List, [], ◌∷◌, codes}
+
+-- the one word `replay`
+abbrev pub AsksForReplay : List (List ℕ) → Type 0
+AsksForReplay words = words ≡ codes "replay" ∷ []
+
+-- the words ask to serve the cluster of the config at a path
+abbrev pub AsksForServe : List (List ℕ) → Type 0
+AsksForServe words = (path : List ℕ) × (words ≡ codes "serve" ∷ path ∷ [])

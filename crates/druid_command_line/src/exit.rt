@@ -1,0 +1,29 @@
+ghost use Rattle.std.specs.Prelude.{◌≡◌};
+ghost use Rattle.druid_command_line.specs.Exits.{status_of};
+
+/// How the program ends.
+#[derive(Clone, Copy, Debug, PartialEq, Eq, Drop)]
+pub enum Exit {
+    /// All was done.
+    Done,
+    /// What was handed in is refused.
+    Refused,
+    /// The words ask for nothing that the program does.
+    Usage,
+    /// A device failed, or memory was refused.
+    Device,
+}
+
+impl Exit {
+    /// The exit status: 0, 1, 2 or 3, in the order above.
+    pub fn status(self) -> u8
+        ensures { result ≡ status_of self }
+    {
+        match self {
+            Exit::Done => 0,
+            Exit::Refused => 1,
+            Exit::Usage => 2,
+            Exit::Device => 3,
+        }
+    }
+}

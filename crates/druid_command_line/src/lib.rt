@@ -1,0 +1,8 @@
+//! What the words behind the program's name ask for, and the statuses that it exits with.
+#![tactic(auto)]
+
+mod exit;
+mod words;
+
+pub use exit::Exit;
+pub use words::{asks_for_replay, asks_for_serve};

@@ -1,0 +1,20 @@
+ghost use Rattle.std.specs.Prelude.{◌≡◌, ◌↔◌, IsTrue, length, map, string_bytes};
+ghost use Rattle.druid_command_line.specs.Words.{AsksForReplay, AsksForServe};
+
+/// Whether there is the one word `replay`.
+pub fn asks_for_replay(words: &[String]) -> bool
+    ensures { IsTrue result ↔ AsksForReplay (map string_bytes words.now) }
+{
+    if words.len() != 1 {
+        return false;
+    }
+    words[0].as_str() == "replay"
+}
+
+/// Whether there are two words, the first of which is `serve`.
+pub fn asks_for_serve(words: &[String]) -> bool
+    ensures two { IsTrue result → length words.now ≡ 2 }
+    ensures asked { IsTrue result ↔ AsksForServe (map string_bytes words.now) }
+{
+    words.len() == 2 && words[0].as_str() == "serve"
+}

@@ -1,6 +1,0 @@
-use Rattle.druid_query.specs.Asked.{asked_at}
-use Rattle.druid_partial.proofs.MadeLemmas.{Made}
-use Rattle.druid_partial.proofs.missing.pieces_in.Given as goal
-
-abbrev pub invariant-loop-value : goal.invariant-loop-value
-invariant-loop-value l = Made (asked_at l.source) l.all.items l.values l.value-index

@@ -1,5 +1,0 @@
-use Rattle.druid_partial.proofs.NamedLemmas.{NumbersSet}
-use Rattle.druid_partial.proofs.results.set_numbers.Given as goal
-
-abbrev pub invariant-loop-i : goal.invariant-loop-i
-invariant-loop-i l = NumbersSet l.aggregations l.fn.columns.entries l.columns.entries l.i

@@ -1,5 +1,0 @@
-use Rattle.druid_partial.proofs.NamedLemmas.{ValuesSet}
-use Rattle.druid_partial.proofs.results.set_values.Given as goal
-
-abbrev pub invariant-loop-i : goal.invariant-loop-i
-invariant-loop-i l = ValuesSet l.dimensions l.fn.columns.entries l.columns.entries l.i

@@ -1,5 +1,0 @@
-use Rattle.druid_partial.proofs.ReadBackLemmas.{partial_back}
-use Rattle.druid_partial.proofs.text_laws.partials_are_read_back.Goals as goal
-
-pub returns : goal.returns
-returns c = partial_back

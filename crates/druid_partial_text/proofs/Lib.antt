@@ -1,0 +1,11 @@
+pub mod TokenLemmas
+pub mod TextBackLemmas
+pub mod ReadLemmas
+pub mod RowLemmas
+pub mod MadeLemmas
+pub mod NamedLemmas
+pub mod ResultLemmas
+pub mod ReadBackLemmas
+pub mod AnswerLemmas
+pub mod MissedLemmas
+pub mod AnswerTextLemmas

@@ -1,0 +1,82 @@
+ghost use Rattle.std.specs.Prelude.{◌≡◌, Some, refl};
+ghost use Rattle.druid_query.specs.AskedOrder.{same_asked, same_asked-per, same_asked-equiv};
+ghost use Rattle.druid_partial_text.specs.PieceOrder as order;
+ghost use Rattle.druid_partial_text.specs.PieceOrder.{piece_cmp};
+
+use druid_query::Asked;
+use druid_segid::SegmentId;
+use druid_time::Interval;
+use std::cmp::Ordering;
+use std::marker::Model;
+
+// A piece, its segment lent. Pieces are in the order of their segments, and then of their own starts and ends.
+#[derive(Drop)]
+pub(crate) struct LentPiece<'a> {
+    segment: &'a SegmentId,
+    piece: Interval,
+}
+
+impl<'a> Model for LentPiece<'a> {
+    ghost use Rattle.druid_query.specs.Asked.{Asked};
+
+    ghost Value = { Asked };
+
+    ghost view = { λ a. (a.segment.now, a.piece) };
+}
+
+impl<'a> PartialEq for LentPiece<'a> {
+    ghost eq = { same_asked };
+
+    ghost laws = { same_asked-per };
+
+    fn eq(&self, other: &LentPiece<'a>) -> bool
+        ensures { result ≡ same_asked self.now other.now }
+    {
+        *self.segment == *other.segment
+            && self.piece.start() == other.piece.start()
+            && self.piece.end() == other.piece.end()
+    }
+}
+
+impl<'a> Eq for LentPiece<'a> {
+    ghost laws = { same_asked-equiv };
+}
+
+impl<'a> PartialOrd for LentPiece<'a> {
+    ghost partial_cmp = { λ a b. Some (piece_cmp a b) };
+
+    ghost laws = { order.piece_cmp-po };
+
+    fn partial_cmp(&self, other: &LentPiece<'a>) -> Option<Ordering> {
+        Some(self.cmp(other))
+    }
+}
+
+impl<'a> Ord for LentPiece<'a> {
+    ghost cmp = { piece_cmp };
+
+    ghost total = { order.piece_cmp-total };
+
+    ghost matches_partial_cmp = { λ a b. refl };
+
+    ghost matches_eq = { order.piece_cmp-ties };
+
+    fn cmp(&self, other: &LentPiece<'a>) -> Ordering {
+        self.segment
+            .cmp(other.segment)
+            .then(self.piece.start().cmp(&other.piece.start()))
+            .then(self.piece.end().cmp(&other.piece.end()))
+    }
+}
+
+impl<'a> LentPiece<'a> {
+    // That piece.
+    pub(crate) fn of(asked: &'a Asked) -> LentPiece<'a>
+        ensures { result ≡ asked.now }
+    {
+        LentPiece {
+            segment: &asked.0,
+            piece: asked.1,
+        }
+    }
+}

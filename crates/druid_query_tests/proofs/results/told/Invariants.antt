@@ -1,5 +1,0 @@
-use Rattle.druid_partial.specs.Rows.{IsPartialFor}
-use Rattle.druid_query_tests.proofs.results.told.Given as goal
-
-abbrev pub invariant-loop-text : goal.invariant-loop-text
-invariant-loop-text l = IsPartialFor l.query l.whole
