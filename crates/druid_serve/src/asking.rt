@@ -1,5 +1,5 @@
 //! Queries, posted to the brokers, and their answers, printed.
-use crate::fault::ClusterFault;
+use crate::fault::DeviceFailed;
 use druid_wire::{Link, Request, TcpLink, WireFault, request_bytes, response_of};
 use http::Method;
 use std::alloc::Global;
@@ -57,11 +57,11 @@ pub(crate) fn ask<R: Net + Clock + Copy, W: Write>(
     query: &str,
     address: &str,
     out: &mut W,
-) -> Result<(), ClusterFault> {
+) -> Result<(), DeviceFailed> {
     let mut link = TcpLink::new(*rt, String::from_str(alloc, address)?);
     let answer = posted(alloc, query, &mut link);
     match print(&answer, out) {
         Ok(()) => Ok(()),
-        Err(_) => Err(ClusterFault::Device),
+        Err(_) => Err(DeviceFailed),
     }
 }

@@ -5,7 +5,7 @@ ghost use Rattle.druid_inventory.specs.Entry.{max_nodes};
 ghost use Rattle.druid_inventory.specs.Join.{names_of};
 ghost use Rattle.druid_published.specs.Floor.{Rises};
 
-use crate::fault::ClusterFault;
+use crate::fault::DeviceFailed;
 use crate::gate::Gate;
 use crate::outside::{REST_MILLISECONDS, limit};
 use druid_broker::{Routes, fetch, serve_one};
@@ -152,14 +152,14 @@ fn start_syncer<
     view: View<N>,
     link: TcpLink<R>,
     publisher: &Arc<Mutex<Publisher<N>>, Global>,
-) -> Result<JoinHandle<()>, ClusterFault> {
+) -> Result<JoinHandle<()>, DeviceFailed> {
     let rt = *rt;
     let (mut view, mut link) = (view, link);
     let publisher = Arc::try_clone(publisher)?;
     let job = move || follow(&rt, alloc, node, turns, &mut view, &mut link, &publisher);
     match thread::spawn(&rt, job) {
         Ok(syncer) => Ok(syncer),
-        Err(_) => Err(ClusterFault::Device),
+        Err(_) => Err(DeviceFailed),
     }
 }
 
@@ -280,7 +280,7 @@ fn start_worker<
     desk: Desk<R, N>,
     gate: &Arc<Gate, Global>,
     listener: &Arc<TcpListener, Global>,
-) -> Result<(), ClusterFault> {
+) -> Result<(), DeviceFailed> {
     let rt = *rt;
     let mut desk = desk;
     let gate = Arc::try_clone(gate)?;
@@ -290,7 +290,7 @@ fn start_worker<
             drop(worker);
             Ok(())
         }
-        Err(_) => Err(ClusterFault::Device),
+        Err(_) => Err(DeviceFailed),
     }
 }
 
@@ -300,7 +300,7 @@ fn desk_of<R: Net + Clock + Copy, N: NodeList>(
     alloc: Global,
     view: View<N>,
     nodes: &[NodeConfig],
-) -> Result<Desk<R, N>, ClusterFault>
+) -> Result<Desk<R, N>, DeviceFailed>
     requires { length nodes.now ≡ length N.names }
 {
     let links = links_to(rt, alloc, nodes)?;
@@ -311,7 +311,7 @@ fn desk_of<R: Net + Clock + Copy, N: NodeList>(
             links,
             turn: 0,
         }),
-        Err(_) => Err(ClusterFault::Device),
+        Err(_) => Err(DeviceFailed),
     }
 }
 
@@ -338,7 +338,7 @@ fn opened<N: NodeList>(
     alloc: Global,
     inventory: Inventory,
     workers: u16,
-) -> Result<Shared<N>, ClusterFault>
+) -> Result<Shared<N>, DeviceFailed>
     requires names { names_of inventory ≡ N.names }
     requires some { 1 ≤ workers }
     requires few { workers ≤ MAX_WORKERS }
@@ -347,7 +347,7 @@ fn opened<N: NodeList>(
     let places = inventory.node_count() + workers;
     match open::<N>(alloc, inventory, places) {
         Ok((publisher, views)) => Ok((Arc::new(alloc, Mutex::new(publisher))?, views)),
-        Err(_) => Err(ClusterFault::Device),
+        Err(_) => Err(DeviceFailed),
     }
 }
 
@@ -369,7 +369,7 @@ fn start_syncers<
     nodes: &[NodeConfig],
     publisher: &Arc<Mutex<Publisher<N>>, Global>,
     views: &mut Vec<View<N>>,
-) -> Result<Vec<JoinHandle<()>>, ClusterFault>
+) -> Result<Vec<JoinHandle<()>>, DeviceFailed>
     requires nodes { length nodes.now ≤ max_nodes }
     requires views { length nodes.now ≤ vec_len views.old }
     ensures { OnOk result (length nodes.now + vec_len views.new ≡ vec_len views.old) }
@@ -397,7 +397,7 @@ pub(crate) fn start_broker<
         + Sync
         + 'static,
     N: NodeList + Send + Sync + 'static,
->(rt: &R, alloc: Global, opening: Opening, nodes: &[NodeConfig]) -> Result<Broker, ClusterFault>
+>(rt: &R, alloc: Global, opening: Opening, nodes: &[NodeConfig]) -> Result<Broker, DeviceFailed>
     requires names { names_of opening.inventory ≡ N.names }
     requires nodes { length nodes.now ≡ length opening.inventory }
 {

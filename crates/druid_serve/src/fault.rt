@@ -1,4 +1,4 @@
-ghost use Rattle.std.specs.Prelude.{◌≡◌};
+ghost use Rattle.std.specs.Prelude.{◌≡◌, ⊤};
 ghost use Rattle.druid_serve.specs.Faults.{of_cluster, of_config, of_store, of_node, status_of};
 ghost use Rattle.druid_serve.specs.declared.fault.ClusterFault.TheVariants.{Device};
 
@@ -82,6 +82,14 @@ impl<T: Drop> From<AllocFailed<T>> for ClusterFault {
     }
 }
 
+impl From<DeviceFailed> for ClusterFault {
+    ghost from_gives = { λ _ fault. fault ≡ Device };
+
+    fn from(_failed: DeviceFailed) -> ClusterFault {
+        ClusterFault::Device
+    }
+}
+
 impl From<StoreFault> for ClusterFault {
     ghost from_gives = { λ fault told. told ≡ of_store fault };
 
@@ -106,5 +114,25 @@ impl From<NodeFault> for ClusterFault {
             | NodeFault::Behind(_) => ClusterFault::BadFolder,
             NodeFault::Device | NodeFault::Wire(_) | NodeFault::Memory => ClusterFault::Device,
         }
+    }
+}
+
+/// A device failed, or memory was refused: all that can keep threads and sockets from their start.
+#[derive(Clone, Copy, Drop)]
+pub(crate) struct DeviceFailed;
+
+impl From<AllocError> for DeviceFailed {
+    ghost from_gives = { λ _ _. ⊤ };
+
+    fn from(_error: AllocError) -> DeviceFailed {
+        DeviceFailed
+    }
+}
+
+impl<T: Drop> From<AllocFailed<T>> for DeviceFailed {
+    ghost from_gives = { λ _ _. ⊤ };
+
+    fn from(_error: AllocFailed<T>) -> DeviceFailed {
+        DeviceFailed
     }
 }

@@ -6,7 +6,7 @@ ghost use Rattle.druid_shard.specs.Reply.{max_changes};
 ghost use Rattle.druid_store.specs.Folder.{names_of};
 ghost use Rattle.druid_serve.specs.Files.{is_segment_file, IsTaken, HoldsSegments};
 
-use crate::fault::ClusterFault;
+use crate::fault::{ClusterFault, DeviceFailed};
 use crate::outside::{REST_MILLISECONDS, limit, listen};
 use druid_config::NodeConfig;
 use druid_node::{DataNode, NodeState};
@@ -131,7 +131,7 @@ fn start_loader<
     node: &Arc<DataNode, Global>,
     path: String,
     names: Vec<String>,
-) -> Result<JoinHandle<()>, ClusterFault>
+) -> Result<JoinHandle<()>, DeviceFailed>
 where
     R::Dir: Send,
 {
@@ -140,7 +140,7 @@ where
     let job = move || load_from(&rt, &node, path, &names);
     match thread::spawn(&rt, job) {
         Ok(loader) => Ok(loader),
-        Err(_) => Err(ClusterFault::Device),
+        Err(_) => Err(DeviceFailed),
     }
 }
 
@@ -186,7 +186,7 @@ fn start_worker<R: Wait + Threads + Clock + Copy + Send + Sync + 'static>(
     alloc: Global,
     node: &Arc<DataNode, Global>,
     listener: &Arc<TcpListener, Global>,
-) -> Result<(), ClusterFault> {
+) -> Result<(), DeviceFailed> {
     let rt = *rt;
     let node = Arc::try_clone(node)?;
     let listener = Arc::try_clone(listener)?;
@@ -196,7 +196,7 @@ fn start_worker<R: Wait + Threads + Clock + Copy + Send + Sync + 'static>(
             drop(worker);
             Ok(())
         }
-        Err(_) => Err(ClusterFault::Device),
+        Err(_) => Err(DeviceFailed),
     }
 }
 

@@ -1,5 +1,5 @@
 //! What comes from outside: sockets, and those who connect to them.
-use crate::fault::ClusterFault;
+use crate::fault::DeviceFailed;
 use std::alloc::Global;
 use std::net::{Net, SocketAddr, TcpListener, TcpStream};
 use std::time::Duration;
@@ -15,13 +15,13 @@ pub const REST_MILLISECONDS: u64 = 10;
 pub(crate) fn listen<R: Net<Listener = TcpListener, Stream = TcpStream>>(
     rt: &R,
     address: &str,
-) -> Result<TcpListener, ClusterFault> {
+) -> Result<TcpListener, DeviceFailed> {
     let Ok(address) = address.parse::<SocketAddr>() else {
-        return Err(ClusterFault::Device);
+        return Err(DeviceFailed);
     };
     match TcpListener::bind(rt, address) {
         Ok(listener) => Ok(listener),
-        Err(_) => Err(ClusterFault::Device),
+        Err(_) => Err(DeviceFailed),
     }
 }
 

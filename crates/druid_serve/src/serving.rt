@@ -8,7 +8,7 @@ ghost use Rattle.druid_serve.specs.Program.{IsConfig, ServesAs};
 use crate::ServeFault;
 use crate::asking::ask;
 use crate::broker::{Broker, Opening, start_broker};
-use crate::fault::ClusterFault;
+use crate::fault::{ClusterFault, DeviceFailed};
 use crate::gate::Gate;
 use crate::node::start_node;
 use crate::outside::listen;
@@ -60,7 +60,7 @@ fn listen_all<R: Net<Listener = TcpListener, Stream = TcpStream>>(
     rt: &R,
     alloc: Global,
     brokers: &[BrokerConfig],
-) -> Result<Vec<Arc<TcpListener, Global>>, ClusterFault> {
+) -> Result<Vec<Arc<TcpListener, Global>>, DeviceFailed> {
     let mut listeners = Vec::with_capacity(alloc, brokers.len())?;
     for broker in brokers {
         listeners.push(Arc::new(alloc, listen(rt, broker.address())?)?)?;
@@ -69,7 +69,7 @@ fn listen_all<R: Net<Listener = TcpListener, Stream = TcpStream>>(
 }
 
 // What a broker knows first of the nodes.
-fn fresh(alloc: Global, nodes: &[NodeConfig]) -> Result<Inventory, ClusterFault>
+fn fresh(alloc: Global, nodes: &[NodeConfig]) -> Result<Inventory, DeviceFailed>
     requires some { 1 ≤ length nodes.now }
     requires few { length nodes.now ≤ max_nodes }
     ensures { IfOk result (λ inventory. length inventory ≡ length nodes.now) }
@@ -77,7 +77,7 @@ fn fresh(alloc: Global, nodes: &[NodeConfig]) -> Result<Inventory, ClusterFault>
     match Inventory::new(alloc, names_in(alloc, nodes)?) {
         Ok(inventory) => Ok(inventory),
         // No name stands twice, so memory was refused.
-        Err(_) => Err(ClusterFault::Device),
+        Err(_) => Err(DeviceFailed),
     }
 }
 
@@ -91,7 +91,7 @@ fn start_one<
         + Send
         + Sync
         + 'static,
->(rt: &R, alloc: Global, opening: Opening, nodes: &[NodeConfig]) -> Result<Broker, ClusterFault>
+>(rt: &R, alloc: Global, opening: Opening, nodes: &[NodeConfig]) -> Result<Broker, DeviceFailed>
     requires { length nodes.now ≡ length opening.inventory }
 {
     start_broker::<R, Brand>(rt, alloc, opening, nodes)
@@ -113,7 +113,7 @@ fn start_brokers<
     brokers: &[BrokerConfig],
     turns: u64,
     nodes: &[NodeConfig],
-) -> Result<Vec<Broker>, ClusterFault>
+) -> Result<Vec<Broker>, DeviceFailed>
     requires some { 1 ≤ length nodes.now }
     requires few { length nodes.now ≤ max_nodes }
 {
@@ -145,7 +145,7 @@ fn settled<R: Threads>(
     alloc: Global,
     loaders: Vec<JoinHandle<()>>,
     standing: Vec<Broker>,
-) -> Result<Vec<Arc<Gate, Global>>, ClusterFault> {
+) -> Result<Vec<Arc<Gate, Global>>, DeviceFailed> {
     let mut gates = Vec::with_capacity(alloc, standing.len())?;
     join_all(rt, loaders);
     for broker in standing {
@@ -162,7 +162,7 @@ fn ask_all<R: Net + Clock + Copy, W: Write>(
     queries: &[QueryConfig],
     brokers: &[BrokerConfig],
     out: &mut W,
-) -> Result<(), ClusterFault>
+) -> Result<(), DeviceFailed>
     requires { All (λ q. q.broker < length brokers.now) queries.now }
 {
     for query in queries {
@@ -178,12 +178,12 @@ fn wait_for_others<R: Wait, W: Write>(
     gates: &[Arc<Gate, Global>],
     connections: u64,
     out: &mut W,
-) -> Result<(), ClusterFault> {
+) -> Result<(), DeviceFailed> {
     for gate in gates {
         gate.open(rt);
     }
     if out.flush().is_err() {
-        return Err(ClusterFault::Device);
+        return Err(DeviceFailed);
     }
     for gate in gates {
         gate.wait(rt, connections);
@@ -212,7 +212,7 @@ where
     let standing = start_brokers(rt, alloc, config.brokers(), config.turns(), config.nodes())?;
     let gates = settled(rt, alloc, loaders, standing)?;
     ask_all(rt, alloc, config.queries(), config.brokers(), out)?;
-    wait_for_others(rt, &gates, config.connections(), out)
+    Ok(wait_for_others(rt, &gates, config.connections(), out)?)
 }
 
 // Serves the cluster of a config to its end.
