@@ -29,7 +29,9 @@ def build():
     shutil.copy(os.path.join(TOP, 'bench', 'broker', 'main.rt.in'), os.path.join(crate, 'src', 'main.rt'))
     proofs = os.path.join(crate, 'proofs')
     os.makedirs(os.path.join(proofs, 'all'), exist_ok=True)
-    open(os.path.join(proofs, 'Lib.antt'), 'w').close()
+    with open(os.path.join(proofs, 'Lib.antt'), 'w') as f:
+        f.write('pub mod LinkLemmas\n')
+    shutil.copy(os.path.join(TOP, 'bench', 'broker', 'LinkLemmas.antt.in'), os.path.join(proofs, 'LinkLemmas.antt'))
     shutil.copy(os.path.join(TOP, 'bench', 'broker', 'Invariants.antt.in'), os.path.join(proofs, 'all', 'Invariants.antt'))
     subprocess.run(['rt', 'run', '--', 'plan'], cwd=crate, check=True, stdout=subprocess.DEVNULL)
     return os.path.join(crate, 'out', 'broker')
