@@ -8,7 +8,7 @@ import os, shutil, subprocess, tempfile
 
 TOP = os.path.dirname(os.path.dirname(os.path.abspath(__file__)))
 PLACE = os.path.join(tempfile.gettempdir(), 'druid_cluster_bench')
-CRATES = ['druid_time', 'druid_segid', 'druid_shard', 'druid_rows', 'druid_segfile']
+CRATES = ['druid_stream', 'druid_time', 'druid_segid', 'druid_shard', 'druid_rows', 'druid_segfile']
 
 
 def build():
@@ -17,7 +17,7 @@ def build():
         kept = [line for line in f if line.split(':')[0] in CRATES]
     with open(os.path.join(PLACE, 'crates.txt'), 'w') as f:
         f.writelines(kept)
-        f.write('segments: druid_segfile druid_rows druid_shard druid_segid druid_time anyhow\n')
+        f.write('segments: druid_segfile druid_rows druid_shard druid_segid druid_time druid_stream anyhow\n')
     for name in CRATES:
         shutil.copytree(os.path.join(TOP, 'crates', name), os.path.join(PLACE, 'crates', name), dirs_exist_ok=True)
     crate = os.path.join(PLACE, 'crates', 'segments')

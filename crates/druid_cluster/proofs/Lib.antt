@@ -3,7 +3,6 @@ pub mod PlainLemmas
 pub mod JsonLemmas
 pub mod LineLemmas
 pub mod PieceLemmas
-pub mod WriteLemmas
 pub mod RunLemmas
 pub mod LookLemmas
 pub mod MarkLemmas

@@ -1,89 +1,9 @@
--- The first line of known bytes, read part by part.
-use Rattle.std.proofs.Common.{◌≡◌, ◌≢◌, ℕ, ◌<◌, Bool, true, false, eqb, cond, List, [], ◌∷◌, ◌++◌, All, length, length-append, append_assoc, append-nil, Option, None, Some, IfSome, refl, sym, ap, subst, ◌∙◌, arith, ne_eqb}
-use Rattle.std.proofs.lemmas.List.Elements.{All-head, All-tail, All-append}
-use Rattle.std.proofs.KnownBytes.{Consumes-trans}
-use Rattle.std.proofs.BufReadLemmas.{drop_through-append}
-use Rattle.std.specs.Io.KnownBytes.{Consumes, IsAtEnd}
+-- The first line of an input, and the others.
+use Rattle.std.proofs.Common.{◌≡◌, ℕ, ◌<◌, Bool, true, false, eqb, cond, List, [], ◌∷◌, length, refl, ap, arith}
 use Rattle.std.specs.Io.BufRead.{drop_through}
-use Rattle.druid_cluster.specs.Serving.{max_line}
+use Rattle.druid_stream.specs.Lines.{line_at}
 use Rattle.druid_cluster.specs.Lines.{lines_of, onto_first}
-use Rattle.druid_cluster.specs.Parts.{feed_of, IsPart, line_at}
-use Rattle.druid_cluster.specs.declared.lines.Part.{Part}
-use Rattle.druid_cluster.specs.declared.lines.Part.TheVariants.{More, Feed, Ended}
 
--- no byte is a line feed
-abbrev pub IsPlain : List ℕ → Type 0
-IsPlain xs = All (λ b. b ≢ 10) xs
-
-pub line_at-append : (xs ys : List ℕ) → IsPlain xs → line_at (xs ++ ys) ≡ xs ++ line_at ys
-line_at-append [] ys h = refl
-line_at-append (x ∷ xs) ys h =
-    ap (λ b. cond b [] (x ∷ line_at (xs ++ ys))) (ne_eqb x 10 (All-head (λ y. y ≢ 10) x xs h))
-    ∙ ap (λ l. x ∷ l) (line_at-append xs ys (All-tail (λ y. y ≢ 10) x xs h))
-
-pub at_end : (a : Option (List ℕ)) → IfSome a (λ xs. xs ≡ []) → IsAtEnd a
-at_end None h = tt
-at_end (Some xs) h = h
-
--- the line so far, and one more part
-pub grown_plain : (part : Part) (old new : List ℕ) (room : ℕ) (b c : Option (List ℕ)) → IsPlain old → IsPart part old new room b c → IsPlain new
-grown_plain part old new room b c plain p = subst IsPlain (sym p.grown) (All-append (λ y. y ≢ 10) old p.front plain p.plain)
-
-pub grown_taken : (part : Part) (old new : List ℕ) (room : ℕ) (a b c : Option (List ℕ)) → Consumes a b old → IsPart part old new room b c → Consumes a c (new ++ feed_of part)
-grown_taken part old new room a b c taken p =
-    subst (Consumes a c) (sym (append_assoc old p.front (feed_of part)) ∙ ap (λ l. l ++ feed_of part) (sym p.grown)) (Consumes-trans a b c old (p.front ++ feed_of part) taken p.taken)
-
-pub finds_more : (old new : List ℕ) (room : ℕ) (a b c : Option (List ℕ)) → Consumes a b old → IsPart More old new room b c → Consumes a c new
-finds_more old new room a b c taken p = subst (Consumes a c) (append-nil new) (grown_taken More old new room a b c taken p)
-
-pub finds_long : (new feed : List ℕ) (a c : Option (List ℕ)) → IsPlain new → max_line < length new → Consumes a c (new ++ feed) → IfSome a (λ xs. (0 < length xs) × (max_line < length (line_at xs)))
-finds_long new feed None c plain long taken = tt
-finds_long new feed (Some xs) None plain long taken = absurd taken
-finds_long new feed (Some xs) (Some ys) plain long taken =
-    let whole : xs ≡ new ++ (feed ++ ys) = taken ∙ append_assoc new feed ys in
-    let line : line_at xs ≡ new ++ line_at (feed ++ ys) = ap line_at whole ∙ line_at-append new (feed ++ ys) plain in
-    (omega (arith, ap length whole, length-append new (feed ++ ys)), omega (arith, ap length line, length-append new (line_at (feed ++ ys))))
-
-pub finds_feed : (new : List ℕ) (a c : Option (List ℕ)) → IsPlain new → Consumes a c (new ++ 10 ∷ []) → IfSome a (λ xs. (0 < length xs) × (new ≡ line_at xs) × (c ≡ Some (drop_through 10 xs)))
-finds_feed new None c plain taken = tt
-finds_feed new (Some xs) None plain taken = absurd taken
-finds_feed new (Some xs) (Some ys) plain taken =
-    let whole : xs ≡ new ++ 10 ∷ ys = taken ∙ append_assoc new (10 ∷ []) ys in (
-      omega (arith, ap length whole, length-append new (10 ∷ ys)),
-      sym (ap line_at whole ∙ line_at-append new (10 ∷ ys) plain ∙ append-nil new),
-      ap Some (sym (ap (drop_through 10) whole ∙ drop_through-append 10 new (10 ∷ ys) plain)),
-    )
-
-nothing_left : (xs ys zs : List ℕ) → xs ++ ys ≡ [] → (xs ≡ []) × (ys ≡ [])
-nothing_left [] ys zs e = (refl, e)
-nothing_left (x ∷ xs) ys zs e = absurd (omega (arith, ap length e))
-
--- at the end of the input
-pub finds_last : (old new : List ℕ) (room : ℕ) (a b c : Option (List ℕ)) → IsPlain old → Consumes a b old → IsPart Ended old new room b c → 0 < length new → IfSome a (λ xs. (0 < length xs) × (new ≡ line_at xs) × (c ≡ Some (drop_through 10 xs)))
-finds_last old new room None b c plain taken p some = tt
-finds_last old new room (Some xs) None c plain taken p some = absurd taken
-finds_last old new room (Some xs) (Some ys) None plain taken p some = absurd p.taken
-finds_last old new room (Some xs) (Some ys) (Some zs) plain taken p some =
-    let none = p.ended refl in
-    let parts = nothing_left (p.front ++ []) zs zs (sym p.taken ∙ none) in
-    let same : new ≡ old = p.grown ∙ ap (λ l. old ++ l) (sym (append-nil p.front) ∙ parts.0) ∙ append-nil old in
-    let whole : xs ≡ old ++ [] = taken ∙ ap (λ l. old ++ l) none in (
-      omega (arith, ap length whole, ap length same, length-append {A = ℕ} old []),
-      same ∙ sym (ap line_at whole ∙ line_at-append old [] plain ∙ append-nil old),
-      ap Some (parts.1 ∙ sym (ap (drop_through 10) whole ∙ drop_through-append 10 old [] plain)),
-    )
-
-pub finds_end : (old new : List ℕ) (room : ℕ) (a b c : Option (List ℕ)) → Consumes a b old → IsPart Ended old new room b c → length new ≡ 0 → IfSome a (λ xs. xs ≡ [])
-finds_end old new room None b c taken p none = tt
-finds_end old new room (Some xs) None c taken p none = absurd taken
-finds_end old new room (Some xs) (Some ys) c taken p none =
-    taken ∙ ap (λ l. old ++ l) (p.ended refl) ∙ append-nil old ∙ nil_of old (omega (arith, ap length p.grown, length-append old p.front))
-  where
-    nil_of : (l : List ℕ) → length l ≡ 0 → l ≡ []
-    nil_of [] h = refl
-    nil_of (x ∷ l) h = absurd (omega arith)
-
--- the first line, and the others
 pub lines_of-first : (xs : List ℕ) → 0 < length xs → lines_of xs ≡ line_at xs ∷ lines_of (drop_through 10 xs)
 lines_of-first [] h = absurd (omega arith)
 lines_of-first (x ∷ xs) h = by (eqb x 10) xs (λ more. lines_of-first xs more)
@@ -93,41 +13,3 @@ lines_of-first (x ∷ xs) h = by (eqb x 10) xs (λ more. lines_of-first xs more)
     by true zs again = refl
     by false [] again = refl
     by false (y ∷ ys) again = ap (onto_first x) (again (omega arith))
-
--- nothing is at hand only at the end
-pub shown_end : (a : Option (List ℕ)) (shown : List ℕ) → IfSome a (λ xs. length shown ≡ 0 → xs ≡ []) → length shown ≡ 0 → IsAtEnd a
-shown_end None shown end none = tt
-shown_end (Some xs) shown end none = end none
-
-pub finds_last_at : (part : Part) (old new : List ℕ) (room : ℕ) (a b c : Option (List ℕ)) → part ≡ Ended → IsPlain old → Consumes a b old → IsPart part old new room b c → 0 < length new → IfSome a (λ xs. (0 < length xs) × (new ≡ line_at xs) × (c ≡ Some (drop_through 10 xs)))
-finds_last_at More old new room a b c e plain taken p some = absurd cc
-finds_last_at Feed old new room a b c e plain taken p some = absurd cc
-finds_last_at Ended old new room a b c e plain taken p some = finds_last old new room a b c plain taken p some
-
--- no byte was at hand
-pub still : (part : Part) (old new : List ℕ) (room : ℕ) (b c : Option (List ℕ)) → part ≡ More → length new ≡ length old → IsPart part old new room b c → (new ≡ old) × Consumes b c []
-still More old new room b c e same p =
-    let none : p.front ≡ [] = nothing p.front (omega (arith, ap length p.grown, length-append old p.front)) in
-    (p.grown ∙ ap (λ l. old ++ l) none ∙ append-nil old, subst (λ (l : List ℕ). Consumes b c (l ++ [])) none p.taken)
-  where
-    nothing : (l : List ℕ) → length l ≡ 0 → l ≡ []
-    nothing [] h = refl
-    nothing (x ∷ l) h = absurd (omega arith)
-still Feed old new room b c e same p = absurd cc
-still Ended old new room b c e same p = absurd cc
-
-end_before : (a b : Option (List ℕ)) → Consumes a b [] → IsAtEnd b → IsAtEnd a
-end_before None b none end = tt
-end_before (Some xs) None none end = absurd none
-end_before (Some xs) (Some ys) none end = none ∙ end
-
--- a part behind tries that brought nothing
-pub resumed : (part : Part) (start old new : List ℕ) (room : ℕ) (a b c : Option (List ℕ)) → old ≡ start → Consumes a b [] → IsPart part old new room b c → IsPart part start new room a c
-resumed part start old new room a b c same none p = record {
-  front = p.front;
-  grown = p.grown ∙ ap (λ l. l ++ p.front) same;
-  plain = p.plain;
-  short = p.short;
-  taken = Consumes-trans a b c [] (p.front ++ feed_of part) none p.taken;
-  ended = λ e. end_before a b none (p.ended e);
-}

@@ -3,14 +3,15 @@ use Rattle.std.proofs.Common.{◌≡◌, ℕ, ◌+◌, ◌<◌, List, [], ◌∷
 use Rattle.std.proofs.KnownBytes.{Appends-nil, Appends-trans, Appends-kept}
 use Rattle.std.specs.Io.KnownBytes.{Appends, Keeps}
 use Rattle.std.specs.Io.BufRead.{drop_through}
+use Rattle.druid_stream.specs.Fronts.{AppendsFront}
+use Rattle.druid_stream.specs.Lines.{line_at, Finds}
+use Rattle.druid_stream.specs.declared.lines.Next.{Next}
+use Rattle.druid_stream.specs.declared.lines.Next.TheVariants.{Line, TooLong, End as AtEnd}
 use Rattle.druid_inventory.specs.Entry.{Entry}
 use Rattle.druid_cluster.specs.Answers.{line_text}
 use Rattle.druid_cluster.specs.Serving.{IsAnswered, IsBad, max_line}
 use Rattle.druid_cluster.specs.Lines.{lines_of}
-use Rattle.druid_cluster.specs.Parts.{line_at, Finds}
-use Rattle.druid_cluster.specs.declared.lines.Next.{Next}
-use Rattle.druid_cluster.specs.declared.lines.Next.TheVariants.{Line, TooLong, End as AtEnd}
-use Rattle.druid_cluster.specs.Runs.{End, done, bad_at, broken_at, IsFront, Runs, Writes, EndsBy, TellsLine, AppendsFront}
+use Rattle.druid_cluster.specs.Runs.{End, done, bad_at, broken_at, IsFront, Runs, Writes, EndsBy, TellsLine}
 use Rattle.druid_cluster.specs.declared.answer.Answer.{Answer}
 use Rattle.druid_cluster.specs.declared.fault.ReplayFault.{ReplayFault}
 use Rattle.druid_cluster.specs.declared.fault.ReplayFault.TheVariants.{BadCommand, Device}
@@ -129,7 +130,7 @@ not_flushed (BadCommand k) a b w v line small ends is kept = (line, omega (arith
 not_flushed (Device k) a b w v line small ends is kept = (ends.0, is ∙ ends.1, flushed a b w v (broken_at ends.0) ends.2 kept)
 
 -- what reading on found, where it is a line
-pub found_line : (next : Next) (l m : Option (List ℕ)) (line : List ℕ) → next ≡ Line → IfSome l (λ ys. Finds next ys line m)
+pub found_line : (next : Next) (l m : Option (List ℕ)) (line : List ℕ) → next ≡ Line → IfSome l (λ ys. Finds max_line next ys line m)
     → IfSome l (λ ys. (0 < length ys) × (line ≡ line_at ys) × (m ≡ Some (drop_through 10 ys)))
 found_line Line l m line e found = found
 found_line TooLong l m line e found = absurd cc

@@ -4,7 +4,6 @@ pub mod Answers
 pub mod Serving
 pub mod Nodes
 pub mod Lines
-pub mod Parts
 pub mod Runs
 pub mod Status
 pub mod Program

@@ -47,11 +47,6 @@ EndsBy input old new (BadCommand number) = Writes input old new (bad_at number)
 EndsBy input old new (Device number) =
     (line : ℕ) × (number ≡ min line (2 ^ 64 - 1)) × Writes input old new (broken_at line)
 
--- known bytes grow by some front of the text, which is not the whole
-abbrev pub AppendsFront : Option (List ℕ) → Option (List ℕ) → List ℕ → Type 0
-AppendsFront old new text =
-    (front back : List ℕ) × (text ≡ front ++ back) × (0 < length back) × Appends old new front
-
 -- the same of one line
 abbrev pub TellsLine : Option (List (List Entry)) → List ℕ → ℕ → Option (List ℕ) → Option (List ℕ) → ReplayFault → Type 0
 TellsLine state line number old new (BadCommand told) = (told ≡ number) × IsBad state line × Keeps old new

@@ -24,7 +24,7 @@ use Rattle.druid_cluster.specs.declared.answer.Refusal.{Refusal}
 use Rattle.druid_cluster.specs.declared.answer.Refusal.TheVariants as refusals
 use Rattle.druid_cluster.specs.declared.answer.Answer.{Answer}
 use Rattle.druid_cluster.specs.declared.answer.Answer.TheVariants.{Refused, Taken, Stepped, Found, Marked, Joined, Compared}
-use Rattle.druid_cluster.specs.declared.lines.TheConstants.{MAX_LINE}
+use Rattle.druid_cluster.specs.declared.run.TheConstants.{MAX_LINE}
 
 -- a list of nodes: each name is one, and none stands twice
 abbrev pub AreNodes : List (List ℕ) → Type 0

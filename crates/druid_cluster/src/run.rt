@@ -3,16 +3,19 @@ ghost use Rattle.std.specs.Prelude.{◌≡◌, ◌≤◌, length, take, ◌+◌,
 ghost use Rattle.std.specs.Io.KnownBytes.{Appends, Keeps};
 ghost use Rattle.druid_cluster.specs.Answers.{line_text};
 ghost use Rattle.druid_cluster.specs.Serving.{IsAnswered, max_line};
-ghost use Rattle.druid_cluster.specs.Runs.{done, broken_at, Writes, EndsBy, TellsLine, AppendsFront};
+ghost use Rattle.druid_cluster.specs.Runs.{done, broken_at, Writes, EndsBy, TellsLine};
 ghost use Rattle.druid_cluster.specs.declared.answer.Answer.{Answer};
 
 use crate::brokers::Brokers;
 use crate::fault::ReplayFault;
-use crate::lines::{Next, next_line};
 use crate::serving::serve_line;
 use crate::writing::write_answer;
+use druid_stream::{Next, next_line};
 use std::alloc::Global;
 use std::io::{BufRead, Write};
+
+// The most bytes of a line, its line feed left out.
+const MAX_LINE: usize = 16_777_216;
 
 // Writes the answer to a line, and gives the brokers that stand after it.
 #[tactic(auto, using(crate::proofs::RunLemmas::told_front, crate::proofs::RunLemmas::told_nothing))]
@@ -59,7 +62,7 @@ fn answer_lines<R: BufRead, W: Write>(
     let mut state = None;
     let mut line = Vec::new(alloc);
     for count in 0..u64::MAX {
-        match next_line(reader, &mut line) {
+        match next_line(reader, &mut line, MAX_LINE) {
             Ok(Next::Line) => {}
             Ok(Next::TooLong) => return Err(ReplayFault::BadCommand(count + 1)),
             Ok(Next::End) => return Ok(count),
@@ -70,7 +73,7 @@ fn answer_lines<R: BufRead, W: Write>(
             Err(fault) => return Err(fault),
         }
     }
-    match next_line(reader, &mut line) {
+    match next_line(reader, &mut line, MAX_LINE) {
         Ok(Next::End) => Ok(u64::MAX),
         _ => Err(ReplayFault::Device(u64::MAX)),
     }

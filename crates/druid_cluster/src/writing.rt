@@ -1,55 +1,17 @@
 //! Answers, written as they are made.
-ghost use Rattle.std.specs.Prelude.{◌≡◌, ◌≤◌, ◌++◌, length, take, IfOk, OnOk, OnErr, string_bytes};
-ghost use Rattle.std.specs.Io.KnownBytes.{Appends, Keeps};
+ghost use Rattle.std.specs.Prelude.{◌≡◌, ◌++◌, IfOk, OnOk, OnErr, string_bytes};
+ghost use Rattle.std.specs.Io.KnownBytes.{Appends};
 ghost use Rattle.serde_json.specs.Written.{compact_text, comma_if};
+ghost use Rattle.druid_stream.specs.Fronts.{AppendsFront};
 ghost use Rattle.druid_cluster.specs.Answers.{piece_data, line_text};
-ghost use Rattle.druid_cluster.specs.Runs.{AppendsFront};
 ghost use Rattle.druid_cluster.specs.declared.answer.Answer.TheVariants.{Found};
 
 use crate::answer::{Answer, answer_line, piece_value};
-use crate::interrupted::{MAX_TRIES, is_interrupted};
+use druid_stream::write_text;
 use druid_timeline::Piece;
 use std::alloc::{AllocError, Global};
 use std::io;
-use std::io::{ErrorKind, Write};
-
-// Writes a front of a text, of one byte at least, and gives its length.
-#[tactic(auto, using(crate::proofs::WriteLemmas::kept_twice, crate::proofs::WriteLemmas::kept_appends))]
-fn write_some<W: Write>(writer: &mut W, text: &[u8]) -> io::Result<usize>
-    ensures bound { IfOk result (λ n. n ≤ length text.now) }
-    ensures progress { IfOk result (λ n. 1 ≤ n) }
-    ensures ok { IfOk result
-        (λ n. Appends (W.contents writer.old) (W.contents writer.new) (take n text.now)) }
-    ensures err { OnErr result (Keeps (W.contents writer.old) (W.contents writer.new)) }
-{
-    for _ in 0..MAX_TRIES {
-        match writer.write(text) {
-            Ok(0) => return Err(ErrorKind::WriteZero.into()),
-            Ok(written) => return Ok(written),
-            Err(error) => {
-                if !is_interrupted(&error) {
-                    return Err(error);
-                }
-            }
-        }
-    }
-    Err(ErrorKind::Interrupted.into())
-}
-
-/// Writes a text. Where the writer fails, it has got some front of the text, and not the whole.
-pub fn write_text<W: Write>(writer: &mut W, text: &[u8]) -> io::Result<()>
-    ensures ok { OnOk result (Appends (W.contents writer.old) (W.contents writer.new) text.now) }
-    ensures err { OnErr result
-        (AppendsFront (W.contents writer.old) (W.contents writer.new) text.now) }
-{
-    let mut rest = text;
-    while !rest.is_empty() {
-        let written = write_some(writer, rest)?;
-        let (_, left) = rest.split_at(written);
-        rest = left;
-    }
-    Ok(())
-}
+use std::io::Write;
 
 // The text of a piece, behind a comma where another stands before it.
 #[tactic(auto, using(crate::proofs::PlainLemmas::piece_plain))]

@@ -1,55 +1,30 @@
 -- What a writer got, front by front.
-use Rattle.std.proofs.Common.{◌≡◌, ℕ, ◌+◌, ◌<◌, ◌≤◌, List, [], ◌++◌, length, take, drop, get_or, Option, Some, None, Result, Ok, Err, String, string_bytes, refl, sym, ap, subst, ◌∙◌, append_assoc, arith}
-use Rattle.std.specs.Prelude.{OnErr, All}
+use Rattle.std.proofs.Common.{◌≡◌, ℕ, suc, ◌+◌, ◌<◌, ◌≤◌, List, [], ◌++◌, length, take, drop, get_or, Option, String, string_bytes, refl, sym, ap, subst, ◌∙◌, append_assoc, arith, length-append, drop-cons}
+use Rattle.std.specs.Prelude.{All}
 use Rattle.std.specs.Global.{Global}
 use Rattle.std.specs.List.{flat_map}
-use Rattle.std.specs.Io.KnownBytes.{Keeps, Appends}
+use Rattle.std.proofs.KnownBytes.{Appends-nil, Appends-trans}
+use Rattle.std.specs.Io.KnownBytes.{Appends}
 use Rattle.std.specs.Int.{w16, w32, w64, to_be_bytes}
+use Rattle.druid_stream.specs.Fronts.{AppendsFront}
 use Rattle.druid_time.specs.Extent.{Extent}
 use Rattle.druid_shard.specs.Described.{Described}
-use Rattle.druid_segfile.proofs.HeadLemmas.{described}
 use Rattle.std.proofs.lemmas.List.{append-nil, take-append-drop, take_all, take_more, flat_map_more, get_or-map, length-map}
 use Rattle.std.proofs.lemmas.List.Concat.{flat_map-append}
 use Rattle.druid_rows.specs.Rows.{Row, no_row, texts_of}
 use Rattle.druid_rows.specs.Segment.{Segment, row_at}
-use Rattle.druid_segfile.specs.Spelling.{magic, instant, interval, short_text, descriptor, names, row, spelling}
+use Rattle.druid_segfile.specs.Spelling.{magic, instant, interval, short_text, descriptor, names, text_value, number_value, row, spelling}
 use Rattle.druid_segfile.specs.Heading.{heading}
-use Rattle.druid_segfile.specs.Written.{AppendsFront, AppendsUpTo}
-
-appends_both : (a b c : Option (List ℕ)) (x y : List ℕ) → Appends a b x → Appends b c y → Appends a c (x ++ y)
-appends_both None b c x y p q = tt
-appends_both (Some xs) None c x y p q = absurd p
-appends_both (Some xs) (Some ys) None x y p q = absurd q
-appends_both (Some xs) (Some ys) (Some zs) x y p q = q ∙ ap (λ (t : List ℕ). t ++ y) p ∙ append_assoc xs x y
-
-appends_none : (known : Option (List ℕ)) → Appends known known []
-appends_none None = tt
-appends_none (Some xs) = sym (append-nil xs)
-
-kept_appends : (a b : Option (List ℕ)) → Keeps a b → Appends a b []
-kept_appends None b h = tt
-kept_appends (Some xs) None h = absurd h
-kept_appends (Some xs) (Some ys) h = h ∙ sym (append-nil xs)
+use Rattle.druid_segfile.proofs.HeadLemmas.{described}
+use Rattle.druid_segfile.proofs.LengthLemmas.{length_spelling}
+use Rattle.druid_segfile.specs.Written.{AppendsUpTo}
 
 pub nothing_yet : (known : Option (List ℕ)) (text : List ℕ) → AppendsUpTo known known text text
-nothing_yet known text = ([], refl, appends_none known)
+nothing_yet known text = ([], refl, Appends-nil known)
 
 pub up_to_then : (a b c : Option (List ℕ)) (text rest more : List ℕ) → AppendsUpTo a b text rest → AppendsUpTo b c rest more → AppendsUpTo a c text more
 up_to_then a b c text rest more p q =
-    (p.0 ++ q.0, p.1 ∙ ap (λ (t : List ℕ). p.0 ++ t) q.1 ∙ sym (append_assoc p.0 q.0 more), appends_both a b c p.0 q.0 p.2 q.2)
-
-pub took_some : (a b c : Option (List ℕ)) (text rest : List ℕ) (n : ℕ) → AppendsUpTo a b text rest → Appends b c (take n rest) → AppendsUpTo a c text (drop n rest)
-took_some a b c text rest n p q = up_to_then a b c text rest (drop n rest) p (take n rest, sym (take-append-drop n rest), q)
-
-pub took_none : (a b c : Option (List ℕ)) (text rest : List ℕ) → AppendsUpTo a b text rest → Keeps b c → AppendsUpTo a c text rest
-took_none a b c text rest p q = up_to_then a b c text rest rest p ([], refl, kept_appends b c q)
-
-pub front_at : (a b : Option (List ℕ)) (text rest : List ℕ) → AppendsUpTo a b text rest → AppendsFront a b text
-front_at a b text rest p = (p.0, rest, p.1, p.2)
-
-pub all_written : (a b : Option (List ℕ)) (text rest : List ℕ) → rest ≡ [] → AppendsUpTo a b text rest → Appends a b text
-all_written a b text rest none p =
-    subst (λ (t : List ℕ). Appends a b t) (sym (p.1 ∙ ap (λ (t : List ℕ). p.0 ++ t) none ∙ append-nil p.0)) p.2
+    (p.0 ++ q.0, p.1 ∙ ap (λ (t : List ℕ). p.0 ++ t) q.1 ∙ sym (append_assoc p.0 q.0 more), Appends-trans a b c p.0 q.0 p.2 q.2)
 
 pub up_to_more : (a b : Option (List ℕ)) (text rest more : List ℕ) → AppendsUpTo a b text rest → AppendsUpTo a b (text ++ more) (rest ++ more)
 up_to_more a b text rest more p = (p.0, ap (λ (t : List ℕ). t ++ more) p.1 ∙ append_assoc p.0 rest more, p.2)
@@ -59,11 +34,12 @@ front_then a b c text rest more p q = (
   p.0 ++ q.0,
   q.1 ++ more,
   ap (λ (t : List ℕ). t ++ more) (p.1 ∙ ap (λ (t : List ℕ). p.0 ++ t) q.2 ∙ sym (append_assoc p.0 q.0 q.1)) ∙ append_assoc (p.0 ++ q.0) q.1 more,
-  appends_both a b c p.0 q.0 p.2 q.3,
+  omega (arith, q.3, length-append q.1 more),
+  Appends-trans a b c p.0 q.0 p.2 q.4,
 )
 
 pub wrote_rest : (a b c : Option (List ℕ)) (text rest : List ℕ) → AppendsUpTo a b text rest → Appends b c rest → Appends a c text
-wrote_rest a b c text rest p q = subst (λ (t : List ℕ). Appends a c t) (sym p.1) (appends_both a b c p.0 rest p.2 q)
+wrote_rest a b c text rest p q = subst (λ (t : List ℕ). Appends a c t) (sym p.1) (Appends-trans a b c p.0 rest p.2 q)
 
 -- ---- the spelling of a segment, row by row
 
@@ -93,12 +69,30 @@ pub spelled_front : (s : Segment) (i : ℕ) (a b c : Option (List ℕ)) (rest : 
 spelled_front s i a b c rest p q =
     subst (AppendsFront a c) (rows_behind s i) (front_then a b c (heading s ++ flat_map row (take i s.rows)) rest (flat_map row (drop i s.rows)) p q)
 
-pub nothing_more : (known : Option (List ℕ)) (rest : List ℕ) → AppendsFront known known rest
-nothing_more known rest = ([], rest, refl, appends_none known)
+some_row : (values : Row) → 0 < length (row values)
+some_row values =
+    omega (arith, length-append (instant values.time ++ flat_map text_value values.dimensions) (flat_map number_value values.metrics), length-append (instant values.time) (flat_map text_value values.dimensions))
 
-pub on_err : {T E : Type 0} (r : Result T E) (P : Type 0) → P → OnErr r P
-on_err (Ok x) P p = tt
-on_err (Err e) P p = p
+some_rows : (all : List Row) (i : ℕ) → i < length all → 0 < length (flat_map row (drop i all))
+some_rows all i lt =
+    let first = get_or all i no_row in
+    let behind = flat_map row (drop (suc i) all) in
+    omega (arith, ap (λ (left : List Row). length (flat_map row left)) (drop-cons all i no_row lt), length-append (row first) behind, some_row first)
+
+-- nothing is written yet
+pub nothing_spelled : (s : Segment) (known : Option (List ℕ)) → AppendsFront known known (spelling s)
+nothing_spelled s known = ([], spelling s, refl, omega (arith, length_spelling s), Appends-nil known)
+
+-- a front of the spelling that was written before the next row is spelled
+pub before_row : (s : Segment) (i : ℕ) (a b : Option (List ℕ)) (rest : List ℕ) → i < length s.rows → AppendsUpTo a b (heading s ++ flat_map row (take i s.rows)) rest → AppendsFront a b (spelling s)
+before_row s i a b rest lt p =
+    let left = flat_map row (drop i s.rows) in (
+      p.0,
+      rest ++ left,
+      sym (rows_behind s i) ∙ ap (λ (t : List ℕ). t ++ left) p.1 ∙ append_assoc p.0 rest left,
+      omega (arith, some_rows s.rows i lt, length-append rest left),
+      p.2,
+    )
 
 -- one row more waits to be written
 pub row_waits : (s : Segment) (i : ℕ) (a b : Option (List ℕ)) (rest more : List ℕ) → i < length s.rows → more ≡ rest ++ row (row_at s i) → AppendsUpTo a b (heading s ++ flat_map row (take i s.rows)) rest → AppendsUpTo a b (heading s ++ flat_map row (take (i + 1) s.rows)) more

@@ -1,38 +1,31 @@
 ghost use Rattle.std.specs.Prelude.{◌≡◌, ◌≢◌, ◌⊎◌, ◌<◌, length, Err, OnOk, OnErr, IfErr};
 ghost use Rattle.std.specs.Io.KnownBytes.{Appends};
+ghost use Rattle.druid_stream.specs.Fronts.{AppendsFront};
 ghost use Rattle.druid_segfile.specs.Spelling.{spelling};
-ghost use Rattle.druid_segfile.specs.Written.{AppendsFront, AppendsUpTo};
+ghost use Rattle.druid_segfile.specs.Written.{AppendsUpTo};
 ghost use Rattle.druid_segfile.specs.declared.writing.TheConstants.{GATHERED};
 
 use crate::FileFault;
 use crate::spelling::{append_row, heading};
 use druid_rows::Segment;
+use druid_stream::write_text;
 use std::alloc::Global;
 use std::io::{ErrorKind, Write};
 
 // So many bytes are gathered before they are written out.
 const GATHERED: usize = 65_536;
 
-// Writes all of the bytes. A write that was interrupted is tried again.
+// Writes all of the bytes.
 fn write_out<W: Write>(writer: &mut W, bytes: &[u8]) -> Result<(), FileFault>
     ensures ok { OnOk result (Appends (W.contents writer.old) (W.contents writer.new) bytes.now) }
     ensures err { OnErr result (AppendsFront (W.contents writer.old) (W.contents writer.new) bytes.now) }
     ensures faults { IfErr result (λ fault. (fault ≡ FileFault.Write) ⊎ (fault ≡ FileFault.Memory)) }
 {
-    let mut rest = bytes;
-    for _ in 0..u64::MAX {
-        if rest.is_empty() {
-            return Ok(());
-        }
-        match writer.write(rest) {
-            Ok(0) => return Err(FileFault::Write),
-            Ok(count) => rest = &rest[count..],
-            Err(error) if error.kind() == ErrorKind::Interrupted => {}
-            Err(error) if error.kind() == ErrorKind::OutOfMemory => return Err(FileFault::Memory),
-            Err(_) => return Err(FileFault::Write),
-        }
+    match write_text(writer, bytes) {
+        Ok(()) => Ok(()),
+        Err(error) if error.kind() == ErrorKind::OutOfMemory => Err(FileFault::Memory),
+        Err(_) => Err(FileFault::Write),
     }
-    Err(FileFault::Write)
 }
 
 // Writes out what was gathered, once it is enough for a write.
@@ -51,7 +44,8 @@ fn write_gathered<W: Write>(writer: &mut W, gathered: &mut Vec<u8>) -> Result<()
 }
 
 /// Writes the spelling of a segment. `Write` where the writer fails and `Memory` where memory is refused, also to the
-/// writer: then it has got some front of the spelling. Nothing is flushed.
+/// writer: then it has got some front of the spelling, and not the whole. An interrupted write is made again, but not for
+/// ever. Nothing is flushed.
 pub fn write_segment<W: Write>(
     alloc: Global,
     segment: &Segment,

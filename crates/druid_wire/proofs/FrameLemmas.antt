@@ -8,8 +8,8 @@ use Rattle.std.specs.Io.KnownBytes.{Consumes}
 use Rattle.druid_wire.specs.Frame.{IsPlain, IsBlank, IsTextLine, text_of, IsFramed, IsBegun, EndsInHead, IsLongHead}
 use Rattle.druid_wire.specs.Parts.{IsLine}
 use Rattle.druid_wire.specs.declared.frame.TheConstants.{MAX_HEAD}
-use Rattle.druid_wire.specs.declared.lines.Part.{Part}
-use Rattle.druid_wire.specs.declared.lines.Part.TheVariants.{More, Feed, Ended}
+use Rattle.druid_stream.specs.declared.lines.Part.{Part}
+use Rattle.druid_stream.specs.declared.lines.Part.TheVariants.{More, Feed, Ended}
 
 -- blank lines were taken, and behind them the lines of head
 pub record HasLines (head : List ℕ) (a b : Option (List ℕ)) : Type 0 where

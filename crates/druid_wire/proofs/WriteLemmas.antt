@@ -1,74 +1,14 @@
--- A text that is written part by part.
-use Rattle.std.proofs.Common.{◌≡◌, ℕ, ◌+◌, ◌<◌, ◌≤◌, ◌⊎◌, inl, inr, codes, List, [], ◌++◌, decimal, length, drop, get_or, Bor, append_assoc, append-nil, length-append, Option, None, Some, arith, refl, sym, ap, subst, ◌∙◌, Result, Ok, Err, OnOk, OnErr}
-use Rattle.std.proofs.KnownBytes.{Appends-nil, Appends-trans, Keeps-trans}
-use Rattle.std.specs.Io.KnownBytes.{Appends, Keeps}
+-- The texts of messages, out of their pieces, and what a writer got of them.
+use Rattle.std.proofs.Common.{◌≡◌, ℕ, ◌+◌, ◌<◌, ◌≤◌, ◌⊎◌, inl, inr, codes, List, [], ◌++◌, decimal, length, drop, get_or, Bor, append_assoc, append-nil, Option, refl, sym, subst, Result, OnOk, OnErr}
+use Rattle.std.specs.Io.KnownBytes.{Appends}
 use Rattle.std.proofs.lemmas.Bool.{le-leb, lt-leb}
 use Rattle.std.proofs.lemmas.List.{at_drop_more, at_drop_all}
 use Rattle.druid_wire.specs.Messages.{RequestValue}
-use Rattle.druid_wire.specs.Written.{AppendsFront, joined, LacksRequest, phrase_of, request_head, request_text, response_head, response_text, answer_text}
+use Rattle.druid_stream.specs.Fronts.{AppendsFront}
+use Rattle.druid_wire.specs.Written.{joined, LacksRequest, phrase_of, request_head, request_text, response_head, response_text, answer_text}
 use Rattle.druid_wire.specs.declared.fault.WireFault.{WireFault}
 use Rattle.druid_wire.specs.declared.fault.WireFault.TheVariants.{Write, Memory}
 use Rattle.druid_wire.specs.declared.length.TheConstants.{MAX_BODY}
-
-pub kept_twice : (a b c : Option (List ℕ)) → Keeps a b → Keeps b c → Keeps a c
-kept_twice a b c first second = Keeps-trans a b c first second
-
-pub kept_appends : (a b c : Option (List ℕ)) (bs : List ℕ) → Keeps a b → Appends b c bs → Appends a c bs
-kept_appends None b c bs kept grown = tt
-kept_appends (Some xs) None c bs kept grown = absurd kept
-kept_appends (Some xs) (Some ys) None bs kept grown = absurd grown
-kept_appends (Some xs) (Some ys) (Some zs) bs kept grown = grown ∙ ap (λ (l : List ℕ). l ++ bs) kept
-
--- a front of the text is written, and the rest of it is left
-pub record IsUnderWay (text rest : List ℕ) (old now : Option (List ℕ)) : Type 0 where
-  pub front : List ℕ
-  pub whole : text ≡ front ++ rest
-  pub grown : Appends old now front
-
-pub begins : (text : List ℕ) (a : Option (List ℕ)) → IsUnderWay text text a a
-begins text a = record { front = []; whole = refl; grown = Appends-nil a }
-
--- one more part is written
-pub goes_on : (text rest part next : List ℕ) (a b c : Option (List ℕ)) → IsUnderWay text rest a b → rest ≡ part ++ next → Appends b c part → IsUnderWay text next a c
-goes_on text rest part next a b c way is grown = record {
-  front = way.front ++ part;
-  whole = way.whole ∙ ap (λ (r : List ℕ). way.front ++ r) is ∙ sym (append_assoc way.front part next);
-  grown = Appends-trans a b c way.front part way.grown grown;
-}
-
--- nothing is left
-pub all_written : (text rest : List ℕ) (a b : Option (List ℕ)) → IsUnderWay text rest a b → rest ≡ [] → Appends a b text
-all_written text rest a b way none =
-    subst (Appends a b) (sym (way.whole ∙ ap (λ (r : List ℕ). way.front ++ r) none ∙ append-nil way.front)) way.grown
-
--- the writer fails before the rest
-pub stops : (text rest : List ℕ) (a b : Option (List ℕ)) → IsUnderWay text rest a b → 0 < length rest → AppendsFront a b text
-stops text rest a b way some = (way.front, rest, way.whole, some, way.grown)
-
--- the writer fails in a part
-pub stops_inside : (text rest part next : List ℕ) (a b c : Option (List ℕ)) → IsUnderWay text rest a b → rest ≡ part ++ next → AppendsFront b c part → AppendsFront a c text
-stops_inside text rest part next a b c way is fails = (
-  way.front ++ fails.0,
-  fails.1 ++ next,
-  way.whole ∙ ap (λ (r : List ℕ). way.front ++ r) (is ∙ ap (λ (p : List ℕ). p ++ next) fails.2 ∙ append_assoc fails.0 fails.1 next) ∙ sym (append_assoc way.front fails.0 (fails.1 ++ next)),
-  omega (arith, fails.3, length-append fails.1 next),
-  Appends-trans a b c way.front fails.0 way.grown fails.4,
-)
-
--- the last part
-pub ends : (text rest : List ℕ) (a b c : Option (List ℕ)) → IsUnderWay text rest a b → Appends b c rest → Appends a c text
-ends text rest a b c way grown = all_written text [] a c (goes_on text rest rest [] a b c way (sym (append-nil rest)) grown) refl
-
--- what holds at an error
-pub any_err : {T E : Type 0} (r : Result T E) (P : Type 0) → P → OnErr r P
-any_err (Ok x) P p = tt
-any_err (Err e) P p = p
-
-pub err_more : {T E : Type 0} (r : Result T E) (P Q : Type 0) → (P → Q) → OnErr r P → OnErr r Q
-err_more (Ok x) P Q f h = tt
-err_more (Err e) P Q f h = f h
-
--- ---- the texts of messages
 
 -- the text is told by an equation
 pub front_as : (a b : Option (List ℕ)) (text whole : List ℕ) → whole ≡ text → AppendsFront a b text → AppendsFront a b whole

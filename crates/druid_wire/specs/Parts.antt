@@ -1,26 +1,11 @@
 -- Reading lines one by one, part by part. Only proofs use these words.
 use Rattle.std.specs.Prelude.{◌≡◌, ◌≢◌, ◌≤◌, ◌<◌, ℕ, List, [], ◌∷◌, ◌++◌, All, length, Option, Some, IfSome}
-use Rattle.std.specs.Io.KnownBytes.{Consumes, IsAtEnd}
+use Rattle.std.specs.Io.KnownBytes.{Consumes}
+use Rattle.druid_stream.specs.declared.lines.Part.{Part}
+use Rattle.druid_stream.specs.declared.lines.Part.TheVariants.{More, Feed, Ended}
 use Rattle.druid_wire.specs.Frame.{IsFramed, EndsInHead, IsLongHead}
 use Rattle.druid_wire.specs.declared.frame.Found.{Found}
 use Rattle.druid_wire.specs.declared.frame.Found.TheVariants as found
-use Rattle.druid_wire.specs.declared.lines.Part.{Part}
-use Rattle.druid_wire.specs.declared.lines.Part.TheVariants.{More, Feed, Ended}
-
--- the line feed that is taken behind what the line gets
-abbrev pub feed_of : Part → List ℕ
-feed_of More = []
-feed_of Feed = 10 ∷ []
-feed_of Ended = []
-
--- the line old grew to new by the bytes at the reader's front, which have no line feed
-pub record IsPart (part : Part) (old new : List ℕ) (room : ℕ) (before after : Option (List ℕ)) : Type 0 where
-  pub front : List ℕ
-  pub grown : new ≡ old ++ front
-  pub plain : All (λ b. b ≢ 10) front
-  pub short : length front ≤ room
-  pub taken : Consumes before after (front ++ feed_of part)
-  pub ended : part ≡ Ended → IsAtEnd before
 
 -- how the line ended that old grew by: at its line feed, at the end of the input, or with as many bytes as there was room for
 abbrev pub EndsAs : Part → (front : List ℕ) → ℕ → Option (List ℕ) → Option (List ℕ) → Type 0

@@ -2,8 +2,9 @@
 use Rattle.std.specs.Prelude.{◌≡◌, ◌⊎◌, ◌==◌, ℕ, Bool, true, false, List, codes, length, nat_le, Option, Some, None, IfSome, if◌then◌else◌}
 use Rattle.std.specs.List.{before_first, after_first}
 use Rattle.std.specs.Io.KnownBytes.{Appends, Keeps}
+use Rattle.druid_stream.specs.Fronts.{AppendsFront}
 use Rattle.druid_wire.specs.Messages.{RequestValue, IsRequest, RequestSays, HasFault}
-use Rattle.druid_wire.specs.Written.{answer_text, AppendsFront}
+use Rattle.druid_wire.specs.Written.{answer_text}
 use Rattle.druid_wire.specs.declared.fault.WireFault.{WireFault}
 use Rattle.druid_wire.specs.declared.fault.WireFault.TheVariants.{Cut, Read, Write, BadHead, HeadTooLong, NoLength, BodyTooLong, Connect, Memory}
 use Rattle.druid_wire.specs.declared.length.TheConstants.{MAX_BODY}

@@ -1,9 +1,10 @@
--- The texts of messages, and what a writer got of a text.
-use Rattle.std.specs.Prelude.{◌≡◌, ◌<◌, ◌≤◌, ℕ, List, [], ◌++◌, length, codes, decimal, nat_le, unwrap_or, if◌then◌else◌, Option}
+-- The texts of messages, and what a writer got of them.
+use Rattle.std.specs.Prelude.{◌<◌, ◌≤◌, ℕ, List, [], ◌++◌, length, codes, decimal, nat_le, unwrap_or, if◌then◌else◌, Option}
 use Rattle.std.specs.List.{flat_map}
 use Rattle.std.specs.Borrow.{Bor}
-use Rattle.std.specs.Io.KnownBytes.{Appends, Keeps}
+use Rattle.std.specs.Io.KnownBytes.{Keeps}
 use Rattle.http.specs.StatusCode.{reason_phrase}
+use Rattle.druid_stream.specs.Fronts.{AppendsFront}
 use Rattle.druid_wire.specs.Messages.{RequestValue}
 use Rattle.druid_wire.specs.declared.fault.WireFault.{WireFault}
 use Rattle.druid_wire.specs.declared.fault.WireFault.TheVariants.{Cut, Read, Write, BadHead, HeadTooLong, NoLength, BodyTooLong, Connect, Memory}
@@ -41,11 +42,6 @@ answer_text status body =
 -- pieces, one behind another
 abbrev pub joined : List (Bor (List ℕ)) → List ℕ
 joined pieces = flat_map (λ piece. piece.now) pieces
-
--- known bytes grow by some front of the text, which is not the whole
-abbrev pub AppendsFront : Option (List ℕ) → Option (List ℕ) → List ℕ → Type 0
-AppendsFront old new text =
-    (front back : List ℕ) × (text ≡ front ++ back) × (0 < length back) × Appends old new front
 
 -- why a request was not written, and what the writer got of it
 abbrev pub LacksRequest : RequestValue → Option (List ℕ) → Option (List ℕ) → WireFault → Type 0

@@ -2,7 +2,7 @@
 ghost use Rattle.std.specs.Prelude.{◌≡◌, IfOk, IfSome};
 ghost use Rattle.druid_wire.specs.Bodies.{IsTaken, EndsBody};
 
-use crate::interrupted::{MAX_TRIES, is_interrupted};
+use druid_stream::{MAX_TRIES, is_interrupted};
 use std::io;
 use std::io::{BufRead, ErrorKind};
 

@@ -3,7 +3,7 @@ ghost use Rattle.std.specs.Prelude.{◌≡◌, ◌↔◌, ◌≤◌, ◌==◌, l
 ghost use Rattle.druid_wire.specs.Frame.{IsBlank};
 ghost use Rattle.druid_wire.specs.Parts.{IsLine, Finds};
 
-use crate::lines::{Part, next_part};
+use druid_stream::{Part, next_part};
 use std::io;
 use std::io::{BufRead, ErrorKind};
 

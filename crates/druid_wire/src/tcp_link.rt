@@ -4,8 +4,8 @@ ghost use Rattle.std.specs.Io.KnownBytes.{Appends, Consumes, IsAtEnd};
 ghost use Rattle.druid_wire.specs.Links.{IsLinkFault, faults_at};
 ghost use Rattle.druid_wire.specs.TcpLinks.{fresh_tcp_link, limited};
 
-use crate::interrupted::{MAX_TRIES, is_interrupted};
 use crate::{Link, MAX_EXCHANGE, WireFault};
+use druid_stream::{MAX_TRIES, is_interrupted};
 use std::alloc::Global;
 use std::io::{Read, Write};
 use std::marker::Model;
@@ -153,7 +153,7 @@ fn connected<N: Net + Clock>(net: &N, timer: &Timer, address: &str) -> Option<N:
 }
 
 // Writes a front of a text, of one byte at least, within the time, and gives its length.
-#[tactic(auto, using(crate::proofs::WriteLemmas::kept_twice, crate::proofs::WriteLemmas::kept_appends))]
+#[tactic(auto, using(druid_stream::proofs::WriteLemmas::kept_twice, druid_stream::proofs::WriteLemmas::kept_appends))]
 fn send_some<C: Clock, S: Write + OpenStream>(
     clock: &C,
     timer: &Timer,

@@ -1,12 +1,13 @@
 //! Messages, written to a writer, which takes no memory, and the bytes of requests.
-ghost use Rattle.std.specs.Prelude.{◌≡◌, ◌≤◌, ◌⊎◌, length, take, decimal, IfOk, IfErr, OnOk, OnErr};
-ghost use Rattle.std.specs.Io.KnownBytes.{Appends, Keeps};
-ghost use Rattle.druid_wire.specs.Written.{AppendsFront, joined, phrase_of, request_text, response_text, answer_text, LacksRequest};
+ghost use Rattle.std.specs.Prelude.{◌≡◌, ◌≤◌, ◌⊎◌, length, decimal, IfOk, IfErr, OnOk, OnErr};
+ghost use Rattle.std.specs.Io.KnownBytes.{Appends};
+ghost use Rattle.druid_stream.specs.Fronts.{AppendsFront};
+ghost use Rattle.druid_wire.specs.Written.{joined, phrase_of, request_text, response_text, answer_text, LacksRequest};
 
 use crate::fault::WireFault;
-use crate::interrupted::{MAX_TRIES, is_interrupted};
 use crate::length::MAX_BODY;
 use crate::request::Request;
+use druid_stream::write_text;
 use http::StatusCode;
 use itoa::Buffer;
 use std::alloc::{AllocError, Global};
@@ -21,44 +22,6 @@ const BEFORE_LENGTH: &[u8] = b"Content-Type: application/json\r\nContent-Length:
 
 // What it has behind the length, up to the end of the empty line.
 const BEHIND_LENGTH: &[u8] = b"\r\nConnection: close\r\n\r\n";
-
-// Writes a front of a text, of one byte at least, and gives its length.
-#[tactic(auto, using(crate::proofs::WriteLemmas::kept_twice, crate::proofs::WriteLemmas::kept_appends))]
-fn write_some<W: Write>(writer: &mut W, text: &[u8]) -> io::Result<usize>
-    ensures bound { IfOk result (λ n. n ≤ length text.now) }
-    ensures progress { IfOk result (λ n. 1 ≤ n) }
-    ensures ok { IfOk result
-        (λ n. Appends (W.contents writer.old) (W.contents writer.new) (take n text.now)) }
-    ensures err { OnErr result (Keeps (W.contents writer.old) (W.contents writer.new)) }
-{
-    for _ in 0..MAX_TRIES {
-        match writer.write(text) {
-            Ok(0) => return Err(ErrorKind::WriteZero.into()),
-            Ok(written) => return Ok(written),
-            Err(error) => {
-                if !is_interrupted(&error) {
-                    return Err(error);
-                }
-            }
-        }
-    }
-    Err(ErrorKind::Interrupted.into())
-}
-
-// Writes a text. Where the writer fails, it has got some front of the text, and not the whole.
-fn write_text<W: Write>(writer: &mut W, text: &[u8]) -> io::Result<()>
-    ensures ok { OnOk result (Appends (W.contents writer.old) (W.contents writer.new) text.now) }
-    ensures err { OnErr result
-        (AppendsFront (W.contents writer.old) (W.contents writer.new) text.now) }
-{
-    let mut rest = text;
-    while !rest.is_empty() {
-        let written = write_some(writer, rest)?;
-        let (_, left) = rest.split_at(written);
-        rest = left;
-    }
-    Ok(())
-}
 
 // Writes pieces, one behind another, as one text.
 fn write_pieces<W: Write>(writer: &mut W, pieces: &[&[u8]]) -> io::Result<()>

@@ -13,6 +13,8 @@ mod rows;
 #[cfg(test)]
 mod serving;
 #[cfg(test)]
+mod stream;
+#[cfg(test)]
 mod tcp_links;
 #[cfg(test)]
 mod wire;

@@ -1,5 +1,5 @@
 use Rattle.druid_cluster.proofs.PieceLemmas.{piece_some}
-use Rattle.druid_cluster.proofs.WriteLemmas.{begins, stops, any_err}
+use Rattle.druid_stream.proofs.WriteLemmas.{begins, stops, any_err}
 use Rattle.druid_cluster.proofs.writing.write_piece.Goals as goal
 
 pub returns-in_err-text-clause-err : goal.returns-in_err-text-clause-err

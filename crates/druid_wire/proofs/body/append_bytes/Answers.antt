@@ -3,7 +3,7 @@ use Rattle.std.proofs.lemmas.Bool.{not-false, eqb-true}
 use Rattle.std.specs.Io.BufRead.{FillKeeps}
 use Rattle.std.proofs.KnownBytes.{Consumes-nil, Consumes-kept}
 use Rattle.std.proofs.BufReadLemmas.{Consumes_shown}
-use Rattle.druid_wire.proofs.LineLemmas.{shown_end}
+use Rattle.druid_stream.proofs.PartLemmas.{shown_end}
 use Rattle.druid_wire.proofs.body.append_bytes.Goals as goal
 
 pub returns-then-is_interrupted : goal.returns-then-is_interrupted

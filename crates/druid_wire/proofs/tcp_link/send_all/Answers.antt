@@ -1,6 +1,6 @@
 use Rattle.std.proofs.Common.{take, sym, ap, ◌++◌, ◌∙◌, ℕ, List}
 use Rattle.std.proofs.lemmas.List.{take-append-drop}
-use Rattle.druid_wire.proofs.WriteLemmas.{goes_on}
+use Rattle.druid_stream.proofs.WriteLemmas.{goes_on}
 use Rattle.druid_wire.proofs.tcp_link.send_all.Goals as goal
 
 pub loop-rest-preserved : goal.loop-rest-preserved

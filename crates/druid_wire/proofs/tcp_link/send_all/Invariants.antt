@@ -1,5 +1,5 @@
 use Rattle.std.proofs.Common.{length}
-use Rattle.druid_wire.proofs.WriteLemmas.{IsUnderWay}
+use Rattle.druid_stream.proofs.WriteLemmas.{IsUnderWay}
 use Rattle.druid_wire.proofs.tcp_link.send_all.Given as goal
 
 abbrev pub invariant-loop-rest : goal.invariant-loop-rest

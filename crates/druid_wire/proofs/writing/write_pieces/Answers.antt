@@ -1,4 +1,5 @@
-use Rattle.druid_wire.proofs.WriteLemmas.{goes_on, stops_inside, all_written, any_err, joined_more, joined_all}
+use Rattle.druid_stream.proofs.WriteLemmas.{goes_on, stops_inside, all_written, any_err}
+use Rattle.druid_wire.proofs.WriteLemmas.{joined_more, joined_all}
 use Rattle.druid_wire.proofs.writing.write_pieces.Goals as goal
 
 pub returns-in_err-write_text-clause-err : goal.returns-in_err-write_text-clause-err

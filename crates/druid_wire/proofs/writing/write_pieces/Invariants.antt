@@ -1,6 +1,6 @@
 use Rattle.std.proofs.Common.{drop}
 use Rattle.druid_wire.specs.Written.{joined}
-use Rattle.druid_wire.proofs.WriteLemmas.{IsUnderWay}
+use Rattle.druid_stream.proofs.WriteLemmas.{IsUnderWay}
 use Rattle.druid_wire.proofs.writing.write_pieces.Given as goal
 
 abbrev pub invariant-loop-piece : goal.invariant-loop-piece

@@ -1,4 +1,5 @@
-use Rattle.druid_wire.proofs.WriteLemmas.{err_more, answer_short, answer_long, front_as}
+use Rattle.druid_stream.proofs.WriteLemmas.{err_more}
+use Rattle.druid_wire.proofs.WriteLemmas.{answer_short, answer_long, front_as}
 use Rattle.druid_wire.proofs.writing.write_response.Goals as goal
 
 pub returns-then-body-le-MAX_BODY-clause-err : goal.returns-then-body-le-MAX_BODY-clause-err

@@ -1,7 +1,0 @@
-use Rattle.std.proofs.Common.{◌≤◌, length}
-use Rattle.std.specs.Io.KnownBytes.{Consumes}
-use Rattle.druid_cluster.proofs.LineLemmas.{IsPlain}
-use Rattle.druid_cluster.proofs.lines.next_line.Given as goal
-
-abbrev pub invariant-loop : goal.invariant-loop
-invariant-loop g l = record { short : length l.line.items ≤ 16777216; plain : IsPlain l.line.items; taken : Consumes (g.R.Read.remaining l.fn.reader) (g.R.Read.remaining l.reader) l.line.items }
