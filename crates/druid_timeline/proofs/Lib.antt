@@ -1,6 +1,7 @@
 pub mod RunsLemmas
 pub mod ChunkLemmas
 pub mod SweepLemmas
+pub mod ActiveLemmas
 pub mod LookupLemmas
 pub mod CutLemmas
 pub mod HullLemmas

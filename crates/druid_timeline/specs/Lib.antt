@@ -3,4 +3,5 @@ pub mod Visible
 pub mod Pieces
 pub mod Chunks
 pub mod Stretches
+pub mod Active
 pub mod Overshadowed

@@ -1,6 +1,7 @@
 //! Which version of a data source is visible at each instant.
 #![tactic(auto)]
 
+mod active;
 mod chunks;
 mod fault;
 mod laws;

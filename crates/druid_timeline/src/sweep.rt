@@ -5,10 +5,12 @@ ghost use Rattle.std.specs.List.Sorted.{IsNonDecreasing};
 ghost use Rattle.druid_time.specs.Extent.{Extent, Has, AreParts};
 ghost use Rattle.druid_segid.specs.Group.{Group, same_group, Outranks};
 ghost use Rattle.druid_shard.specs.Members.{IsComplete};
-ghost use Rattle.druid_timeline.specs.Chunks.{Chunk, IsBest, IsBestOf};
+ghost use Rattle.druid_timeline.specs.Chunks.{Chunk, IsBestOf};
 ghost use Rattle.druid_timeline.specs.Pieces.{AreRuns, Shows, IsStretch, ArePartitions, shown_of, Told};
+ghost use Rattle.druid_timeline.specs.Active.{StartInOrder};
 ghost use Rattle.druid_timeline.specs.Stretches.{Stretch, shown_by, chunk_by, AreOf, EndBy, AreCandidatesIn, IsWithin, HaveBounds, NoBoundWithin, AreRunsIn};
 
+use crate::active::{advance, best_at};
 use crate::chunks::{Chunks, beats};
 use crate::{Partitions, Piece};
 use druid_segid::{GroupKey, Meter};
@@ -61,13 +63,13 @@ impl<'a> Candidate<'a> {
         })
     }
 
-    fn start(&self) -> Instant
+    pub(crate) fn start(&self) -> Instant
         ensures { result ≡ self.now.0.interval.start }
     {
         self.interval.start()
     }
 
-    fn end(&self) -> Instant
+    pub(crate) fn end(&self) -> Instant
         ensures { result ≡ self.now.0.interval.end }
     {
         self.interval.end()
@@ -85,7 +87,12 @@ impl<'a> Candidate<'a> {
     }
 
     // Whether it has the instant and outranks the best one so far.
-    fn is_better(&self, instant: Instant, best: Option<&Candidate>, meter: &mut Meter) -> bool
+    pub(crate) fn is_better(
+        &self,
+        instant: Instant,
+        best: Option<&Candidate>,
+        meter: &mut Meter,
+    ) -> bool
         ensures { IsTrue result
             ↔ (Has self.now.0.interval instant × IsComplete self.now.1
             × MatchOption (option_map (λ c. c.now.0) best.entry) (Unit {0}) (Outranks self.now.0)) }
@@ -231,19 +238,20 @@ fn candidates_of<'a>(
     }
 }
 
-// The best of the candidates that have the instant.
-fn best_at<'b, 'a>(candidates: &'b [Candidate<'a>], instant: Instant) -> Option<&'b Candidate<'a>>
-    ensures best { IsBest candidates.now instant (option_map (λ c. c.now.0) result) }
-    ensures among { MatchOption result (Unit {0}) (λ c. Contains candidates.now c.now) }
+// The same in the order of their starts.
+fn sorted_candidates<'a>(
+    alloc: Global,
+    chunks: &'a Chunks,
+    parts: &[Interval],
+) -> Result<Vec<Candidate<'a>>, AllocError>
+    requires { AreParts parts.now }
+    ensures found { IfOk result (λ found. (part : Extent) → Contains parts.now part
+        → AreCandidatesIn part chunks.now.entries found.items) }
+    ensures sorted { IfOk result (λ found. StartInOrder found.items) }
 {
-    let mut meter = Meter::new();
-    let mut best: Option<&Candidate> = None;
-    for candidate in candidates {
-        if candidate.is_better(instant, best, &mut meter) {
-            best = Some(candidate);
-        }
-    }
-    best
+    let mut found = candidates_of(alloc, chunks, parts)?;
+    found.sort_unstable_by_key(|candidate| candidate.start());
+    Ok(found)
 }
 
 // Adds an instant that lies strictly inside the part.
@@ -319,24 +327,24 @@ fn push_run<'a>(runs: &mut Vec<Run<'a>>, run: Run<'a>) -> Result<(), AllocError>
     Ok(())
 }
 
-// Adds what is visible from one instant to another, between which no candidate starts or ends.
+// Adds what is visible of some candidates from one instant to another, between which none of them starts or ends.
 fn add_stretch<'a>(
     runs: &mut Vec<Run<'a>>,
-    candidates: &[Candidate<'a>],
+    active: &[&Candidate<'a>],
     from: Instant,
     to: Instant,
 ) -> Result<(), AllocError>
     requires order { from < to }
-    requires level { NoBoundWithin candidates.now from to }
+    requires level { NoBoundWithin (map (λ c. c.now) active.now) from to }
     requires runs { AreRuns (map shown_by runs.old.items) }
     requires behind { EndBy (map shown_by runs.old.items) from }
     ensures runs { OnOk result (AreRuns (map shown_by runs.new.items)) }
     ensures shows { OnOk result ((t : ℕ) (g : Group) → Shows (map shown_by runs.new.items) t g
-        ↔ (Shows (map shown_by runs.old.items) t g ⊎ (((from ≤ t) × (t < to)) × IsBestOf candidates.now t g))) }
+        ↔ (Shows (map shown_by runs.old.items) t g ⊎ (((from ≤ t) × (t < to)) × IsBestOf (map (λ c. c.now) active.now) t g))) }
     ensures members { OnOk result ((chunks : List Chunk) → AreOf chunks runs.old.items
-        → ((e : Chunk) → Contains candidates.now e → Contains chunks e) → AreOf chunks runs.new.items) }
+        → ((e : Chunk) → Contains (map (λ c. c.now) active.now) e → Contains chunks e) → AreOf chunks runs.new.items) }
 {
-    match best_at(candidates, from) {
+    match best_at(active, from) {
         Some(best) => {
             let stretch = best.run(from, to)?;
             push_run(runs, stretch)
@@ -345,13 +353,15 @@ fn add_stretch<'a>(
     }
 }
 
-// Adds what is visible in a part, which lies behind the runs.
+// Adds what is visible in a part, which lies behind the runs. Between two bounds only the active candidates are looked
+// at, and they are few where few chunks overlap.
 fn add_part<'a>(
     alloc: Global,
     runs: &mut Vec<Run<'a>>,
     candidates: &[Candidate<'a>],
     part: Interval,
 ) -> Result<(), AllocError>
+    requires order { StartInOrder candidates.now }
     requires runs { AreRuns (map shown_by runs.old.items) }
     requires behind { EndBy (map shown_by runs.old.items) part.start }
     ensures runs { OnOk result (AreRuns (map shown_by runs.new.items)) }
@@ -361,10 +371,13 @@ fn add_part<'a>(
         → ((e : Chunk) → Contains candidates.now e → Contains chunks e) → AreOf chunks runs.new.items) }
 {
     let bounds = bounds_in(alloc, part, candidates)?;
+    let mut active = Vec::new(alloc);
+    let mut place = 0;
     let mut from = part.start();
     for bound in &bounds {
         if from < *bound {
-            add_stretch(runs, candidates, from, *bound)?;
+            place = advance(&mut active, candidates, place, from)?;
+            add_stretch(runs, &active, from, *bound)?;
             from = *bound;
         }
     }
@@ -383,7 +396,7 @@ pub(crate) fn runs_in<'a>(
 {
     // Read for the proof: the reader tells what its type keeps.
     let _ = chunks.len();
-    let candidates = candidates_of(alloc, chunks, parts)?;
+    let candidates = sorted_candidates(alloc, chunks, parts)?;
     let mut runs = Vec::new(alloc);
     for part in parts {
         add_part(alloc, &mut runs, &candidates, *part)?;

@@ -7,6 +7,7 @@ use Rattle.druid_timeline.specs.Chunks.{Chunk}
 use Rattle.druid_timeline.specs.Pieces.{Shows}
 use Rattle.druid_timeline.specs.Stretches.{Stretch, shown_by, chunk_by, AreOf}
 use Rattle.druid_timeline.proofs.SweepLemmas.{level_shows, level_shows_none}
+use Rattle.druid_timeline.proofs.ActiveLemmas.{lent}
 use Rattle.druid_timeline.proofs.sweep.add_stretch.Goals as goal
 
 on_ok : {T E : Type 0} (r : Result T E) (P Q : Type 0) → (P → Q) → OnOk r P → OnOk r Q
@@ -17,7 +18,7 @@ pub returns-in_ok-stretch-in-Some-clause-shows : goal.returns-in_ok-stretch-in-S
 returns-in_ok-stretch-in-Some-clause-shows c =
     on_ok c.push_run.result _ _
     (λ (h : (t : ℕ) (g : Group) → Shows (map shown_by c.push_run.new.runs.items) t g ↔ (Shows (map shown_by c.args.runs.now.items) t g ⊎ ((c.in_ok-stretch-in-Some.stretch.shown.group ≡ g) × Has c.in_ok-stretch-in-Some.stretch.shown.interval t))) t g.
-    level_shows c.args.candidates.now c.args.from c.args.to c.in-Some.best.now.0 (map shown_by c.args.runs.now.items) (map shown_by c.push_run.new.runs.items) t g c.requires.level c.requires.order c.in-Some.ensures.best
+    level_shows (lent c.args.active.now) c.args.from c.args.to c.in-Some.best.now.0 (map shown_by c.args.runs.now.items) (map shown_by c.push_run.new.runs.items) t g c.requires.level c.requires.order c.in-Some.ensures.best
     (subst (λ (r : Stretch). Shows (map shown_by c.push_run.new.runs.items) t g ↔ (Shows (map shown_by c.args.runs.now.items) t g ⊎ ((r.shown.group ≡ g) × Has r.shown.interval t))) c.in_ok-stretch-in-Some.ensures (h t g)))
     c.push_run.ensures.shows
 
@@ -30,4 +31,4 @@ returns-in_ok-stretch-in-Some-clause-members c =
 
 pub returns-in-None-clause-shows : goal.returns-in-None-clause-shows
 returns-in-None-clause-shows c t g =
-    level_shows_none c.args.candidates.now c.args.from c.args.to (map shown_by c.args.runs.now.items) t g c.requires.level c.in-None.ensures.best
+    level_shows_none (lent c.args.active.now) c.args.from c.args.to (map shown_by c.args.runs.now.items) t g c.requires.level c.in-None.ensures.best

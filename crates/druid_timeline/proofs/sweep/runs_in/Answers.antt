@@ -12,5 +12,5 @@ pub loop-part-preserved : goal.loop-part-preserved
 loop-part-preserved c =
     AreRunsIn-more c.args.parts.now c.args.chunks.now.entries c.deref.result.now c.loop-part.runs.items c.add_part.new.runs.items c.loop-part.part-index c.part-item.result c.loop-part-test.true c.part-item.is c.loop-part.invariant
     (subst (λ (found : List Chunk). AreCandidatesIn c.part-item.result c.args.chunks.now.entries found) (sym c.deref.ensures.value)
-    (c.in_ok-candidates.ensures c.part-item.result (c.loop-part.part-index, c.loop-part-test.true, sym c.part-item.is)))
+    (c.in_ok-candidates.ensures.found c.part-item.result (c.loop-part.part-index, c.loop-part-test.true, sym c.part-item.is)))
     c.in_ok-add_part.ensures.runs c.in_ok-add_part.ensures.shows c.in_ok-add_part.ensures.members
