@@ -16,7 +16,7 @@ use Rattle.druid_query.specs.Read.{IsQuery}
 use Rattle.druid_query.specs.Asked.{Asked}
 use Rattle.druid_query.specs.AskedOrder.{same_asked, same_asked-equiv}
 use Rattle.druid_query.specs.SubQuery.{SubQuery, IsAsked, subquery_data, subquery_at, subquery_text}
-use Rattle.druid_query.proofs.SubBackLemmas.{sub_back}
+use Rattle.druid_query_text.proofs.SubBackLemmas.{sub_back}
 use Rattle.druid_partial.specs.Groups.{Group, IsResult}
 use Rattle.druid_partial.specs.Rows.{kinds_of}
 use Rattle.druid_partial.specs.Once.{segment_named, told_in, told_of, told}

@@ -25,7 +25,7 @@ use Rattle.druid_query.specs.Asked.{Asked, asked_data}
 use Rattle.druid_query.specs.SubQuery.{SubQuery, IsAsked, pieces_data, segments_data, sub_timeseries_data, sub_group_by_data, kinded_sub_data, subquery_data, subquery_text}
 use Rattle.druid_query.specs.declared.query_type.QueryType.{QueryType}
 use Rattle.druid_query.specs.declared.query_type.QueryType.TheVariants.{Timeseries, GroupBy}
-use Rattle.druid_query.proofs.DepthLemmas.{subquery_deep}
+use Rattle.druid_query_text.proofs.DepthLemmas.{subquery_deep}
 use Rattle.druid_partial.specs.Groups.{Group}
 use Rattle.druid_partial_text.specs.Written.{number_data, group_data, IsHeld}
 use Rattle.druid_partial_text.specs.Answers.{answer_data}

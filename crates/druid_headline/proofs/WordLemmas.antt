@@ -23,7 +23,7 @@ use Rattle.druid_query.specs.Read.{IsQuery}
 use Rattle.druid_query.specs.Asked.{Asked}
 use Rattle.druid_query.specs.declared.aggregator.AggregatorKind.{AggregatorKind}
 use Rattle.druid_query.specs.declared.aggregator.AggregatorKind.TheVariants.{Count, LongSum, LongMin, LongMax}
-use Rattle.druid_query.proofs.QueryBackLemmas.{query_sound}
+use Rattle.druid_query_text.proofs.QueryBackLemmas.{query_sound}
 use Rattle.druid_partial.specs.Groups.{Key, Group, AreWords, key_cmp, known, column, number_at, IsTold, IsAggregate, IsGroupOf, IsResult}
 use Rattle.druid_partial.specs.Rows.{number_in, earliest, one_or, taken, tells, passes_if, is_asked, kinds_of}
 use Rattle.druid_partial.specs.Once.{segment_named, told_in, told_of, told}

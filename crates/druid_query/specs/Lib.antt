@@ -4,8 +4,6 @@ pub mod Filters
 pub mod Fields
 pub mod Asked
 pub mod Read
-pub mod Levels
-pub mod Lent
 pub mod Written
 pub mod AskedOrder
 pub mod SubQuery

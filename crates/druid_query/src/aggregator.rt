@@ -37,7 +37,30 @@ impl Model for Aggregator {
     } };
 }
 
+fn copy_of(alloc: Global, text: Option<&str>) -> Result<Option<String>, AllocError>
+    ensures { IfOk result (λ copy. option_map string_bytes copy ≡ option_map (λ s. s.now) text.entry) }
+{
+    match text {
+        Some(text) => Ok(Some(String::from_str(alloc, text)?)),
+        None => Ok(None),
+    }
+}
+
 impl Aggregator {
+    /// An aggregator of that name and kind, over that field.
+    pub fn new(
+        alloc: Global,
+        name: &str,
+        kind: AggregatorKind,
+        field: Option<&str>,
+    ) -> Result<Aggregator, AllocError>
+        ensures { IfOk result (λ made. made ≡ record { name = name.now; kind = kind; field = option_map (λ s. s.now) field.entry }) }
+    {
+        let name = String::from_str(alloc, name)?;
+        let field = copy_of(alloc, field)?;
+        Ok(Aggregator { name, kind, field })
+    }
+
     /// Its name in the result.
     pub fn name(&self) -> &str
         ensures { result.now ≡ self.now.name }
@@ -57,72 +80,5 @@ impl Aggregator {
         ensures { option_map (λ s. s.now) result ≡ self.now.field }
     {
         self.field.as_deref()
-    }
-}
-
-// The same, lent.
-#[derive(Drop)]
-pub(crate) struct LentAggregator<'a> {
-    name: &'a str,
-    kind: AggregatorKind,
-    field: Option<&'a str>,
-}
-
-impl<'a> Model for LentAggregator<'a> {
-    ghost use Rattle.std.specs.Prelude.{option_map};
-    ghost use Rattle.druid_query.specs.Query.{Aggregator};
-
-    ghost Value = { Aggregator };
-
-    ghost view = { λ a. record {
-      name = a.name.now;
-      kind = a.kind;
-      field = option_map (λ s. s.now) a.field;
-    } };
-}
-
-fn copy_of(alloc: Global, text: Option<&str>) -> Result<Option<String>, AllocError>
-    ensures { IfOk result (λ copy. option_map string_bytes copy ≡ option_map (λ s. s.now) text.entry) }
-{
-    match text {
-        Some(text) => Ok(Some(String::from_str(alloc, text)?)),
-        None => Ok(None),
-    }
-}
-
-impl<'a> LentAggregator<'a> {
-    pub(crate) fn new(
-        name: &'a str,
-        kind: AggregatorKind,
-        field: Option<&'a str>,
-    ) -> LentAggregator<'a>
-        ensures { result ≡ record { name = name.now; kind = kind; field = option_map (λ s. s.now) field.entry } }
-    {
-        LentAggregator { name, kind, field }
-    }
-
-    pub(crate) fn name(&self) -> &'a str
-        ensures { result.now ≡ self.now.name }
-    {
-        self.name
-    }
-
-    pub(crate) fn field(&self) -> Option<&'a str>
-        ensures { option_map (λ s. s.now) result ≡ self.now.field }
-    {
-        self.field
-    }
-
-    // A copy.
-    pub(crate) fn owned(&self, alloc: Global) -> Result<Aggregator, AllocError>
-        ensures { IfOk result (λ copy. copy ≡ self.now) }
-    {
-        let name = String::from_str(alloc, self.name)?;
-        let field = copy_of(alloc, self.field)?;
-        Ok(Aggregator {
-            name,
-            kind: self.kind,
-            field,
-        })
     }
 }

@@ -60,8 +60,8 @@ impl Model for Query {
 }
 
 impl Query {
-    // The query of these parts, which some JSON reads as.
-    pub(crate) fn new(
+    /// The query of these parts, which some JSON reads as.
+    pub fn new(
         alloc: Global,
         kind: QueryType,
         source: Name,

@@ -18,7 +18,7 @@ fn field_value(alloc: Global, key: &str) -> Result<Value, AllocError>
     })
 }
 
-#[tactic(auto, using(crate::proofs::PlainLemmas::field_plain))]
+#[tactic(auto, using(crate::proofs::RefusalLemmas::field_plain))]
 fn field_text(alloc: Global, key: &str) -> Result<String, AllocError>
     ensures { IfOk result (λ text. string_bytes text ≡ compact_text (field_data key.now)) }
 {

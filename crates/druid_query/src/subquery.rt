@@ -1,7 +1,12 @@
 ghost use Rattle.std.specs.Prelude.{◌≡◌};
 
-use crate::{Asked, Query};
+use crate::Query;
+use druid_segid::SegmentId;
+use druid_time::Interval;
 use std::marker::Model;
+
+/// A segment, and the piece of it that is asked for.
+pub type Asked = (SegmentId, Interval);
 
 /// A query to a node, and the pieces of segments that it is to be answered from.
 #[derive(Debug, Drop)]

@@ -1,7 +1,7 @@
 //! Answers of nodes, read and written again.
 use crate::printing::{filled, printed};
 use druid_partial_text::{node_answer_text, read_node_answer};
-use druid_query::read_subquery;
+use druid_query_text::read_subquery;
 use std::alloc::Global;
 use std::process::Abort;
 

@@ -1,5 +1,6 @@
 //! What no contract says of queries, of partials and of data nodes: worked examples over texts, files and messages, printed
-//! texts, and that calls succeed with ample memory. `answers` is of `druid_partial_text`, `node` and `queries` of `druid_node`.
+//! texts, and that calls succeed with ample memory. `subquery` is of `druid_query_text`, `answers` of
+//! `druid_partial_text`, `node` and `queries` of `druid_node`.
 #![tactic(auto)]
 
 #[cfg(test)]
@@ -16,5 +17,7 @@ mod printing;
 mod queries;
 #[cfg(test)]
 mod query;
+#[cfg(test)]
+mod query_text;
 #[cfg(test)]
 mod subquery;

@@ -3,7 +3,8 @@ ghost use Rattle.druid_partial.specs.Rows.{IsPartialFor};
 
 use druid_partial::{Partial, merge, partial_of};
 use druid_partial_text::result_text;
-use druid_query::{Query, read_query};
+use druid_query::Query;
+use druid_query_text::read_query;
 use druid_rows::{Row, Schema, Segment};
 use druid_segid::{Name, SegmentId, Version};
 use druid_shard::Descriptor;

@@ -1,7 +1,8 @@
 //! Partials, read and written again, and the results that they are written as.
 use crate::printing::{assert_prints, printed};
 use druid_partial_text::{PartialFault, partial_text, read_partial, result_text};
-use druid_query::{Query, read_query};
+use druid_query::Query;
+use druid_query_text::read_query;
 use serde_json::Value;
 use std::alloc::Global;
 use std::process::Abort;

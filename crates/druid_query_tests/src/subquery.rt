@@ -1,7 +1,8 @@
 //! Subqueries, read and written again.
 use crate::printing::{filled, printed};
-use druid_query::{
-    SubQuery, asked_value, asked_values, read_asked, read_subquery, subquery_of, subquery_text,
+use druid_query::SubQuery;
+use druid_query_text::{
+    asked_value, asked_values, read_asked, read_subquery, subquery_of, subquery_text,
     subquery_value,
 };
 use std::alloc::Global;

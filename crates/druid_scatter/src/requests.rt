@@ -7,7 +7,8 @@ ghost use Rattle.druid_scatter.specs.Waiting.{sub_if, sub_request, wanted_of};
 
 use crate::ask_round;
 use crate::waiting::Waiting;
-use druid_query::{Asked, Query, SubQuery, subquery_text};
+use druid_query::{Asked, Query, SubQuery};
+use druid_query_text::subquery_text;
 use druid_wire::{Link, Request, WireFault, request_bytes};
 use http::Method;
 use std::alloc::{AllocError, Global};

@@ -1,5 +1,0 @@
-use Rattle.druid_query.proofs.QueryBackLemmas.{query_back}
-use Rattle.druid_query.proofs.laws.queries_are_read_back.Goals as goal
-
-pub returns : goal.returns
-returns c = query_back

@@ -1,5 +1,0 @@
-use Rattle.druid_query.proofs.SubBackLemmas.{sub_back}
-use Rattle.druid_query.proofs.laws.subqueries_are_read_back.Goals as goal
-
-pub returns : goal.returns
-returns c = sub_back

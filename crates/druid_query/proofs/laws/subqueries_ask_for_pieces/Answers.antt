@@ -1,9 +1,0 @@
-use Rattle.druid_query.proofs.SubBackLemmas.{sub_query}
-use Rattle.druid_query.proofs.SubTellLemmas.{sub_asked}
-use Rattle.druid_query.proofs.laws.subqueries_ask_for_pieces.Goals as goal
-
-pub returns-clause-query : goal.returns-clause-query
-returns-clause-query c = sub_query
-
-pub returns-clause-asked : goal.returns-clause-asked
-returns-clause-asked c = sub_asked

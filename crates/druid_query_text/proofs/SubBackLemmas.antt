@@ -1,0 +1,203 @@
+-- Subqueries as JSON: what is written is read back.
+use Rattle.std.proofs.Common.{◌≡◌, ◌≤◌, ◌-◌, ◌&&◌, ℕ, List, [], ◌∷◌, map, codes, Contains, Option, Some, None, Result, Ok, is_some, option_and_then, nat_le, true, Bool, refl, sym, ap, ◌∙◌, subst, arith, le-leb}
+use Rattle.std.proofs.lemmas.Bool.{leb-true}
+use Rattle.std.specs.Cmp.{first_so, second_so}
+use Rattle.serde_json.specs.Data.{Data, array, Items}
+use Rattle.serde_json.specs.Find.{get}
+use Rattle.serde_json.specs.View.{items_of}
+use Rattle.druid_time.specs.Extent.{Extent, IsExtent}
+use Rattle.druid_time.specs.Options as options
+use Rattle.druid_time.specs.Results.{◌>>=◌}
+use Rattle.druid_time.proofs.TextLemmas.{extent_at-extent_text}
+use Rattle.druid_segid.specs.Identifier.{IsIdentifier}
+use Rattle.druid_segid.proofs.NameLemmas.{is_version-true}
+use Rattle.druid_shard.specs.Each.{each_of}
+use Rattle.druid_shard.proofs.EachLemmas.{each_back}
+use Rattle.druid_shard.proofs.MemberLemmas.{Contains-later, Contains-nil}
+use Rattle.druid_query.specs.Query.{Query, query_of, are_distinct, result_names}
+use Rattle.druid_query.specs.Asked.{Asked, LiesInside, lies_inside, StandApart, stand_apart, asked_data, spelled_at, named_by, asked_at, inside_at, asked_items}
+use Rattle.druid_query.specs.Refusal.{Refusal, bad_field, bad_interval, or_refuse, when}
+use Rattle.druid_query.specs.Fields.{kind_at, listed_texts, interval_of}
+use Rattle.druid_query.specs.Read.{list_of, fit_intervals, no_more_at, IsQuery}
+use Rattle.druid_query.specs.SubQuery.{SubQuery, Span, IsAsked, pieces_at, apart_at, query_intervals_at, span_at, subquery_at, sub_timeseries_data, sub_group_by_data, pieces_data, segments_data, kinded_sub_data, subquery_data}
+use Rattle.druid_query.specs.Written.{intervals_data, interval_data}
+use Rattle.druid_query.specs.declared.query_type.QueryType.{QueryType}
+use Rattle.druid_query.specs.declared.query_type.QueryType.TheVariants.{Timeseries, GroupBy}
+use Rattle.druid_query.proofs.AskedLemmas.{apart_told}
+use Rattle.druid_query.proofs.StepLemmas.{bound}
+use Rattle.druid_query.proofs.ChainLemmas.{parts_made, whole_read, whole_bound, steps_of}
+use Rattle.druid_query_text.proofs.SubLemmas.{subs, of_sub}
+use Rattle.druid_query.proofs.BackLemmas.{texts_back, interval_back}
+use Rattle.druid_query.proofs.SoundLemmas.{HasItem, bound_item, read_some, interval_sound, IsSomeList}
+use Rattle.druid_shard.proofs.EachLemmas.{each_sound}
+use Rattle.serde_json.specs.Find.{as_array}
+use Rattle.druid_query_text.proofs.QueryBackLemmas.{Timed, Keys, keys_back, query_sound, sound_of, sound_back, list_tells, list_read, no_both}
+
+-- ---- inside
+
+pub inside_seen : (a : Asked) → lies_inside a ≡ true → LiesInside a
+inside_seen a h t has =
+    let first : a.0.interval.start ≤ a.1.start = leb-true a.0.interval.start a.1.start (first_so (nat_le a.0.interval.start a.1.start) (nat_le a.1.end a.0.interval.end) h) in
+    let last : a.1.end ≤ a.0.interval.end = leb-true a.1.end a.0.interval.end (second_so (nat_le a.0.interval.start a.1.start) (nat_le a.1.end a.0.interval.end) h) in
+    (omega (arith, first, has.0), omega (arith, last, has.1))
+
+pub inside_told : (a : Asked) → IsExtent a.1 → LiesInside a → lies_inside a ≡ true
+inside_told a valid h =
+    let first = h a.1.start (omega arith, valid.0) in
+    let last = h (a.1.end - 1) (omega (arith, valid.0), omega (arith, valid.0)) in
+    ap (λ b. b && nat_le a.1.end a.0.interval.end) (le-leb a.0.interval.start a.1.start first.0) ∙ le-leb a.1.end a.0.interval.end (omega (arith, last.1, valid.0))
+
+-- ---- a piece
+
+spelled_some : (a : Asked) → IsIdentifier a.0 → is_some (spelled_at (asked_data a)) ≡ true
+unfolding spelled_at asked_data
+spelled_some a h =
+    let version = is_version-true a.0.version h.version in
+    let low = le-leb a.0.partition 65_535 (omega (arith, h.partition)) in
+    rw (version, low) refl
+
+pub asked_back : (a : Asked) → IsIdentifier a.0 → IsExtent a.1 → asked_at a.0.source (asked_data a) ≡ Some a
+unfolding asked_at named_by spelled_at asked_data
+asked_back a h valid =
+    let version = is_version-true a.0.version h.version in
+    let low = le-leb a.0.partition 65_535 (omega (arith, h.partition)) in
+    let chunk = extent_at-extent_text a.0.interval h.interval in
+    let piece = extent_at-extent_text a.1 valid in
+    rw (version, low) (rw (chunk, piece) refl)
+
+inside_back : (a : Asked) → IsIdentifier a.0 → IsExtent a.1 → LiesInside a → inside_at a.0.source (asked_data a) ≡ Some a
+unfolding inside_at
+inside_back a h valid inside =
+    let back = asked_back a h valid in
+    let lies = inside_told a valid inside in
+    rw (back, lies) refl
+
+-- ---- the pieces
+
+next_some : {A : Type 0} (o : Option A) (r : Option (List A)) → is_some o ≡ true → is_some r ≡ true → is_some (options.◌>>=◌ o (λ y. options.◌>>=◌ r (λ ys. Some (y ∷ ys)))) ≡ true
+next_some None r h k = absurd (cc)
+next_some (Some y) None h k = absurd (cc)
+next_some (Some y) (Some ys) h k = refl
+
+each_some : {A B : Type 0} (f : A → Data) (g : Data → Option B) (xs : List A) → ((x : A) → Contains xs x → is_some (g (f x)) ≡ true) → is_some (each_of g (items_of (map f xs))) ≡ true
+each_some f g [] all = refl
+each_some f g (x ∷ xs) all =
+    next_some (g (f x)) (each_of g (items_of (map f xs))) (all x (0, omega arith, refl)) (each_some f g xs (λ y there. all y (Contains-later x xs y there)))
+
+items_back : (asked : List Asked) → ((a : Asked) × Contains asked a) → ((a : Asked) → Contains asked a → IsIdentifier a.0 × IsExtent a.1) → asked_items (segments_data asked) ≡ Some (pieces_data asked)
+unfolding asked_items segments_data
+items_back [] some valid = absurd (Contains-nil some.0 some.1)
+items_back (x ∷ xs) some valid =
+    let all = each_some asked_data spelled_at (x ∷ xs) (λ a there. spelled_some a (valid a there).0) in
+    rw all refl
+
+pieces_read : (source : List ℕ) (d : Data) (asked : List Asked) → get (codes "intervals") d ≡ Some (segments_data asked) → IsAsked source asked → pieces_at source d ≡ Ok asked
+unfolding pieces_at
+pieces_read source d asked h is =
+    ap (λ o. or_refuse (option_and_then asked_items o) (bad_field (codes "intervals")) >>= λ items. or_refuse (each_of (inside_at source) items) bad_interval) h
+    ∙ ap (λ o. or_refuse o (bad_field (codes "intervals")) >>= λ items. or_refuse (each_of (inside_at source) items) bad_interval) (items_back asked is.some is.valid)
+    ∙ ap (λ o. or_refuse o bad_interval) (each_back asked_data (inside_at source) asked one)
+  where
+    one : (a : Asked) → Contains asked a → inside_at source (asked_data a) ≡ Some a
+    one a there = subst (λ s. inside_at s (asked_data a) ≡ Some a) (is.sources a there) (inside_back a (is.valid a there).0 (is.valid a there).1 (is.inside a there))
+
+apart_read : (source : List ℕ) (d : Data) (asked : List Asked) → pieces_at source d ≡ Ok asked → StandApart asked → apart_at source d ≡ Ok asked
+unfolding apart_at
+apart_read source d asked h apart = ap (λ r. r >>= λ all. when (stand_apart all) all bad_interval) h ∙ ap (λ (b : Bool). when b asked bad_interval) (apart_told asked apart)
+
+-- ---- the query's own intervals
+
+listed_back : (all : List Extent) → IsSomeList all → listed_texts (array (intervals_data all)) ≡ Some (intervals_data all)
+unfolding listed_texts
+listed_back [] some = absurd some
+listed_back (e ∷ es) some = let all = texts_back (e ∷ es) in rw all refl
+
+intervals_read : (d : Data) (all : List Extent) → get (codes "queryIntervals") d ≡ Some (array (intervals_data all)) → Timed all → query_intervals_at d ≡ Ok all
+unfolding query_intervals_at
+intervals_read d all h t =
+    ap (λ o. list_of (option_and_then listed_texts o) (bad_field (codes "queryIntervals")) interval_of bad_interval fit_intervals) h
+    ∙ ap (λ o. list_of o (bad_field (codes "queryIntervals")) interval_of bad_interval fit_intervals) (listed_back all t.some)
+    ∙ list_read (intervals_data all) (bad_field (codes "queryIntervals")) bad_interval interval_of fit_intervals all (each_back interval_data interval_of all (λ e there. interval_back e (t.each e there))) t.few
+
+item_of : (d : Data) (ds : Items) → listed_texts d ≡ Some ds → HasItem ds
+unfolding listed_texts
+item_of d ds h = bound_item (as_array d) ds h
+
+intervals_tell : (d : Data) (all : List Extent) → query_intervals_at d ≡ Ok all → Timed all
+unfolding query_intervals_at
+intervals_tell d all h =
+    let t = list_tells (option_and_then listed_texts (get (codes "queryIntervals") d)) (bad_field (codes "queryIntervals")) bad_interval interval_of fit_intervals all h in
+    record {
+      some = read_some interval_of t.0 all (there (get (codes "queryIntervals") d) t.0 t.1) t.2;
+      each = each_sound IsExtent interval_of interval_sound t.0 all t.2;
+      few = t.3;
+    }
+  where
+    there : (o : Option Data) (ds : Items) → option_and_then listed_texts o ≡ Some ds → HasItem ds
+    there None ds h = absurd (cc)
+    there (Some e) ds h = item_of e ds h
+
+span_read : (source : List ℕ) (d : Data) (asked : List Asked) (all : List Extent) → apart_at source d ≡ Ok asked → query_intervals_at d ≡ Ok all → span_at source d ≡ Ok (record { asked = asked; intervals = all })
+unfolding span_at
+span_read source d asked all a b =
+    ap (λ r. r >>= λ pieces. query_intervals_at d >>= λ intervals. Ok (record { asked = pieces; intervals = intervals })) a
+    ∙ ap (λ r. r >>= λ intervals. Ok (record { asked = asked; intervals = intervals })) b
+
+span_tells : (source : List ℕ) (d : Data) (span : Span) → span_at source d ≡ Ok span → query_intervals_at d ≡ Ok span.intervals
+unfolding span_at
+span_tells source d span h =
+    let a = bound (apart_at source d) (λ asked. query_intervals_at d >>= λ intervals. Ok (record { asked = asked; intervals = intervals })) span h in
+    let i = bound (query_intervals_at d) (λ intervals. Ok (record { asked = a.0; intervals = intervals })) span a.2 in
+    i.1 ∙ made i.0 a.0 i.2
+  where
+    made : (i : List Extent) (asked : List Asked) → ◌≡◌ {A = Result Span Refusal} (Ok (record { asked = asked; intervals = i })) (Ok span) → ◌≡◌ {A = Result (List Extent) Refusal} (Ok i) (Ok span.intervals)
+    made i asked e = let same : ◌≡◌ {A = Span} (record { asked = asked; intervals = i }) span = cc in ap (λ s. Ok s.intervals) same
+
+-- ---- the whole
+
+timeseries_keys : (q : Query) (segments : Data) → q.kind ≡ Timeseries → Keys (kinded_sub_data Timeseries q segments) q
+unfolding sub_timeseries_data kind_at no_more_at
+timeseries_keys q segments is = record { kind = ap Some is; source = refl; granularity = refl; filter = refl; dimensions = λ other. absurd (no_both (sym is ∙ other)); aggregations = refl; more = refl }
+
+group_by_keys : (q : Query) (segments : Data) → q.kind ≡ GroupBy → Keys (kinded_sub_data GroupBy q segments) q
+unfolding sub_group_by_data kind_at no_more_at
+group_by_keys q segments is = record { kind = ap Some is; source = refl; granularity = refl; filter = refl; dimensions = λ _. refl; aggregations = refl; more = refl }
+
+sub_keys : (k : QueryType) (q : Query) (segments : Data) → q.kind ≡ k → Keys (kinded_sub_data k q segments) q
+sub_keys Timeseries q segments is = timeseries_keys q segments is
+sub_keys GroupBy q segments is = group_by_keys q segments is
+
+segments_there : (k : QueryType) (q : Query) (segments : Data) → get (codes "intervals") (kinded_sub_data k q segments) ≡ Some segments
+unfolding sub_timeseries_data sub_group_by_data
+segments_there Timeseries q segments = refl
+segments_there GroupBy q segments = refl
+
+intervals_there : (k : QueryType) (q : Query) (segments : Data) → get (codes "queryIntervals") (kinded_sub_data k q segments) ≡ Some (array (intervals_data q.intervals))
+unfolding sub_timeseries_data sub_group_by_data
+intervals_there Timeseries q segments = refl
+intervals_there GroupBy q segments = refl
+
+pub sub_back : (sub : SubQuery) → IsQuery sub.query → IsAsked sub.query.source sub.asked → subquery_at (subquery_data sub) ≡ Ok sub
+sub_back sub is asked =
+    let q = sub.query in
+    let d = subquery_data sub in
+    let segments = segments_data sub.asked in
+    let sound = query_sound q is in
+    let keys = sub_keys q.kind q segments refl in
+    let back = keys_back d q keys sound in
+    let pieces = pieces_read q.source d sub.asked (segments_there q.kind q segments) asked in
+    let span = span_read q.source d sub.asked q.intervals (apart_read q.source d sub.asked pieces asked.apart) (intervals_read d q.intervals (intervals_there q.kind q segments) sound.times) in
+    sym (of_sub d)
+    ∙ whole_read subs d sub (parts_made subs d q.kind q.source q.granularity (record { asked = sub.asked; intervals = q.intervals }) q.filter q.dimensions q.aggregations keys.kind back.source back.granularity span back.filter back.dimensions back.aggregations)
+    keys.more sound.distinct
+
+-- the query of a subquery that reads is one
+pub sub_query : (d : Data) (sub : SubQuery) → subquery_at d ≡ Ok sub → IsQuery sub.query
+sub_query d sub read =
+    let whole = whole_bound subs d sub (of_sub d ∙ read) in
+    let p = steps_of subs d sub whole.0 in
+    let made = ap (λ x. x.query) p.made in
+    let distinct : are_distinct (result_names p.dimensions p.aggregations) ≡ true = ap (λ x. are_distinct (result_names x.query.dimensions x.query.aggregations)) p.made ∙ whole.1 in
+    let sound = sound_of d (query_of p.kind p.source p.granularity p.times.intervals p.filter p.dimensions p.aggregations) p.source_is
+    (intervals_tell d p.times.intervals (span_tells p.source d p.times p.times_is)) p.filter_is p.dimensions_is p.aggregations_is distinct in
+    subst IsQuery made (_, sound_back (query_of p.kind p.source p.granularity p.times.intervals p.filter p.dimensions p.aggregations) sound)

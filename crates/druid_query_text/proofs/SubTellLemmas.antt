@@ -1,0 +1,71 @@
+-- What reads as a subquery asks for pieces of segments of its source, each inside its segment and apart from the others.
+use Rattle.std.proofs.Common.{◌≡◌, ℕ, List, [], ◌∷◌, codes, Contains, Option, Some, None, Result, Ok, option_and_then, true, refl, sym, ap, ◌∙◌, subst, arith}
+use Rattle.serde_json.specs.Data.{Data, Items}
+use Rattle.serde_json.specs.Find.{get}
+use Rattle.druid_time.specs.Results.{◌>>=◌}
+use Rattle.druid_segid.specs.Names.{IsName}
+use Rattle.druid_shard.specs.Each.{each_of}
+use Rattle.druid_shard.proofs.EachLemmas.{each_sound}
+use Rattle.druid_query.specs.Asked.{Asked, stand_apart, inside_at, asked_items}
+use Rattle.druid_query.specs.Refusal.{Refusal, bad_field, bad_interval, or_refuse, when}
+use Rattle.druid_query.specs.SubQuery.{SubQuery, Span, IsAsked, pieces_at, apart_at, query_intervals_at, span_at, subquery_at}
+use Rattle.druid_query.proofs.StepLemmas.{bound}
+use Rattle.druid_query.proofs.AskedLemmas.{apart_seen}
+use Rattle.druid_query.proofs.ChainLemmas.{whole_bound, steps_of}
+use Rattle.druid_query.proofs.SoundLemmas.{IsSomeList, read_some}
+use Rattle.druid_query_text.proofs.QueryBackLemmas.{when_true, source_tells}
+use Rattle.druid_query_text.proofs.SubLemmas.{subs, of_sub, told_of}
+use Rattle.druid_query_text.proofs.SubSoundLemmas.{is_name-to, IsPiece, inside_sound, items_there}
+use Rattle.druid_query_text.proofs.SubBackLemmas.{inside_seen}
+
+apart_tells : (source : List ℕ) (d : Data) (all : List Asked) → apart_at source d ≡ Ok all → (pieces_at source d ≡ Ok all) × (stand_apart all ≡ true)
+unfolding apart_at
+apart_tells source d all h =
+    let p = bound (pieces_at source d) (λ asked. when (stand_apart asked) asked bad_interval) all h in
+    let w = when_true (stand_apart p.0) p.0 all bad_interval p.2 in
+    (p.1 ∙ ap Ok w.1, ap stand_apart (sym w.1) ∙ w.0)
+
+pieces_tell : (source : List ℕ) (d : Data) (all : List Asked) → pieces_at source d ≡ Ok all
+    → (items : Items) × (option_and_then asked_items (get (codes "intervals") d) ≡ Some items) × (each_of (inside_at source) items ≡ Some all)
+unfolding pieces_at
+pieces_tell source d all h = through (option_and_then asked_items (get (codes "intervals") d)) h
+  where
+    through : (o : Option Items) → (or_refuse o (bad_field (codes "intervals")) >>= λ items. or_refuse (each_of (inside_at source) items) bad_interval) ≡ Ok all
+        → (items : Items) × (o ≡ Some items) × (each_of (inside_at source) items ≡ Some all)
+    through None h = absurd (cc)
+    through (Some items) h = (items, refl, told_of (each_of (inside_at source) items) bad_interval all h)
+
+span_asked : (source : List ℕ) (d : Data) (span : Span) → span_at source d ≡ Ok span → apart_at source d ≡ Ok span.asked
+unfolding span_at
+span_asked source d span h =
+    let a = bound (apart_at source d) (λ asked. query_intervals_at d >>= λ intervals. Ok (record { asked = asked; intervals = intervals })) span h in
+    let i = bound (query_intervals_at d) (λ intervals. Ok (record { asked = a.0; intervals = intervals })) span a.2 in
+    let same : ◌≡◌ {A = Span} (record { asked = a.0; intervals = i.0 }) span = same_span (record { asked = a.0; intervals = i.0 }) span i.2 in
+    a.1 ∙ ap (λ s. Ok s.asked) same
+  where
+    same_span : (p q : Span) → ◌≡◌ {A = Result Span Refusal} (Ok p) (Ok q) → p ≡ q
+    same_span p q e = cc
+
+first_of : (all : List Asked) → IsSomeList all → (a : Asked) × Contains all a
+first_of [] some = absurd some
+first_of (a ∷ more) some = (a, (0, omega arith, refl))
+
+apart_asked : (source : List ℕ) (d : Data) (all : List Asked) → IsName source → apart_at source d ≡ Ok all → IsAsked source all
+apart_asked source d all name h =
+    let apart = apart_tells source d all h in
+    let read = pieces_tell source d all apart.0 in
+    let some = first_of all (read_some (inside_at source) read.0 all (items_there (get (codes "intervals") d) read.0 read.1) read.2) in
+    let each = each_sound (IsPiece source) (inside_at source) (λ e a is. inside_sound source e a name is) read.0 all read.2 in
+    record {
+      some = some;
+      valid = λ a there. (each a there).valid;
+      sources = λ a there. (each a there).source_is;
+      inside = λ a there. inside_seen a (each a there).inside;
+      apart = apart_seen all apart.1;
+    }
+
+pub sub_asked : (d : Data) (sub : SubQuery) → subquery_at d ≡ Ok sub → IsAsked sub.query.source sub.asked
+sub_asked d sub read =
+    let p = steps_of subs d sub (whole_bound subs d sub (of_sub d ∙ read)).0 in
+    subst (λ (x : SubQuery). IsAsked x.query.source x.asked) p.made
+    (apart_asked p.source d p.times.asked (is_name-to p.source (source_tells d p.source p.source_is)) (span_asked p.source d p.times p.times_is))

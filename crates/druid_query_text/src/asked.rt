@@ -1,0 +1,368 @@
+//! Pieces of segments that a node is asked for, and their JSON.
+ghost use Rattle.std.specs.Prelude.{◌≡◌, ◌↔◌, List, length, Some, IfOk, IfErr, IfSome, IsSome, IsTrue, is_some, option_map, refl};
+ghost use Rattle.std.specs.List.{list_all, AllAdjacentBelow};
+ghost use Rattle.serde_json.specs.View.{view, items_view};
+ghost use Rattle.druid_segid.specs.Names.{IsVersion};
+ghost use Rattle.druid_shard.specs.Each.{each_of};
+ghost use Rattle.druid_query.specs.Asked.{Asked, stand_apart, version_of, spelled_at, named_by, asked_at, inside_at, lies_inside, do_overlap, asked_data, segments_in, asked_items};
+ghost use Rattle.druid_query.specs.Fields.{each_among};
+ghost use Rattle.druid_query.specs.AskedOrder as order;
+ghost use Rattle.druid_query.specs.AskedOrder.{asked_cmp, same_asked, AreApart};
+ghost use Rattle.druid_query.specs.SubQuery.{pieces_data};
+
+use druid_query::Asked;
+use druid_segid::{Name, SegmentId, Version};
+use druid_shard::{limited_field, text_field};
+use druid_time::Interval;
+use serde_json::{Value, json};
+use std::alloc::{AllocError, Global};
+use std::cmp::Ordering;
+use std::marker::Model;
+
+// A piece as it is spelled: both intervals are texts.
+#[derive(Drop)]
+struct Spelled<'a> {
+    chunk: &'a str,
+    piece: &'a str,
+    partition: u16,
+    version: &'a str,
+}
+
+impl<'a> Model for Spelled<'a> {
+    ghost use Rattle.druid_segid.specs.Names.{IsVersion};
+    ghost use Rattle.druid_query.specs.Asked.{Spelled};
+
+    ghost Value = { Spelled };
+
+    ghost view = { λ a. record { chunk = a.chunk.now; piece = a.piece.now; partition = a.partition; version = a.version.now } };
+
+    ghost invariant = { λ a. IsVersion a.version.now };
+}
+
+// A piece, its texts lent. Pieces are in the order of the parts of their segments, and then of their own starts and ends.
+#[derive(Drop)]
+pub(crate) struct LentAsked<'a> {
+    source: &'a str,
+    chunk: Interval,
+    version: &'a str,
+    partition: u16,
+    piece: Interval,
+}
+
+impl<'a> Model for LentAsked<'a> {
+    ghost use Rattle.druid_segid.specs.Names.{IsVersion};
+    ghost use Rattle.druid_query.specs.Asked.{Asked};
+
+    ghost Value = { Asked };
+
+    ghost view = { λ a. (record { source = a.source.now; interval = a.chunk; version = a.version.now; partition = a.partition }, a.piece) };
+
+    ghost invariant = { λ a. IsVersion a.version.now };
+}
+
+impl<'a> PartialEq for LentAsked<'a> {
+    ghost eq = { same_asked };
+
+    ghost laws = { order.same_asked-per };
+
+    fn eq(&self, other: &LentAsked<'a>) -> bool
+        ensures { result ≡ same_asked self.now other.now }
+    {
+        self.source == other.source
+            && self.chunk.start() == other.chunk.start()
+            && self.chunk.end() == other.chunk.end()
+            && self.version == other.version
+            && self.partition == other.partition
+            && self.piece.start() == other.piece.start()
+            && self.piece.end() == other.piece.end()
+    }
+}
+
+impl<'a> Eq for LentAsked<'a> {
+    ghost laws = { order.same_asked-equiv };
+}
+
+impl<'a> PartialOrd for LentAsked<'a> {
+    ghost partial_cmp = { λ a b. Some (asked_cmp a b) };
+
+    ghost laws = { order.asked_cmp-po };
+
+    fn partial_cmp(&self, other: &LentAsked<'a>) -> Option<Ordering> {
+        Some(self.cmp(other))
+    }
+}
+
+impl<'a> Ord for LentAsked<'a> {
+    ghost cmp = { asked_cmp };
+
+    ghost total = { order.asked_cmp-total };
+
+    ghost matches_partial_cmp = { λ a b. refl };
+
+    ghost matches_eq = { order.asked_cmp-ties };
+
+    fn cmp(&self, other: &LentAsked<'a>) -> Ordering {
+        self.source
+            .cmp(other.source)
+            .then(self.chunk.start().cmp(&other.chunk.start()))
+            .then(self.chunk.end().cmp(&other.chunk.end()))
+            .then(self.version.cmp(other.version))
+            .then(self.partition.cmp(&other.partition))
+            .then(self.piece.start().cmp(&other.piece.start()))
+            .then(self.piece.end().cmp(&other.piece.end()))
+    }
+}
+
+impl<'a> LentAsked<'a> {
+    // Whether it lies inside its segment.
+    fn lies_inside(&self) -> bool
+        ensures { result ≡ lies_inside self.now }
+    {
+        self.chunk.start() <= self.piece.start() && self.piece.end() <= self.chunk.end()
+    }
+
+    // Whether both are of one segment and have an instant in common.
+    fn overlaps(&self, other: &LentAsked<'a>) -> bool
+        ensures { result ≡ do_overlap self.now other.now }
+    {
+        self.partition == other.partition
+            && self.chunk == other.chunk
+            && self.version == other.version
+            && self.source == other.source
+            && self.piece.overlaps(&other.piece)
+    }
+
+    // A copy, whose source is that name.
+    fn owned(&self, alloc: Global, source: &Name) -> Result<Asked, AllocError>
+        requires { source.now ≡ self.now.0.source }
+        ensures { IfOk result (λ copy. copy ≡ self.now) }
+    {
+        // A text that is a version makes one, unless memory is refused.
+        let Ok(version) = Version::new(alloc, self.version) else {
+            return Err(AllocError);
+        };
+        let segment = SegmentId::new(source.clone()?, self.chunk, version, self.partition);
+        Ok((segment, self.piece))
+    }
+}
+
+fn version_of(value: &Value) -> Option<&str>
+    ensures text { option_map (λ s. s.now) result ≡ version_of (view value.now) }
+    ensures valid { IfSome result (λ s. IsVersion s.now) }
+{
+    let text = text_field(value, "ver")?;
+    if Version::accepts(text) {
+        Some(text)
+    } else {
+        None
+    }
+}
+
+#[tactic(auto, unfolding(druid_query::specs::Asked::spelled_at))]
+fn spelled_of(value: &Value) -> Option<Spelled<'_>>
+    ensures { result ≡ spelled_at (view value.now) }
+{
+    let chunk = text_field(value, "chunk")?;
+    let piece = text_field(value, "itvl")?;
+    let partition = limited_field(value, "part", u16::MAX)?;
+    let version = version_of(value)?;
+    Some(Spelled {
+        chunk,
+        piece,
+        partition,
+        version,
+    })
+}
+
+#[tactic(auto, unfolding(druid_query::specs::Asked::named_by))]
+fn named_by<'a>(source: &'a str, spelled: &Spelled<'a>) -> Option<LentAsked<'a>>
+    ensures { result ≡ named_by source.now spelled.now }
+{
+    let chunk = Interval::parse(spelled.chunk).ok()?;
+    let piece = Interval::parse(spelled.piece).ok()?;
+    Some(LentAsked {
+        source,
+        chunk,
+        version: spelled.version,
+        partition: spelled.partition,
+        piece,
+    })
+}
+
+// The piece that a value asks for, of a segment of that source.
+#[tactic(auto, unfolding(druid_query::specs::Asked::asked_at))]
+fn asked_of<'a>(source: &'a str, value: &'a Value) -> Option<LentAsked<'a>>
+    ensures { result ≡ asked_at source.now (view value.now) }
+{
+    named_by(source, &spelled_of(value)?)
+}
+
+// The same, where it lies inside its segment.
+#[tactic(auto, unfolding(druid_query::specs::Asked::inside_at))]
+pub(crate) fn inside_of<'a>(source: &'a str, value: &'a Value) -> Option<LentAsked<'a>>
+    ensures { result ≡ inside_at source.now (view value.now) }
+{
+    let asked = asked_of(source, value)?;
+    if asked.lies_inside() {
+        Some(asked)
+    } else {
+        None
+    }
+}
+
+// Whether each lies inside its segment.
+pub(crate) fn are_inside(source: &str, values: &[Value]) -> bool
+    ensures { result ≡ list_all (λ value. is_some (inside_at source.now (view value))) values.now }
+{
+    values
+        .iter()
+        .all(|value| inside_of(source, value).is_some())
+}
+
+// Whether no piece overlaps the next.
+fn stand_apart(pieces: &[LentAsked<'_>]) -> bool
+    ensures { IsTrue result ↔ AllAdjacentBelow AreApart pieces.now (length pieces.now) }
+{
+    for place in 1..pieces.len() {
+        if pieces[place - 1].overlaps(&pieces[place]) {
+            return false;
+        }
+    }
+    true
+}
+
+fn pieces_of<'a>(
+    alloc: Global,
+    source: &'a str,
+    values: &'a [Value],
+) -> Result<Vec<LentAsked<'a>>, AllocError>
+    requires { IsSome (each_of (inside_at source.now) (items_view values.now)) }
+    ensures { IfOk result (λ all. each_of (inside_at source.now) (items_view values.now) ≡ Some all.items) }
+{
+    let mut all = Vec::with_capacity(alloc, values.len())?;
+    for value in values {
+        let Some(piece) = inside_of(source, value) else {
+            unreachable!()
+        };
+        all.push(piece)?;
+    }
+    Ok(all)
+}
+
+// Whether no two of one segment overlap. They are put in order, where those that overlap stand side by side.
+pub(crate) fn are_apart(alloc: Global, source: &str, values: &[Value]) -> Result<bool, AllocError>
+    requires { IsSome (each_of (inside_at source.now) (items_view values.now)) }
+    ensures { IfOk result (λ apart. (all : List Asked) → each_of (inside_at source.now) (items_view values.now) ≡ Some all
+        → apart ≡ stand_apart all) }
+{
+    let mut pieces = pieces_of(alloc, source, values)?;
+    pieces.sort_unstable();
+    Ok(stand_apart(&pieces))
+}
+
+// The pieces, where each lies inside its segment.
+#[tactic(auto, using(crate::proofs::PieceLemmas::inside_source))]
+pub(crate) fn asked_list(
+    alloc: Global,
+    source: &Name,
+    values: &[Value],
+) -> Result<Vec<Asked>, AllocError>
+    requires { IsSome (each_of (inside_at source.now) (items_view values.now)) }
+    ensures { IfOk result (λ all. each_of (inside_at source.now) (items_view values.now) ≡ Some all.items) }
+{
+    let mut all = Vec::with_capacity(alloc, values.len())?;
+    for value in values {
+        let Some(piece) = inside_of(source.as_str(), value) else {
+            unreachable!()
+        };
+        all.push(piece.owned(alloc, source)?)?;
+    }
+    Ok(all)
+}
+
+fn are_spelled(values: &[Value]) -> bool
+    ensures { result ≡ list_all (λ value. is_some (spelled_at (view value))) values.now }
+{
+    values.iter().all(|value| spelled_of(value).is_some())
+}
+
+// The values, where there are some and each has the shape of a piece.
+#[tactic(auto, using(crate::proofs::EmptyLemmas::pieces_there, crate::proofs::EmptyLemmas::no_pieces, crate::proofs::EmptyLemmas::not_pieces))]
+fn spelled_among(values: &[Value]) -> Option<&[Value]>
+    ensures { option_map (λ vs. items_view vs.now) result ≡ each_among spelled_at (items_view values.now) }
+{
+    if values.is_empty() {
+        return None;
+    }
+    if !are_spelled(values) {
+        return None;
+    }
+    Some(values)
+}
+
+fn segments_in(value: &Value) -> Option<&[Value]>
+    ensures { option_map (λ vs. items_view vs.now) result ≡ segments_in (view value.now) }
+{
+    if text_field(value, "type")? == "segments" {
+        let values = value.get("segments").and_then(Value::as_array)?;
+        Some(values.as_slice())
+    } else {
+        None
+    }
+}
+
+// The list of an object of the type `segments`.
+#[tactic(auto, unfolding(druid_query::specs::Asked::asked_items))]
+pub(crate) fn asked_items(value: &Value) -> Option<&[Value]>
+    ensures { option_map (λ vs. items_view vs.now) result ≡ asked_items (view value.now) }
+{
+    spelled_among(segments_in(value)?)
+}
+
+/// The JSON of a piece: `chunk`, the interval of the segment; `itvl`, the piece; `part` and `ver`. The data source is left out.
+#[tactic(auto, unfolding(druid_query::specs::Asked::asked_data))]
+pub fn asked_value(alloc: Global, asked: &Asked) -> Result<Value, AllocError>
+    ensures { IfOk result (λ v. view v ≡ asked_data asked.now) }
+{
+    let (segment, piece) = asked;
+    let chunk = segment.interval().text(alloc)?;
+    let piece = piece.text(alloc)?;
+    let version = segment.version().text(alloc)?;
+    json!(in alloc; {
+        "chunk": chunk.as_str(),
+        "itvl": piece.as_str(),
+        "part": segment.partition(),
+        "ver": version.as_str(),
+    })
+}
+
+/// The JSON of each piece, in order.
+pub fn asked_values(alloc: Global, asked: &[Asked]) -> Result<Vec<Value>, AllocError>
+    ensures { IfOk result (λ vs. items_view vs.items ≡ pieces_data asked.now) }
+{
+    let mut all = Vec::with_capacity(alloc, asked.len())?;
+    for piece in asked {
+        all.push(asked_value(alloc, piece)?)?;
+    }
+    Ok(all)
+}
+
+/// Whether `read_asked` reads a piece of a segment of that source. It takes no memory.
+pub fn is_asked(source: &Name, value: &Value) -> bool
+    ensures { result ≡ is_some (asked_at source.now (view value.now)) }
+{
+    asked_of(source.as_str(), value).is_some()
+}
+
+/// Reads a piece of a segment of that source: `chunk` and `itvl` texts of intervals, `part` a whole number of 0 to 65,535,
+/// and `ver` a version. None where the value is no such object. Whether the piece lies inside the segment is not judged.
+#[tactic(auto, using(crate::proofs::PieceLemmas::asked_source))]
+pub fn read_asked(alloc: Global, source: &Name, value: &Value) -> Result<Option<Asked>, AllocError>
+    ensures read { IfOk result (λ asked. asked ≡ asked_at source.now (view value.now)) }
+    ensures memory { IfErr result (λ _. IsSome (asked_at source.now (view value.now))) }
+{
+    let Some(asked) = asked_of(source.as_str(), value) else {
+        return Ok(None);
+    };
+    Ok(Some(asked.owned(alloc, source)?))
+}

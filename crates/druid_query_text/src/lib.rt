@@ -1,0 +1,28 @@
+//! The texts of queries.
+#![tactic(auto)]
+
+mod asked;
+mod building;
+mod checks;
+mod distinct;
+mod fields;
+mod filters;
+mod laws;
+mod lent_aggregator;
+mod lent_dimension;
+mod names;
+mod reading;
+mod sub_checks;
+mod sub_reading;
+mod sub_writing;
+mod writing;
+
+pub use asked::{asked_value, asked_values, is_asked, read_asked};
+pub use laws::{
+    asked_are_read_back, filters_are_read_back, pieces_are_judged, queries_are_read_back,
+    subqueries_are_read_back, subqueries_ask_for_pieces,
+};
+pub use reading::{query_of, read_query};
+pub use sub_reading::{read_subquery, subquery_of};
+pub use sub_writing::{subquery_text, subquery_value};
+pub use writing::{query_text, query_value};
