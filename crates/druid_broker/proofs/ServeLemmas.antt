@@ -1,5 +1,5 @@
 -- Which requests use links.
-use Rattle.std.proofs.Common.{◌≡◌, ◌⊎◌, ℕ, Bool, true, false, List, [], codes, bytes_eq, Option, Some, None, IfSome, Result, Ok, Err, IfOk, IfErr, refl, sym, ap, ◌∙◌, inl, inr}
+use Rattle.std.proofs.Common.{◌≡◌, ◌⊎◌, ℕ, Bool, true, false, List, [], codes, bytes_eq, Option, Some, None, IfSome, Result, Ok, Err, IfOk, IfErr, refl, sym, ap, subst, ◌∙◌, inl, inr}
 use Rattle.druid_shard.specs.Mark.{Point}
 use Rattle.druid_inventory.specs.Entry.{Entry}
 use Rattle.druid_wire.specs.Links.{Came}
@@ -9,7 +9,7 @@ use Rattle.druid_wire.specs.Served.{IsSent, IsServed, IsCutShort, FailsToServe}
 use Rattle.druid_wire.specs.declared.fault.WireFault.{WireFault}
 use Rattle.druid_wire.proofs.ServeLemmas.{WasRead, served, unsent}
 use Rattle.druid_broker.specs.Routes.{Route, health, query, sources, load_status, entry, nowhere, route_of, AnswersPost, AnswersAt, Responds, IsOutOfMemory, KeepsLinks}
-use Rattle.druid_broker.specs.Views.{takes_inventory, AnswersStale, RespondsBy, KeepsView}
+use Rattle.druid_broker.specs.Views.{Reads, TakesInventory, AnswersStale, RespondsAt, RespondsBy, KeepsView}
 
 module _ {L : Type 0} (step : L → List ℕ → Came → L → Type 0) (inventory : List Entry) (old new : List L) where
   posted : (b : Bool) (bytes : List ℕ) (status : ℕ) (body : List ℕ) → AnswersPost step b inventory bytes old new status body → (new ≡ old) ⊎ (b ≡ true)
@@ -70,14 +70,25 @@ module _ {L : Type 0} (step : L → List ℕ → Came → L → Type 0) (names :
   keeps_view request status body (inr (inl (answer, same))) = inl same
   keeps_view request status body (inr (inr (takes, told, same, links))) = inl same
 
+  -- what is answered on the route of the request
+  pub on_route : (request : RequestValue) (status : ℕ) (body path : List ℕ) (route : Route)
+      → path ≡ path_of request.target → route ≡ route_of path
+      → RespondsAt step names route floor after old new request status body → RespondsBy step names floor after old new request status body
+  on_route request status body path route is_path is_route answer =
+      subst (λ (r : Route). RespondsAt step names r floor after old new request status body) (is_route ∙ ap route_of is_path) answer
+
   -- where nothing is read, that is told
-  pub told_unread : (request : RequestValue) (status : ℕ) (body path : List ℕ) (route : Route) (takes : Bool)
-      → path ≡ path_of request.target → route ≡ route_of path → takes ≡ takes_inventory route request.method → takes ≡ true
+  pub unread : (route : Route) (request : RequestValue) (status : ℕ) (body : List ℕ) → TakesInventory route request
       → AnswersStale names floor status body ⊎ IsOutOfMemory status body → after ≡ floor → new ≡ old
-      → RespondsBy step names floor after old new request status body
-  told_unread request status body path route takes is_path is_route is_taken some told same links =
-      let needed : takes_inventory (route_of (path_of request.target)) request.method ≡ true =
-      sym (ap (λ p. takes_inventory (route_of p) request.method) is_path) ∙ (sym (ap (λ r. takes_inventory r request.method) is_route)
-      ∙ (sym is_taken ∙ some))
-      in
-      inr (inr (needed, told, same, links))
+      → RespondsAt step names route floor after old new request status body
+  unread route request status body takes told same links = inr (inr (takes, told, same, links))
+
+  -- a query that was posted is answered by what was read
+  pub answered : (inventory lent : List Entry) (request : RequestValue) (status : ℕ) (body : List ℕ) → lent ≡ inventory
+      → bytes_eq request.method (codes "POST") ≡ true → Reads names floor after inventory → AnswersPost step true lent request.body old new status body
+      → RespondsAt step names query floor after old new request status body
+  answered inventory lent request status body same posted reads answer = inl (
+    lent,
+    subst (Reads names floor after) (sym same) reads,
+    subst (λ (b : Bool). AnswersPost step b lent request.body old new status body) (sym posted) answer,
+  )

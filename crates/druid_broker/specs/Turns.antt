@@ -11,7 +11,7 @@ use Rattle.druid_inventory.specs.Entry.{Entry, ask_of}
 use Rattle.druid_inventory.specs.Step.{StepsAt, RefusedAt}
 use Rattle.druid_inventory.specs.declared.fault.Outcome.{Outcome}
 use Rattle.druid_wire.specs.Links.{Came}
-use Rattle.druid_wire.specs.Messages.{RequestValue, IsResponse, ResponseSays, HasFault}
+use Rattle.druid_wire.specs.Messages.{RequestValue, IsResponse, ResponseSays, HasFault, IsOfBytes}
 use Rattle.druid_wire.specs.Written.{request_text}
 use Rattle.druid_wire.specs.declared.fault.WireFault.{WireFault}
 use Rattle.druid_wire.specs.declared.fault.WireFault.TheVariants as wire
@@ -40,10 +40,10 @@ entry_request node = get_request (entry_target node)
 abbrev pub Responds : List ℕ → ℕ → List ℕ → Type 0
 Responds bytes status body = (rest : List ℕ) × IsResponse bytes status body rest
 
--- the bytes are no response, and that is told
+-- the bytes are no response, and that is told: by a fault of the bytes, since no device and no memory has a part in it
 abbrev pub IsNoResponse : List ℕ → WireFault → Type 0
 IsNoResponse bytes fault =
-    HasFault ResponseSays bytes fault × ((status : ℕ) (body rest : List ℕ) → IsResponse bytes status body rest → ⊥)
+    HasFault ResponseSays bytes fault × IsOfBytes fault × ((status : ℕ) (body rest : List ℕ) → IsResponse bytes status body rest → ⊥)
 
 -- what came back is a reply, or why it is none: the link failed or the bytes are no response, the status is another, or the
 -- body does not read. Memory is wanted by the link, or to read a body

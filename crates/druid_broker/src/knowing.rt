@@ -89,7 +89,8 @@ pub(crate) fn tell_load_status(inventory: &Inventory) -> Response
     }
 }
 
-fn unknown_node() -> Response
+/// The answer where there is no such node.
+pub(crate) fn unknown_node() -> Response
     ensures { Tells 404 (codes "{\"error\":\"V2\"}") result.status result.body }
 {
     Response::fixed(StatusCode::NOT_FOUND, "{\"error\":\"V2\"}")

@@ -1,6 +1,7 @@
 //! What is answered to queries.
-ghost use Rattle.std.specs.Prelude.{◌≡◌, ◌≢◌, ◌↔◌, ◌≤◌, ◌⊎◌, true, IsTrue, List, length, IfOk, OnErr};
+ghost use Rattle.std.specs.Prelude.{◌≡◌, ◌≢◌, ◌↔◌, ◌≤◌, ◌⊎◌, ℕ, true, Ok, IsTrue, List, length, IfOk, OnErr};
 ghost use Rattle.druid_partial.specs.Rows.{IsPartialFor};
+ghost use Rattle.druid_query.specs.Read.{IsReadOf};
 ghost use Rattle.druid_query.specs.Refused.{refusal_text};
 ghost use Rattle.druid_scatter.specs.Gathered.{Exchange, AreMade};
 ghost use Rattle.druid_wire.specs.Served.{Tells};
@@ -11,7 +12,6 @@ use crate::response::Response;
 use druid_inventory::Inventory;
 use druid_partial_text::{result_text, shortfall_text};
 use druid_query::{Query, QueryFault, refusal_text};
-use druid_query_text::read_query;
 use druid_scatter::{Answer, Pick, gather, plan};
 use druid_wire::Link;
 use http::StatusCode;
@@ -24,8 +24,8 @@ fn is_memory(fault: &QueryFault) -> bool
     matches!(fault, QueryFault::Memory)
 }
 
-// The answer to what is no query.
-fn refuse(alloc: Global, fault: QueryFault) -> Response
+/// The answer to what is no query.
+pub(crate) fn refuse_query(alloc: Global, fault: QueryFault) -> Response
     ensures { ((fault ≢ QueryFault.Memory) × Tells 400 (refusal_text fault) result.status result.body)
         ⊎ IsOutOfMemory result.status result.body }
 {
@@ -76,24 +76,23 @@ fn answer_rows<T: Threads + Sync, P: Pick, L: Link + Send>(
     tell_rows(alloc, query, &gathered)
 }
 
-/// The answer to a query that is posted: its rows, of what the nodes of the inventory serve, gathered over their links.
+/// The answer to a query that was posted in some bytes: its rows, of what the nodes of the inventory serve, gathered over their
+/// links.
 pub(crate) fn answer_query<T: Threads + Sync, P: Pick, L: Link + Send>(
     rt: &T,
     alloc: Global,
     inventory: &Inventory,
-    body: &[u8],
+    query: &Query,
     turn: u64,
     pick: &P,
     links: &mut [L],
 ) -> Response
     requires { length inventory.now ≤ length links.old }
-    ensures { AnswersPost L.exchanges true inventory.now body.now links.old links.new result.status result.body }
+    ensures { (bytes : List ℕ) → IsReadOf bytes (Ok query.now)
+        → AnswersPost L.exchanges true inventory.now bytes links.old links.new result.status result.body }
 {
-    match read_query(alloc, body) {
-        Ok(query) => match answer_rows(rt, alloc, inventory, &query, turn, pick, links) {
-            Ok(response) => response,
-            Err(_) => Response::out_of_memory(),
-        },
-        Err(fault) => refuse(alloc, fault),
+    match answer_rows(rt, alloc, inventory, query, turn, pick, links) {
+        Ok(response) => response,
+        Err(_) => Response::out_of_memory(),
     }
 }

@@ -1,36 +1,41 @@
 //! What a broker answers to requests.
-ghost use Rattle.std.specs.Prelude.{◌≡◌, ◌≤◌, ◌⊎◌, ℕ, true, false, List, codes, length};
+ghost use Rattle.std.specs.Prelude.{◌≡◌, ◌≢◌, ◌≤◌, ◌⊎◌, ◌↔◌, ℕ, true, false, Ok, IsTrue, List, codes, length, bytes_eq};
 ghost use Rattle.druid_inventory.specs.Entry.{Entry};
 ghost use Rattle.druid_shard.specs.Mark.{Point};
 ghost use Rattle.druid_published.specs.Told.{TellsRead};
 ghost use Rattle.druid_wire.specs.Served.{Tells};
 ghost use Rattle.druid_broker.specs.Lent.{lent_route};
-ghost use Rattle.druid_broker.specs.Routes.{IsOutOfMemory, OrOutOfMemory, Gets, AnswersSources, AnswersAt};
-ghost use Rattle.druid_broker.specs.Views.{takes_inventory, AnswersStale, RespondsBy};
+ghost use Rattle.druid_broker.specs.Routes.{query, IsOutOfMemory, OrOutOfMemory, Gets, AnswersSources, AnswersAt};
+ghost use Rattle.druid_broker.specs.Views.{TakesInventory, AnswersStale, RespondsAt, RespondsBy};
+ghost use Rattle.druid_query.specs.Read.{IsReadOf};
 
-use crate::knowing::{tell_entry, tell_load_status, tell_sources};
-use crate::querying::answer_query;
+use crate::knowing::{tell_entry, tell_load_status, tell_sources, unknown_node};
+use crate::querying::{answer_query, refuse_query};
 use crate::response::Response;
 use crate::routes::{Route, Routes};
 use druid_inventory::Inventory;
 use druid_published::{NodeList, PublishFault, View};
+use druid_query::Query;
+use druid_query_text::read_query;
 use druid_scatter::Pick;
+use druid_segid::number_of;
 use druid_wire::{Link, Request};
 use http::StatusCode;
 use std::alloc::Global;
 use std::sync::Wait;
 use std::thread::Threads;
 
-// Whether the answer takes the inventory.
+// Whether the answer takes the inventory, on a route that is no query's.
 fn takes_inventory(route: &Route, request: &Request) -> bool
-    ensures { result ≡ takes_inventory (lent_route route.now) request.now.method }
+    requires { lent_route route.now ≢ query }
+    ensures { IsTrue result ↔ TakesInventory (lent_route route.now) request.now }
 {
     match route {
         Route::Health => false,
-        Route::Query => request.has_method("POST"),
+        Route::Query => unreachable!(),
         Route::Sources => request.has_method("GET"),
         Route::LoadStatus => request.has_method("GET"),
-        Route::Entry(_) => request.has_method("GET"),
+        Route::Entry(number) => request.has_method("GET") && number_of(number).is_some(),
         Route::Nowhere => false,
     }
 }
@@ -44,18 +49,30 @@ fn health(request: &Request) -> Response
     Response::fixed(StatusCode::OK, "true")
 }
 
+// What is answered of a node where the inventory is not taken.
+fn answer_no_node(request: &Request) -> Response
+    ensures method { bytes_eq request.now.method (codes "GET") ≡ false → Tells 405 (codes "{\"error\":\"Method\"}") result.status result.body }
+    ensures number { bytes_eq request.now.method (codes "GET") ≡ true → Tells 404 (codes "{\"error\":\"V2\"}") result.status result.body }
+{
+    if !request.has_method("GET") {
+        return Response::other_method();
+    }
+    unknown_node()
+}
+
 // What is answered whatever is known.
 fn answer_anyway<L: Link>(route: &Route, request: &Request) -> Response
-    requires { takes_inventory (lent_route route.now) request.now.method ≡ false }
+    requires no_query { lent_route route.now ≢ query }
+    requires takes { TakesInventory (lent_route route.now) request.now → ⊥ }
     ensures { (inventory : List Entry) (links : List L)
         → AnswersAt L.exchanges (lent_route route.now) inventory links links request.now result.status result.body }
 {
     match route {
         Route::Health => health(request),
-        Route::Query => Response::other_method(),
+        Route::Query => unreachable!(),
         Route::Sources => Response::other_method(),
         Route::LoadStatus => Response::other_method(),
-        Route::Entry(_) => Response::other_method(),
+        Route::Entry(_) => answer_no_node(request),
         Route::Nowhere => Response::fixed(StatusCode::NOT_FOUND, "{\"error\":\"NoRoute\"}"),
     }
 }
@@ -70,22 +87,18 @@ fn sources(alloc: Global, inventory: &Inventory) -> Response
 }
 
 // What is answered by what is known.
-fn answer_known<T: Threads + Sync, P: Pick, L: Link + Send>(
-    rt: &T,
+fn answer_known<L: Link>(
     alloc: Global,
     route: &Route,
     inventory: &Inventory,
     request: &Request,
-    turn: u64,
-    pick: &P,
-    links: &mut [L],
 ) -> Response
-    requires links { length inventory.now ≤ length links.old }
-    requires takes { takes_inventory (lent_route route.now) request.now.method ≡ true }
-    ensures { AnswersAt L.exchanges (lent_route route.now) inventory.now links.old links.new request.now result.status result.body }
+    requires no_query { lent_route route.now ≢ query }
+    requires takes { TakesInventory (lent_route route.now) request.now }
+    ensures { (links : List L) → AnswersAt L.exchanges (lent_route route.now) inventory.now links links request.now result.status result.body }
 {
     match route {
-        Route::Query => answer_query(rt, alloc, inventory, request.body(), turn, pick, links),
+        Route::Query => unreachable!(),
         Route::Sources => sources(alloc, inventory),
         Route::LoadStatus => tell_load_status(inventory),
         Route::Entry(number) => tell_entry(alloc, inventory, number),
@@ -106,6 +119,71 @@ fn answer_unread(fault: PublishFault) -> Response
     }
 }
 
+// What is answered on a route that is no query's.
+fn answer_got<T: Wait, N: NodeList, L: Link>(
+    rt: &T,
+    alloc: Global,
+    route: &Route,
+    view: &mut View<N>,
+    request: &Request,
+) -> Response
+    requires { lent_route route.now ≢ query }
+    ensures { (links : List L)
+        → RespondsAt L.exchanges N.names (lent_route route.now) view.old view.new links links request.now result.status result.body }
+{
+    if !takes_inventory(route, request) {
+        return answer_anyway::<L>(route, request);
+    }
+    match view.read(rt) {
+        Ok(inventory) => answer_known::<L>(alloc, route, &inventory, request),
+        Err(fault) => answer_unread(fault),
+    }
+}
+
+// What is answered to a query that was posted.
+fn answer_read<T: Threads + Wait + Sync, N: NodeList, P: Pick, L: Link + Send>(
+    rt: &T,
+    alloc: Global,
+    view: &mut View<N>,
+    request: &Request,
+    asked: &Query,
+    turn: u64,
+    pick: &P,
+    links: &mut [L],
+) -> Response
+    requires links { length N.names ≤ length links.old }
+    requires posted { bytes_eq request.now.method (codes "POST") ≡ true }
+    requires read { IsReadOf request.now.body (Ok asked.now) }
+    ensures { RespondsAt L.exchanges N.names query view.old view.new links.old links.new request.now result.status result.body }
+{
+    match view.read(rt) {
+        Ok(inventory) => answer_query(rt, alloc, &inventory, asked, turn, pick, links),
+        Err(fault) => answer_unread(fault),
+    }
+}
+
+// What is answered where queries go. The view is read once the body reads as a query.
+fn answer_posted<T: Threads + Wait + Sync, N: NodeList, P: Pick, L: Link + Send>(
+    rt: &T,
+    alloc: Global,
+    view: &mut View<N>,
+    request: &Request,
+    turn: u64,
+    pick: &P,
+    links: &mut [L],
+) -> Response
+    requires { length N.names ≤ length links.old }
+    ensures { RespondsAt L.exchanges N.names query view.old view.new links.old links.new request.now result.status result.body }
+{
+    if !request.has_method("POST") {
+        return Response::other_method();
+    }
+    match read_query(alloc, request.body()) {
+        Ok(asked) => answer_read(rt, alloc, view, request, &asked, turn, pick, links),
+        Err(fault) => refuse_query(alloc, fault),
+    }
+}
+
 /// What a broker answers to a request by way of a view. The view is read where the answer takes the inventory, and only there.
 pub(crate) fn respond<T: Threads + Wait + Sync, N: NodeList, P: Pick, L: Link + Send>(
     rt: &T,
@@ -121,11 +199,8 @@ pub(crate) fn respond<T: Threads + Wait + Sync, N: NodeList, P: Pick, L: Link + 
     ensures { RespondsBy L.exchanges N.names view.old view.new links.old links.new request.now result.status result.body }
 {
     let route = routes.route_of(request.path());
-    if !takes_inventory(&route, request) {
-        return answer_anyway::<L>(&route, request);
-    }
-    match view.read(rt) {
-        Ok(inventory) => answer_known(rt, alloc, &route, &inventory, request, turn, pick, links),
-        Err(fault) => answer_unread(fault),
+    match route {
+        Route::Query => answer_posted(rt, alloc, view, request, turn, pick, links),
+        other => answer_got::<T, N, L>(rt, alloc, &other, view, request),
     }
 }

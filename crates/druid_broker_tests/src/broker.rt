@@ -3,7 +3,7 @@ ghost use Rattle.std.specs.Prelude.{◌≡◌};
 ghost use Rattle.druid_inventory.specs.Join.{names_of};
 
 use crate::cluster::{
-    Behind, Cluster, Handle, Setup, answered, followed, made_by_two, posted, set, set_up,
+    Behind, Cluster, Handle, Setup, answered, followed, made_by_two, posted, set, set_up, written,
 };
 use crate::printing::{assert_holds, assert_told, halves, printed, replaced};
 use druid_published::NodeList;
@@ -26,6 +26,7 @@ v1/0/24/0/1 d:m 0/a/1 | !v1/0/24/0/1 d:m 0/a/1 => @,"aggregations":[{"type":"cou
 v1/0/24/0/1 d:m 0/a/1 => @,"dataSource":"x","aggregations":[{"type":"count","name":"n"}]} = 200 []
 v1/0/24/0/2 d:m 0/a/1 => @,"aggregations":[{"type":"count","name":"n"}]} = 200 []
 v1/0/24/0/2 d:m 0/a/9223372036854775807 | v1/0/24/1/2 d:m 0/a/1 => @,"aggregations":[{"type":"longSum","name":"s","fieldName":"m"},{"type":"longMin","name":"l","fieldName":"f"},{"type":"longSum","name":"f","fieldName":"f"}]} = 200 [{"result":{"f":null,"l":null,"s":-9223372036854775808},"timestamp":"2024-01-01T00:00:00.000Z"}]
+v1/0/24/1/2 d:m 0/a/1 | v1/0/24/0/2 d:m 0/a/9223372036854775807 => @,"aggregations":[{"type":"longSum","name":"s","fieldName":"m"},{"type":"longMin","name":"l","fieldName":"f"},{"type":"longSum","name":"f","fieldName":"f"}]} = 200 [{"result":{"f":null,"l":null,"s":-9223372036854775808},"timestamp":"2024-01-01T00:00:00.000Z"}]
 v1/0/24/0/2 d:m 0/a/1 0//1 | v1/0/24/1/2 e:m 0/x/1 => #,"dimensions":["d"],"aggregations":[{"type":"count","name":"n"}]} = 200 [{"event":{"d":null,"n":1},"timestamp":"2024-01-01T00:00:00.000Z","version":"v1"},{"event":{"d":"","n":1},"timestamp":"2024-01-01T00:00:00.000Z","version":"v1"},{"event":{"d":"a","n":1},"timestamp":"2024-01-01T00:00:00.000Z","version":"v1"}]
 v1/0/24/0/3 d:m 0/a/1 + v1/0/24/1/3 d:m 0/a/2 | !v1/0/24/1/3 d:m 0/a/2 + v1/0/24/2/3 d:m 0/a/4 => @,"aggregations":[{"type":"longSum","name":"s","fieldName":"m"}]} = 503 {"error":"SegmentsMissing","missing":[{"chunk":"2024-01-01T00:00:00.000Z/2024-01-02T00:00:00.000Z","itvl":"2024-01-01T00:00:00.000Z/2024-01-02T00:00:00.000Z","part":2,"ver":"v1"}],"partial":[{"result":{"s":3},"timestamp":"2024-01-01T00:00:00.000Z"}]}
 !v1/0/24/0/1 d:m 0/a/1 | v2/10/12/0/1 d:m 36000000/a/1 => @,"intervals":["2024-01-01T09/2024-01-01T13:00","2024-01-01T23:00/2024-01-02"],"aggregations":[]} = 400 {"error":"Q4"}
@@ -116,7 +117,7 @@ fn ample_memory(rt: HostRuntime) {
 }
 
 // Other messages, to a broker that has followed the first of two nodes, and what it answers. `|` stands for a carriage return and
-// a line feed.
+// a line feed, and `#` for so many bytes that a head with `A:#` has 16,384 bytes.
 const MESSAGES: &str = "GET /status/health HTTP/1.1|| = 200 true
 GET /druid/v2/datasources HTTP/1.1|| = 200 [\"w\"]
 GET /druid/broker/v1/loadstatus HTTP/1.1|| = 200 {\"inventoryInitialized\":false}
@@ -143,13 +144,22 @@ POST /druid/v2 HTTP/1.1|Content-Length: 2||[] = 400 {\"error\":\"Q2\"}
 POST /druid/v2/?pretty HTTP/1.1|Content-Length: 2||[] = 400 {\"error\":\"Q2\"}
 POST /druid/v2 HTTP/1.1|| = 400 {\"error\":\"X6\"}
 GET / HTTP/9|| = 400 {\"error\":\"X4\"}
+GET /status/health HTTP/1.1|A:#|| = 200 true
+GET /status/health HTTP/1.1|A: #|| = 400 {\"error\":\"X5\"}
 POST /druid/v2 HTTP/1.1|Content-Length: 16777217|| = 400 {\"error\":\"X7\"}";
+
+// The bytes of the message that a short text stands for.
+fn message(rt: &impl Abort, alloc: Global, text: &str) -> String {
+    let text = replaced(rt, alloc, text, "|", "\r\n");
+    let filling = "x".repeat(alloc, 16_349).expect(rt, "memory");
+    replaced(rt, alloc, text.as_str(), "#", filling.as_str())
+}
 
 // Asserts that a broker answers the message of a line so.
 fn assert_message<R: Handle, N: NodeList>(alloc: Global, made: &mut Cluster<R, N>, line: &str) {
     let rt = made.rt;
-    let (message, wanted) = halves(&rt, line, " = ");
-    let message = replaced(&rt, alloc, message, "|", "\r\n");
+    let (text, wanted) = halves(&rt, line, " = ");
+    let message = message(&rt, alloc, text);
     assert_told(
         &rt,
         line,
@@ -158,10 +168,21 @@ fn assert_message<R: Handle, N: NodeList>(alloc: Global, made: &mut Cluster<R, N
     );
 }
 
+const HEALTH: &[u8] =
+    b"HTTP/1.1 200 OK\r\nContent-Type: application/json\r\nContent-Length: 4\r\nConnection: close\r\n\r\ntrue";
+
+// Asserts that a broker writes these bytes where it is asked how it is.
+fn assert_health<R: Handle, N: NodeList>(alloc: Global, made: &mut Cluster<R, N>) {
+    let rt = made.rt;
+    let bytes = written(alloc, made, 0, b"GET /status/health HTTP/1.1\r\n\r\n");
+    assert_holds(&rt, "the bytes of health", bytes.as_slice() == HEALTH);
+}
+
 fn assert_all<R: Handle, N: NodeList>(alloc: Global, made: &mut Cluster<R, N>) {
     for line in MESSAGES.lines() {
         assert_message(alloc, made, line);
     }
+    assert_health(alloc, made);
 }
 
 // Asserts what a broker over these parts answers, once it has followed the first node.

@@ -307,7 +307,8 @@ fn node_names(rt: &impl Abort, alloc: Global, count: usize) -> Vec<Name> {
     names
 }
 
-fn inventory(rt: &impl Abort, alloc: Global, count: usize) -> Inventory {
+/// An inventory of so many nodes, of which nothing is known.
+pub(crate) fn inventory(rt: &impl Abort, alloc: Global, count: usize) -> Inventory {
     let names = node_names(rt, alloc, count);
     if names.is_empty() || MAX_NODES < names.len() {
         panic!(rt; "no list of nodes");
@@ -396,8 +397,8 @@ fn serve<R: Handle, N: NodeList>(
     .expect(&rt, "an answer");
 }
 
-// What the broker writes for a message, at a turn.
-fn written<R: Handle, N: NodeList>(
+/// What the broker writes for a message, at a turn.
+pub(crate) fn written<R: Handle, N: NodeList>(
     alloc: Global,
     cluster: &mut Cluster<R, N>,
     turn: u64,

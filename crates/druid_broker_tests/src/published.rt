@@ -13,10 +13,11 @@ use std::marker::Brand;
 use std::process::Abort;
 use std::sync::Wait;
 
-// A snapshot with one segment at (1, 3), and a delta that fits nowhere.
-const SNAPSHOT: &str =
+/// A snapshot with one segment at (1, 3).
+pub(crate) const SNAPSHOT: &str =
     "200 {\"counter\":{\"counter\":3,\"hash\":1},\"from\":null,\"requests\":[@],\"resetCause\":null,\"resetCounter\":false}";
 
+// A delta that fits nowhere.
 const GAP: &str =
     "200 {\"counter\":{\"counter\":8,\"hash\":1},\"from\":{\"counter\":7,\"hash\":1},\"requests\":[@],\"resetCause\":null,\"resetCounter\":false}";
 

@@ -1,12 +1,21 @@
 //! In which order replicas are asked, and how often.
-ghost use Rattle.std.specs.Prelude.{◌≡◌};
+ghost use Rattle.std.specs.Prelude.{◌≡◌, ◌≤◌, length};
 ghost use Rattle.druid_inventory.specs.Join.{names_of};
+ghost use Rattle.druid_scatter.specs.Rounds.{AreLinked};
 
-use crate::broker::counted;
-use crate::cluster::{Cluster, Handle, Setup, followed, made_by_two, set_up};
+use crate::broker::{counted, query};
+use crate::cluster::{Cluster, Handle, Setup, followed, inventory, made_by_two, set_up};
+use crate::printing::{assert_told, halves};
+use crate::published::SNAPSHOT;
+use crate::turns::link;
+use druid_broker::fetch_entry;
+use druid_inventory::Inventory;
 use druid_published::NodeList;
-use druid_scatter::{Pick, Rotate};
+use druid_query::{Asked, Query};
+use druid_query_text::read_query;
+use druid_scatter::{Answer, Pick, Plan, Rotate, gather, plan};
 use druid_shard::NodeNo;
+use druid_wire::Link;
 use std::alloc::Global;
 use std::marker::Brand;
 use std::process::Abort;
@@ -58,4 +67,131 @@ fn ample_memory(rt: HostRuntime) {
     assert!(rt; made_over(&rt, rt.alloc(), replicas) == [(1, 0), (0, 1)]);
     let parts = "v1/0/24/0/3 d:m 0/a/1 + v1/0/24/1/3 d:m 0/a/1 + v2/6/12/0/1 d:m | v1/0/24/2/3 d:m";
     assert!(rt; made_over(&rt, rt.alloc(), parts) == [(1, 1), (1, 1)]);
+}
+
+// The inventory once a node told that it serves the only segment.
+fn with_node(rt: &impl Abort, alloc: Global, inventory: &Inventory, node: NodeNo) -> Inventory {
+    let mut peer = link(rt, alloc, SNAPSHOT);
+    let reply = fetch_entry(alloc, &mut peer, node).expect(rt, "a reply");
+    let (new, _) = inventory.apply(node, &reply).expect(rt, "a step");
+    new
+}
+
+// An inventory of two nodes that serve it.
+fn of_two(rt: &impl Abort, alloc: Global) -> Inventory {
+    let first = with_node(rt, alloc, &inventory(rt, alloc, 2), 0);
+    with_node(rt, alloc, &first, 1)
+}
+
+// A count over a part of the day.
+fn count(rt: &impl Abort, alloc: Global) -> Query {
+    let text = query(
+        rt,
+        alloc,
+        "@,\"intervals\":[\"2024-01-01T06:00/2024-01-01T12:00\"],\"aggregations\":[{\"type\":\"count\",\"name\":\"n\"}]}",
+    );
+    read_query(alloc, text.as_bytes()).expect(rt, "a query")
+}
+
+// A piece: the identifier of its segment, and its interval.
+fn piece_text(rt: &impl Abort, alloc: Global, asked: &Asked) -> String {
+    let id = asked.0.text(alloc).expect(rt, "memory");
+    let interval = asked.1;
+    format!(in alloc; "{id} {interval}").expect(rt, "memory")
+}
+
+const PIECE: &str =
+    "w_2024-01-01T00:00:00.000Z_2024-01-02T00:00:00.000Z_v1 2024-01-01T06:00:00.000Z/2024-01-01T12:00:00.000Z";
+
+// A pair of a plan is the piece of the segment, on both nodes.
+#[test]
+fn planned(rt: HostRuntime) {
+    let plan = plan(
+        rt.alloc(),
+        &of_two(&rt, rt.alloc()),
+        &count(&rt, rt.alloc()),
+    )
+    .expect(&rt, "a plan");
+    let pair = plan.pairs().first().expect(&rt, "a pair");
+    assert!(rt; plan.pairs().len() == 1 && pair.nodes() == [0, 1].as_slice());
+    assert_told(
+        &rt,
+        "the piece",
+        piece_text(&rt, rt.alloc(), pair.asked()),
+        PIECE,
+    );
+}
+
+// The plan of a query, whose nodes are below a count.
+fn linked_plan(
+    rt: &impl Abort,
+    alloc: Global,
+    inventory: &Inventory,
+    query: &Query,
+    count: usize,
+) -> Plan
+    requires { length inventory.now ≤ count }
+    ensures { AreLinked count result }
+{
+    let Ok(plan) = plan(alloc, inventory, query) else {
+        panic!(rt; "no plan");
+    };
+    plan
+}
+
+// What is gathered over these links at turn 1.
+fn gathered<R: Handle, L: Link + Send>(
+    rt: R,
+    alloc: Global,
+    inventory: &Inventory,
+    query: &Query,
+    links: &mut [L],
+) -> Answer {
+    if links.len() < inventory.node_count() as usize {
+        panic!(rt; "fewer links than nodes");
+    }
+    let plan = linked_plan(&rt, alloc, inventory, query, links.len());
+    gather(&rt, alloc, query, &plan, 1, &Rotate, links).expect(&rt, "an answer")
+}
+
+// The first of the pieces that are missing, or else the bucket and the number of the first group.
+fn answer_text(rt: &impl Abort, alloc: Global, answer: &Answer) -> String {
+    if let Some(piece) = answer.missing().first() {
+        return piece_text(rt, alloc, piece);
+    }
+    let group = answer.partial().groups().first().expect(rt, "a group");
+    let bucket = group.bucket();
+    let number = group.numbers().first().expect(rt, "a number").unwrap_or(0);
+    format!(in alloc; "{bucket} {number}").expect(rt, "memory")
+}
+
+// What is gathered where two nodes answer so.
+fn told_of<R: Handle>(rt: R, alloc: Global, first: &str, second: &str) -> String {
+    let first = link(&rt, alloc, first);
+    let second = link(&rt, alloc, second);
+    let mut links = vec![in alloc; first, second].expect(&rt, "memory");
+    let inventory = of_two(&rt, alloc);
+    let answer = gathered(rt, alloc, &inventory, &count(&rt, alloc), &mut links);
+    answer_text(&rt, alloc, &answer)
+}
+
+// What two nodes answer, of which the second is asked first, and what is gathered.
+const GATHERED: &str =
+    "200 {\"missing\":[],\"rows\":[[1704088800000,[],[9]]]} | 200 {\"missing\":[],\"rows\":[[1704088800000,[],[7]]]} = 2024-01-01T06:00:00.000Z 7
+ | 200 {\"missing\":[],\"rows\":[[1704088800000,[],[7]]]} = 2024-01-01T06:00:00.000Z 7
+200 {\"missing\":[],\"rows\":[[1704088800000,[],[9]]]} |  = 2024-01-01T06:00:00.000Z 9
+ |  = w_2024-01-01T00:00:00.000Z_2024-01-02T00:00:00.000Z_v1 2024-01-01T06:00:00.000Z/2024-01-01T12:00:00.000Z";
+
+// Asserts that what is gathered is as a line says.
+fn assert_gathered<R: Handle>(rt: R, alloc: Global, line: &str) {
+    let (nodes, wanted) = halves(&rt, line, " = ");
+    let (first, second) = halves(&rt, nodes, " | ");
+    assert_told(&rt, line, told_of(rt, alloc, first, second), wanted);
+}
+
+#[test]
+fn gathers(rt: HostRuntime) {
+    for line in GATHERED.lines() {
+        assert_gathered(&rt, rt.alloc(), line);
+    }
 }

@@ -4,10 +4,12 @@ ghost use Rattle.druid_inventory.specs.Join.{names_of};
 
 use crate::cluster::{Cluster, Handle, Setup, answered, followed, set_up};
 use crate::printing::{assert_told, halves, printed, replaced};
+use crate::published::SNAPSHOT;
 use druid_broker::{fetch_entry, seed_turn, sync_turn};
 use druid_inventory::{Inventory, Outcome};
 use druid_published::{NodeList, Publisher, open};
 use druid_segid::Name;
+use druid_shard::{Body, Reply};
 use druid_wire::MemoryLink;
 use std::alloc::Global;
 use std::marker::Brand;
@@ -15,11 +17,18 @@ use std::process::Abort;
 use std::sync::Wait;
 
 // Replies in turn, and what following the node tells: the outcome, or the fault. A reply is a status and a body; with `-` in front
-// its last byte is cut off. `@` stands for the load of a segment. The mark that is then held stands behind.
+// its last byte is cut off. With `!` in front it is these bytes, in which `|` stands for a carriage return and a line feed, and `#`
+// for 64 fields. `@` stands for the load of a segment. The mark that is then held stands behind.
 const TURNS: &str =
     "200 {\"counter\":{\"counter\":5,\"hash\":1},\"from\":null,\"requests\":[@],\"resetCause\":null,\"resetCounter\":false} = Moved 1 5
 -200 {\"counter\":{\"counter\":5,\"hash\":1},\"from\":{\"counter\":5,\"hash\":1},\"requests\":[],\"resetCause\":null,\"resetCounter\":false} = K1: X1: the message is cut off 1 5
 200 {\"counter\":{\"counter\":5,\"hash\":1},\"from\":{\"counter\":5,\"hash\":1},\"requests\":[],\"resetCause\":null,\"resetCounter\":false} = AlreadyHave 1 5
+!HTTP/1.1 099 X|Content-Length: 0|| = K1: X4: not a head of a message 1 5
+!HTTP/1.1 200 OK|Content-Length: 0|Content-Length: 0|| = K1: X4: not a head of a message 1 5
+!HTTP/1.1 200 OK|#Content-Length: 0|| = K1: X5: the head is too long 1 5
+!HTTP/1.1 200 OK|| = K1: X6: no length of the body 1 5
+!HTTP/1.1 200 OK|Transfer-Encoding: chunked|Content-Length: 0|| = K1: X6: no length of the body 1 5
+!HTTP/1.1 200 OK|Content-Length: 16777217|| = K1: X7: the body is too long 1 5
 404 {} = K4: status 404 1 5
 200 [ = K2: Y1: not JSON 1 5
 200 [] = K2: Y2: not a reply 1 5
@@ -43,8 +52,18 @@ fn whole_reply(rt: &impl Abort, alloc: Global, code: &str, body: &str) -> Vec<u8
         .into_bytes()
 }
 
+// The bytes of what may be no reply.
+fn raw_reply(rt: &impl Abort, alloc: Global, text: &str) -> Vec<u8> {
+    let fields = "A: b|".repeat(alloc, 64).expect(rt, "memory");
+    let text = replaced(rt, alloc, text, "#", fields.as_str());
+    replaced(rt, alloc, text.as_str(), "|", "\r\n").into_bytes()
+}
+
 // The bytes of a reply.
 fn reply(rt: &impl Abort, alloc: Global, text: &str) -> Vec<u8> {
+    if let Some(raw) = text.strip_prefix("!") {
+        return raw_reply(rt, alloc, raw);
+    }
     let Some((status, body)) = text.split_once(" ") else {
         return Vec::new(alloc);
     };
@@ -191,12 +210,30 @@ fn seeds(rt: HostRuntime) {
     assert!(rt; seeds_of(&rt, rt.alloc()));
 }
 
+// What a reply says, if it is a snapshot: its mark, and how many segments it has.
+fn snapshot_text(rt: &impl Abort, alloc: Global, reply: &Reply) -> String {
+    let Body::Snapshot { at, segments } = reply.body() else {
+        panic!(rt; "no snapshot");
+    };
+    let (incarnation, count) = (at.incarnation(), at.count());
+    let segments = segments.as_slice().len();
+    format!(in alloc; "{incarnation} {count}: {segments}").expect(rt, "memory")
+}
+
 // What a peer tells of the first node.
 fn fetched(rt: &impl Abort, alloc: Global, peer: &mut MemoryLink) -> String {
     match fetch_entry(alloc, peer, 0) {
-        Ok(_) => printed(rt, alloc, &"an entry"),
+        Ok(reply) => snapshot_text(rt, alloc, &reply),
         Err(fault) => printed(rt, alloc, &fault),
     }
+}
+
+// What a peer tells that was synced with the node.
+#[test]
+fn synced_peer(rt: HostRuntime) {
+    let mut peer = link(&rt, rt.alloc(), SNAPSHOT);
+    let told = fetched(&rt, rt.alloc(), &mut peer);
+    assert_told(&rt, "a synced peer", told, "1 3: 1");
 }
 
 // What a peer tells that was never synced with the node.

@@ -3,11 +3,9 @@ use Rattle.std.proofs.Common.{◌≡◌, ◌⊎◌, inl, inr, ℕ, ◌<◌, ◌�
 use Rattle.std.specs.Prelude.{Contains, filter, is_some}
 use Rattle.std.specs.List.{flat_map, list_any}
 use Rattle.std.proofs.lemmas.Bool.{false≢true, leb-true}
-use Rattle.std.proofs.lemmas.List.Elements.{All-contains_itself}
 use Rattle.std.proofs.lemmas.Option.{same_Some}
 use Rattle.serde_json.specs.Data.{Data}
 use Rattle.serde_json.specs.Read.{read}
-use Rattle.druid_segid.specs.Identifier.{Identifier}
 use Rattle.druid_shard.proofs.MemberLemmas.{Contains-later}
 use Rattle.druid_timeline.proofs.HoldingLemmas.{from_filter, in_filter}
 use Rattle.druid_rows.specs.Segment.{Segment}
@@ -34,11 +32,10 @@ use Rattle.druid_wire.proofs.OnceLemmas.{one_response}
 use Rattle.druid_node.specs.State.{State}
 use Rattle.druid_node.specs.Answers.{is_missing, missing, IsAnswerOf}
 use Rattle.druid_node.specs.Routes.{Responds, RespondsInTurn, AnswersQuery}
-use Rattle.druid_node.proofs.HeldLemmas.{found_id, found_each}
 use Rattle.druid_scatter.specs.Gathered.{sub_of, request_for}
 use Rattle.druid_scatter.specs.Exact.{without, IsHonest}
 use Rattle.druid_scatter.proofs.ExactLemmas.{any_found, any_told}
-use Rattle.druid_headline.specs.Headline.{HasWords}
+use Rattle.druid_headline.specs.Headline.{HasWords, AreAmong}
 use Rattle.druid_headline.proofs.TextLemmas.{subquery_read, answer_text_read}
 use Rattle.druid_headline.proofs.WordLemmas.{groups_held, all_of_each}
 
@@ -109,11 +106,10 @@ told_is sub held a json missed groups is asked words answer reads tells =
 -- ---- the pieces that were given
 
 -- each piece tells the same of the segments, where it is given, and else nothing
-piece_told : (query : Query) (held segments : List Segment) (asked : List Asked) (a : Asked) → Contains asked a → a.0.source ≡ query.source
-    → ((s : Segment) → Contains held s → s.descriptor.id.source ≡ query.source → segment_named s.descriptor.id segments ≡ Some s)
+piece_told : (query : Query) (held segments : List Segment) (asked : List Asked) (a : Asked) → Contains asked a → AreAmong asked held segments
     → ((not (list_any (same_asked a) (missing held asked)) ≡ true) × (told_of query held a ≡ told_of query segments a))
     ⊎ ((not (list_any (same_asked a) (missing held asked)) ≡ false) × (told_of query held a ≡ []))
-piece_told query held segments asked a there of_source named = by (segment_named a.0 held) refl
+piece_told query held segments asked a there among = by (segment_named a.0 held) refl
   where
     given : (s : Segment) → segment_named a.0 held ≡ Some s → (b : Bool) → list_any (same_asked a) (missing held asked) ≡ b → not b ≡ true
     given s found false e = refl
@@ -129,11 +125,7 @@ piece_told query held segments asked a there of_source named = by (segment_named
         let absent : is_missing held a ≡ true = ap (λ (o : Option Segment). not (is_some o)) e in
         inr (ap not (any_told (same_asked a) (missing held asked) a (in_filter (is_missing held) asked a there absent) (same_asked-equiv.refl a)), ap (told_in query a.1) e)
     by (Some s) e =
-        let id = found_id held a.0 s e in
-        let kept : Contains held s = found_each (Contains held) held a.0 s (All-contains_itself held) e in
-        let here : segment_named a.0 segments ≡ Some s =
-        ap (λ (i : Identifier). segment_named i segments) id ∙ named s kept (ap (λ (i : Identifier). i.source) (sym id) ∙ of_source) in
-        inl (given s e (list_any (same_asked a) (missing held asked)) refl, ap (told_in query a.1) (e ∙ sym here))
+        inl (given s e (list_any (same_asked a) (missing held asked)) refl, ap (told_in query a.1) (e ∙ sym (among a s there e)))
 
 flat_same : {A B : Type 0} (f g : A → List B) (p : A → Bool) (xs : List A) → ((x : A) → Contains xs x → ((p x ≡ true) × (f x ≡ g x)) ⊎ ((p x ≡ false) × (f x ≡ [])))
     → flat_map f xs ≡ flat_map g (filter p xs)
@@ -145,20 +137,19 @@ flat_same f g p (x ∷ xs) each =
     by (inl h) rest = rw (h.0, h.1, rest) refl
     by (inr h) rest = rw (h.0, h.1, rest) refl
 
-pieces_told : (query : Query) (held segments : List Segment) (asked : List Asked) → IsAsked query.source asked
-    → ((s : Segment) → Contains held s → s.descriptor.id.source ≡ query.source → segment_named s.descriptor.id segments ≡ Some s)
+pieces_told : (query : Query) (held segments : List Segment) (asked : List Asked) → AreAmong asked held segments
     → told query held asked ≡ told query segments (without (missing held asked) asked)
-pieces_told query held segments asked is named =
+pieces_told query held segments asked among =
     flat_same (told_of query held) (told_of query segments) (λ a. not (list_any (same_asked a) (missing held asked))) asked
-    (λ a there. piece_told query held segments asked a there (is.sources a there) named)
+    (λ a there. piece_told query held segments asked a there among)
 
 -- ---- the whole
 
 pub honest : (state : State) (query : Query) (asked : List Asked) (node status : ℕ) (body : List ℕ) (segments : List Segment)
     → IsQuery query → IsAsked query.source asked → All HasWords state.held → Responds state (request_for query asked) status body
-    → ((s : Segment) → Contains state.held s → s.descriptor.id.source ≡ query.source → segment_named s.descriptor.id segments ≡ Some s)
+    → AreAmong asked state.held segments
     → IsHonest query segments (record { node = node; asked = asked; came = Ok (wire.answer_text status body) })
-honest state query asked node status body segments is pieces words responds named missed groups told_so =
+honest state query asked node status body segments is pieces words responds among missed groups told_so =
     let answer = routed state query asked status body responds in
     let fits = status_fits state.held (subquery_text (sub_of query asked)) status body answer in
     let bytes : wire.answer_text status body ≡ told_so.bytes = same_ok told_so.came in
@@ -169,7 +160,7 @@ honest state query asked node status body segments is pieces words responds name
     let same = told_is (sub_of query asked) state.held a.0 told_so.json missed groups is pieces words a.1 reads told_so.told in
     let listed : missing state.held asked ≡ missed = sym a.1.missed ∙ same.0 in
     let rows : told query state.held asked ≡ told query segments (without missed asked) =
-    pieces_told query state.held segments asked pieces named ∙ ap (λ (m : List Asked). told query segments (without m asked)) listed in
+    pieces_told query state.held segments asked among ∙ ap (λ (m : List Asked). told query segments (without m asked)) listed in
     subst (λ (rows : List Group). IsResult (kinds_of query) rows groups) rows
     (subst (λ (gs : List Group). IsResult (kinds_of query) (told query state.held asked) gs) same.1 a.1.result)
 
@@ -184,9 +175,9 @@ other_status query asked node status body segments low high other missed groups 
 -- and so is one that may tell want of memory in the place of the answer
 pub honest_in_turn : (state : State) (query : Query) (asked : List Asked) (node status : ℕ) (body : List ℕ) (segments : List Segment)
     → IsQuery query → IsAsked query.source asked → All HasWords state.held → RespondsInTurn state (request_for query asked) status body
-    → ((s : Segment) → Contains state.held s → s.descriptor.id.source ≡ query.source → segment_named s.descriptor.id segments ≡ Some s)
+    → AreAmong asked state.held segments
     → IsHonest query segments (record { node = node; asked = asked; came = Ok (wire.answer_text status body) })
-honest_in_turn state query asked node status body segments is pieces words (inl responds) named = honest state query asked node status body segments is pieces words responds named
-honest_in_turn state query asked node status body segments is pieces words (inr memory) named =
+honest_in_turn state query asked node status body segments is pieces words (inl responds) among = honest state query asked node status body segments is pieces words responds among
+honest_in_turn state query asked node status body segments is pieces words (inr memory) among =
     let told_500 = memory.status_is in
     other_status query asked node status body segments (omega (arith, told_500)) (omega (arith, told_500)) (λ ok. omega (arith, told_500, ok))

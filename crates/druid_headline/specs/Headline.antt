@@ -6,8 +6,9 @@ use Rattle.druid_shard.specs.Mark.{Point}
 use Rattle.druid_timeline.specs.Holding.{Held, held_of}
 use Rattle.druid_rows.specs.Rows.{Row}
 use Rattle.druid_rows.specs.Segment.{Segment}
+use Rattle.druid_query.specs.Asked.{Asked}
 use Rattle.druid_partial.specs.Groups.{AreWords}
-use Rattle.druid_partial.specs.Once.{HaveOwnSegments}
+use Rattle.druid_partial.specs.Once.{HaveOwnSegments, segment_named}
 use Rattle.druid_world.specs.World.{Life, eras_of, set_at}
 
 -- at its mark of this list, the node serves the segment
@@ -33,3 +34,9 @@ pub record AreServedAt (world : List Life) (marks : List Point) (source : List �
 -- the numbers of its rows are of 64 bits
 abbrev pub HasWords : Segment → Type 0
 HasWords s = All (λ (row : Row). AreWords row.metrics) s.rows
+
+-- of the pieces that are asked for, those of a segment that is held are of a segment of the list: what a node holds besides does
+-- not matter
+abbrev pub AreAmong : List Asked → List Segment → List Segment → Type 0
+AreAmong asked held segments =
+    (a : Asked) (s : Segment) → Contains asked a → segment_named a.0 held ≡ Some s → segment_named a.0 segments ≡ Some s

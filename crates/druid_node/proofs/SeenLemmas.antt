@@ -1,6 +1,5 @@
 -- Marks that rise.
-use Rattle.std.proofs.Common.{length-append, ◌≡◌, ◌<◌, ◌≤◌, ◌++◌, ◌+◌, ℕ, Bool, true, false, not, nat_le, if◌then◌else◌, IfSome, List, [], ◌∷◌, length, Option, Some, None, Result, Ok, Err, refl, sym, ap, ◌∙◌, subst, arith, inl, inr, ◌⊎◌, ◌≢◌}
-use Rattle.std.specs.Bool.{⊤}
+use Rattle.std.proofs.Common.{length-append, ◌≡◌, ◌<◌, ◌+◌, ℕ, Bool, true, false, not, nat_le, if◌then◌else◌, IfSome, List, [], ◌∷◌, Option, Some, None, refl, sym, ap, ◌∙◌, subst, arith, inl, inr, ◌⊎◌, ◌≢◌}
 use Rattle.std.specs.Io.KnownBytes.{Keeps}
 use Rattle.std.specs.Option.{option_or}
 use Rattle.std.proofs.lemmas.Option.{same_Some}
@@ -10,22 +9,22 @@ use Rattle.druid_rows.specs.Segment.{Segment}
 use Rattle.druid_changes.specs.declared.fault.HistoryFault.{HistoryFault}
 use Rattle.druid_changes.specs.declared.fault.HistoryFault.TheVariants.{Served, NotServed, Full, CountAtEnd}
 use Rattle.druid_wire.specs.Messages.{RequestValue, IsRequest, RequestSays, HasFault}
-use Rattle.druid_wire.specs.Served.{refusal_text, IsCutShort}
+use Rattle.druid_wire.specs.Served.{refusal_text, IsSent, IsUnread, IsCutShort}
 use Rattle.druid_wire.specs.declared.fault.WireFault.{WireFault}
-use Rattle.druid_wire.proofs.ServeLemmas.{WasRead, unsent, unanswered}
+use Rattle.druid_wire.proofs.ServeLemmas.{WasRead}
 use Rattle.druid_node.specs.declared.fault.NodeFault.{NodeFault}
 use Rattle.druid_node.specs.declared.fault.NodeFault.TheVariants as faults
 use Rattle.std.specs.declared.cmp.Ordering.{Ordering}
 use Rattle.std.specs.declared.cmp.Ordering.TheVariants.{Less, Equal, Greater}
-use Rattle.std.specs.Ordering.{nat_cmp, ordering_then, ordering_reverse}
-use Rattle.std.specs.Cmp.{IsTotalOrder, nat_cmp_is}
+use Rattle.std.specs.Ordering.{ordering_then, ordering_reverse}
+use Rattle.std.specs.Cmp.{nat_cmp_is}
 use Rattle.druid_shard.specs.Mark.{Point, mark_cmp}
 use Rattle.druid_shard.specs.Orders.{mark_cmp-total}
 use Rattle.druid_shard.specs.declared.change.Change.{Change}
 use Rattle.druid_shard.specs.declared.change.Change.TheVariants.{Load, Drop}
-use Rattle.druid_changes.specs.Kept.{Kept, StandsFor, IsKept, last_count, refusal}
+use Rattle.druid_changes.specs.Kept.{Kept, IsKept, last_count, refusal}
 use Rattle.druid_node.specs.State.{State, Records, Refuses, RefusesToDrop}
-use Rattle.druid_node.specs.Seen.{mark_of, IsBehind, IsAtLeast, IsLoadRefusal, RefusesAsSeen, RefusesLoad, RefusesDrop, AnswersSince, IsPassedBy, IsUnserved}
+use Rattle.druid_node.specs.Seen.{mark_of, IsBehind, IsAtLeast, IsLoadRefusal, RefusesAsSeen, RefusesLoad, RefusesDrop, AnswersFrom, AnswersSince, IsServedAsSeen, IsBegun, IsPassedBy, IsUnserved}
 
 -- a change more is a greater count
 counted : (old new : Kept) (c : Change) → IsKept old → Records old new c → new.count ≡ old.count + 1
@@ -124,6 +123,18 @@ pub drop_as : (kept : Kept) (o : Option Segment) (found seen : Point) (fault : N
 drop_as kept o found seen fault (inl (behind, told)) = subst (RefusesDrop seen) (sym told) behind
 drop_as kept o found seen fault (inr (at, why)) = drop_told kept o seen fault why
 
+-- ---- what was served
+
+pub served_as_seen : (seen now : Point) (request : RequestValue) (before after old new : Option (List ℕ)) (sent : ℕ) → WasRead before after request
+    → (status : ℕ) × (body : List ℕ) × AnswersFrom seen now request status body × IsSent old new status body sent → IsServedAsSeen seen now before after old new sent
+served_as_seen seen now request before after old new sent read (status, body, answer, is) =
+    record { status = status; body = body; served = inl (record { request = request; read = read; answer = answer }); is_sent = is }
+
+pub refused_as_seen : (seen : Point) (before after old new : Option (List ℕ)) (fault : WireFault) (sent : ℕ) → IfSome before (λ input. HasFault RequestSays input fault)
+    → (text : List ℕ) × (refusal_text fault ≡ Some text) × IsSent old new 400 text sent → IsServedAsSeen seen seen before after old new sent
+refused_as_seen seen before after old new fault sent has (text, e, is) =
+    record { status = 400; body = text; served = inr (record { fault = fault; has = has; tells = e; status_is = refl; unseen = refl }); is_sent = is }
+
 -- ---- what was not served
 
 abbrev pub ServeTold : Point → RequestValue → Option (List ℕ) → Option (List ℕ) → NodeFault → Type 0
@@ -141,14 +152,21 @@ pub serve_told : (seen : Point) (request : RequestValue) (before after old new :
 serve_told seen request before after old new given read (inl (found, behind, told, same)) =
     inl (record { found = found; behind = behind; told = told; read = read_some before after request read; unwritten = same })
 serve_told seen request before after old new given read (inr (cause, told, status, body, answer, cut)) =
-    inr (record { cause = cause; told = told; fails = unsent (AnswersSince seen) request before after old new cause read (status, body, answer, cut) })
+    inr (record { cause = cause; told = told; fails = inr (record { now = answer.0; status = status; body = body; served = inl (record { request = request; read = read; answer = answer.1 }); cut = cut }) })
 
 abbrev pub UnreadTold : WireFault → Option (List ℕ) → Option (List ℕ) → NodeFault → Type 0
 UnreadTold fault old new given =
     (told : WireFault) × (given ≡ faults.Wire told)
     × (((told ≡ fault) × (refusal_text fault ≡ None) × Keeps old new) ⊎ ((text : List ℕ) × (refusal_text fault ≡ Some text) × IsCutShort old new 400 text told))
 
+unanswered : (seen : Point) (before after old new : Option (List ℕ)) (fault told : WireFault) → IfSome before (λ input. HasFault RequestSays input fault)
+    → ((told ≡ fault) × (refusal_text fault ≡ None) × Keeps old new) ⊎ ((text : List ℕ) × (refusal_text fault ≡ Some text) × IsCutShort old new 400 text told)
+    → IsUnread before old new told ⊎ IsBegun seen before after old new told
+unanswered seen before after old new fault told has (inl (e, none, kept)) = inl (rw e (record { unanswered = none; has = has; kept = kept }))
+unanswered seen before after old new fault told has (inr (text, e, cut)) =
+    inr (record { now = seen; status = 400; body = text; served = inr (record { fault = fault; has = has; tells = e; status_is = refl; unseen = refl }); cut = cut })
+
 pub unread_told : (seen : Point) (before after old new : Option (List ℕ)) (fault : WireFault) (given : NodeFault) → IfSome before (λ input. HasFault RequestSays input fault) → UnreadTold fault old new given
     → IsPassedBy seen before after old new given ⊎ IsUnserved seen before after old new given
 unread_told seen before after old new fault given has (cause, told, why) =
-    inr (record { cause = cause; told = told; fails = unanswered (AnswersSince seen) before after old new fault cause has why })
+    inr (record { cause = cause; told = told; fails = unanswered seen before after old new fault cause has why })

@@ -7,8 +7,8 @@ use Rattle.druid_changes.specs.Kept.{IsKept}
 use Rattle.druid_changes.specs.declared.fault.HistoryFault.{HistoryFault}
 use Rattle.druid_changes.specs.declared.fault.HistoryFault.TheVariants.{Served, NotServed, Full, CountAtEnd}
 use Rattle.druid_changes.specs.declared.fault.HistoryFault.TheVariants as history
-use Rattle.druid_wire.specs.Messages.{RequestValue, IsRequest}
-use Rattle.druid_wire.specs.Served.{FailsToServe}
+use Rattle.druid_wire.specs.Messages.{RequestValue, IsRequest, RequestSays, HasFault}
+use Rattle.druid_wire.specs.Served.{refusal_text, IsSent, IsUnread, IsCutShort}
 use Rattle.druid_wire.specs.declared.fault.WireFault.{WireFault}
 use Rattle.druid_node.specs.State.{State, IsState}
 use Rattle.druid_node.specs.Routes.{RespondsInTurn}
@@ -77,6 +77,29 @@ text_of (Some body) = body.items
 abbrev pub AnswersSince : Point → RequestValue → ℕ → List ℕ → Type 0
 AnswersSince before request status body = (after : Point) × AnswersFrom before after request status body
 
+-- a request was read, which the bytes of the input are where they are known; a state of the node, whose mark is the second and
+-- not below the first, answers it so
+pub record IsAnswered (seen now : Point) (before after : Option (List ℕ)) (status : ℕ) (body : List ℕ) : Type 0 where
+  pub request : RequestValue
+  pub read : IfSome before (λ input. (rest : List ℕ) × (after ≡ Some rest) × IsRequest input request rest)
+  pub answer : AnswersFrom seen now request status body
+
+-- no request was read, for a fault which the bytes of the input have where they are known; it is answered, and nothing is seen
+pub record IsRefused (seen now : Point) (before : Option (List ℕ)) (status : ℕ) (body : List ℕ) : Type 0 where
+  pub fault : WireFault
+  pub has : IfSome before (λ input. HasFault RequestSays input fault)
+  pub tells : refusal_text fault ≡ Some body
+  pub status_is : status ≡ 400
+  pub unseen : now ≡ seen
+
+-- an answer was written, and what is seen then is the mark of the state that gave it, or what was seen where no state did; this
+-- is known of any reader and any writer
+pub record IsServedAsSeen (seen now : Point) (before after old new : Option (List ℕ)) (sent : ℕ) : Type 0 where
+  pub status : ℕ
+  pub body : List ℕ
+  pub served : IsAnswered seen now before after status body ⊎ IsRefused seen now before status body
+  pub is_sent : IsSent old new status body sent
+
 -- N8: a request was read, and the state is behind what was seen; nothing was written
 pub record IsPassedBy (seen : Point) (before after old new : Option (List ℕ)) (fault : NodeFault) : Type 0 where
   pub found : Point
@@ -85,8 +108,16 @@ pub record IsPassedBy (seen : Point) (before after old new : Option (List ℕ)) 
   pub read : IfSome before (λ input. (request : RequestValue) × (rest : List ℕ) × (after ≡ Some rest) × IsRequest input request rest)
   pub unwritten : new ≡ old
 
+-- an answer was begun, of a state that is not behind what was seen, or of none
+pub record IsBegun (seen : Point) (before after old new : Option (List ℕ)) (cause : WireFault) : Type 0 where
+  pub now : Point
+  pub status : ℕ
+  pub body : List ℕ
+  pub served : IsAnswered seen now before after status body ⊎ IsRefused seen now before status body
+  pub cut : IsCutShort old new status body cause
+
 -- N5: no request was read, or no whole answer was written
 pub record IsUnserved (seen : Point) (before after old new : Option (List ℕ)) (fault : NodeFault) : Type 0 where
   pub cause : WireFault
   pub told : fault ≡ faults.Wire cause
-  pub fails : FailsToServe (AnswersSince seen) before after old new cause
+  pub fails : IsUnread before old new cause ⊎ IsBegun seen before after old new cause

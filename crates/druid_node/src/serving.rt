@@ -4,8 +4,8 @@ ghost use Rattle.std.specs.Io.KnownBytes.{Keeps};
 ghost use Rattle.std.specs.declared.cmp.Ordering.TheVariants.{Greater};
 ghost use Rattle.druid_shard.specs.Mark.{Point, mark_cmp};
 ghost use Rattle.druid_wire.specs.declared.fault.WireFault.{WireFault};
-ghost use Rattle.druid_wire.specs.Served.{refusal_text, IsSent, IsServed, IsCutShort};
-ghost use Rattle.druid_node.specs.Seen.{IsBehind, AnswersFrom, AnswersSince, IsPassedBy, IsUnserved, text_of};
+ghost use Rattle.druid_wire.specs.Served.{refusal_text, IsSent, IsCutShort};
+ghost use Rattle.druid_node.specs.Seen.{IsBehind, AnswersFrom, AnswersSince, IsServedAsSeen, IsPassedBy, IsUnserved, text_of};
 
 use crate::seen::Answered;
 use crate::{DataNode, NodeFault};
@@ -85,7 +85,7 @@ impl DataNode {
         writer: &mut W,
         seen: &mut Mark,
     ) -> Result<u16, NodeFault>
-        ensures ok { IfOk result (IsServed (AnswersFrom seen.old seen.new) (R.remaining reader.old) (R.remaining reader.new) (W.contents writer.old) (W.contents writer.new)) }
+        ensures ok { IfOk result (IsServedAsSeen seen.old seen.new (R.remaining reader.old) (R.remaining reader.new) (W.contents writer.old) (W.contents writer.new)) }
         ensures risen { OnOk result (mark_cmp seen.old seen.new ≢ Greater) }
         ensures err { IfErr result (λ fault.
             IsPassedBy seen.old (R.remaining reader.old) (R.remaining reader.new) (W.contents writer.old) (W.contents writer.new) fault

@@ -168,10 +168,16 @@ pub(crate) fn answers<R: Abort + Wait>(
     }
 }
 
-fn is_answered<R: Abort + Wait>(rt: &R, alloc: Global, node: &DataNode, row: &str) -> bool {
+fn is_answered<R: Abort + Wait>(
+    rt: &R,
+    alloc: Global,
+    node: &DataNode,
+    row: &str,
+    seen: &mut Mark,
+) -> bool {
     let (text, wanted) = row.split_once(" = ").expect(rt, "a row");
     let message = spelled(rt, alloc, text);
-    answers(rt, alloc, node, &message, wanted, &mut Mark::never())
+    answers(rt, alloc, node, &message, wanted, seen)
 }
 
 // Messages to a node with the segment of `w`, and what it answers.
@@ -246,8 +252,28 @@ POST /druid/v2 HTTP/1.1|Content-Length: 99999999999999999999||{} = 400 {\"error\
 fn ample_memory(rt: HostRuntime) {
     let node = node(&rt, rt.alloc());
     for row in MESSAGES.lines() {
-        assert!(rt; is_answered(&rt, rt.alloc(), &node, row), "{row}");
+        assert!(rt;
+            is_answered(&rt, rt.alloc(), &node, row, &mut Mark::never()),
+            "{row}"
+        );
     }
+}
+
+const UNREADABLE: &str = "GET /status/health|| = 400 {\"error\":\"X4\"}";
+
+const READABLE: &str = "GET /status/health HTTP/1.1|| = 200 true";
+
+// Of what is no request nothing is seen, and what comes behind it is answered as if it had not been.
+#[test]
+fn unreadable_is_not_seen(rt: HostRuntime) {
+    let node = node(&rt, rt.alloc());
+    let mut seen = Mark::never();
+    assert!(rt; is_answered(&rt, rt.alloc(), &node, UNREADABLE, &mut seen));
+    assert!(rt; seen == Mark::never());
+    assert!(rt; is_answered(&rt, rt.alloc(), &node, READABLE, &mut seen));
+    assert!(rt; seen == Mark::new(1, 1));
+    assert!(rt; is_answered(&rt, rt.alloc(), &node, UNREADABLE, &mut seen));
+    assert!(rt; seen == Mark::new(1, 1));
 }
 
 // The fields of a head: so many, or one in a head of so many bytes, of which 36 are not of its value.

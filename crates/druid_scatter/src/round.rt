@@ -22,8 +22,13 @@ fn ask_one<L: Link>(
     }
 }
 
-// What each link answers, place by place: the halves at once, the front one on a thread of its own. The answers go to places that
-// are there already, so that no thread wants memory for them.
+// Whether one of them is there.
+fn has_request(requests: &[Option<Vec<u8>>]) -> bool {
+    requests.iter().any(|request| request.is_some())
+}
+
+// What each link answers, place by place: the halves at once, the front one on a thread of its own, where both have a request. The
+// answers go to places that are there already, so that no thread wants memory for them.
 fn ask_all<L: Link + Send, R: Threads + Sync>(
     rt: &R,
     alloc: &Global,
@@ -46,17 +51,22 @@ fn ask_all<L: Link + Send, R: Threads + Sync>(
     let (front_requests, back_requests) = requests.split_at(middle);
     let (front_links, back_links) = links.split_at_mut(middle);
     let (front_answers, back_answers) = answers.split_at_mut(middle);
-    join_mut(
-        rt,
-        &mut ||
-            requires { IsSync R.row × IsSend L.row × (length front_links.now ≡ length front_requests.now) × (length front_links.now ≡ length front_answers.now) }
-            ensures { AreAnswered L.exchanges front_links.entry.now (map (option_map (λ v. v.items)) front_requests.entry.now) (map (option_map came_of) front_answers.exit.now) front_links.exit.now }
-        { ask_all(rt, alloc, front_requests, front_links, front_answers) },
-        &mut ||
-            requires { IsSync R.row × IsSend L.row × (length back_links.now ≡ length back_requests.now) × (length back_links.now ≡ length back_answers.now) }
-            ensures { AreAnswered L.exchanges back_links.entry.now (map (option_map (λ v. v.items)) back_requests.entry.now) (map (option_map came_of) back_answers.exit.now) back_links.exit.now }
-        { ask_all(rt, alloc, back_requests, back_links, back_answers) },
-    );
+    if has_request(front_requests) && has_request(back_requests) {
+        join_mut(
+            rt,
+            &mut ||
+                requires { IsSync R.row × IsSend L.row × (length front_links.now ≡ length front_requests.now) × (length front_links.now ≡ length front_answers.now) }
+                ensures { AreAnswered L.exchanges front_links.entry.now (map (option_map (λ v. v.items)) front_requests.entry.now) (map (option_map came_of) front_answers.exit.now) front_links.exit.now }
+            { ask_all(rt, alloc, front_requests, front_links, front_answers) },
+            &mut ||
+                requires { IsSync R.row × IsSend L.row × (length back_links.now ≡ length back_requests.now) × (length back_links.now ≡ length back_answers.now) }
+                ensures { AreAnswered L.exchanges back_links.entry.now (map (option_map (λ v. v.items)) back_requests.entry.now) (map (option_map came_of) back_answers.exit.now) back_links.exit.now }
+            { ask_all(rt, alloc, back_requests, back_links, back_answers) },
+        );
+        return;
+    }
+    ask_all(rt, alloc, front_requests, front_links, front_answers);
+    ask_all(rt, alloc, back_requests, back_links, back_answers);
 }
 
 // So many places for answers, none of which has one: made before anything is sent.

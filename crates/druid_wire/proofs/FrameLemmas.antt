@@ -153,6 +153,7 @@ head_too_long old mid room (Some input) (Some more) (Some rest) h w fits = recor
       ∙ ap (λ l. l ++ (w.ends.0 ++ rest)) (append_assoc (text_of h.blank) (text_of h.lines) w.front);
   begins = begun old w.front (Some input) (Some more) h w.plain;
   long = omega (arith, fits, w.ends.2, ap length h.is, length-append (text_of h.lines) w.front);
+  over = omega (arith, fits, w.ends.3, ap length h.is, length-append (text_of h.lines) w.front, length-append w.ends.0 rest);
 }
 
 -- ---- the same of a part that is told by an equation, of a head by what it has now

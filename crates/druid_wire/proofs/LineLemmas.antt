@@ -45,20 +45,20 @@ line_feed old mid new left room a b c g p short =
     let w = grown_front Feed old mid new left a b c g p in
     record { front = w.0; grown = w.1; plain = w.2; ends = (w.3, omega (arith, short, grown_by old new w.0 w.1)) }
 
-pub line_full : (old new : List ℕ) (room : ℕ) (a b : Option (List ℕ)) → HasGrown old new a b → length old + room ≤ length new → IsLine More old new room a b
+pub line_full : (old new : List ℕ) (room : ℕ) (a b : Option (List ℕ)) → HasGrown old new a b → length old + room < length new → IsLine More old new room a b
 line_full old new room a b g long =
     record {
       front = g.front;
       grown = g.grown;
       plain = g.plain;
-      ends = ([], subst (Consumes a b) (sym (append-nil g.front)) g.taken, omega (arith, long, grown_by old new g.front g.grown));
+      ends = ([], subst (Consumes a b) (sym (append-nil g.front)) g.taken, omega (arith, long, grown_by old new g.front g.grown), omega (arith, long, grown_by old new g.front g.grown));
     }
 
 pub line_full_feed : (old mid new : List ℕ) (left room : ℕ) (a b c : Option (List ℕ)) → HasGrown old mid a b → IsPart Feed mid new left b c
     → length old + room ≤ length new → IsLine More old new room a c
 line_full_feed old mid new left room a b c g p long =
     let w = grown_front Feed old mid new left a b c g p in
-    record { front = w.0; grown = w.1; plain = w.2; ends = (10 ∷ [], w.3, omega (arith, long, grown_by old new w.0 w.1)) }
+    record { front = w.0; grown = w.1; plain = w.2; ends = (10 ∷ [], w.3, omega (arith, long, grown_by old new w.0 w.1), omega (arith, long, grown_by old new w.0 w.1)) }
 
 pub line_end : (old mid new : List ℕ) (left room : ℕ) (a b c : Option (List ℕ)) → HasGrown old mid a b → IsPart Ended mid new left b c → IsLine Ended old new room a c
 unfolding grown_front

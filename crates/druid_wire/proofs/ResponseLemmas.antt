@@ -1,10 +1,10 @@
 -- A response in bytes that are at hand, and its faults.
-use Rattle.std.proofs.Common.{◌≡◌, ℕ, ◌<◌, Bool, true, false, List, length, map, subst, sym, refl, ◌∙◌, inl, inr, Result, Ok, Err}
+use Rattle.std.proofs.Common.{◌≡◌, ℕ, ◌<◌, Bool, true, false, List, length, map, subst, sym, refl, ◌∙◌, inl, inr, Result, Ok, Err, Option, None, Some, IfSome}
 use Rattle.httparse.specs.Spans.{name_and_value}
 use Rattle.druid_wire.specs.Frame.{IsFramed}
 use Rattle.druid_wire.specs.Heads.{NameAndValue, is_coded, length_in}
 use Rattle.druid_wire.specs.Told.{TellsResponse, LacksHead}
-use Rattle.druid_wire.specs.Messages.{length_or, body_length, HasFault, IsOfBytes, IsResponse, ResponseSays}
+use Rattle.druid_wire.specs.Messages.{length_or, body_length, HasFault, IsOfBytes, IsResponse, RequestSays, ResponseSays}
 use Rattle.druid_wire.specs.declared.fault.WireFault.{WireFault}
 use Rattle.druid_wire.specs.declared.fault.WireFault.TheVariants.{Cut, Read, Write, BadHead, HeadTooLong, NoLength, BodyTooLong, Connect, Memory}
 use Rattle.druid_wire.specs.declared.head.ResponseTold.{ResponseTold}
@@ -55,6 +55,17 @@ of_response bytes f says =
           ]
     ]
 
+of_request : (bytes : List ℕ) (f : WireFault) → RequestSays bytes (Err f) → IsOfHead f
+of_request bytes f says =
+    elim says [
+      | inl bad ↦ subst IsOfHead (sym bad.0) tt
+      | inr other ↦
+          elim other [
+            | inl over ↦ subst IsOfHead (sym over.0) tt
+            | inr lacks ↦ of_body _ _ (map name_and_value lacks.0.fields) f refl lacks.2
+          ]
+    ]
+
 -- ---- faults of the whole
 
 -- a fault of its own head is one of the input
@@ -69,6 +80,13 @@ head_faulty Says input head rest NoLength framed says is = (head, rest, framed, 
 head_faulty Says input head rest BodyTooLong framed says is = (head, rest, framed, says)
 head_faulty Says input head rest Connect framed says is = absurd is
 head_faulty Says input head rest Memory framed says is = absurd is
+
+-- the same of a request whose head was read off a reader's front
+pub request_head_faulty : (a b : Option (List ℕ)) (bytes kept : List ℕ) (f : WireFault) → IfSome a (λ input. (rest : List ℕ) × (b ≡ Some rest) × IsFramed input kept rest)
+    → bytes ≡ kept → RequestSays bytes (Err f) → IfSome a (λ input. HasFault RequestSays input f)
+request_head_faulty None b bytes kept f h e says = tt
+request_head_faulty (Some input) b bytes kept f h e says =
+    head_faulty RequestSays input bytes h.0 f (subst (λ (bs : List ℕ). IsFramed input bs h.0) (sym e) h.2) says (of_request bytes f says)
 
 pub response_head_faulty : (input head rest : List ℕ) (f : WireFault) → IsFramed input head rest → ResponseSays head (Err f) → HasFault ResponseSays input f
 response_head_faulty input head rest f framed says = head_faulty ResponseSays input head rest f framed says (of_response head f says)

@@ -104,8 +104,9 @@ begun bytes text rest line w plain = record {
   is = refl;
 }
 
-pub head_is_long : (bytes text rest line more : List ℕ) → Passes bytes text rest → IsPlain line → rest ≡ line ++ more → MAX_HEAD + length more ≤ length text → IsLongHead bytes
-head_is_long bytes text rest line more w plain e fits = record {
+pub head_is_long : (bytes text rest line more : List ℕ) → Passes bytes text rest → IsPlain line → rest ≡ line ++ more → MAX_HEAD + length more ≤ length text → MAX_HEAD < length text
+    → IsLongHead bytes
+head_is_long bytes text rest line more w plain e fits above = record {
   begun = text_of w.blank ++ (text_of w.lines ++ line);
   front = text_of w.lines ++ line;
   rest = more;
@@ -113,6 +114,7 @@ head_is_long bytes text rest line more w plain e fits = record {
       ∙ sym (append_assoc (text_of w.blank) (text_of w.lines ++ line) more);
   begins = begun bytes text rest line w plain;
   long = omega (arith, fits, passed_length bytes text rest w, ap length e, length-append line more, length-append (text_of w.lines) line);
+  over = omega (arith, above, passed_length bytes text rest w, ap length e, length-append line more, length-append (text_of w.lines) line);
 }
 
 pub head_is_cut : (bytes text rest : List ℕ) → Passes bytes text rest → IsPlain rest → EndsInHead bytes

@@ -1,5 +1,5 @@
 -- Where the head of a message begins and ends, whatever stands in it: behind blank lines, and with the first empty line.
-use Rattle.std.specs.Prelude.{◌≡◌, ◌≢◌, ◌≤◌, ◌<◌, ◌⊎◌, ℕ, List, [], ◌∷◌, ◌++◌, All, length}
+use Rattle.std.specs.Prelude.{◌≡◌, ◌≢◌, ◌+◌, ◌≤◌, ◌<◌, ◌⊎◌, ℕ, List, [], ◌∷◌, ◌++◌, All, length}
 use Rattle.std.specs.List.{flat_map}
 use Rattle.druid_wire.specs.declared.frame.TheConstants.{MAX_HEAD}
 
@@ -51,7 +51,7 @@ pub record IsBegun (input front : List ℕ) : Type 0 where
 abbrev pub EndsInHead : List ℕ → Type 0
 EndsInHead input = (front : List ℕ) × IsBegun input front
 
--- as many bytes as a head may have, whose last line has no line feed yet
+-- as many bytes as a head may have, whose last line has no line feed yet, and one byte more at least
 pub record IsLongHead (input : List ℕ) : Type 0 where
   pub begun : List ℕ
   pub front : List ℕ
@@ -59,3 +59,4 @@ pub record IsLongHead (input : List ℕ) : Type 0 where
   pub is : input ≡ begun ++ rest
   pub begins : IsBegun begun front
   pub long : MAX_HEAD ≤ length front
+  pub over : MAX_HEAD < length front + length rest

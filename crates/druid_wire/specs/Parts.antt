@@ -1,5 +1,5 @@
 -- Reading lines one by one, part by part. Only proofs use these words.
-use Rattle.std.specs.Prelude.{◌≡◌, ◌≢◌, ◌≤◌, ◌<◌, ℕ, List, [], ◌∷◌, ◌++◌, All, length, Option, Some, IfSome}
+use Rattle.std.specs.Prelude.{◌≡◌, ◌≢◌, ◌+◌, ◌≤◌, ◌<◌, ℕ, List, [], ◌∷◌, ◌++◌, All, length, Option, Some, IfSome}
 use Rattle.std.specs.Io.KnownBytes.{Consumes}
 use Rattle.druid_stream.specs.declared.lines.Part.{Part}
 use Rattle.druid_stream.specs.declared.lines.Part.TheVariants.{More, Feed, Ended}
@@ -7,9 +7,10 @@ use Rattle.druid_wire.specs.Frame.{IsFramed, EndsInHead, IsLongHead}
 use Rattle.druid_wire.specs.declared.frame.Found.{Found}
 use Rattle.druid_wire.specs.declared.frame.Found.TheVariants as found
 
--- how the line ended that old grew by: at its line feed, at the end of the input, or with as many bytes as there was room for
+-- how the line ended that old grew by: at its line feed, at the end of the input, or with as many bytes as there was room for, behind which
+-- one more came
 abbrev pub EndsAs : Part → (front : List ℕ) → ℕ → Option (List ℕ) → Option (List ℕ) → Type 0
-EndsAs More front room before after = (more : List ℕ) × Consumes before after (front ++ more) × (room ≤ length front)
+EndsAs More front room before after = (more : List ℕ) × Consumes before after (front ++ more) × (room ≤ length front) × (room < length front + length more)
 EndsAs Feed front room before after = Consumes before after (front ++ 10 ∷ []) × (length front < room)
 EndsAs Ended front room before after = IfSome before (λ xs. xs ≡ front)
 

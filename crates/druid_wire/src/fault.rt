@@ -10,7 +10,7 @@ pub enum WireFault {
     /// X1: the input ends before the head or the body is whole.
     #[error("X1: the message is cut off")]
     Cut,
-    /// X2: the reader failed.
+    /// X2: the reader failed, or an exchange waited longer than it may.
     #[error("X2: the message could not be read")]
     Read,
     /// X3: the writer failed.

@@ -30,7 +30,8 @@ pub(crate) fn is_blank(head: &[u8], start: usize) -> bool
     matches!(line, [] | [b'\r'])
 }
 
-// Appends the next line, without its line feed, but no more bytes than there is room for.
+// Appends the next line, without its line feed, but no more than one byte more than there is room for: `More` where it has
+// as many as that, and another byte comes behind them.
 #[tactic(auto, using(crate::proofs::LineLemmas::not_grown, crate::proofs::LineLemmas::grown_long, crate::proofs::LineLemmas::part_long, crate::proofs::LineLemmas::line_full))]
 fn read_line<R: BufRead>(reader: &mut R, head: &mut Vec<u8>, room: usize) -> io::Result<Part>
     ensures { IfOk result (λ part. IsLine part head.old.items head.new.items room
@@ -39,10 +40,10 @@ fn read_line<R: BufRead>(reader: &mut R, head: &mut Vec<u8>, room: usize) -> io:
     let start = head.len();
     for _ in 0..u64::MAX {
         let taken = head.len() - start;
-        if room <= taken {
+        if room < taken {
             return Ok(Part::More);
         }
-        let part = next_part(reader, head, room - taken)?;
+        let part = next_part(reader, head, (room - taken).saturating_add(1))?;
         match part {
             Part::More => {}
             Part::Feed => {

@@ -49,7 +49,7 @@ pub(crate) fn split_head(bytes: &[u8]) -> Result<(&[u8], &[u8]), WireFault>
         text = behind;
         rest = behind;
     }
-    if text.len() < MAX_HEAD {
+    if text.len() <= MAX_HEAD {
         return Err(WireFault::Cut);
     }
     Err(WireFault::HeadTooLong)

@@ -1,13 +1,14 @@
 //! Links over sockets.
-ghost use Rattle.std.specs.Prelude.{◌≡◌, ◌≤◌, ◌<◌, ◌⊎◌, length, take, string_bytes, IfOk, IfErr, IfSome, IsErrOf, OnOk};
+ghost use Rattle.std.specs.Prelude.{◌≡◌, ◌↔◌, ◌≤◌, ◌<◌, ◌⊎◌, length, take, string_bytes, IfOk, IfErr, IfSome, IsErrOf, OnOk};
 ghost use Rattle.std.specs.Io.KnownBytes.{Appends, Consumes, IsAtEnd};
+ghost use Rattle.std.specs.IoError.{error_kind};
 ghost use Rattle.druid_wire.specs.Links.{IsLinkFault, faults_at};
 ghost use Rattle.druid_wire.specs.TcpLinks.{fresh_tcp_link, limited};
 
 use crate::{Link, MAX_EXCHANGE, WireFault};
 use druid_stream::{MAX_TRIES, is_interrupted};
 use std::alloc::Global;
-use std::io::{Read, Write};
+use std::io::{Error, ErrorKind, Read, Write};
 use std::marker::Model;
 use std::net::{Net, OpenStream, SocketAddr, TcpStream};
 use std::time::{Clock, Duration, Instant};
@@ -20,8 +21,10 @@ const PART: usize = 16_384;
 
 /// A link to the server at an address, as `127.0.0.1:8082`. Each exchange makes a connection of its own, which is closed
 /// behind it. `Connect` where the text is no address of a socket, where no connection is made, or where the clock cannot be
-/// read before; `Write` where the request is not sent whole; `Read` where the answer cannot be read to its end. All of them
-/// together may take no longer than the limit. Of what the server gives nothing is claimed but how much it is.
+/// read before; `Write` where the socket fails before the request is sent whole; `Read` where the answer cannot be read to
+/// its end. All of them together may take no longer than the limit: behind the connecting it is `Read` where the time is
+/// over, or cannot be told, whether the request is being sent or the answer read. Of what the server gives nothing is
+/// claimed but how much it is.
 #[derive(Drop)]
 pub struct TcpLink<N: Net + Clock> {
     net: N,
@@ -152,7 +155,20 @@ fn connected<N: Net + Clock>(net: &N, timer: &Timer, address: &str) -> Option<N:
     TcpStream::connect_timeout(net, &address, left).ok()
 }
 
-// Writes a front of a text, of one byte at least, within the time, and gives its length.
+// What a failed write tells: `Read` where it waited until its timeout was over, since the exchange took too long then, and
+// `Write` where it failed for anything else.
+fn send_fault(error: &Error) -> WireFault
+    ensures late { (result ≡ WireFault.Read) ↔
+        ((error_kind error.now ≡ ErrorKind.TimedOut) ⊎ (error_kind error.now ≡ ErrorKind.WouldBlock)) }
+    ensures fault { (result ≡ WireFault.Read) ⊎ (result ≡ WireFault.Write) }
+{
+    match error.kind() {
+        ErrorKind::TimedOut | ErrorKind::WouldBlock => WireFault::Read,
+        _ => WireFault::Write,
+    }
+}
+
+// Writes a front of a text, of one byte at least, within the time, and gives its length. `Read` where the time is over.
 #[tactic(auto, using(druid_stream::proofs::WriteLemmas::kept_twice, druid_stream::proofs::WriteLemmas::kept_appends))]
 fn send_some<C: Clock, S: Write + OpenStream>(
     clock: &C,
@@ -164,11 +180,11 @@ fn send_some<C: Clock, S: Write + OpenStream>(
     ensures progress { IfOk result (λ n. 1 ≤ n) }
     ensures ok { IfOk result
         (λ n. Appends (S.contents stream.old) (S.contents stream.new) (take n text.now)) }
-    ensures err { IfErr result (λ fault. fault ≡ WireFault.Write) }
+    ensures err { IfErr result (λ fault. (fault ≡ WireFault.Read) ⊎ (fault ≡ WireFault.Write)) }
 {
     for _ in 0..MAX_TRIES {
         let Some(left) = timer.left(clock) else {
-            return Err(WireFault::Write);
+            return Err(WireFault::Read);
         };
         if stream.set_write_timeout(Some(left)).is_err() {
             return Err(WireFault::Write);
@@ -178,7 +194,7 @@ fn send_some<C: Clock, S: Write + OpenStream>(
             Ok(written) => return Ok(written),
             Err(error) => {
                 if !is_interrupted(&error) {
-                    return Err(WireFault::Write);
+                    return Err(send_fault(&error));
                 }
             }
         }
@@ -186,7 +202,7 @@ fn send_some<C: Clock, S: Write + OpenStream>(
     Err(WireFault::Write)
 }
 
-// Writes a text within the time.
+// Writes a text within the time. `Read` where the time is over before it is written whole.
 fn send_all<C: Clock, S: Write + OpenStream>(
     clock: &C,
     timer: &Timer,
@@ -194,7 +210,7 @@ fn send_all<C: Clock, S: Write + OpenStream>(
     text: &[u8],
 ) -> Result<(), WireFault>
     ensures ok { OnOk result (Appends (S.contents stream.old) (S.contents stream.new) text.now) }
-    ensures err { IfErr result (λ fault. fault ≡ WireFault.Write) }
+    ensures err { IfErr result (λ fault. (fault ≡ WireFault.Read) ⊎ (fault ≡ WireFault.Write)) }
 {
     let mut rest = text;
     while !rest.is_empty() {

@@ -20,12 +20,25 @@ fn link_of(rt: &impl Abort, alloc: Global, first: Vec<u8>, fuse: u64) -> MemoryL
     MemoryLink::new(replies, fuse)
 }
 
-// What an exchange gives.
-pub(crate) fn exchanged<L: Link>(rt: &impl Abort, alloc: Global, link: &mut L) -> String {
-    match link.exchange(alloc, b"GET / HTTP/1.1\r\n\r\n") {
+// The request of most exchanges.
+pub(crate) const REQUEST: &[u8] = b"GET / HTTP/1.1\r\n\r\n";
+
+// What an exchange of this request gives.
+pub(crate) fn exchanged_for<L: Link>(
+    rt: &impl Abort,
+    alloc: Global,
+    link: &mut L,
+    request: &[u8],
+) -> String {
+    match link.exchange(alloc, request) {
         Ok(bytes) => text_of(rt, alloc, &bytes),
         Err(fault) => printed(rt, alloc, &fault),
     }
+}
+
+// What an exchange gives.
+fn exchanged<L: Link>(rt: &impl Abort, alloc: Global, link: &mut L) -> String {
+    exchanged_for(rt, alloc, link, REQUEST)
 }
 
 fn push(rt: &impl Abort, told: &mut String, text: String) {

@@ -1,8 +1,9 @@
 //! Links over sockets of this machine.
-use crate::links::exchanged;
+use crate::links::{REQUEST, exchanged_for};
 use crate::printing::printed;
 use crate::rows::{assert_row, assert_told, halves, is_told};
-use druid_wire::{Link, TcpLink};
+use crate::wire::large;
+use druid_wire::{Link, MAX_EXCHANGE, TcpLink};
 use std::alloc::Global;
 use std::io::{Read, Write};
 use std::net::{Net, TcpListener, TcpStream};
@@ -40,7 +41,13 @@ fn serve<C: Clock>(clock: &C, socket: &mut TcpStream, row: &str) -> io::Result<(
 
 fn serve_once<C: Clock>(clock: &C, listener: &TcpListener, row: &str) -> io::Result<()> {
     let (mut socket, _) = listener.accept()?;
-    serve(clock, &mut socket, row)
+    match row {
+        "reads nothing" => {
+            thread::sleep(clock, Duration::from_millis(LIMIT * 2));
+            Ok(())
+        }
+        _ => serve(clock, &mut socket, row),
+    }
 }
 
 // A listener of this machine.
@@ -56,15 +63,23 @@ fn address_of(rt: &impl Abort, alloc: Global, listener: &TcpListener) -> String 
 // A link to a server that does what the row says.
 fn linked<N: Net + Clock + Drop>(net: N, address: String, row: &str) -> TcpLink<N> {
     let limit = match row {
-        "stalls" | "drips" => LIMIT,
+        "stalls" | "drips" | "reads nothing" => LIMIT,
         _ => LIMIT * 20,
     };
     TcpLink::new(net, address).with_limit(Duration::from_millis(limit))
 }
 
-// What an exchange gives, and how often the device has failed then.
-fn told<L: Link>(rt: &impl Abort, alloc: Global, link: &mut L) -> String {
-    let came = exchanged(rt, alloc, link);
+// What is sent to a server that does what the row says: more than the sockets hold where it reads nothing.
+fn request_for(rt: &impl Abort, alloc: Global, row: &str) -> Vec<u8> {
+    match row {
+        "reads nothing" => large(rt, alloc, MAX_EXCHANGE),
+        _ => REQUEST.to_vec(alloc).expect(rt, "memory"),
+    }
+}
+
+// What an exchange of this request gives, and how often the device has failed then.
+fn told<L: Link>(rt: &impl Abort, alloc: Global, link: &mut L, request: &[u8]) -> String {
+    let came = exchanged_for(rt, alloc, link, request);
     let faults = printed(rt, alloc, &link.faults());
     format!(in alloc; "{came}, {faults}").expect(rt, "memory")
 }
@@ -75,7 +90,7 @@ fn told_alone<R: Net<Listener = TcpListener, Stream = TcpStream> + Clock + Abort
     alloc: Global,
 ) -> String {
     let address = address_of(rt, alloc, &listening(rt));
-    told(rt, alloc, &mut linked(rt, address, "is gone"))
+    told(rt, alloc, &mut linked(rt, address, "is gone"), REQUEST)
 }
 
 // What an exchange tells with a server that is there.
@@ -86,10 +101,11 @@ fn told_beside<R: Net<Listener = TcpListener, Stream = TcpStream> + Clock + Thre
 ) -> String {
     let listener = listening(rt);
     let mut link = linked(rt, address_of(rt, alloc, &listener), row);
+    let request = request_for(rt, alloc, row);
     let (_served, told) = join(
         rt,
         || serve_once(rt, &listener, row).is_ok(),
-        || told(rt, alloc, &mut link),
+        || told(rt, alloc, &mut link, &request),
     );
     told
 }
@@ -112,6 +128,7 @@ fn links_over_sockets(rt: HostRuntime) {
 closes = , 0
 stalls = X2: the message could not be read, 1
 drips = X2: the message could not be read, 1
+reads nothing = X2: the message could not be read, 1
 is gone = X8: no connection, 1";
     for row in rows.lines() {
         let (server, wanted) = halves(&rt, row, " = ");
@@ -126,6 +143,6 @@ is gone = X8: no connection, 1";
 #[test]
 fn an_address_that_is_none(rt: HostRuntime) {
     let address = printed(&rt, rt.alloc(), &"nowhere");
-    let told = told(&rt, rt.alloc(), &mut TcpLink::new(&rt, address));
+    let told = told(&rt, rt.alloc(), &mut TcpLink::new(&rt, address), REQUEST);
     assert_told(&rt, told, "X8: no connection, 1");
 }

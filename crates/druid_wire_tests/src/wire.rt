@@ -323,6 +323,30 @@ impl Table for LargeResponses {
     }
 }
 
+// Of a head that is too long: how many bytes come before the input ends, and what that is, as a request and as a response.
+struct CutHeads;
+
+impl Table for CutHeads {
+    fn holds(&self, rt: &impl Abort, alloc: Global, what: &str, wanted: &str) -> bool {
+        let count = number(rt, what);
+        let mut request = large_head(rt, alloc, REQUEST_LINE, "bytes 20000 0");
+        request.truncate(count);
+        let mut response = large_head(rt, alloc, RESPONSE_LINES, "bytes 20000 0");
+        response.truncate(count);
+        is_told(request_in(rt, alloc, &request), wanted)
+            && is_told(found_in(rt, alloc, &response), wanted)
+    }
+}
+
+#[test]
+fn cut_heads(rt: HostRuntime) {
+    let rows = "16383 = X1: the message is cut off
+16384 = X1: the message is cut off
+16385 = X5: the head is too long
+19999 = X5: the head is too long";
+    assert_rows(&rt, rt.alloc(), &CutHeads, rows, " = ");
+}
+
 #[test]
 fn limits(rt: HostRuntime) {
     let requests = "bytes 16383 0 = GET / [] []

@@ -1,11 +1,17 @@
-use Rattle.std.proofs.Common.{refl}
+use Rattle.std.proofs.Common.{sym, ap, ◌∙◌}
 use Rattle.druid_broker.specs.Lent.{lent_route}
-use Rattle.druid_broker.proofs.ServeLemmas.{told_unread}
+use Rattle.druid_broker.specs.Routes.{query}
+use Rattle.druid_broker.proofs.ServeLemmas.{on_route}
 use Rattle.druid_broker.proofs.responding.respond.Goals as goal
 
-pub returns-in-Err : goal.returns-in-Err
-returns-in-Err g c =
-    told_unread g.L.Link.exchanges g.N.NodeList.names c.args.view.now c.read.new.self c.args.links.now c.args.links.now c.args.request.now
-    c.answer_unread.result.status c.answer_unread.result.body c.path.result.now (lent_route c.route_of-route.result) c.takes_inventory.result
-    c.path.ensures c.route_of-route.ensures c.takes_inventory.ensures c.if-not-takes_inventory.false
-    (c.answer_unread.ensures g.N.NodeList.names c.args.view.now c.in-Err.ensures.told) c.in-Err.ensures.stays refl
+pub returns-in-Query : goal.returns-in-Query
+returns-in-Query g c =
+    on_route g.L.Link.exchanges g.N.NodeList.names c.args.view.now c.answer_posted.new.view c.args.links.now c.answer_posted.new.links c.args.request.now
+    c.answer_posted.result.status c.answer_posted.result.body c.path.result.now query
+    c.path.ensures (sym (ap lent_route c.in-Query.is) ∙ c.route_of-route.ensures) c.answer_posted.ensures
+
+pub returns-in_default : goal.returns-in_default
+returns-in_default g c =
+    on_route g.L.Link.exchanges g.N.NodeList.names c.args.view.now c.answer_got.new.view c.args.links.now c.args.links.now c.args.request.now
+    c.answer_got.result.status c.answer_got.result.body c.path.result.now (lent_route c.route_of-route.result)
+    c.path.ensures c.route_of-route.ensures (c.answer_got.ensures c.args.links.now)

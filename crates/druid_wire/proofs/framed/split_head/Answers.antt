@@ -8,7 +8,7 @@ loop-line-init c = begins c.args.bytes.now
 
 pub returns-then-end-gt-MAX_HEAD-clause-err : goal.returns-then-end-gt-MAX_HEAD-clause-err
 returns-then-end-gt-MAX_HEAD-clause-err c =
-    head_is_long _ _ _ c.in-Some.line.now (10 ∷ c.in-Some.behind.now) c.loop-line.invariant c.in-Some.ensures.some.0 c.in-Some.ensures.some.1 (omega arith)
+    head_is_long _ _ _ c.in-Some.line.now (10 ∷ c.in-Some.behind.now) c.loop-line.invariant c.in-Some.ensures.some.0 c.in-Some.ensures.some.1 (omega arith) (omega arith)
 
 pub loop-line-preserved-then-not-is_blank : goal.loop-line-preserved-then-not-is_blank
 loop-line-preserved-then-not-is_blank c =
@@ -25,4 +25,4 @@ loop-line-preserved c =
 
 pub returns-clause-err : goal.returns-clause-err
 returns-clause-err c =
-    head_is_long _ _ _ _ _ c.loop-line.invariant c.in_default.ensures.none (sym (append-nil c.loop-line.rest.now)) (omega arith)
+    head_is_long _ _ _ _ _ c.loop-line.invariant c.in_default.ensures.none (sym (append-nil c.loop-line.rest.now)) (omega arith) (omega arith)

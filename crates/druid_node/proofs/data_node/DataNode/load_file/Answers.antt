@@ -1,4 +1,4 @@
-use Rattle.std.proofs.Common.{IfErr, ap, sym, ◌∙◌}
+use Rattle.std.proofs.Common.{ap, sym, ◌∙◌}
 use Rattle.std.proofs.lemmas.Result.{IfErr-weaker}
 use Rattle.druid_store.specs.Folder.{bytes_read, read_part}
 use Rattle.druid_node.specs.Files.{file_at}
