@@ -19,6 +19,7 @@ const ANSWERS: &str = "[ = P1: not JSON
 {\"missing\":null,\"rows\":[]} = P2: another shape
 {\"missing\":[7],\"rows\":[]} = P2: another shape
 {\"missing\":[],\"rows\":[[0,[],[null]]]} = P2: another shape
+{\"missing\":[],\"rows\":[[0]]} = P2: another shape
 {\"missing\":[#],\"rows\":[]} = P2: another shape
 {\"missing\":[@,#],\"rows\":[]} = P2: another shape
 {\"missing\":[#,@],\"rows\":[]} = P2: another shape
