@@ -76,7 +76,7 @@ fn answer_rows<T: Threads + Sync, P: Pick, L: Link + Send>(
     tell_rows(alloc, query, &gathered)
 }
 
-/// The answer to a query that was posted in some bytes: its rows, of what the nodes of the inventory serve, gathered over their
+/// The answer to a query, whatever bytes it was read of: its rows, of what the nodes of the inventory serve, gathered over their
 /// links.
 pub(crate) fn answer_query<T: Threads + Sync, P: Pick, L: Link + Send>(
     rt: &T,

@@ -124,7 +124,6 @@ fn push_told(out: &mut Writer, columns: &Columns, group: &Group) -> Result<(), A
 }
 
 // Writes the first instant of a bucket.
-
 fn push_label(out: &mut Writer, bucket: Instant) -> Result<(), AllocError>
     ensures ok { OnOk result (out.new.tokens ≡ out.old.tokens ++ tokens_of (label_data bucket)) }
     ensures before { out.new.before ≡ out.old.before }

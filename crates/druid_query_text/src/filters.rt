@@ -205,7 +205,6 @@ fn room_after_all(values: &[Value], deep: usize, room: usize) -> Option<usize>
 }
 
 // Whether a value is a filter that passes no limit.
-
 pub(crate) fn fits_filter(value: &Value) -> bool
     ensures { result ≡ holds_in fits_filter (filter_at (view value.now)) }
 {
