@@ -30,8 +30,9 @@ def build():
     proofs = os.path.join(crate, 'proofs')
     os.makedirs(os.path.join(proofs, 'all'), exist_ok=True)
     with open(os.path.join(proofs, 'Lib.antt'), 'w') as f:
-        f.write('pub mod LinkLemmas\n')
-    shutil.copy(os.path.join(TOP, 'bench', 'broker', 'LinkLemmas.antt.in'), os.path.join(proofs, 'LinkLemmas.antt'))
+        f.write('pub mod AnswerLemmas\npub mod LinkLemmas\n')
+    for name in ['AnswerLemmas', 'LinkLemmas']:
+        shutil.copy(os.path.join(TOP, 'bench', 'broker', name + '.antt.in'), os.path.join(proofs, name + '.antt'))
     shutil.copy(os.path.join(TOP, 'bench', 'broker', 'Invariants.antt.in'), os.path.join(proofs, 'all', 'Invariants.antt'))
     subprocess.run(['rt', 'run', '--', 'plan'], cwd=crate, check=True, stdout=subprocess.DEVNULL)
     return os.path.join(crate, 'out', 'broker')

@@ -1,7 +1,8 @@
 //! Answers of nodes, read and written again.
 use crate::printing::{filled, printed};
-use druid_partial_text::{node_answer_text, read_node_answer};
+use druid_partial_text::{answer_of, node_answer_text, read_node_answer};
 use druid_query_text::read_subquery;
+use serde_json::Value;
 use std::alloc::Global;
 use std::process::Abort;
 
@@ -52,15 +53,36 @@ fn written(rt: &impl Abort, alloc: Global, text: &str) -> String {
     }
 }
 
+// The same of JSON that was read before.
+fn written_of(rt: &impl Abort, alloc: Global, text: &str) -> String {
+    let sub = read_subquery(alloc, ASKED.as_bytes()).expect(rt, "a subquery");
+    let value = Value::from_str(alloc, text).expect(rt, "JSON");
+    match answer_of(alloc, &sub, &value) {
+        Ok(answer) => node_answer_text(alloc, &answer).expect(rt, "memory"),
+        Err(fault) => printed(rt, alloc, &fault),
+    }
+}
+
 fn is_written(rt: &impl Abort, alloc: Global, row: &str) -> bool {
     let (given, wanted) = row.split_once(" = ").expect(rt, "a row");
     let text = spelled(rt, alloc, given);
     written(rt, alloc, text.as_str()) == spelled(rt, alloc, wanted)
 }
 
+// The same of a row whose text is JSON.
+fn is_written_of(rt: &impl Abort, alloc: Global, row: &str) -> bool {
+    let (given, wanted) = row.split_once(" = ").expect(rt, "a row");
+    let text = spelled(rt, alloc, given);
+    written_of(rt, alloc, text.as_str()) == spelled(rt, alloc, wanted)
+}
+
 #[test]
 fn ample_memory(rt: HostRuntime) {
     for row in ANSWERS.lines() {
         assert!(rt; is_written(&rt, rt.alloc(), row), "{row}");
+    }
+    // Of the first the text is no JSON.
+    for row in ANSWERS.lines().skip(1) {
+        assert!(rt; is_written_of(&rt, rt.alloc(), row), "{row}");
     }
 }

@@ -1,9 +1,9 @@
 //! What queries answer over rows of segments, put together in either order.
 ghost use Rattle.druid_partial.specs.Rows.{IsPartialFor};
 
-use druid_partial::{Partial, merge, partial_of};
+use druid_partial::{Partial, kinds_of, merge, partial_of};
 use druid_partial_text::result_text;
-use druid_query::Query;
+use druid_query::{AggregatorKind, Query};
 use druid_query_text::read_query;
 use druid_rows::{Row, Schema, Segment};
 use druid_segid::{Name, SegmentId, Version};
@@ -172,6 +172,23 @@ fn is_result(rt: &impl Abort, alloc: Global, line: &str, in_front: bool) -> bool
     text.as_str() == wanted
 }
 
+// What the aggregators of each kind tell.
+fn are_kinds(rt: &impl Abort, alloc: Global) -> bool {
+    let asked = query(
+        rt,
+        alloc,
+        "@,\"aggregations\":[{\"type\":\"longMax\",\"name\":\"a\",\"fieldName\":\"m\"},{\"type\":\"count\",\"name\":\"b\"},{\"type\":\"longMin\",\"name\":\"c\",\"fieldName\":\"m\"},{\"type\":\"longSum\",\"name\":\"d\",\"fieldName\":\"m\"}]}",
+    );
+    let wanted = [
+        AggregatorKind::LongMax,
+        AggregatorKind::Count,
+        AggregatorKind::LongMin,
+        AggregatorKind::LongSum,
+    ];
+    let kinds = kinds_of(alloc, &asked).expect(rt, "memory");
+    kinds.as_slice() == wanted.as_slice()
+}
+
 #[test]
 fn ample_memory(rt: HostRuntime) {
     for line in RESULTS.lines() {
@@ -179,4 +196,5 @@ fn ample_memory(rt: HostRuntime) {
             assert!(rt; is_result(&rt, rt.alloc(), line, in_front), "{line}");
         }
     }
+    assert!(rt; are_kinds(&rt, rt.alloc()));
 }

@@ -1,8 +1,9 @@
 //! Partials, read and written again, and the results that they are written as.
 use crate::printing::{assert_prints, printed};
-use druid_partial_text::{PartialFault, partial_text, read_partial, result_text};
-use druid_query::Query;
-use druid_query_text::read_query;
+use druid_partial_text::{PartialFault, partial_text, read_partial, result_text, shortfall_text};
+use druid_query::{Asked, Query};
+use druid_query_text::{read_asked, read_query};
+use druid_segid::Name;
 use serde_json::Value;
 use std::alloc::Global;
 use std::process::Abort;
@@ -73,6 +74,23 @@ fn told(rt: &impl Abort, alloc: Global, query: &Query, text: &str) -> String {
     }
 }
 
+// A piece of a segment.
+const MISSED: &str =
+    "{\"chunk\":\"2024-01-01T00:00:00.000Z/2024-01-02T00:00:00.000Z\",\"itvl\":\"2024-01-01T01:00:00.000Z/2024-01-01T02:00:00.000Z\",\"part\":0,\"ver\":\"v\"}";
+
+fn missed(rt: &impl Abort, alloc: Global) -> Asked {
+    let source = Name::new(alloc, "w").expect(rt, "a name");
+    let read = read_asked(alloc, &source, &value(rt, alloc, MISSED)).expect(rt, "memory");
+    read.expect(rt, "a piece")
+}
+
+// What is told of a partial where that piece is missing.
+fn told_short(rt: &impl Abort, alloc: Global, query: &Query, text: &str) -> String {
+    let partial = read_partial(alloc, query, &value(rt, alloc, text)).expect(rt, "a partial");
+    let missing = [missed(rt, alloc)];
+    shortfall_text(alloc, query, &missing, &partial).expect(rt, "memory")
+}
+
 // What a row has: a query, the text of a partial, and what is wanted of it.
 fn columns<'a>(rt: &impl Abort, alloc: Global, row: &'a str) -> (Query, &'a str, &'a str) {
     let (given, wanted) = row.split_once(" = ").expect(rt, "a row");
@@ -90,6 +108,14 @@ fn is_told(rt: &impl Abort, alloc: Global, row: &str) -> bool {
     told(rt, alloc, &query, text).as_str() == wanted
 }
 
+fn is_told_short(rt: &impl Abort, alloc: Global, row: &str) -> bool {
+    let (query, text, rows) = columns(rt, alloc, row);
+    let wanted = format!(in alloc;
+        "{{\"error\":\"SegmentsMissing\",\"missing\":[{MISSED}],\"partial\":{rows}}}"
+    );
+    told_short(rt, alloc, &query, text) == wanted.expect(rt, "memory")
+}
+
 #[test]
 fn ample_memory(rt: HostRuntime) {
     for row in PARTIALS.lines() {
@@ -97,6 +123,7 @@ fn ample_memory(rt: HostRuntime) {
     }
     for row in RESULTS.lines() {
         assert!(rt; is_told(&rt, rt.alloc(), row), "{row}");
+        assert!(rt; is_told_short(&rt, rt.alloc(), row), "{row}");
     }
 }
 

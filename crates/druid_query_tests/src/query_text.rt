@@ -1,6 +1,7 @@
 //! Queries, read and written again.
 use crate::printing::printed;
-use druid_query_text::{query_text, read_query};
+use druid_query_text::{query_of, query_text, read_query};
+use serde_json::Value;
 use std::alloc::Global;
 use std::process::Abort;
 
@@ -102,6 +103,15 @@ fn told(rt: &impl Abort, alloc: Global, text: &str) -> String {
     }
 }
 
+// The same of JSON that was read before.
+fn told_of(rt: &impl Abort, alloc: Global, text: &str) -> String {
+    let value = Value::from_str(alloc, text).expect(rt, "JSON");
+    match query_of(alloc, &value) {
+        Ok(query) => query_text(alloc, &query).expect(rt, "memory"),
+        Err(fault) => printed(rt, alloc, &fault),
+    }
+}
+
 // A text behind the keys that are common to all, with that type.
 fn typed(rt: &impl Abort, alloc: Global, kind: &str, rest: &str) -> String {
     format!(in alloc; "{COMMON}\"{kind}\"{rest}").expect(rt, "memory")
@@ -122,6 +132,13 @@ fn is_told(rt: &impl Abort, alloc: Global, row: &str) -> bool {
     let (text, wanted) = row.split_once(" = ").expect(rt, "a row");
     let text = spelled(rt, alloc, text);
     told(rt, alloc, text.as_str()).as_str() == wanted
+}
+
+// The same of a row whose text is JSON.
+fn is_told_of(rt: &impl Abort, alloc: Global, row: &str) -> bool {
+    let (text, wanted) = row.split_once(" = ").expect(rt, "a row");
+    let text = spelled(rt, alloc, text);
+    told_of(rt, alloc, text.as_str()).as_str() == wanted
 }
 
 // What is told of a text: `taken`, where it is a query that is written and read again, or its fault.
@@ -188,6 +205,10 @@ fn is_deep(rt: &impl Abort, alloc: Global, row: &str) -> bool {
 fn ample_memory(rt: HostRuntime) {
     for row in QUERIES.lines() {
         assert!(rt; is_told(&rt, rt.alloc(), row), "{row}");
+    }
+    // Of the first two the text is no JSON.
+    for row in QUERIES.lines().skip(2) {
+        assert!(rt; is_told_of(&rt, rt.alloc(), row), "{row}");
     }
 }
 
