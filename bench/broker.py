@@ -34,6 +34,8 @@ def build():
     for name in ['AnswerLemmas', 'LinkLemmas']:
         shutil.copy(os.path.join(TOP, 'bench', 'broker', name + '.antt.in'), os.path.join(proofs, name + '.antt'))
     shutil.copy(os.path.join(TOP, 'bench', 'broker', 'Invariants.antt.in'), os.path.join(proofs, 'all', 'Invariants.antt'))
+    os.makedirs(os.path.join(proofs, 'partial_in'), exist_ok=True)
+    shutil.copy(os.path.join(TOP, 'bench', 'broker', 'PartialIn.antt.in'), os.path.join(proofs, 'partial_in', 'Answers.antt'))
     subprocess.run(['rt', 'run', '--', 'plan'], cwd=crate, check=True, stdout=subprocess.DEVNULL)
     return os.path.join(crate, 'out', 'broker')
 

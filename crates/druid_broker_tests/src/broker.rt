@@ -295,9 +295,37 @@ fn passes_on<R: Handle, N: NodeList>(rt: R, alloc: Global, setup: Setup<R>, byte
     passes(alloc, &mut made, bytes)
 }
 
+// Two nodes that serve the same segment of one row.
+const TWO_REPLICAS: &str = "v1/0/24/0/1 d:m 0/a/1 | v1/0/24/0/1 d:m 0/a/1";
+
 fn is_passed_on<R: Handle>(rt: R, alloc: Global, bytes: &[u8]) -> bool {
-    let setup = set_up(rt, alloc, "v1/0/24/0/1 d:m 0/a/1 | v1/0/24/0/1 d:m 0/a/1");
+    let setup = set_up(rt, alloc, TWO_REPLICAS);
     passes_on::<R, Brand>(rt, alloc, setup, bytes)
+}
+
+// Whether the first of two replicas is asked at an even turn alone, and the second at an odd one.
+fn takes_turns<R: Handle, N: NodeList>(alloc: Global, made: &mut Cluster<R, N>) -> bool {
+    made_by_two(made);
+    let even = counted(alloc, made, 0).as_str() == COUNTED && made_by_two(made) == (1, 0);
+    even && counted(alloc, made, 1).as_str() == COUNTED && made_by_two(made) == (0, 1)
+}
+
+// The same of a broker over these parts.
+fn turns_on<R: Handle, N: NodeList>(rt: R, alloc: Global, setup: Setup<R>) -> bool
+    requires { names_of setup.inventory ≡ N.names }
+{
+    let mut made: Cluster<R, N> = followed(rt, alloc, setup, 2);
+    takes_turns(alloc, &mut made)
+}
+
+fn turns<R: Handle>(rt: R, alloc: Global) -> bool {
+    let setup = set_up(rt, alloc, TWO_REPLICAS);
+    turns_on::<R, Brand>(rt, alloc, setup)
+}
+
+#[test]
+fn queries_take_turns(rt: HostRuntime) {
+    assert!(rt; turns(&rt, rt.alloc()));
 }
 
 fn is_hostile<R: Handle>(rt: R, alloc: Global, line: &str) -> bool {
