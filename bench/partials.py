@@ -10,7 +10,7 @@ import json, os, shutil, sqlite3, subprocess, tempfile, time
 
 TOP = os.path.dirname(os.path.dirname(os.path.abspath(__file__)))
 PLACE = os.path.join(tempfile.gettempdir(), 'druid_cluster_bench_partials')
-CRATES = ['druid_time', 'druid_segid', 'druid_shard', 'druid_rows', 'druid_query', 'druid_query_text', 'druid_partial', 'druid_partial_text']
+CRATES = ['druid_time', 'druid_segid', 'druid_shard', 'druid_rows', 'druid_query', 'druid_asked_text', 'druid_query_text', 'druid_partial', 'druid_partial_text']
 ROWS = 100_000
 RUNS = 5
 
@@ -52,7 +52,7 @@ def build():
         kept = [line for line in f if line.split(':')[0] in CRATES]
     with open(os.path.join(PLACE, 'crates.txt'), 'w') as f:
         f.writelines(kept)
-        f.write('partials: druid_partial_text druid_partial druid_query_text druid_query druid_rows druid_shard druid_segid druid_time serde_json anyhow\n')
+        f.write('partials: druid_partial_text druid_partial druid_query_text druid_asked_text druid_query druid_rows druid_shard druid_segid druid_time serde_json anyhow\n')
     for name in CRATES:
         shutil.copytree(os.path.join(TOP, 'crates', name), os.path.join(PLACE, 'crates', name), dirs_exist_ok=True)
     crate = os.path.join(PLACE, 'crates', 'partials')

@@ -14,7 +14,7 @@ use Rattle.druid_time.specs.Options.{◌>>=◌}
 use Rattle.druid_query.specs.Query.{Query}
 use Rattle.druid_query.specs.Asked.{Asked, asked_at, asked_data}
 use Rattle.druid_query.specs.SubQuery.{SubQuery}
-use Rattle.druid_query_text.proofs.SubBackLemmas.{asked_back}
+use Rattle.druid_asked_text.proofs.BackLemmas.{asked_back}
 use Rattle.druid_time.specs.Extent.{IsExtent}
 use Rattle.druid_segid.specs.Identifier.{IsIdentifier}
 use Rattle.druid_shard.proofs.EachLemmas.{each_back as listed_back}

@@ -10,8 +10,8 @@ ghost use Rattle.druid_partial_text.specs.PieceOrder.{piece_cmp};
 ghost use Rattle.druid_partial_text.specs.Missed.{AreMissed};
 
 use crate::lent_piece::LentPiece;
+use druid_asked_text::{is_asked, read_asked};
 use druid_query::{Asked, SubQuery};
-use druid_query_text::{is_asked, read_asked};
 use druid_segid::Name;
 use serde_json::Value;
 use std::alloc::{AllocError, Global};

@@ -1,8 +1,9 @@
 //! Partials, read and written again, and the results that they are written as.
 use crate::printing::{assert_prints, printed};
+use druid_asked_text::read_asked;
 use druid_partial_text::{PartialFault, partial_text, read_partial, result_text, shortfall_text};
 use druid_query::{Asked, Query};
-use druid_query_text::{read_asked, read_query};
+use druid_query_text::read_query;
 use druid_segid::Name;
 use serde_json::Value;
 use std::alloc::Global;

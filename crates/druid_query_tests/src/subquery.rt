@@ -1,10 +1,8 @@
 //! Subqueries, read and written again.
 use crate::printing::{filled, printed};
+use druid_asked_text::{asked_value, asked_values, read_asked};
 use druid_query::SubQuery;
-use druid_query_text::{
-    asked_value, asked_values, read_asked, read_subquery, subquery_of, subquery_text,
-    subquery_value,
-};
+use druid_query_text::{read_subquery, subquery_of, subquery_text, subquery_value};
 use std::alloc::Global;
 use std::process::Abort;
 

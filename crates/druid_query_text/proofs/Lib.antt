@@ -9,7 +9,6 @@ pub mod MappedLemmas
 pub mod NameLemmas
 pub mod WrittenLemmas
 pub mod PlainLemmas
-pub mod PieceLemmas
 pub mod SubLemmas
 pub mod QueryBackLemmas
 pub mod SubBackLemmas

@@ -1,21 +1,17 @@
 -- Subqueries as JSON: what is written is read back.
-use Rattle.std.proofs.Common.{◌≡◌, ◌≤◌, ◌-◌, ◌&&◌, ℕ, List, [], ◌∷◌, map, codes, Contains, Option, Some, None, Result, Ok, is_some, option_and_then, nat_le, true, Bool, refl, sym, ap, ◌∙◌, subst, arith, le-leb}
-use Rattle.std.proofs.lemmas.Bool.{leb-true}
-use Rattle.std.specs.Cmp.{first_so, second_so}
+use Rattle.std.proofs.Common.{◌≡◌, ℕ, List, [], ◌∷◌, map, codes, Contains, Option, Some, None, Result, Ok, is_some, option_and_then, true, Bool, refl, sym, ap, ◌∙◌, subst, arith}
 use Rattle.serde_json.specs.Data.{Data, array, Items}
 use Rattle.serde_json.specs.Find.{get}
 use Rattle.serde_json.specs.View.{items_of}
 use Rattle.druid_time.specs.Extent.{Extent, IsExtent}
 use Rattle.druid_time.specs.Options as options
 use Rattle.druid_time.specs.Results.{◌>>=◌}
-use Rattle.druid_time.proofs.TextLemmas.{extent_at-extent_text}
 use Rattle.druid_segid.specs.Identifier.{IsIdentifier}
-use Rattle.druid_segid.proofs.NameLemmas.{is_version-true}
 use Rattle.druid_shard.specs.Each.{each_of}
 use Rattle.druid_shard.proofs.EachLemmas.{each_back}
 use Rattle.druid_shard.proofs.MemberLemmas.{Contains-later, Contains-nil}
 use Rattle.druid_query.specs.Query.{Query, query_of, are_distinct, result_names}
-use Rattle.druid_query.specs.Asked.{Asked, LiesInside, lies_inside, StandApart, stand_apart, asked_data, spelled_at, named_by, asked_at, inside_at, asked_items}
+use Rattle.druid_query.specs.Asked.{Asked, StandApart, stand_apart, asked_data, spelled_at, inside_at, asked_items}
 use Rattle.druid_query.specs.Refusal.{Refusal, bad_field, bad_interval, or_refuse, when}
 use Rattle.druid_query.specs.Fields.{kind_at, listed_texts, interval_of}
 use Rattle.druid_query.specs.Read.{list_of, fit_intervals, no_more_at, IsQuery}
@@ -26,51 +22,13 @@ use Rattle.druid_query.specs.declared.query_type.QueryType.TheVariants.{Timeseri
 use Rattle.druid_query.proofs.AskedLemmas.{apart_told}
 use Rattle.druid_query.proofs.StepLemmas.{bound}
 use Rattle.druid_query.proofs.ChainLemmas.{parts_made, whole_read, whole_bound, steps_of}
+use Rattle.druid_asked_text.proofs.BackLemmas.{spelled_some, inside_back}
 use Rattle.druid_query_text.proofs.SubLemmas.{subs, of_sub}
 use Rattle.druid_query.proofs.BackLemmas.{texts_back, interval_back}
 use Rattle.druid_query.proofs.SoundLemmas.{HasItem, bound_item, read_some, interval_sound, IsSomeList}
 use Rattle.druid_shard.proofs.EachLemmas.{each_sound}
 use Rattle.serde_json.specs.Find.{as_array}
 use Rattle.druid_query_text.proofs.QueryBackLemmas.{Timed, Keys, keys_back, query_sound, sound_of, sound_back, list_tells, list_read, no_both}
-
--- ---- inside
-
-pub inside_seen : (a : Asked) → lies_inside a ≡ true → LiesInside a
-inside_seen a h t has =
-    let first : a.0.interval.start ≤ a.1.start = leb-true a.0.interval.start a.1.start (first_so (nat_le a.0.interval.start a.1.start) (nat_le a.1.end a.0.interval.end) h) in
-    let last : a.1.end ≤ a.0.interval.end = leb-true a.1.end a.0.interval.end (second_so (nat_le a.0.interval.start a.1.start) (nat_le a.1.end a.0.interval.end) h) in
-    (omega (arith, first, has.0), omega (arith, last, has.1))
-
-pub inside_told : (a : Asked) → IsExtent a.1 → LiesInside a → lies_inside a ≡ true
-inside_told a valid h =
-    let first = h a.1.start (omega arith, valid.0) in
-    let last = h (a.1.end - 1) (omega (arith, valid.0), omega (arith, valid.0)) in
-    ap (λ b. b && nat_le a.1.end a.0.interval.end) (le-leb a.0.interval.start a.1.start first.0) ∙ le-leb a.1.end a.0.interval.end (omega (arith, last.1, valid.0))
-
--- ---- a piece
-
-spelled_some : (a : Asked) → IsIdentifier a.0 → is_some (spelled_at (asked_data a)) ≡ true
-unfolding spelled_at asked_data
-spelled_some a h =
-    let version = is_version-true a.0.version h.version in
-    let low = le-leb a.0.partition 65_535 (omega (arith, h.partition)) in
-    rw (version, low) refl
-
-pub asked_back : (a : Asked) → IsIdentifier a.0 → IsExtent a.1 → asked_at a.0.source (asked_data a) ≡ Some a
-unfolding asked_at named_by spelled_at asked_data
-asked_back a h valid =
-    let version = is_version-true a.0.version h.version in
-    let low = le-leb a.0.partition 65_535 (omega (arith, h.partition)) in
-    let chunk = extent_at-extent_text a.0.interval h.interval in
-    let piece = extent_at-extent_text a.1 valid in
-    rw (version, low) (rw (chunk, piece) refl)
-
-inside_back : (a : Asked) → IsIdentifier a.0 → IsExtent a.1 → LiesInside a → inside_at a.0.source (asked_data a) ≡ Some a
-unfolding inside_at
-inside_back a h valid inside =
-    let back = asked_back a h valid in
-    let lies = inside_told a valid inside in
-    rw (back, lies) refl
 
 -- ---- the pieces
 

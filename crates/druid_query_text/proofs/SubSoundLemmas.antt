@@ -15,7 +15,7 @@ use Rattle.druid_shard.specs.Json.{text_at, limited_at, number_at, result_ok}
 use Rattle.druid_query.specs.Asked.{Asked, Spelled, version_of, spelled_at, named_by, asked_at, inside_at, lies_inside, segments_in, asked_items}
 use Rattle.druid_query.specs.Fields.{each_among}
 use Rattle.druid_shard.specs.Each.{each_of}
-use Rattle.druid_query_text.proofs.PieceLemmas.{inside_tells, inside_both}
+use Rattle.druid_asked_text.proofs.PieceLemmas.{inside_tells, inside_both}
 use Rattle.druid_query.proofs.SoundLemmas.{text_sound, HasItem}
 
 each_passed : (p : ℕ → Bool) (xs : List ℕ) → list_all p xs ≡ true → All (λ b. IsTrue (p b)) xs

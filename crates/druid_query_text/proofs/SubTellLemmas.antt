@@ -16,7 +16,7 @@ use Rattle.druid_query.proofs.SoundLemmas.{IsSomeList, read_some}
 use Rattle.druid_query_text.proofs.QueryBackLemmas.{when_true, source_tells}
 use Rattle.druid_query_text.proofs.SubLemmas.{subs, of_sub, told_of}
 use Rattle.druid_query_text.proofs.SubSoundLemmas.{is_name-to, IsPiece, inside_sound, items_there}
-use Rattle.druid_query_text.proofs.SubBackLemmas.{inside_seen}
+use Rattle.druid_asked_text.proofs.BackLemmas.{inside_seen}
 
 apart_tells : (source : List ℕ) (d : Data) (all : List Asked) → apart_at source d ≡ Ok all → (pieces_at source d ≡ Ok all) × (stand_apart all ≡ true)
 unfolding apart_at

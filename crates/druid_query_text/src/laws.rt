@@ -1,9 +1,6 @@
 //! Facts that hold of all queries.
-ghost use Rattle.std.specs.Prelude.{◌≡◌, ◌↔◌, List, Ok, Some, IsTrue};
+ghost use Rattle.std.specs.Prelude.{◌≡◌, Ok, Some};
 ghost use Rattle.serde_json.specs.Data.{Data};
-ghost use Rattle.druid_time.specs.Extent.{IsExtent};
-ghost use Rattle.druid_segid.specs.Identifier.{IsIdentifier};
-ghost use Rattle.druid_query.specs.Asked.{Asked, LiesInside, lies_inside, StandApart, stand_apart, asked_data, asked_at};
 ghost use Rattle.druid_query.specs.SubQuery.{SubQuery, IsAsked, subquery_data, subquery_at};
 ghost use Rattle.druid_query.specs.Query.{Query};
 ghost use Rattle.druid_query.specs.Read.{query_at, IsQuery};
@@ -19,17 +16,6 @@ pub fn filters_are_read_back()
 /// The JSON of a query is read back as that query.
 pub fn queries_are_read_back()
     ensures { (q : Query) → IsQuery q → query_at (query_data q) ≡ Ok q }
-{}
-
-/// The JSON of a piece is read back as that piece, where the source is known.
-pub fn asked_are_read_back()
-    ensures { (a : Asked) → IsIdentifier a.0 → IsExtent a.1 → asked_at a.0.source (asked_data a) ≡ Some a }
-{}
-
-/// What is asked for is judged by its instants: that a piece lies inside its segment, and that no two of one segment overlap.
-pub fn pieces_are_judged()
-    ensures inside { (a : Asked) → IsExtent a.1 → IsTrue (lies_inside a) ↔ LiesInside a }
-    ensures apart { (all : List Asked) → IsTrue (stand_apart all) ↔ StandApart all }
 {}
 
 /// What a value that is a subquery asks for: at least one piece, each of a segment of the query's source and inside it, and no

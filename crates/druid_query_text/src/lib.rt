@@ -1,7 +1,6 @@
 //! The texts of queries.
 #![tactic(auto)]
 
-mod asked;
 mod building;
 mod checks;
 mod distinct;
@@ -17,10 +16,9 @@ mod sub_reading;
 mod sub_writing;
 mod writing;
 
-pub use asked::{asked_value, asked_values, is_asked, read_asked};
 pub use laws::{
-    asked_are_read_back, filters_are_read_back, pieces_are_judged, queries_are_read_back,
-    subqueries_are_read_back, subqueries_ask_for_pieces,
+    filters_are_read_back, queries_are_read_back, subqueries_are_read_back,
+    subqueries_ask_for_pieces,
 };
 pub use reading::{query_of, read_query};
 pub use sub_reading::{read_subquery, subquery_of};

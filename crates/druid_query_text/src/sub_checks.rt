@@ -7,13 +7,13 @@ ghost use Rattle.druid_query.specs.Fields.{listed_texts};
 ghost use Rattle.druid_query.specs.Refusal.{Checks, ChecksAfter};
 ghost use Rattle.druid_query.specs.SubQuery.{pieces_at, apart_at, query_intervals_at, span_at, sub_parts_at, subquery_at, before_search};
 
-use crate::asked::{are_apart, are_inside, asked_items};
 use crate::checks::{
     are_intervals, check_aggregations, check_dimensions, check_filter, check_granularity,
     check_no_more, check_source, is_within, source_field,
 };
 use crate::distinct::has_distinct_names;
 use crate::fields::{kind_of, listed_texts};
+use druid_asked_text::{are_apart, are_inside, asked_items};
 use druid_query::{MAX_INTERVALS, QueryFault};
 use serde_json::Value;
 use std::alloc::{AllocError, Global};

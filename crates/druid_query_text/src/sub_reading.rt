@@ -4,11 +4,11 @@ ghost use Rattle.serde_json.specs.View.{view};
 ghost use Rattle.druid_query.specs.Read.{IsReadBy};
 ghost use Rattle.druid_query.specs.SubQuery.{pieces_at, query_intervals_at, subquery_at, GivesSub};
 
-use crate::asked::asked_list;
 use crate::building::{aggregations_of, dimensions_of, filter_field_of, interval_list, source_of};
 use crate::checks::granularity_field;
 use crate::fields::kind_of;
 use crate::sub_checks::{asked_field, check_subquery, query_interval_field};
+use druid_asked_text::asked_list;
 use druid_query::{Asked, Query, QueryFault, SubQuery};
 use druid_segid::Name;
 use druid_time::Interval;

@@ -4,10 +4,10 @@ ghost use Rattle.serde_json.specs.Read.{read};
 ghost use Rattle.serde_json.specs.View.{view, items_view};
 ghost use Rattle.druid_query.specs.SubQuery.{segments_data, sub_timeseries_data, sub_group_by_data, kinded_sub_data, subquery_data, subquery_text};
 
-use crate::asked::asked_values;
 use crate::writing::{
     aggregations_value, dimensions_value, granularity_text, intervals_value, wanted_value,
 };
+use druid_asked_text::asked_values;
 use druid_query::{Asked, Query, QueryType, SubQuery};
 use serde_json::{Value, json};
 use std::alloc::{AllocError, Global};

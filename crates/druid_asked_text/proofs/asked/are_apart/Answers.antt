@@ -6,8 +6,8 @@ use Rattle.serde_json.specs.View.{items_view}
 use Rattle.druid_time.specs.Extent.{IsExtent}
 use Rattle.druid_query.specs.AskedOrder.{AreApart}
 use Rattle.druid_query.proofs.AskedLemmas.{searched, all_of_each}
-use Rattle.druid_query_text.proofs.PieceLemmas.{inside_valid}
-use Rattle.druid_query_text.proofs.asked.are_apart.Goals as goal
+use Rattle.druid_asked_text.proofs.PieceLemmas.{inside_valid}
+use Rattle.druid_asked_text.proofs.asked.are_apart.Goals as goal
 
 pub returns : goal.returns
 returns c = λ all read.

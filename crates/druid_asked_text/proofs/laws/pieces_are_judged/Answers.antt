@@ -1,6 +1,6 @@
 use Rattle.druid_query.proofs.AskedLemmas.{apart_seen, apart_told}
-use Rattle.druid_query_text.proofs.SubBackLemmas.{inside_seen, inside_told}
-use Rattle.druid_query_text.proofs.laws.pieces_are_judged.Goals as goal
+use Rattle.druid_asked_text.proofs.BackLemmas.{inside_seen, inside_told}
+use Rattle.druid_asked_text.proofs.laws.pieces_are_judged.Goals as goal
 
 pub returns-clause-inside : goal.returns-clause-inside
 returns-clause-inside c = λ a valid. (inside_seen a, inside_told a valid)

@@ -41,7 +41,7 @@ impl<'a> Model for Spelled<'a> {
 
 // A piece, its texts lent. Pieces are in the order of the parts of their segments, and then of their own starts and ends.
 #[derive(Drop)]
-pub(crate) struct LentAsked<'a> {
+struct LentAsked<'a> {
     source: &'a str,
     chunk: Interval,
     version: &'a str,
@@ -199,7 +199,7 @@ fn asked_of<'a>(source: &'a str, value: &'a Value) -> Option<LentAsked<'a>>
 
 // The same, where it lies inside its segment.
 #[tactic(auto, unfolding(druid_query::specs::Asked::inside_at))]
-pub(crate) fn inside_of<'a>(source: &'a str, value: &'a Value) -> Option<LentAsked<'a>>
+fn inside_of<'a>(source: &'a str, value: &'a Value) -> Option<LentAsked<'a>>
     ensures { result ≡ inside_at source.now (view value.now) }
 {
     let asked = asked_of(source, value)?;
@@ -210,8 +210,8 @@ pub(crate) fn inside_of<'a>(source: &'a str, value: &'a Value) -> Option<LentAsk
     }
 }
 
-// Whether each lies inside its segment.
-pub(crate) fn are_inside(source: &str, values: &[Value]) -> bool
+/// Whether each value is a piece of a segment of that source, and lies inside it. It takes no memory.
+pub fn are_inside(source: &str, values: &[Value]) -> bool
     ensures { result ≡ list_all (λ value. is_some (inside_at source.now (view value))) values.now }
 {
     values
@@ -249,8 +249,8 @@ fn pieces_of<'a>(
     Ok(all)
 }
 
-// Whether no two of one segment overlap. They are put in order, where those that overlap stand side by side.
-pub(crate) fn are_apart(alloc: Global, source: &str, values: &[Value]) -> Result<bool, AllocError>
+/// Whether no two pieces of one segment overlap. They are put in order, where those that overlap stand side by side.
+pub fn are_apart(alloc: Global, source: &str, values: &[Value]) -> Result<bool, AllocError>
     requires { IsSome (each_of (inside_at source.now) (items_view values.now)) }
     ensures { IfOk result (λ apart. (all : List Asked) → each_of (inside_at source.now) (items_view values.now) ≡ Some all
         → apart ≡ stand_apart all) }
@@ -260,13 +260,9 @@ pub(crate) fn are_apart(alloc: Global, source: &str, values: &[Value]) -> Result
     Ok(stand_apart(&pieces))
 }
 
-// The pieces, where each lies inside its segment.
+/// The pieces, where each lies inside its segment.
 #[tactic(auto, using(crate::proofs::PieceLemmas::inside_source))]
-pub(crate) fn asked_list(
-    alloc: Global,
-    source: &Name,
-    values: &[Value],
-) -> Result<Vec<Asked>, AllocError>
+pub fn asked_list(alloc: Global, source: &Name, values: &[Value]) -> Result<Vec<Asked>, AllocError>
     requires { IsSome (each_of (inside_at source.now) (items_view values.now)) }
     ensures { IfOk result (λ all. each_of (inside_at source.now) (items_view values.now) ≡ Some all.items) }
 {
@@ -287,7 +283,7 @@ fn are_spelled(values: &[Value]) -> bool
 }
 
 // The values, where there are some and each has the shape of a piece.
-#[tactic(auto, using(crate::proofs::EmptyLemmas::pieces_there, crate::proofs::EmptyLemmas::no_pieces, crate::proofs::EmptyLemmas::not_pieces))]
+#[tactic(auto, using(crate::proofs::AmongLemmas::pieces_there, crate::proofs::AmongLemmas::no_pieces, crate::proofs::AmongLemmas::not_pieces))]
 fn spelled_among(values: &[Value]) -> Option<&[Value]>
     ensures { option_map (λ vs. items_view vs.now) result ≡ each_among spelled_at (items_view values.now) }
 {
@@ -311,9 +307,9 @@ fn segments_in(value: &Value) -> Option<&[Value]>
     }
 }
 
-// The list of an object of the type `segments`.
+/// The list of an object of the type `segments`, where it has a member and each has the shape of a piece.
 #[tactic(auto, unfolding(druid_query::specs::Asked::asked_items))]
-pub(crate) fn asked_items(value: &Value) -> Option<&[Value]>
+pub fn asked_items(value: &Value) -> Option<&[Value]>
     ensures { option_map (λ vs. items_view vs.now) result ≡ asked_items (view value.now) }
 {
     spelled_among(segments_in(value)?)

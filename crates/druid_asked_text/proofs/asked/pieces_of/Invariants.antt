@@ -3,7 +3,7 @@ use Rattle.serde_json.specs.View.{items_view}
 use Rattle.druid_shard.specs.Each.{each_of}
 use Rattle.druid_shard.proofs.EachLemmas.{with_front}
 use Rattle.druid_query.specs.Asked.{inside_at}
-use Rattle.druid_query_text.proofs.asked.asked_list.Given as goal
+use Rattle.druid_asked_text.proofs.asked.pieces_of.Given as goal
 
 abbrev pub invariant-loop-value : goal.invariant-loop-value
 invariant-loop-value l = with_front l.all.items (each_of (inside_at l.source) (items_view (drop l.value-index l.values))) ≡ each_of (inside_at l.source) (items_view l.values)

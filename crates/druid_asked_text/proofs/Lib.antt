@@ -1,0 +1,3 @@
+pub mod AmongLemmas
+pub mod BackLemmas
+pub mod PieceLemmas
