@@ -9,7 +9,7 @@ import os, shutil, subprocess, tempfile
 
 TOP = os.path.dirname(os.path.dirname(os.path.abspath(__file__)))
 PLACE = os.path.join(tempfile.gettempdir(), 'druid_cluster_bench_node')
-CRATES = ['druid_stream', 'druid_time', 'druid_segid', 'druid_shard', 'druid_changes', 'druid_sync', 'druid_rows', 'druid_query', 'druid_asked_text', 'druid_query_text',
+CRATES = ['druid_stream', 'druid_time', 'druid_segid', 'druid_shard', 'druid_changes', 'druid_sync', 'druid_filter', 'druid_rows', 'druid_query', 'druid_asked_text', 'druid_query_text',
           'druid_partial', 'druid_partial_text', 'druid_segfile', 'druid_store', 'druid_wire', 'druid_node']
 
 

@@ -10,7 +10,7 @@ import json, os, shutil, sqlite3, subprocess, tempfile, time
 
 TOP = os.path.dirname(os.path.dirname(os.path.abspath(__file__)))
 PLACE = os.path.join(tempfile.gettempdir(), 'druid_cluster_bench_partials')
-CRATES = ['druid_time', 'druid_segid', 'druid_shard', 'druid_rows', 'druid_query', 'druid_asked_text', 'druid_query_text', 'druid_partial', 'druid_partial_text']
+CRATES = ['druid_time', 'druid_segid', 'druid_shard', 'druid_filter', 'druid_rows', 'druid_query', 'druid_asked_text', 'druid_query_text', 'druid_partial', 'druid_partial_text']
 ROWS = 100_000
 RUNS = 5
 

@@ -8,7 +8,7 @@ import os, shutil, subprocess, tempfile
 
 TOP = os.path.dirname(os.path.dirname(os.path.abspath(__file__)))
 PLACE = os.path.join(tempfile.gettempdir(), 'druid_cluster_bench')
-CRATES = ['druid_stream', 'druid_time', 'druid_segid', 'druid_shard', 'druid_rows', 'druid_segfile']
+CRATES = ['druid_stream', 'druid_time', 'druid_segid', 'druid_shard', 'druid_filter', 'druid_rows', 'druid_segfile']
 
 
 def build():

@@ -17,7 +17,7 @@ use Rattle.serde_json.specs.Read.{read, of_json, of_items}
 use Rattle.serde_json.proofs.Numbers.{number_of-decimal}
 use Rattle.serde_json.proofs.Texts.{print-outline}
 use Rattle.druid_time.specs.Extent.{Extent}
-use Rattle.druid_rows.specs.Filters.{Condition, has, has_among, all_of, any_of, is_not, Conditions, no_conditions, condition}
+use Rattle.druid_filter.specs.Filters.{Condition, has, has_among, all_of, any_of, is_not, Conditions, no_conditions, condition}
 use Rattle.druid_query.specs.Query.{Query, Dimension, Aggregator}
 use Rattle.druid_query.specs.Read.{IsQuery}
 use Rattle.druid_query.specs.Written.{value_data, selector_data, among_data, fields_data, not_data, filter_data, filters_data, wanted_data, interval_data, dimension_data, counting_data, of_field_data, fielded_data, aggregator_data, aggregator_text, granularity_text}

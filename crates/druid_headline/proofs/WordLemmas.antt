@@ -16,7 +16,7 @@ use Rattle.druid_time.specs.declared.granularity.Granularity.TheVariants as gran
 use Rattle.druid_shard.proofs.MemberLemmas.{Contains-nil, Contains-later, Contains-map, Contains-flat_map}
 use Rattle.druid_timeline.proofs.HoldingLemmas.{from_filter}
 use Rattle.druid_rows.specs.Rows.{Schema, Row}
-use Rattle.druid_rows.specs.Filters.{value_in}
+use Rattle.druid_filter.specs.Filters.{value_in}
 use Rattle.druid_rows.specs.Segment.{Segment}
 use Rattle.druid_query.specs.Query.{Query, Aggregator}
 use Rattle.druid_query.specs.Read.{IsQuery}

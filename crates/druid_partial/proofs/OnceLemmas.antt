@@ -10,7 +10,7 @@ use Rattle.druid_segid.specs.Identifier.{Identifier, same_identifier}
 use Rattle.druid_segid.specs.IdentifierLaws.{same_identifier-true}
 use Rattle.druid_rows.specs.Rows.{Row}
 use Rattle.druid_rows.specs.Segment.{Segment}
-use Rattle.druid_rows.specs.Filters.{value_in}
+use Rattle.druid_filter.specs.Filters.{value_in}
 use Rattle.druid_query.specs.Query.{Query}
 use Rattle.druid_query.specs.Asked.{Asked, do_overlap, stand_apart, StandApart}
 use Rattle.druid_query.proofs.AskedLemmas.{overlap_told, apart_told}

@@ -5,7 +5,7 @@ use Rattle.std.specs.Str.{bytes_eq}
 use Rattle.std.proofs.lemmas.List.{drop_more}
 use Rattle.std.proofs.lemmas.List.Elements.{All-nil, All-cons}
 use Rattle.druid_rows.specs.Rows.{Schema, Row, texts_of}
-use Rattle.druid_rows.specs.Filters.{value_in}
+use Rattle.druid_filter.specs.Filters.{value_in}
 use Rattle.druid_query.specs.Query.{Query, Aggregator, Dimension}
 use Rattle.druid_query.specs.declared.aggregator.AggregatorKind.{AggregatorKind}
 use Rattle.druid_query.specs.declared.aggregator.AggregatorKind.TheVariants.{Count, LongSum, LongMin, LongMax}

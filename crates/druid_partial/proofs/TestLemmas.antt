@@ -3,8 +3,8 @@ use Rattle.std.proofs.Common.{◌≡◌, ◌∙◌, ℕ, ◌+◌, ◌<◌, ◌�
 use Rattle.std.proofs.Common.{rules, Vec}
 use Rattle.std.specs.List.{list_any}
 use Rattle.std.specs.BTreeSet.{BTreeSet, contains}
-use Rattle.druid_rows.specs.Filters.{has, has_among}
-use Rattle.druid_rows.specs.declared.filter.Filter.{Selector, Among as FilterAmong, the_lemmas as filter_lemmas}
+use Rattle.druid_filter.specs.Filters.{has, has_among}
+use Rattle.druid_filter.specs.declared.filter.Filter.{Selector, Among as FilterAmong, the_lemmas as filter_lemmas}
 use Rattle.druid_partial.specs.declared.test.Test.{Is, Among, the_lemmas as test_lemmas}
 use Rattle.std.specs.Ordering.{is_eq}
 use Rattle.std.proofs.lemmas.Cmp.{nat_list_eq_equiv}
@@ -12,8 +12,8 @@ use Rattle.std.proofs.lemmas.List.{take_more}
 use Rattle.std.proofs.Math.ListN.{get_or-eq_default}
 use Rattle.std.proofs.lemmas.Map.Text.{is_eq-slice_cmp}
 use Rattle.druid_rows.specs.Rows.{nullable_texts_of}
-use Rattle.druid_rows.specs.Filters.{same_value, passes, all_pass, any_passes, says, each_says}
-use Rattle.druid_rows.specs.declared.filter.Filter.{Filter}
+use Rattle.druid_filter.specs.Filters.{same_value, passes, all_pass, any_passes, says, each_says}
+use Rattle.druid_filter.specs.declared.filter.Filter.{Filter}
 use Rattle.druid_partial.specs.declared.test.Test.{Test}
 use Rattle.druid_partial.specs.Groups.{value_cmp}
 use Rattle.druid_partial.specs.Places.{at_place}

@@ -6,7 +6,7 @@ use Rattle.druid_query.specs.declared.aggregator.AggregatorKind.{AggregatorKind}
 use Rattle.druid_partial.specs.Groups.{Group, IsResult}
 use Rattle.druid_partial.specs.Rows.{earliest, passes_if, kinds_of, tells, HasNumbers, IsGroupFor}
 use Rattle.druid_partial.specs.Places.{places_of, sources_of}
-use Rattle.druid_rows.specs.Filters.{value_in}
+use Rattle.druid_filter.specs.Filters.{value_in}
 use Rattle.druid_partial.specs.Tests.{judge_if}
 use Rattle.druid_partial.specs.declared.test.Test.{Test}
 use Rattle.druid_partial.specs.declared.located.Source.{Source}

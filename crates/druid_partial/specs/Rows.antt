@@ -5,7 +5,7 @@ use Rattle.druid_time.specs.Extent.{Extent}
 use Rattle.druid_time.specs.Granularity.{bucket_at}
 use Rattle.druid_rows.specs.Rows.{Schema, Row}
 use Rattle.druid_rows.specs.Segment.{Segment}
-use Rattle.druid_rows.specs.Filters.{Condition, passes, value_in}
+use Rattle.druid_filter.specs.Filters.{Condition, passes, value_in}
 use Rattle.druid_query.specs.Query.{Query, Aggregator, Dimension}
 use Rattle.druid_query.specs.declared.aggregator.AggregatorKind.{AggregatorKind}
 use Rattle.druid_query.specs.declared.aggregator.AggregatorKind.TheVariants.{Count, LongSum, LongMin, LongMax}

@@ -1,8 +1,8 @@
--- Filters over the rows of one segment. Only proofs and private functions use this: what a filter means is in druid_rows.
+-- Filters over the rows of one segment. Only proofs and private functions use this: what a filter means is in druid_filter.
 use Rattle.std.specs.Prelude.{ℕ, List, [], ◌∷◌, map, Bool, true, false, ◌&&◌, ◌||◌, not, Option, Some, None}
 use Rattle.std.specs.Box.{box_value}
 use Rattle.std.specs.BTreeSet.{contains}
-use Rattle.druid_rows.specs.Filters.{same_value}
+use Rattle.druid_filter.specs.Filters.{same_value}
 use Rattle.druid_partial.specs.Groups.{value_cmp}
 use Rattle.druid_partial.specs.Places.{at_place}
 use Rattle.druid_partial.specs.declared.test.Test.{Test, fold-Test}

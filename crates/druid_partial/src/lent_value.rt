@@ -1,6 +1,6 @@
 ghost use Rattle.std.specs.Prelude.{◌≡◌, Some, refl, option_map, string_bytes};
 ghost use Rattle.std.specs.Ordering.{eq_by_cmp};
-ghost use Rattle.druid_rows.specs.Filters.{same_value};
+ghost use Rattle.druid_filter.specs.Filters.{same_value};
 ghost use Rattle.druid_partial.specs.Groups.{value_cmp};
 ghost use Rattle.druid_partial.specs.Orders as order;
 

@@ -36,7 +36,7 @@ struct Plan<'a> {
 
 impl<'a> Model for Plan<'a> {
     ghost use Rattle.std.specs.Coded.{codes};
-    ghost use Rattle.druid_rows.specs.FilterCode.{coded_condition};
+    ghost use Rattle.druid_filter.specs.FilterCode.{coded_condition};
     ghost use Rattle.druid_partial.specs.Plans.{Plan, IsPlan};
 
     ghost Value = { Plan };

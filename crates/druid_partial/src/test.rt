@@ -2,7 +2,7 @@
 ghost use Rattle.std.specs.Prelude.{◌≡◌, ◌<◌, List, Option, ℕ, All, IfOk, length, option_map, string_bytes};
 ghost use Rattle.std.specs.List.{list_any};
 ghost use Rattle.std.specs.BTreeSet.{contains};
-ghost use Rattle.druid_rows.specs.Filters.{same_value, passes, value_in, all_pass, any_passes, says, each_says};
+ghost use Rattle.druid_filter.specs.Filters.{same_value, passes, value_in, all_pass, any_passes, says, each_says};
 ghost use Rattle.druid_rows.specs.Rows.{texts_of, nullable_texts_of};
 ghost use Rattle.druid_rows.specs.Segment.{row_at};
 ghost use Rattle.druid_partial.specs.Groups.{value_cmp};
@@ -12,8 +12,9 @@ ghost use Rattle.druid_partial.specs.Tests.{holds, all_hold, any_holds, judge_if
 
 use crate::lent_value::LentValue;
 use crate::located::place_of;
+use druid_filter::Filter;
 use druid_query::Query;
-use druid_rows::{Filter, Schema, Segment};
+use druid_rows::{Schema, Segment};
 use std::alloc::{AllocError, Global};
 use std::collections::BTreeSet;
 

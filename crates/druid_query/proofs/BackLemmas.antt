@@ -10,7 +10,7 @@ use Rattle.druid_time.specs.declared.granularity.Granularity.{Granularity}
 use Rattle.druid_time.specs.declared.granularity.Granularity.TheVariants.{All, Second, Minute, Hour, Day}
 use Rattle.druid_time.proofs.TextLemmas.{extent_at-extent_text}
 use Rattle.druid_shard.specs.Json.{result_ok}
-use Rattle.druid_rows.specs.Filters.{Condition, has, has_among, all_of, any_of, is_not, Conditions, no_conditions, condition}
+use Rattle.druid_filter.specs.Filters.{Condition, has, has_among, all_of, any_of, is_not, Conditions, no_conditions, condition}
 use Rattle.druid_query.specs.Query.{Dimension, Aggregator}
 use Rattle.druid_shard.specs.Each.{each_of}
 use Rattle.druid_shard.proofs.EachLemmas.{each_back}

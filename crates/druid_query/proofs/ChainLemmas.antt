@@ -5,7 +5,7 @@ use Rattle.std.proofs.lemmas.Option.{same_Some}
 use Rattle.serde_json.specs.Data.{Data}
 use Rattle.druid_time.specs.Results.{◌>>=◌}
 use Rattle.druid_time.specs.declared.granularity.Granularity.{Granularity}
-use Rattle.druid_rows.specs.Filters.{Condition}
+use Rattle.druid_filter.specs.Filters.{Condition}
 use Rattle.druid_query.specs.Query.{Dimension, Aggregator, are_distinct, result_names}
 use Rattle.druid_query.specs.Refusal.{Refusal, unknown_type, doubled_name, or_refuse, when, Tells, Checks, TellsAfter, ChecksAfter}
 use Rattle.druid_query.specs.Fields.{kind_at}

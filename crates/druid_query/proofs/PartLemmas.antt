@@ -4,7 +4,7 @@ use Rattle.serde_json.specs.Data.{Data}
 use Rattle.serde_json.specs.Find.{get}
 use Rattle.druid_time.specs.Extent.{Extent}
 use Rattle.druid_time.specs.declared.granularity.Granularity.{Granularity}
-use Rattle.druid_rows.specs.Filters.{Condition}
+use Rattle.druid_filter.specs.Filters.{Condition}
 use Rattle.druid_query.specs.Query.{Query, Dimension, Aggregator, are_distinct, result_names, query_of}
 use Rattle.druid_query.specs.Refusal.{bad_field, or_refuse}
 use Rattle.druid_query.specs.Fields.{kind_at, granularity_of}

@@ -4,7 +4,7 @@ use Rattle.std.specs.List.{list_all, list_any}
 use Rattle.std.specs.Str.{bytes_eq}
 use Rattle.druid_time.specs.Extent.{Extent}
 use Rattle.druid_time.specs.declared.granularity.Granularity.{Granularity}
-use Rattle.druid_rows.specs.Filters.{Condition, has, has_among, all_of, any_of, is_not, Conditions, no_conditions, condition}
+use Rattle.druid_filter.specs.Filters.{Condition, has, has_among, all_of, any_of, is_not, Conditions, no_conditions, condition}
 use Rattle.druid_query.specs.declared.aggregator.AggregatorKind.{AggregatorKind}
 use Rattle.druid_query.specs.declared.query_type.QueryType.{QueryType}
 use Rattle.druid_query.specs.declared.limits.TheConstants.{MAX_LABEL, MAX_VALUE, MAX_VALUES, MAX_LEVELS, MAX_MEMBERS, MAX_DIMENSIONS, MAX_AGGREGATORS}

@@ -7,7 +7,7 @@ use Rattle.druid_time.specs.Extent.{Extent}
 use Rattle.druid_time.specs.Results.{◌>>=◌}
 use Rattle.druid_time.specs.declared.granularity.Granularity.{Granularity}
 use Rattle.druid_segid.specs.Names.{is_name}
-use Rattle.druid_rows.specs.Filters.{Condition}
+use Rattle.druid_filter.specs.Filters.{Condition}
 use Rattle.druid_query.specs.Query.{Query, Dimension, Aggregator, query_of, is_label, fits_filter, fit_dimensions, fit_aggregators, result_names, are_distinct}
 use Rattle.druid_query.specs.Refusal.{Refusal, unknown_type, bad_field, bad_interval, limit_passed, doubled_name, or_refuse, when, allow, Gives}
 use Rattle.druid_shard.specs.Each.{each_of}

@@ -1,10 +1,10 @@
 ghost use Rattle.std.specs.Prelude.{◌≡◌, IfOk, option_map};
-ghost use Rattle.druid_rows.specs.Filters.{says};
+ghost use Rattle.druid_filter.specs.Filters.{says};
 ghost use Rattle.druid_query.specs.Query.{query_of};
 ghost use Rattle.druid_query.specs.Read.{IsQuery};
 
 use crate::{Aggregator, Dimension, QueryType};
-use druid_rows::Filter;
+use druid_filter::Filter;
 use druid_segid::Name;
 use druid_time::{Granularity, Interval};
 use std::alloc::{AllocError, Global};
@@ -26,8 +26,8 @@ struct Parts {
 impl Model for Parts {
     ghost use Rattle.std.specs.Prelude.{option_map};
     ghost use Rattle.std.specs.Coded.{codes};
-    ghost use Rattle.druid_rows.specs.FilterCode.{coded_condition};
-    ghost use Rattle.druid_rows.specs.Filters.{says};
+    ghost use Rattle.druid_filter.specs.FilterCode.{coded_condition};
+    ghost use Rattle.druid_filter.specs.Filters.{says};
     ghost use Rattle.druid_query.specs.Query.{Query, query_of};
     ghost use Rattle.druid_query.specs.Read.{IsQuery};
 
@@ -49,7 +49,7 @@ pub struct Query {
 impl Model for Query {
     ghost use Rattle.std.specs.Arc.{arc_value};
     ghost use Rattle.std.specs.Coded.{codes};
-    ghost use Rattle.druid_rows.specs.FilterCode.{coded_condition};
+    ghost use Rattle.druid_filter.specs.FilterCode.{coded_condition};
     ghost use Rattle.druid_query.specs.Query.{Query};
 
     ghost Value = { Query };

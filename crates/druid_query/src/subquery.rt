@@ -17,7 +17,7 @@ pub struct SubQuery {
 
 impl Model for SubQuery {
     ghost use Rattle.std.specs.Coded.{codes};
-    ghost use Rattle.druid_rows.specs.FilterCode.{coded_condition};
+    ghost use Rattle.druid_filter.specs.FilterCode.{coded_condition};
     ghost use Rattle.druid_query.specs.SubQuery.{SubQuery};
 
     ghost Value = { SubQuery };

@@ -4,7 +4,7 @@ use Rattle.std.proofs.lemmas.Bool.{leb-true}
 use Rattle.serde_json.specs.Data.{Data, array, Items, depth, items_depth}
 use Rattle.serde_json.specs.View.{items_of}
 use Rattle.druid_time.specs.Extent.{Extent}
-use Rattle.druid_rows.specs.Filters.{Condition, has, has_among, all_of, any_of, is_not, Conditions, no_conditions, condition}
+use Rattle.druid_filter.specs.Filters.{Condition, has, has_among, all_of, any_of, is_not, Conditions, no_conditions, condition}
 use Rattle.druid_query.specs.Query.{Query, Dimension, Aggregator, levels, most_levels, members, fits_texts}
 use Rattle.druid_query.specs.Read.{IsQuery}
 use Rattle.druid_query.specs.Written.{value_data, selector_data, among_data, fields_data, not_data, filter_data, filters_data, wanted_data, interval_data, dimension_data, counting_data, of_field_data, fielded_data, aggregator_data, aggregator_text, timeseries_data, group_by_data, intervals_data, kinded_data, query_data}

@@ -11,8 +11,8 @@ use Rattle.serde_json.specs.View.{view, items_view}
 use Rattle.serde_json.specs.declared.value.Value.{Value}
 use Rattle.druid_time.specs.Options.{◌>>=◌}
 use Rattle.druid_shard.specs.Json.{text_at}
-use Rattle.druid_rows.specs.Filters.{Condition, has, has_among, all_of, any_of, is_not, Conditions, no_conditions, condition, conditions_of, says, each_says}
-use Rattle.druid_rows.specs.declared.filter.Filter.{Filter}
+use Rattle.druid_filter.specs.Filters.{Condition, has, has_among, all_of, any_of, is_not, Conditions, no_conditions, condition, conditions_of, says, each_says}
+use Rattle.druid_filter.specs.declared.filter.Filter.{Filter}
 use Rattle.std.proofs.lemmas.List.{map-append}
 use Rattle.druid_shard.specs.Each.{each_of}
 use Rattle.druid_query.specs.Filters.{value_at, selector_in, among_in, filter_of_type, filter_at, filter_in, filters_in, filters_at, each_filter}

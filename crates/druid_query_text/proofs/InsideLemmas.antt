@@ -5,7 +5,7 @@ use Rattle.serde_json.specs.Data.{Data, Items}
 use Rattle.serde_json.specs.View.{view, items_view}
 use Rattle.serde_json.specs.declared.value.Value.{Value}
 use Rattle.druid_time.specs.Options.{◌>>=◌}
-use Rattle.druid_rows.specs.Filters.{Condition, has_among, all_of, any_of, is_not, Conditions, condition}
+use Rattle.druid_filter.specs.Filters.{Condition, has_among, all_of, any_of, is_not, Conditions, condition}
 use Rattle.druid_shard.specs.Each.{each_of}
 use Rattle.druid_query.specs.Filters.{value_at, filter_at, each_filter}
 use Rattle.druid_query_text.specs.Levels.{Layer, among, all, any, negation, layer_at, layer_says}

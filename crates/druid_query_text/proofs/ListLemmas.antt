@@ -8,7 +8,7 @@ use Rattle.serde_json.specs.Data.{Data, Items}
 use Rattle.serde_json.specs.View.{view, items_view}
 use Rattle.serde_json.specs.declared.value.Value.{Value}
 use Rattle.druid_time.specs.Results.{◌>>=◌}
-use Rattle.druid_rows.specs.Filters.{Condition}
+use Rattle.druid_filter.specs.Filters.{Condition}
 use Rattle.druid_query.specs.Query.{fits_filter}
 use Rattle.druid_query.specs.Refusal.{Refusal, bad_field, bad_interval, limit_passed, or_refuse, when}
 use Rattle.druid_shard.specs.Each.{each_of}

@@ -1,6 +1,6 @@
 -- The names of the result, in JSON and in the query.
 use Rattle.druid_time.specs.declared.granularity.Granularity.{Granularity}
-use Rattle.druid_rows.specs.Filters.{Condition}
+use Rattle.druid_filter.specs.Filters.{Condition}
 use Rattle.std.proofs.Common.{◌≡◌, ℕ, List, [], map, codes, Option, Some, None, Ok, true, false, Bool, refl, sym, ap, ◌∙◌}
 use Rattle.serde_json.specs.Data.{Data, Items}
 use Rattle.serde_json.specs.Find.{get}

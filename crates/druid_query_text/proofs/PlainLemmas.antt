@@ -3,7 +3,7 @@ use Rattle.std.proofs.Common.{◌≡◌, ℕ, List, [], ◌∷◌, map, codes, O
 use Rattle.serde_json.specs.Data.{Data, array, Items}
 use Rattle.serde_json.specs.View.{items_of}
 use Rattle.serde_json.specs.Written.{has_float, items_have_float}
-use Rattle.druid_rows.specs.Filters.{Condition, has, has_among, all_of, any_of, is_not, Conditions, no_conditions, condition}
+use Rattle.druid_filter.specs.Filters.{Condition, has, has_among, all_of, any_of, is_not, Conditions, no_conditions, condition}
 use Rattle.druid_query.specs.Query.{Query, Dimension, Aggregator}
 use Rattle.druid_query.specs.Written.{value_data, selector_data, among_data, fields_data, not_data, filter_data, filters_data, wanted_data, interval_data, dimension_data, counting_data, of_field_data, fielded_data, aggregator_data, aggregator_text, timeseries_data, group_by_data, intervals_data, kinded_data, query_data}
 use Rattle.druid_query.specs.Asked.{Asked, asked_data}

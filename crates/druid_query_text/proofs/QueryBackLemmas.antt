@@ -6,7 +6,7 @@ use Rattle.druid_time.specs.Extent.{Extent, IsExtent}
 use Rattle.druid_time.specs.Results.{◌>>=◌}
 use Rattle.druid_time.specs.declared.granularity.Granularity.{Granularity}
 use Rattle.druid_segid.specs.Names.{is_name}
-use Rattle.druid_rows.specs.Filters.{Condition}
+use Rattle.druid_filter.specs.Filters.{Condition}
 use Rattle.druid_query.specs.Query.{Query, Dimension, Aggregator, are_distinct, result_names, is_label, fits_filter, fit_dimensions, fit_aggregators}
 use Rattle.druid_query.specs.Refusal.{Refusal, bad_field, bad_interval, limit_passed, or_refuse, when}
 use Rattle.druid_shard.specs.Each.{each_of}

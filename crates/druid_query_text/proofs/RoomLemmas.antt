@@ -10,12 +10,12 @@ use Rattle.serde_json.specs.Data.{Data, Items}
 use Rattle.serde_json.specs.View.{view, items_view}
 use Rattle.serde_json.specs.declared.value.Value.{Value}
 use Rattle.druid_time.specs.Options.{◌>>=◌}
-use Rattle.druid_rows.specs.Filters.{Condition, has, has_among, all_of, any_of, is_not, Conditions, no_conditions, condition}
+use Rattle.druid_filter.specs.Filters.{Condition, has, has_among, all_of, any_of, is_not, Conditions, no_conditions, condition}
 use Rattle.druid_query.specs.Query.{is_label, is_short, levels, most_levels, members, all_members, fits_texts, fit_texts, fits_filter}
 use Rattle.druid_shard.specs.Each.{each_of}
 use Rattle.druid_query.specs.Filters.{value_at, filter_at, each_filter}
-use Rattle.druid_rows.specs.Filters.{says, each_says}
-use Rattle.druid_rows.specs.declared.filter.Filter.{Filter, All, Any, Not, the_lemmas}
+use Rattle.druid_filter.specs.Filters.{says, each_says}
+use Rattle.druid_filter.specs.declared.filter.Filter.{Filter, All, Any, Not, the_lemmas}
 use Rattle.std.specs.Box.{box_value}
 use Rattle.std.specs.Global.{Box}
 use Rattle.druid_query_text.specs.Levels.{Layer, selector, among, layer_at, layer_says, is_full, leaf, left_after, all_left, holds_in, fits_among}

@@ -11,7 +11,7 @@ use Rattle.serde_json.specs.declared.value.Value.{Value}
 use Rattle.druid_time.specs.Extent.{Extent}
 use Rattle.druid_time.specs.Results.{◌>>=◌}
 use Rattle.druid_time.specs.declared.granularity.Granularity.{Granularity}
-use Rattle.druid_rows.specs.Filters.{Condition}
+use Rattle.druid_filter.specs.Filters.{Condition}
 use Rattle.druid_segid.specs.Names.{is_name}
 use Rattle.druid_shard.specs.Each.{each_of}
 use Rattle.druid_shard.proofs.EachLemmas.{all_read, not_all_read}

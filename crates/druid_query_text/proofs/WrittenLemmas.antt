@@ -4,9 +4,9 @@ use Rattle.std.proofs.lemmas.List.{take_all}
 use Rattle.serde_json.specs.Data.{item}
 use Rattle.serde_json.specs.View.{view, items_view, items_of}
 use Rattle.serde_json.specs.declared.value.Value.{Value}
-use Rattle.druid_rows.specs.Filters.{says, each_says}
-use Rattle.druid_rows.specs.Rows.{nullable_texts_of}
-use Rattle.druid_rows.specs.declared.filter.Filter.{Filter}
+use Rattle.druid_filter.specs.Filters.{says, each_says}
+use Rattle.druid_filter.specs.Values.{nullable_texts_of}
+use Rattle.druid_filter.specs.declared.filter.Filter.{Filter}
 use Rattle.druid_query.specs.Written.{value_data, filter_data, filters_data}
 
 each_value : (vs : List (Option (String Global))) → items_of (map (λ o. value_data (option_map string_bytes o)) vs) ≡ items_of (map value_data (nullable_texts_of vs))

@@ -7,7 +7,7 @@ use Rattle.serde_json.specs.Find.{get, as_array}
 use Rattle.serde_json.specs.View.{view, items_view}
 use Rattle.druid_time.specs.Options.{◌>>=◌}
 use Rattle.druid_shard.specs.Json.{text_at}
-use Rattle.druid_rows.specs.Filters.{Condition, has, has_among, all_of, any_of, is_not, Conditions, no_conditions, condition}
+use Rattle.druid_filter.specs.Filters.{Condition, has, has_among, all_of, any_of, is_not, Conditions, no_conditions, condition}
 use Rattle.druid_query.specs.Query.{is_label, is_short}
 use Rattle.druid_query.specs.declared.limits.TheConstants.{MAX_VALUES}
 use Rattle.druid_shard.specs.Each.{each_of}

@@ -1,7 +1,7 @@
 //! The parts of a query, built out of JSON that was judged before: nothing is left to refuse but memory.
 ghost use Rattle.std.specs.Prelude.{◌≡◌, Ok, Some, IsOk, IsSome, IfOk, option_map};
 ghost use Rattle.serde_json.specs.View.{view, items_view};
-ghost use Rattle.druid_rows.specs.Filters.{says};
+ghost use Rattle.druid_filter.specs.Filters.{says};
 ghost use Rattle.druid_shard.specs.Each.{each_of};
 ghost use Rattle.druid_query.specs.Fields.{interval_of, dimension_at, aggregator_at};
 ghost use Rattle.druid_query.specs.Read.{source_at, intervals_at, wanted_filter, filter_field, listed_dimensions, dimensions_at, aggregations_at};
@@ -9,8 +9,8 @@ ghost use Rattle.druid_query.specs.Read.{source_at, intervals_at, wanted_filter,
 use crate::checks::{interval_field, source_field};
 use crate::fields::{aggregator_of, dimension_of, interval_of, list_field};
 use crate::filters::filter_of;
+use druid_filter::Filter;
 use druid_query::{Aggregator, Dimension, QueryType};
-use druid_rows::Filter;
 use druid_segid::{IdFault, Name};
 use druid_time::Interval;
 use serde_json::Value;

@@ -8,11 +8,11 @@ ghost use Rattle.druid_shard.specs.Each.{each_of};
 ghost use Rattle.druid_query.specs.Filters.{value_at, filter_at, each_filter};
 ghost use Rattle.druid_query_text.specs.Levels.{selector_layer, among_layer, fields_at, layer_named, layer_at, layer_lent, leaf, left_after, all_left, holds_in, fits_among};
 ghost use Rattle.druid_query.specs.Query.{is_label, is_short, fits_filter};
-ghost use Rattle.druid_rows.specs.Filters.{says, each_says, has, has_among};
-ghost use Rattle.druid_rows.specs.Rows.{nullable_texts_of};
+ghost use Rattle.druid_filter.specs.Filters.{says, each_says, has, has_among};
+ghost use Rattle.druid_filter.specs.Values.{nullable_texts_of};
 
+use druid_filter::Filter;
 use druid_query::{MAX_LEVELS, MAX_MEMBERS, MAX_VALUES, is_label, is_short};
-use druid_rows::Filter;
 use druid_shard::text_field;
 use serde_json::Value;
 use std::alloc::{AllocError, Global};

@@ -4,7 +4,7 @@ ghost use Rattle.serde_json.specs.Data.{Data};
 ghost use Rattle.druid_query.specs.SubQuery.{SubQuery, IsAsked, subquery_data, subquery_at};
 ghost use Rattle.druid_query.specs.Query.{Query};
 ghost use Rattle.druid_query.specs.Read.{query_at, IsQuery};
-ghost use Rattle.druid_rows.specs.Filters.{Condition};
+ghost use Rattle.druid_filter.specs.Filters.{Condition};
 ghost use Rattle.druid_query.specs.Filters.{filter_at};
 ghost use Rattle.druid_query.specs.Written.{filter_data, query_data};
 

@@ -3,12 +3,12 @@ ghost use Rattle.std.specs.Prelude.{◌≡◌, Some, map, codes, IfOk, option_ma
 ghost use Rattle.serde_json.specs.Data.{array};
 ghost use Rattle.serde_json.specs.Read.{read};
 ghost use Rattle.serde_json.specs.View.{view, items_view, items_of};
-ghost use Rattle.druid_rows.specs.Filters.{says, each_says};
-ghost use Rattle.druid_rows.specs.Rows.{nullable_texts_of};
+ghost use Rattle.druid_filter.specs.Filters.{says, each_says};
+ghost use Rattle.druid_filter.specs.Values.{nullable_texts_of};
 ghost use Rattle.druid_query.specs.Written.{value_data, selector_data, among_data, fields_data, not_data, filter_data, filters_data, wanted_data, granularity_text, interval_data, dimension_data, aggregator_text, counting_data, of_field_data, fielded_data, aggregator_data, timeseries_data, group_by_data, aggregations_data, dimensions_data, intervals_data, kinded_data, query_data, query_text};
 
+use druid_filter::Filter;
 use druid_query::{Aggregator, AggregatorKind, Dimension, Query, QueryType};
-use druid_rows::Filter;
 use druid_time::{Granularity, Interval};
 use serde_json::{Value, json};
 use std::alloc::{AllocError, Global};

@@ -3,7 +3,7 @@ use Rattle.std.proofs.Common.{◌≡◌, ℕ, ◌+◌, ◌<◌, ◌≤◌, inl, 
 use Rattle.std.specs.Str.{bytes_eq}
 use Rattle.std.proofs.lemmas.List.{drop_more}
 use Rattle.std.proofs.lemmas.Bool.{cases_lt}
-use Rattle.druid_rows.specs.Filters.{value_in}
+use Rattle.druid_filter.specs.Filters.{value_in}
 use Rattle.druid_rows.specs.Rows.{texts_of, nullable_texts_of}
 
 value_of_none : (names : List (List ℕ)) (name : List ℕ) → value_in names [] name ≡ None

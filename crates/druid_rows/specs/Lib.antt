@@ -4,5 +4,3 @@ pub mod Segment
 pub mod Texts
 pub mod Sheet
 pub mod Pages
-pub mod Filters
-pub mod FilterCode

@@ -1,8 +1,8 @@
 -- The rows of a segment.
 use Rattle.std.specs.Prelude.{◌≡◌, ℕ, ℤ, ◌≤◌, List, [], ◌++◌, length, map, All, Option, IfSome, string_bytes, String}
 use Rattle.std.specs.Global.{Global}
-use Rattle.std.specs.Option.{option_map}
 use Rattle.druid_time.specs.Extent.{Extent, Has}
+pub use Rattle.druid_filter.specs.Values.{texts_by, nullable_texts_of}
 use Rattle.druid_rows.specs.Names.{IsFieldName, AreDistinct}
 use Rattle.druid_rows.specs.declared.lent.TheConstants.{MAX_VALUE}
 
@@ -51,14 +51,6 @@ no_row = record { time = 0; dimensions = []; metrics = [] }
 -- the bytes of texts
 abbrev pub texts_of : List (String Global) → List (List ℕ)
 texts_of texts = map string_bytes texts
-
--- the bytes of texts that may be null, and that are kept in any way
-abbrev pub texts_by : {T : Type 0} → (T → List ℕ) → List (Option T) → List (Option (List ℕ))
-texts_by text values = map (option_map text) values
-
--- the bytes of texts that may be null
-abbrev pub nullable_texts_of : List (Option (String Global)) → List (Option (List ℕ))
-nullable_texts_of texts = texts_by string_bytes texts
 
 -- the row of these parts
 abbrev pub row_of : ℕ → List (Option (List ℕ)) → List (Option ℤ) → Row

@@ -1,25 +1,10 @@
 ghost use Rattle.std.specs.Prelude.{◌≡◌, option_map, string_bytes};
 ghost use Rattle.std.specs.List.{list_any};
-ghost use Rattle.druid_rows.specs.Filters.{same_value, passes, all_pass, any_passes, value_in, says, each_says};
+ghost use Rattle.druid_filter.specs.Filters.{same_value, passes, all_pass, any_passes, value_in, says, each_says};
 ghost use Rattle.druid_rows.specs.Rows.{texts_of, nullable_texts_of};
 
 use crate::{Row, Schema};
-
-/// Which rows of a segment are asked for. A dimension that a row has no value for is null, and so is one that the schema
-/// has not; null and the empty text differ.
-#[derive(Debug, Drop)]
-pub enum Filter {
-    /// The dimension has this value.
-    Selector(String, Option<String>),
-    /// The dimension has one of these values.
-    Among(String, Vec<Option<String>>),
-    /// The row passes each of these; all rows pass where there are none.
-    All(Vec<Filter>),
-    /// The row passes one of these; no row passes where there are none.
-    Any(Vec<Filter>),
-    /// The row does not pass this one.
-    Not(Box<Filter>),
-}
+use druid_filter::Filter;
 
 // The row's value of the dimension of that name.
 fn value_of<'a>(names: &[String], values: &'a [Option<String>], name: &str) -> Option<&'a str>

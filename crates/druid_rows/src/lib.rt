@@ -13,8 +13,9 @@ mod table;
 mod texts;
 
 pub use builder::SegmentBuilder;
+pub use druid_filter::Filter;
 pub use fault::RowFault;
-pub use filter::{Filter, matches};
+pub use filter::matches;
 pub use lent::MAX_VALUE;
 pub use row::Row;
 pub use schema::{MAX_NAME, Schema};

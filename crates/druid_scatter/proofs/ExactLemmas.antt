@@ -26,7 +26,7 @@ use Rattle.druid_timeline.proofs.HoldingLemmas.{in_filter, from_filter, IsVisibl
 use Rattle.druid_timeline.proofs.ChunkLemmas.{same_group-same}
 use Rattle.druid_timeline.proofs.RunsLemmas.{AreRuns-rest, Shows-behind}
 use Rattle.druid_rows.specs.Rows.{Row}
-use Rattle.druid_rows.specs.Filters.{value_in}
+use Rattle.druid_filter.specs.Filters.{value_in}
 use Rattle.druid_rows.specs.Segment.{Segment}
 use Rattle.druid_inventory.specs.Entry.{Entry}
 use Rattle.druid_inventory.specs.Sources.{IsHoldingOf}

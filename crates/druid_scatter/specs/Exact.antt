@@ -10,7 +10,7 @@ use Rattle.druid_inventory.specs.Entry.{Entry}
 use Rattle.druid_inventory.specs.Sources.{Serves}
 use Rattle.druid_rows.specs.Rows.{Row}
 use Rattle.druid_rows.specs.Segment.{Segment}
-use Rattle.druid_rows.specs.Filters.{value_in}
+use Rattle.druid_filter.specs.Filters.{value_in}
 use Rattle.druid_query.specs.Query.{Query}
 use Rattle.druid_query.specs.Asked.{Asked}
 use Rattle.druid_query.specs.AskedOrder.{same_asked}

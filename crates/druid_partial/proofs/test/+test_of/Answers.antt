@@ -2,7 +2,7 @@ use Rattle.std.proofs.Common.{◌≡◌, ◌∙◌, ap, sym, string_bytes, arith
 use Rattle.std.specs.List.{list_any}
 use Rattle.std.proofs.lemmas.List.{take_all}
 use Rattle.druid_rows.specs.Rows.{texts_of, nullable_texts_of}
-use Rattle.druid_rows.specs.Filters.{value_in, same_value, all_pass, any_passes, each_says}
+use Rattle.druid_filter.specs.Filters.{value_in, same_value, all_pass, any_passes, each_says}
 use Rattle.druid_partial.specs.Places.{place_in, at_place}
 use Rattle.druid_partial.proofs.PlaceLemmas.{value_is}
 use Rattle.druid_partial.proofs.TestLemmas.{all_more, any_more, selector_says, among_says}

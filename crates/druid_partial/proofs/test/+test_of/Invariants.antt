@@ -1,5 +1,5 @@
 use Rattle.std.proofs.Common.{◌≡◌, ℕ, List, Option, take}
-use Rattle.druid_rows.specs.Filters.{all_pass, any_passes, value_in, each_says}
+use Rattle.druid_filter.specs.Filters.{all_pass, any_passes, value_in, each_says}
 use Rattle.druid_rows.specs.Rows.{texts_of}
 use Rattle.druid_partial.specs.Tests.{all_hold, any_holds}
 use Rattle.druid_partial.proofs.test.+test_of.Given as goal

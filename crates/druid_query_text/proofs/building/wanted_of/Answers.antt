@@ -1,6 +1,6 @@
 use Rattle.std.proofs.Common.{codes}
 use Rattle.serde_json.specs.View.{view}
-use Rattle.druid_rows.specs.Filters.{says}
+use Rattle.druid_filter.specs.Filters.{says}
 use Rattle.druid_query.specs.Refusal.{bad_field}
 use Rattle.druid_query.specs.Filters.{filter_at}
 use Rattle.druid_query.specs.Read.{wanted_filter}

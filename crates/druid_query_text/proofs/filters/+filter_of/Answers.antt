@@ -1,7 +1,7 @@
 use Rattle.std.proofs.Common.{◌+◌, ◌<◌, ◌≤◌, Some, sym, ap, ◌∙◌, arith, option_map, map, drop}
 use Rattle.serde_json.specs.Data.{depth, items_depth}
 use Rattle.serde_json.specs.View.{view, items_view}
-use Rattle.druid_rows.specs.Filters.{says, all_of, any_of, is_not}
+use Rattle.druid_filter.specs.Filters.{says, all_of, any_of, is_not}
 use Rattle.druid_query.specs.Filters.{each_filter}
 use Rattle.druid_query_text.specs.Levels.{all, any, negation}
 use Rattle.druid_query_text.specs.declared.filters.Level.TheVariants as lent

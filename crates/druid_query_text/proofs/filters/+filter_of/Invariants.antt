@@ -1,7 +1,7 @@
 use Rattle.std.proofs.Common.{◌≡◌, ◌+◌, ◌*◌, drop, map}
 use Rattle.serde_json.specs.Data.{depth, items_depth}
 use Rattle.serde_json.specs.View.{view, items_view}
-use Rattle.druid_rows.specs.Filters.{says}
+use Rattle.druid_filter.specs.Filters.{says}
 use Rattle.druid_query.specs.Filters.{each_filter}
 use Rattle.druid_query_text.proofs.FilterLemmas.{joined}
 use Rattle.druid_query_text.proofs.filters.+filter_of.Given as goal

@@ -1,7 +1,7 @@
 use Rattle.std.proofs.Common.{◌<◌, ◌≤◌, sym, ◌∙◌, arith, option_map}
 use Rattle.serde_json.specs.Data.{depth, items_depth}
 use Rattle.serde_json.specs.View.{view, items_view}
-use Rattle.druid_rows.specs.Filters.{has_among, all_of, any_of, is_not}
+use Rattle.druid_filter.specs.Filters.{has_among, all_of, any_of, is_not}
 use Rattle.druid_shard.specs.Each.{each_of}
 use Rattle.druid_query.specs.Filters.{value_at, filter_at, each_filter}
 use Rattle.druid_query_text.specs.Levels.{selector, among, all, any, negation}

@@ -1,6 +1,6 @@
 use Rattle.std.proofs.Common.{◌≡◌, drop}
 use Rattle.serde_json.specs.View.{items_view}
-use Rattle.druid_rows.specs.Rows.{nullable_texts_of}
+use Rattle.druid_filter.specs.Values.{nullable_texts_of}
 use Rattle.druid_shard.specs.Each.{each_of}
 use Rattle.druid_query.specs.Filters.{value_at}
 use Rattle.druid_shard.proofs.EachLemmas.{with_front}

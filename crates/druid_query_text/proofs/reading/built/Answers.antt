@@ -1,6 +1,6 @@
 use Rattle.std.proofs.Common.{Ok, option_map, ap, sym, ◌∙◌}
 use Rattle.serde_json.specs.View.{view}
-use Rattle.druid_rows.specs.Filters.{says}
+use Rattle.druid_filter.specs.Filters.{says}
 use Rattle.druid_query.proofs.PartLemmas.{query_of_parts}
 use Rattle.druid_query_text.proofs.reading.built.Goals as goal
 

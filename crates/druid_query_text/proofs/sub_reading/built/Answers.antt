@@ -1,6 +1,6 @@
 use Rattle.std.proofs.Common.{Ok, option_map, ap, sym, ◌∙◌}
 use Rattle.serde_json.specs.View.{view}
-use Rattle.druid_rows.specs.Filters.{says}
+use Rattle.druid_filter.specs.Filters.{says}
 use Rattle.druid_query_text.proofs.ReadLemmas.{sub_apart_ok}
 use Rattle.druid_query_text.proofs.SubLemmas.{subquery_made, apart_made}
 use Rattle.druid_query_text.proofs.SubBackLemmas.{sub_query}

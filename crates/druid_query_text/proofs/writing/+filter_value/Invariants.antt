@@ -1,6 +1,6 @@
 use Rattle.std.proofs.Common.{◌≡◌, map, take}
 use Rattle.serde_json.specs.View.{view}
-use Rattle.druid_rows.specs.Filters.{says}
+use Rattle.druid_filter.specs.Filters.{says}
 use Rattle.druid_query.specs.Written.{filter_data}
 use Rattle.druid_query_text.proofs.writing.+filter_value.Given as goal
 

@@ -1,5 +1,5 @@
 use Rattle.std.proofs.Common.{◌≡◌, drop}
-use Rattle.druid_rows.specs.Filters.{all_pass, any_passes, value_in, each_says}
+use Rattle.druid_filter.specs.Filters.{all_pass, any_passes, value_in, each_says}
 use Rattle.druid_rows.proofs.filter.+matches.Given as goal
 
 abbrev pub invariant-matches_all-loop-filter : goal.invariant-matches_all-loop-filter

@@ -1,6 +1,6 @@
 use Rattle.std.proofs.Common.{◌≡◌, drop, option_map}
 use Rattle.std.specs.List.{list_any}
-use Rattle.druid_rows.specs.Filters.{same_value}
+use Rattle.druid_filter.specs.Filters.{same_value}
 use Rattle.druid_rows.specs.Rows.{nullable_texts_of}
 use Rattle.druid_rows.proofs.filter.is_among.Given as goal
 

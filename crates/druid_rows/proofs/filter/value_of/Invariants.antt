@@ -1,5 +1,5 @@
 use Rattle.std.proofs.Common.{◌≡◌, drop}
-use Rattle.druid_rows.specs.Filters.{value_in}
+use Rattle.druid_filter.specs.Filters.{value_in}
 use Rattle.druid_rows.specs.Rows.{texts_of, nullable_texts_of}
 use Rattle.druid_rows.proofs.filter.value_of.Given as goal
 

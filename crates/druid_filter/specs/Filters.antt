@@ -4,9 +4,9 @@ use Rattle.std.specs.Box.{box_value}
 use Rattle.std.specs.List.{list_any}
 use Rattle.std.specs.Option.{option_eq}
 use Rattle.std.specs.Str.{bytes_eq}
-use Rattle.druid_rows.specs.Rows.{nullable_texts_of}
-use Rattle.druid_rows.specs.declared.filter.Filter.{Filter, fold-Filter}
-use Rattle.druid_rows.specs.declared.filter.Filter.TheOpen.{Filter-F}
+use Rattle.druid_filter.specs.Values.{nullable_texts_of}
+use Rattle.druid_filter.specs.declared.filter.Filter.{Filter, fold-Filter}
+use Rattle.druid_filter.specs.declared.filter.Filter.TheOpen.{Filter-F}
 
 -- what a row has to be like. A value is a text or null
 mutual

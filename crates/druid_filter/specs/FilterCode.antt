@@ -3,7 +3,7 @@ use Rattle.std.specs.Prelude.{◌≡◌, ℕ, List, Option}
 use Rattle.std.specs.Coded.{Coded, coded_ℕ, coded_list, coded_option}
 use Rattle.std.proofs.Common.{◌<◌, ◌⊎◌, inl, inr, ap, refl, arith}
 use base.Stored.{Gv, gnil, gnum, gcons}
-use Rattle.druid_rows.specs.Filters.{Condition, has, has_among, all_of, any_of, is_not, Conditions, no_conditions, condition}
+use Rattle.druid_filter.specs.Filters.{Condition, has, has_among, all_of, any_of, is_not, Conditions, no_conditions, condition}
 
 abbrev left : Gv → Gv
 left gnil = gnil
