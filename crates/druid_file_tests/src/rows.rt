@@ -1,5 +1,5 @@
 use crate::printing::assert_prints;
-use druid_rows::{Row, RowFault, Schema, Segment, SegmentBuilder};
+use druid_rows::{Filter, Row, RowFault, Schema, Segment, SegmentBuilder, matches};
 use druid_segid::{Name, SegmentId, Version};
 use druid_shard::Descriptor;
 use druid_time::{Instant, Interval};
@@ -305,11 +305,30 @@ fn is_row(
     has_row(segment, row, *ms, *text, *number) && copies_row(rt, segment, row, *text, *number)
 }
 
+// The filter that a row passes where `d` is not null.
+fn not_null(rt: &impl Abort, alloc: Global) -> Filter {
+    let null = Filter::Selector(text_of(rt, alloc, "d"), None);
+    Filter::Not(Box::new(alloc, null).expect(rt, "memory"))
+}
+
+fn passes(rt: &impl Abort, segment: &Segment, row: usize, filter: &Filter) -> bool {
+    if row >= segment.len() {
+        return false;
+    }
+    let copy = segment.row(row).expect(rt, "memory");
+    matches(filter, segment.schema(), &copy)
+}
+
 #[test]
 fn ample_memory(rt: HostRuntime) {
     let segment = three_rows(&rt, rt.alloc());
+    let filter = not_null(&rt, rt.alloc());
     for (row, told) in THREE_ROWS.iter().enumerate() {
         assert!(rt; is_row(&rt, &segment, row, told), "{row}");
+        assert!(rt;
+            passes(&rt, &segment, row, &filter) == told.1.is_some(),
+            "{row}"
+        );
     }
 }
 

@@ -26,6 +26,7 @@ const RESULTS: &str =
 @,"granularity":"hour","aggregations":[{"type":"count","name":"n"}]} => d:m 3600000/a/1 3599999/a/1 + d:m 7199999/a/1 = [{"result":{"n":1},"timestamp":"2024-01-01T00:00:00.000Z"},{"result":{"n":2},"timestamp":"2024-01-01T01:00:00.000Z"}]
 @,"intervals":["2024-01-01T12:00/2024-01-02","2024-01-01T06:00/2024-01-01T07:00"],"aggregations":[{"type":"count","name":"n"}]} => d:m 43200000/a/1 = [{"result":{"n":1},"timestamp":"2024-01-01T06:00:00.000Z"}]
 @,"aggregations":[{"type":"longMin","name":"a","fieldName":"m"},{"type":"longMax","name":"b","fieldName":"m"},{"type":"count","name":"c"}]} => d:m 0/a/3 0/a/- 0/a/-4 + d:m 0/a/9 = [{"result":{"a":-4,"b":9,"c":4},"timestamp":"2024-01-01T00:00:00.000Z"}]
+@,"aggregations":[{"type":"longSum","name":"s","fieldName":"n"},{"type":"longMin","name":"t","fieldName":"m"}]} => d:m,n 0/a/1/2 0/b/4/- = [{"result":{"s":2,"t":1},"timestamp":"2024-01-01T00:00:00.000Z"}]
 @,"aggregations":[{"type":"longSum","name":"s","fieldName":"m"}]} => d:m 0/a/- + e:f 0/a/7 = [{"result":{"s":null},"timestamp":"2024-01-01T00:00:00.000Z"}]
 @,"filter":{"type":"not","field":{"type":"selector","dimension":"d","value":"a"}},"aggregations":[{"type":"count","name":"n"}]} => d:m 0/a/1 0/-/1 0//1 = [{"result":{"n":2},"timestamp":"2024-01-01T00:00:00.000Z"}]
 @,"filter":{"type":"in","dimension":"d","values":["b",null,"c"]},"aggregations":[{"type":"count","name":"n"}]} => d:m 0/a/1 0/-/1 0/c/1 0//1 + e:m 0/b/1 = [{"result":{"n":3},"timestamp":"2024-01-01T00:00:00.000Z"}]
