@@ -14,7 +14,7 @@ use druid_inventory::Inventory;
 use druid_published::{NodeList, Publisher, Receipt, View, open};
 use druid_scatter::Rotate;
 use druid_shard::{NodeNo, Reply};
-use druid_wire::TcpLink;
+use druid_link::TcpLink;
 use std::alloc::{AllocError, Global};
 use std::io::{BufRead, BufReader, BufWriter, Write};
 use std::net::{Net, TcpListener, TcpStream};

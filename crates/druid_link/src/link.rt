@@ -1,8 +1,8 @@
 //! Links to nodes and to other brokers.
 ghost use Rattle.std.specs.Prelude.{◌≡◌, ◌≤◌, ℕ, List, length, IfOk, IfErr};
-ghost use Rattle.druid_wire.specs.Links.{Came, came_of, IsLinkFault, faults_after};
+ghost use Rattle.druid_link.specs.Links.{Came, came_of, IsLinkFault, faults_after};
 
-use crate::WireFault;
+use druid_message::WireFault;
 use std::alloc::Global;
 
 /// The most bytes that an exchange gives: a body and a head, each at its limit.

@@ -1,8 +1,9 @@
 //! Links in memory.
 ghost use Rattle.std.specs.Prelude.{◌≡◌, map, vec_items};
-ghost use Rattle.druid_wire.specs.MemoryLinks.{fresh_link, reply_to};
+ghost use Rattle.druid_link.specs.MemoryLinks.{fresh_link, reply_to};
 
-use crate::{Link, MAX_EXCHANGE, WireFault};
+use crate::{Link, MAX_EXCHANGE};
+use druid_message::WireFault;
 use std::alloc::Global;
 use std::marker::Model;
 
@@ -20,7 +21,7 @@ pub struct MemoryLink {
 
 impl Model for MemoryLink {
     ghost use Rattle.std.specs.Prelude.{map, vec_items};
-    ghost use Rattle.druid_wire.specs.MemoryLinks.{MemoryLinkValue};
+    ghost use Rattle.druid_link.specs.MemoryLinks.{MemoryLinkValue};
 
     ghost Value = { MemoryLinkValue };
 
@@ -42,7 +43,7 @@ impl MemoryLink {
 }
 
 impl Link for MemoryLink {
-    ghost use Rattle.druid_wire.specs.MemoryLinks.{ExchangesInMemory};
+    ghost use Rattle.druid_link.specs.MemoryLinks.{ExchangesInMemory};
 
     ghost exchanges = { ExchangesInMemory };
 

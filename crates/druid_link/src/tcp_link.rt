@@ -2,10 +2,11 @@
 ghost use Rattle.std.specs.Prelude.{◌≡◌, ◌↔◌, ◌≤◌, ◌<◌, ◌⊎◌, length, take, string_bytes, IfOk, IfErr, IfSome, IsErrOf, OnOk};
 ghost use Rattle.std.specs.Io.KnownBytes.{Appends, Consumes, IsAtEnd};
 ghost use Rattle.std.specs.IoError.{error_kind};
-ghost use Rattle.druid_wire.specs.Links.{IsLinkFault, faults_at};
-ghost use Rattle.druid_wire.specs.TcpLinks.{fresh_tcp_link, limited};
+ghost use Rattle.druid_link.specs.Links.{IsLinkFault, faults_at};
+ghost use Rattle.druid_link.specs.TcpLinks.{fresh_tcp_link, limited};
 
-use crate::{Link, MAX_EXCHANGE, WireFault};
+use crate::{Link, MAX_EXCHANGE};
+use druid_message::WireFault;
 use druid_stream::{MAX_TRIES, is_interrupted};
 use std::alloc::Global;
 use std::io::{Error, ErrorKind, Read, Write};
@@ -36,7 +37,7 @@ pub struct TcpLink<N: Net + Clock> {
 
 impl<N: Net + Clock> Model for TcpLink<N> {
     ghost use Rattle.std.specs.Prelude.{string_bytes};
-    ghost use Rattle.druid_wire.specs.TcpLinks.{TcpLinkValue};
+    ghost use Rattle.druid_link.specs.TcpLinks.{TcpLinkValue};
 
     ghost Value = { TcpLinkValue };
 
@@ -67,7 +68,7 @@ impl<N: Net + Clock> TcpLink<N> {
 }
 
 impl<N: Net + Clock> Link for TcpLink<N> {
-    ghost use Rattle.druid_wire.specs.TcpLinks.{ExchangesOverTcp};
+    ghost use Rattle.druid_link.specs.TcpLinks.{ExchangesOverTcp};
 
     ghost exchanges = { ExchangesOverTcp };
 

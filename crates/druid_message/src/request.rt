@@ -1,6 +1,6 @@
 //! Requests.
 ghost use Rattle.std.specs.Prelude.{◌≡◌, bytes_eq, string_bytes};
-ghost use Rattle.druid_wire.specs.Served.{path_of, parameters_of};
+ghost use Rattle.druid_message.specs.Requests.{path_of, parameters_of};
 
 use http::Method;
 use std::marker::Model;
@@ -15,7 +15,7 @@ pub struct Request {
 
 impl Model for Request {
     ghost use Rattle.std.specs.Prelude.{string_bytes};
-    ghost use Rattle.druid_wire.specs.Messages.{RequestValue};
+    ghost use Rattle.druid_message.specs.Requests.{RequestValue};
 
     ghost Value = { RequestValue };
 

@@ -1,9 +1,9 @@
 -- A link over sockets, and what comes back over it.
 use Rattle.std.specs.Prelude.{◌≡◌, ◌≤◌, ℕ, List, length, IfOk, IfErr}
 use Rattle.std.specs.declared.time.Duration.{Duration}
-use Rattle.druid_wire.specs.Links.{Came, IsLinkFault, faults_after}
-use Rattle.druid_wire.specs.declared.link.TheConstants.{MAX_EXCHANGE}
-use Rattle.druid_wire.specs.declared.tcp_link.TheConstants.{EXCHANGE_SECONDS}
+use Rattle.druid_link.specs.Links.{Came, IsLinkFault, faults_after}
+use Rattle.druid_link.specs.declared.link.TheConstants.{MAX_EXCHANGE}
+use Rattle.druid_link.specs.declared.tcp_link.TheConstants.{EXCHANGE_SECONDS}
 
 -- the text of its address, the longest that an exchange may take, and how many exchanges failed (at 2^64 - 1 it stays)
 pub record TcpLinkValue : Type 0 where

@@ -1,7 +1,7 @@
 use Rattle.std.proofs.Common.{take, sym, ap, ◌++◌, ◌∙◌, ℕ, List}
 use Rattle.std.proofs.lemmas.List.{take-append-drop}
 use Rattle.druid_stream.proofs.WriteLemmas.{goes_on}
-use Rattle.druid_wire.proofs.tcp_link.send_all.Goals as goal
+use Rattle.druid_link.proofs.tcp_link.send_all.Goals as goal
 
 pub loop-rest-preserved : goal.loop-rest-preserved
 loop-rest-preserved g c =

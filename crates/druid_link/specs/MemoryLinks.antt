@@ -1,8 +1,8 @@
 -- A link in memory, and what comes back over it.
 use Rattle.std.specs.Prelude.{◌≡◌, ◌⊎◌, ℕ, List, [], length, nat_le, unwrap_or, slice_get, if◌then◌else◌, Ok, Err, IsOk}
-use Rattle.druid_wire.specs.Links.{Came, one_more, faults_after}
-use Rattle.druid_wire.specs.declared.fault.WireFault.TheVariants.{Read, BodyTooLong, Memory}
-use Rattle.druid_wire.specs.declared.link.TheConstants.{MAX_EXCHANGE}
+use Rattle.druid_link.specs.Links.{Came, one_more, faults_after}
+use Rattle.druid_message.specs.declared.fault.WireFault.TheVariants.{Read, BodyTooLong, Memory}
+use Rattle.druid_link.specs.declared.link.TheConstants.{MAX_EXCHANGE}
 
 -- the replies to its first exchanges, from which exchange on it fails, how many were made (at 2^64 - 1 it stays), and how many failed
 pub record MemoryLinkValue : Type 0 where

@@ -1,5 +1,5 @@
 ghost use Rattle.std.specs.Prelude.{◌≡◌};
-ghost use Rattle.druid_wire.specs.declared.fault.WireFault.TheVariants.{Memory};
+ghost use Rattle.druid_message.specs.declared.fault.WireFault.TheVariants.{Memory};
 
 use std::alloc::{AllocError, AllocFailed};
 use thiserror::Error;
