@@ -1,7 +1,7 @@
 //! Queries, posted to the brokers, and their answers, printed.
-use crate::fault::DeviceFailed;
 use druid_link::{Link, TcpLink};
 use druid_message::{Request, WireFault};
+use druid_serve_node::DeviceFailed;
 use druid_wire::{request_bytes, response_of};
 use http::Method;
 use std::alloc::Global;

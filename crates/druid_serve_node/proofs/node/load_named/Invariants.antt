@@ -1,7 +1,7 @@
 use Rattle.std.proofs.Common.{◌≡◌, All, take}
 use Rattle.druid_store.specs.Folder.{names_of}
-use Rattle.druid_serve.specs.Files.{IsTaken}
-use Rattle.druid_serve.proofs.node.load_named.Given as goal
+use Rattle.druid_serve_node.specs.Files.{IsTaken}
+use Rattle.druid_serve_node.proofs.node.load_named.Given as goal
 
 abbrev pub invariant-loop-name : goal.invariant-loop-name
 invariant-loop-name g l =

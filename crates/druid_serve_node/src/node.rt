@@ -4,7 +4,7 @@ ghost use Rattle.std.specs.declared.cmp.Ordering.TheVariants.{Greater};
 ghost use Rattle.druid_shard.specs.Mark.{mark_cmp};
 ghost use Rattle.druid_shard.specs.Reply.{max_changes};
 ghost use Rattle.druid_store.specs.Folder.{names_of};
-ghost use Rattle.druid_serve.specs.Files.{is_segment_file, IsTaken, HoldsSegments};
+ghost use Rattle.druid_serve_node.specs.Files.{is_segment_file, IsTaken, HoldsSegments};
 
 use crate::fault::{ClusterFault, DeviceFailed};
 use crate::outside::{REST_MILLISECONDS, limit, listen};
@@ -202,7 +202,7 @@ fn start_worker<R: Wait + Threads + Clock + Copy + Send + Sync + 'static>(
 
 /// Starts a data node: raises its incarnation, loads the segment files of its folder, listens, and starts its threads. It
 /// gives the thread that loads the files that come later.
-pub(crate) fn start_node<
+pub fn start_node<
     R: Files<File = File>
         + Net<Listener = TcpListener, Stream = TcpStream>
         + AllocGlobal

@@ -2,10 +2,10 @@ use Rattle.std.proofs.Common.{subst, All, ◌∙◌, sym, ap}
 use Rattle.std.proofs.lemmas.Bool.{false≢true}
 use Rattle.std.proofs.lemmas.List.{take_all}
 use Rattle.druid_store.specs.Folder.{names_of}
-use Rattle.druid_serve.specs.Files.{is_segment_file, IsTaken}
-use Rattle.druid_serve.proofs.FolderLemmas.{named_more, taken}
-use Rattle.druid_serve.proofs.node.load_named.Goals as goal
-use Rattle.druid_serve.proofs.node.load_named.Goals.{then-is_segment_file+in_ok-load_file, else-is_segment_file}
+use Rattle.druid_serve_node.specs.Files.{is_segment_file, IsTaken}
+use Rattle.druid_serve_node.proofs.FolderLemmas.{named_more, taken}
+use Rattle.druid_serve_node.proofs.node.load_named.Goals as goal
+use Rattle.druid_serve_node.proofs.node.load_named.Goals.{then-is_segment_file+in_ok-load_file, else-is_segment_file}
 
 pub loop-name-preserved : goal.loop-name-preserved
 loop-name-preserved g c = elim c.if-is_segment_file.branch [

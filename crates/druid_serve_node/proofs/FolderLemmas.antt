@@ -7,7 +7,7 @@ use Rattle.std.proofs.lemmas.List.Elements.{All-push}
 use Rattle.druid_rows.specs.Segment.{Segment}
 use Rattle.druid_store.specs.Folder.{Content, names_of, read_part}
 use Rattle.druid_node.specs.Files.{file_at}
-use Rattle.druid_serve.specs.Files.{IsTaken}
+use Rattle.druid_serve_node.specs.Files.{IsTaken}
 
 -- one name more
 pub named_more : (P : List ℕ → Type 0) (names : List (String Global)) (i : ℕ) (item : String Global) → i < length names → item ≡ slice_index_or names i item

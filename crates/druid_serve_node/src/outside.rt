@@ -12,7 +12,7 @@ pub const PEER_SECONDS: u64 = 30;
 pub const REST_MILLISECONDS: u64 = 10;
 
 /// A listener at an address.
-pub(crate) fn listen<R: Net<Listener = TcpListener, Stream = TcpStream>>(
+pub fn listen<R: Net<Listener = TcpListener, Stream = TcpStream>>(
     rt: &R,
     address: &str,
 ) -> Result<TcpListener, DeviceFailed> {
@@ -26,7 +26,7 @@ pub(crate) fn listen<R: Net<Listener = TcpListener, Stream = TcpStream>>(
 }
 
 /// Limits how long a connection waits, and tells whether that could be done.
-pub(crate) fn limit(stream: &TcpStream) -> bool {
+pub fn limit(stream: &TcpStream) -> bool {
     let limit = Some(Duration::from_secs(PEER_SECONDS));
     stream.set_read_timeout(limit).is_ok() && stream.set_write_timeout(limit).is_ok()
 }
