@@ -11,7 +11,7 @@ import os, shutil, subprocess, tempfile
 TOP = os.path.dirname(os.path.dirname(os.path.abspath(__file__)))
 PLACE = os.path.join(tempfile.gettempdir(), 'druid_cluster_bench_broker')
 CRATES = ['druid_stream', 'druid_time', 'druid_segid', 'druid_shard', 'druid_timeline', 'druid_changes', 'druid_sync', 'druid_inventory', 'druid_filter', 'druid_rows',
-          'druid_query', 'druid_asked_text', 'druid_query_text', 'druid_partial', 'druid_partial_text', 'druid_segfile', 'druid_store', 'druid_wire', 'druid_node', 'druid_published', 'druid_scatter',
+          'druid_query', 'druid_asked_text', 'druid_query_text', 'druid_partial', 'druid_partial_text', 'druid_segfile', 'druid_store', 'druid_message', 'druid_link', 'druid_wire', 'druid_node', 'druid_published', 'druid_scatter',
           'druid_broker']
 
 
@@ -21,7 +21,7 @@ def build():
         kept = [line for line in f if line.split(':')[0] in CRATES]
     with open(os.path.join(PLACE, 'crates.txt'), 'w') as f:
         f.writelines(kept)
-        f.write('broker: druid_broker druid_scatter druid_published druid_node druid_inventory druid_partial_text druid_partial druid_query_text druid_asked_text druid_query druid_rows druid_wire '
+        f.write('broker: druid_broker druid_scatter druid_published druid_node druid_inventory druid_partial_text druid_partial druid_query_text druid_asked_text druid_query druid_rows druid_wire druid_link druid_message '
                 'druid_shard druid_segid druid_time druid_stream anyhow\n')
     for name in CRATES:
         shutil.copytree(os.path.join(TOP, 'crates', name), os.path.join(PLACE, 'crates', name), dirs_exist_ok=True)

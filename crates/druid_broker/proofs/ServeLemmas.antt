@@ -2,11 +2,11 @@
 use Rattle.std.proofs.Common.{◌≡◌, ◌⊎◌, ℕ, Bool, true, false, List, [], codes, bytes_eq, Option, Some, None, IfSome, Result, Ok, Err, IfOk, IfErr, refl, sym, ap, subst, ◌∙◌, inl, inr}
 use Rattle.druid_shard.specs.Mark.{Point}
 use Rattle.druid_inventory.specs.Entry.{Entry}
-use Rattle.druid_wire.specs.Links.{Came}
-use Rattle.druid_wire.specs.Messages.{RequestValue, IsRequest}
-use Rattle.druid_wire.specs.Served.{path_of}
+use Rattle.druid_link.specs.Links.{Came}
+use Rattle.druid_message.specs.Requests.{RequestValue, path_of}
+use Rattle.druid_wire.specs.Messages.{IsRequest}
 use Rattle.druid_wire.specs.Served.{IsSent, IsServed, IsCutShort, FailsToServe}
-use Rattle.druid_wire.specs.declared.fault.WireFault.{WireFault}
+use Rattle.druid_message.specs.declared.fault.WireFault.{WireFault}
 use Rattle.druid_wire.proofs.ServeLemmas.{WasRead, served, unsent}
 use Rattle.druid_broker.specs.Routes.{Route, health, query, sources, load_status, entry, nowhere, route_of, AnswersPost, AnswersAt, Responds, IsOutOfMemory, KeepsLinks}
 use Rattle.druid_broker.specs.Views.{Reads, TakesInventory, AnswersStale, RespondsAt, RespondsBy, KeepsView}

@@ -7,8 +7,8 @@ use Rattle.druid_inventory.specs.Entry.{Entry, ask_of}
 use Rattle.druid_inventory.specs.Step.{Tells, RefusedAt}
 use Rattle.druid_inventory.specs.declared.fault.ApplyFault.{ApplyFault}
 use Rattle.druid_inventory.specs.declared.fault.ApplyFault.TheVariants as apply
-use Rattle.druid_wire.specs.Links.{Came}
-use Rattle.druid_wire.specs.Messages.{RequestValue}
+use Rattle.druid_link.specs.Links.{Came}
+use Rattle.druid_message.specs.Requests.{RequestValue}
 use Rattle.druid_broker.specs.Turns.{Fetches, ask_request, IsFetched, IsFetchedFrom, FailsTurn}
 use Rattle.druid_broker.specs.declared.fault.TurnFault.{TurnFault}
 use Rattle.druid_broker.specs.declared.fault.TurnFault.TheVariants as turn

@@ -12,7 +12,7 @@ use Rattle.druid_partial_text.specs.Written.{result_text}
 use Rattle.druid_partial_text.specs.Answers.{shortfall_text}
 use Rattle.druid_scatter.specs.Plan.{Pair, IsPlanOf}
 use Rattle.druid_scatter.specs.Gathered.{Exchange, AreMade, IsGathered}
-use Rattle.druid_wire.specs.Links.{Came}
+use Rattle.druid_link.specs.Links.{Came}
 use Rattle.druid_wire.specs.Served.{Tells}
 
 -- the rows are whole, or what is missing is told beside them

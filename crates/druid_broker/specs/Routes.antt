@@ -12,9 +12,10 @@ use Rattle.druid_shard.specs.declared.reply.Body.{Body}
 use Rattle.druid_sync.specs.Written.{reply_text}
 use Rattle.druid_inventory.specs.Entry.{Entry, IsUnsynced, IsEntryOf}
 use Rattle.druid_inventory.specs.Sources.{HasSource}
-use Rattle.druid_wire.specs.Links.{Came}
-use Rattle.druid_wire.specs.Messages.{RequestValue, IsRequest}
-use Rattle.druid_wire.specs.Served.{path_of, Tells, Allows}
+use Rattle.druid_link.specs.Links.{Came}
+use Rattle.druid_message.specs.Requests.{RequestValue, path_of}
+use Rattle.druid_wire.specs.Messages.{IsRequest}
+use Rattle.druid_wire.specs.Served.{Tells, Allows}
 use Rattle.druid_broker.specs.Queries.{AnswersQuery, WantsMemory}
 
 -- where requests go

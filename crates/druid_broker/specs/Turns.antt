@@ -10,11 +10,12 @@ use Rattle.druid_sync.specs.declared.fault.SyncFault.TheVariants as sync
 use Rattle.druid_inventory.specs.Entry.{Entry, ask_of}
 use Rattle.druid_inventory.specs.Step.{StepsAt, RefusedAt}
 use Rattle.druid_inventory.specs.declared.fault.Outcome.{Outcome}
-use Rattle.druid_wire.specs.Links.{Came}
-use Rattle.druid_wire.specs.Messages.{RequestValue, IsResponse, ResponseSays, HasFault, IsOfBytes}
+use Rattle.druid_link.specs.Links.{Came}
+use Rattle.druid_message.specs.Requests.{RequestValue}
+use Rattle.druid_wire.specs.Messages.{IsResponse, ResponseSays, HasFault, IsOfBytes}
 use Rattle.druid_wire.specs.Written.{request_text}
-use Rattle.druid_wire.specs.declared.fault.WireFault.{WireFault}
-use Rattle.druid_wire.specs.declared.fault.WireFault.TheVariants as wire
+use Rattle.druid_message.specs.declared.fault.WireFault.{WireFault}
+use Rattle.druid_message.specs.declared.fault.WireFault.TheVariants as wire
 use Rattle.druid_broker.specs.declared.fault.TurnFault.{TurnFault}
 use Rattle.druid_broker.specs.declared.fault.TurnFault.TheVariants.{Wire, Status, Reply, Apply, Memory}
 

@@ -9,9 +9,9 @@ use Rattle.druid_published.specs.Told.{TellsRead}
 use Rattle.druid_published.specs.declared.fault.PublishFault.TheVariants.{Stale}
 use Rattle.druid_query.specs.Query.{Query}
 use Rattle.druid_query.specs.Read.{IsReadOf}
-use Rattle.druid_wire.specs.Links.{Came}
-use Rattle.druid_wire.specs.Messages.{RequestValue}
-use Rattle.druid_wire.specs.Served.{path_of, Tells}
+use Rattle.druid_link.specs.Links.{Came}
+use Rattle.druid_message.specs.Requests.{RequestValue, path_of}
+use Rattle.druid_wire.specs.Served.{Tells}
 use Rattle.druid_broker.specs.Routes.{Route, health, query, sources, load_status, entry, nowhere, route_of, AnswersAt, IsOutOfMemory}
 
 -- the view reads this inventory: it has a mark for each that the view knew, none below it, and the view knows them then

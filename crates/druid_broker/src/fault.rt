@@ -2,8 +2,8 @@ ghost use Rattle.std.specs.Prelude.{◌≡◌};
 ghost use Rattle.druid_broker.specs.declared.fault.TurnFault.TheVariants.{Memory};
 
 use druid_inventory::ApplyFault;
+use druid_message::WireFault;
 use druid_sync::SyncFault;
-use druid_wire::WireFault;
 use std::alloc::AllocError;
 use thiserror::Error;
 

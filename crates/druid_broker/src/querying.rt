@@ -10,10 +10,10 @@ ghost use Rattle.druid_broker.specs.Routes.{IsOutOfMemory, AnswersPost};
 
 use crate::response::Response;
 use druid_inventory::Inventory;
+use druid_link::Link;
 use druid_partial_text::{result_text, shortfall_text};
 use druid_query::{Query, QueryFault, refusal_text};
 use druid_scatter::{Answer, Pick, gather, plan};
-use druid_wire::Link;
 use http::StatusCode;
 use std::alloc::{AllocError, Global};
 use std::thread::Threads;

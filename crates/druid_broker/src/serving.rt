@@ -6,9 +6,11 @@ ghost use Rattle.druid_broker.specs.Views.{RespondsBy, KeepsView};
 
 use crate::responding::respond;
 use crate::routes::Routes;
+use druid_link::Link;
+use druid_message::WireFault;
 use druid_published::{NodeList, View};
 use druid_scatter::Pick;
-use druid_wire::{Link, WireFault, read_request, refuse_request, send_response};
+use druid_wire::{read_request, refuse_request, send_response};
 use std::alloc::Global;
 use std::io::{BufRead, Write};
 use std::sync::Wait;

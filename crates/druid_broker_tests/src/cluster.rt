@@ -4,6 +4,8 @@ ghost use Rattle.druid_inventory.specs.Join.{names_of};
 
 use druid_broker::{Routes, serve_one, sync_turn};
 use druid_inventory::{Inventory, MAX_NODES};
+use druid_link::{Link, MAX_EXCHANGE};
+use druid_message::WireFault;
 use druid_node::{DataNode, NodeState};
 use druid_published::{NodeList, Publisher, View, open};
 use druid_rows::{Row, Schema, Segment};
@@ -11,7 +13,7 @@ use druid_scatter::Rotate;
 use druid_segid::{Name, SegmentId, Version};
 use druid_shard::{Descriptor, Mark, NodeNo};
 use druid_time::{Instant, Interval};
-use druid_wire::{Link, MAX_EXCHANGE, WireFault, response_of};
+use druid_wire::response_of;
 use std::alloc::Global;
 use std::fmt::Debug;
 use std::process::Abort;

@@ -2,8 +2,9 @@
 ghost use Rattle.std.specs.Prelude.{◌≡◌};
 
 use crate::cluster::{Handle, copy_of};
+use druid_link::Link;
+use druid_message::WireFault;
 use druid_scatter::ask_round;
-use druid_wire::{Link, WireFault};
 use std::alloc::Global;
 use std::process::Abort;
 use std::sync::{Arc, Mutex, Wait};

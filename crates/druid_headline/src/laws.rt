@@ -20,7 +20,7 @@ ghost use Rattle.druid_broker.specs.Queries.{AnswersRows};
 ghost use Rattle.druid_world.specs.World.{Life, IsInventoryOf, marks_of};
 ghost use Rattle.druid_headline.specs.Headline.{IsHeldAt, AreServedAt, HasWords, AreAmong};
 
-use druid_wire::Link;
+use druid_link::Link;
 
 /// A broker that stands at some marks in a world answers a query with what is defined over the world at these marks: where each
 /// answer that counted was honest over the segments that nodes serve there, the rows of its answer are the result over the rows

@@ -8,9 +8,10 @@ use Rattle.druid_shard.specs.Replay.{is_strict, has_room}
 use Rattle.druid_rows.specs.Segment.{Segment}
 use Rattle.druid_changes.specs.declared.fault.HistoryFault.{HistoryFault}
 use Rattle.druid_changes.specs.declared.fault.HistoryFault.TheVariants.{Served, NotServed, Full, CountAtEnd}
-use Rattle.druid_wire.specs.Messages.{RequestValue, IsRequest, RequestSays, HasFault}
+use Rattle.druid_message.specs.Requests.{RequestValue}
+use Rattle.druid_wire.specs.Messages.{IsRequest, RequestSays, HasFault}
 use Rattle.druid_wire.specs.Served.{refusal_text, IsSent, IsUnread, IsCutShort}
-use Rattle.druid_wire.specs.declared.fault.WireFault.{WireFault}
+use Rattle.druid_message.specs.declared.fault.WireFault.{WireFault}
 use Rattle.druid_wire.proofs.ServeLemmas.{WasRead}
 use Rattle.druid_node.specs.declared.fault.NodeFault.{NodeFault}
 use Rattle.druid_node.specs.declared.fault.NodeFault.TheVariants as faults

@@ -14,8 +14,8 @@ use Rattle.druid_query.specs.declared.fault.QueryFault.{QueryFault}
 use Rattle.druid_query.specs.declared.fault.QueryFault.TheVariants.{Memory}
 use Rattle.druid_query.specs.Refused.{refusal_text}
 use Rattle.druid_partial_text.specs.Answers.{NodeAnswer, answer_text}
-use Rattle.druid_wire.specs.Messages.{RequestValue}
-use Rattle.druid_wire.specs.Served.{path_of, parameters_of, Tells, Allows}
+use Rattle.druid_message.specs.Requests.{RequestValue, path_of, parameters_of}
+use Rattle.druid_wire.specs.Served.{Tells, Allows}
 use Rattle.druid_node.specs.State.{State}
 use Rattle.druid_node.specs.Answers.{IsAnswerOf}
 use Rattle.druid_node.specs.declared.routes.Route.{Route}

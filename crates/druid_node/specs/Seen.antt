@@ -7,9 +7,10 @@ use Rattle.druid_changes.specs.Kept.{IsKept}
 use Rattle.druid_changes.specs.declared.fault.HistoryFault.{HistoryFault}
 use Rattle.druid_changes.specs.declared.fault.HistoryFault.TheVariants.{Served, NotServed, Full, CountAtEnd}
 use Rattle.druid_changes.specs.declared.fault.HistoryFault.TheVariants as history
-use Rattle.druid_wire.specs.Messages.{RequestValue, IsRequest, RequestSays, HasFault}
+use Rattle.druid_message.specs.Requests.{RequestValue}
+use Rattle.druid_wire.specs.Messages.{IsRequest, RequestSays, HasFault}
 use Rattle.druid_wire.specs.Served.{refusal_text, IsSent, IsUnread, IsCutShort}
-use Rattle.druid_wire.specs.declared.fault.WireFault.{WireFault}
+use Rattle.druid_message.specs.declared.fault.WireFault.{WireFault}
 use Rattle.druid_node.specs.State.{State, IsState}
 use Rattle.druid_node.specs.Routes.{RespondsInTurn}
 use Rattle.druid_node.specs.declared.fault.NodeFault.{NodeFault}

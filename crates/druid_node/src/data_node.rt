@@ -9,12 +9,12 @@ ghost use Rattle.druid_node.specs.Seen.{IsBehind, RefusesLoad, RefusesDrop, Answ
 
 use crate::seen::{Answered, drop_as_seen, load_as_seen, respond_as_seen};
 use crate::{NodeFault, NodeState};
+use druid_message::Request;
 use druid_rows::Segment;
 use druid_segfile::{FileFault, segment_of};
 use druid_segid::SegmentId;
 use druid_shard::Mark;
 use druid_store::{Folder, StoreFault};
-use druid_wire::Request;
 use std::alloc::{AllocError, Global};
 use std::sync::{Mutex, Wait};
 

@@ -2,9 +2,9 @@ ghost use Rattle.std.specs.Prelude.{◌≡◌};
 ghost use Rattle.druid_node.specs.declared.fault.NodeFault.TheVariants.{Memory};
 
 use druid_changes::HistoryFault;
+use druid_message::WireFault;
 use druid_segfile::FileFault;
 use druid_shard::Mark;
-use druid_wire::WireFault;
 use std::alloc::{AllocError, AllocFailed};
 use thiserror::Error;
 

@@ -6,12 +6,12 @@ ghost use Rattle.druid_node.specs.Routes.{AnswersFound, AnswersAsk, AnswersSub, 
 
 use crate::routes::{Route, route_of};
 use crate::{NodeFault, NodeState};
+use druid_message::Request;
 use druid_partial_text::node_answer_text;
 use druid_query::{QueryFault, SubQuery, refusal_text};
 use druid_query_text::read_subquery;
 use druid_shard::Ask;
 use druid_sync::{read_ask, reply_text};
-use druid_wire::Request;
 use http::StatusCode;
 use std::alloc::Global;
 

@@ -11,10 +11,10 @@ ghost use Rattle.druid_node.specs.Routes.{RespondsInTurn};
 ghost use Rattle.druid_node.specs.Seen.{mark_of, IsBehind, IsAtLeast, RefusesAsSeen, AnswersFrom, text_of};
 
 use crate::{NodeFault, NodeState};
+use druid_message::Request;
 use druid_rows::Segment;
 use druid_segid::SegmentId;
 use druid_shard::Mark;
-use druid_wire::Request;
 use http::StatusCode;
 
 // What a state answers to a request, and its mark.

@@ -3,14 +3,15 @@ ghost use Rattle.std.specs.Prelude.{◌≡◌, ◌≢◌, ◌⊎◌, ℕ, List, 
 ghost use Rattle.std.specs.Io.KnownBytes.{Keeps};
 ghost use Rattle.std.specs.declared.cmp.Ordering.TheVariants.{Greater};
 ghost use Rattle.druid_shard.specs.Mark.{Point, mark_cmp};
-ghost use Rattle.druid_wire.specs.declared.fault.WireFault.{WireFault};
+ghost use Rattle.druid_message.specs.declared.fault.WireFault.{WireFault};
 ghost use Rattle.druid_wire.specs.Served.{refusal_text, IsSent, IsCutShort};
 ghost use Rattle.druid_node.specs.Seen.{IsBehind, AnswersFrom, AnswersSince, IsServedAsSeen, IsPassedBy, IsUnserved, text_of};
 
 use crate::seen::Answered;
 use crate::{DataNode, NodeFault};
+use druid_message::{Request, WireFault};
 use druid_shard::Mark;
-use druid_wire::{Request, WireFault, read_request, refuse_request, send_response};
+use druid_wire::{read_request, refuse_request, send_response};
 use std::io::{BufRead, Write};
 use std::sync::Wait;
 

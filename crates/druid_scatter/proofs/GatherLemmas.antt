@@ -8,7 +8,7 @@ use Rattle.druid_query.specs.Asked.{Asked}
 use Rattle.druid_query.specs.Query.{Query}
 use Rattle.druid_partial.specs.Groups.{IsResult}
 use Rattle.druid_partial.specs.Rows.{Partial, kinds_of}
-use Rattle.druid_wire.specs.Links.{Came}
+use Rattle.druid_link.specs.Links.{Came}
 use Rattle.druid_scatter.specs.declared.fault.GatherFault.{GatherFault}
 use Rattle.druid_scatter.specs.Plan.{Pair, place_cmp}
 use Rattle.druid_scatter.specs.Gathered.{Exchange, Gives, AreMade, IsGathered}

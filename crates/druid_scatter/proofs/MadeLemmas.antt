@@ -7,7 +7,7 @@ use Rattle.std.proofs.lemmas.Option.{same_Some, slice_get_within, slice_get-get_
 use Rattle.druid_query.specs.Asked.{Asked}
 use Rattle.druid_query.specs.Query.{Query}
 use Rattle.druid_query.specs.SubQuery.{SubQuery}
-use Rattle.druid_wire.specs.Links.{Came}
+use Rattle.druid_link.specs.Links.{Came}
 use Rattle.druid_wire.specs.Written.{request_text}
 use Rattle.druid_scatter.specs.Gathered.{Exchange, Leads, AreMade, request_for}
 use Rattle.druid_scatter.specs.Rounds.{AnswersOne, AreAnswered}

@@ -1,7 +1,7 @@
 -- Exchanges over links, made in halves.
 use Rattle.std.proofs.Common.{◌≡◌, ◌∙◌, ℕ, List, [], ◌∷◌, ◌++◌, length, map, get_or, Option, ◌<◌, sym, ap}
 use Rattle.std.proofs.lemmas.List.{get_or-map, map-append}
-use Rattle.druid_wire.specs.Links.{Came}
+use Rattle.druid_link.specs.Links.{Came}
 use Rattle.druid_scatter.specs.Rounds.{AreAnswered}
 
 -- the links of the front half, and then those of the back half

@@ -21,7 +21,7 @@ use Rattle.druid_partial.specs.Groups.{Group, IsMerge, IsResult}
 use Rattle.druid_partial.specs.Rows.{Partial, HasNumbers, IsPartial, IsPartialFor, IsGroupFor, kinds_of}
 use Rattle.druid_partial.proofs.GroupLemmas.{merge_of_results}
 use Rattle.druid_partial.proofs.MergedLemmas.{settled}
-use Rattle.druid_wire.specs.Links.{Came}
+use Rattle.druid_link.specs.Links.{Came}
 use Rattle.druid_scatter.specs.declared.fault.GatherFault.{GatherFault}
 use Rattle.druid_scatter.specs.Plan.{Pair, place_cmp}
 use Rattle.druid_scatter.specs.Gathered.{Exchange, Answers, IsLost, Gives, TellAll, AreMade}

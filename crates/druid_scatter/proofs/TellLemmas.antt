@@ -16,7 +16,7 @@ use Rattle.druid_partial_text.specs.declared.node_answer.NodeAnswer.{NodeAnswer}
 use Rattle.druid_partial.specs.Groups.{Group}
 use Rattle.druid_partial_text.specs.Read.{TellsGroups}
 use Rattle.druid_partial_text.proofs.ReadBackLemmas as back
-use Rattle.druid_wire.specs.Links.{Came}
+use Rattle.druid_link.specs.Links.{Came}
 use Rattle.druid_wire.specs.Messages.{IsResponse}
 use Rattle.druid_wire.proofs.OnceLemmas.{one_response}
 use Rattle.druid_scatter.specs.declared.fault.GatherFault.{GatherFault}

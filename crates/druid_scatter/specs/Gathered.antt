@@ -8,8 +8,9 @@ use Rattle.druid_query.specs.SubQuery.{SubQuery, subquery_text}
 use Rattle.druid_partial_text.specs.Answers.{TellsAnswer}
 use Rattle.druid_partial.specs.Groups.{Group, IsResult}
 use Rattle.druid_partial.specs.Rows.{kinds_of}
-use Rattle.druid_wire.specs.Links.{Came}
-use Rattle.druid_wire.specs.Messages.{RequestValue, IsResponse}
+use Rattle.druid_link.specs.Links.{Came}
+use Rattle.druid_message.specs.Requests.{RequestValue}
+use Rattle.druid_wire.specs.Messages.{IsResponse}
 use Rattle.druid_wire.specs.Written.{request_text}
 use Rattle.serde_json.specs.Data.{Data}
 use Rattle.druid_scatter.specs.Plan.{Pair, asked_of, place_cmp}

@@ -1,6 +1,6 @@
 -- Exchanges made over links at once.
 use Rattle.std.specs.Prelude.{◌≡◌, List, [], ◌∷◌, ℕ, Option, Some, None, All, ◌<◌}
-use Rattle.druid_wire.specs.Links.{Came}
+use Rattle.druid_link.specs.Links.{Came}
 use Rattle.druid_scatter.specs.Plan.{Pair}
 
 -- a link answers the request that it has, if it has one; else it is untouched

@@ -10,7 +10,7 @@ use Rattle.druid_query.specs.SubQuery.{SubQuery}
 use Rattle.druid_partial_text.specs.Answers.{TellsAnswer}
 use Rattle.druid_partial.specs.Groups.{Group, IsMerge, IsResult}
 use Rattle.druid_partial.specs.Rows.{Partial, kinds_of}
-use Rattle.druid_wire.specs.Links.{Came}
+use Rattle.druid_link.specs.Links.{Came}
 use Rattle.druid_wire.specs.Messages.{IsResponse}
 use Rattle.druid_wire.specs.Written.{request_text}
 use Rattle.serde_json.specs.Data.{Data}

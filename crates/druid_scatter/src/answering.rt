@@ -1,14 +1,15 @@
 //! What came back from a node, read.
 ghost use Rattle.std.specs.Prelude.{◌≡◌, ℕ, IfOk, IfSome, IfNone};
-ghost use Rattle.druid_wire.specs.Links.{came_of};
+ghost use Rattle.druid_link.specs.Links.{came_of};
 ghost use Rattle.druid_partial.specs.Rows.{kinds_of};
 ghost use Rattle.druid_scatter.specs.Gathered.{Answers, IsLost};
 ghost use Rattle.druid_scatter.specs.Waiting.{Tells, TellsNothing, exchange_of};
 
 use crate::GatherFault;
+use druid_message::WireFault;
 use druid_partial_text::{NodeAnswer, PartialFault, read_node_answer};
 use druid_query::SubQuery;
-use druid_wire::{WireFault, response_of};
+use druid_wire::response_of;
 use http::StatusCode;
 use std::alloc::Global;
 

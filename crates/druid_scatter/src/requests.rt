@@ -1,15 +1,17 @@
 //! What a round asks the nodes for.
 ghost use Rattle.std.specs.Prelude.{◌≡◌, ℕ, IfOk, OnErr, length, map, option_map};
 ghost use Rattle.std.specs.List.{range_with_len};
-ghost use Rattle.druid_wire.specs.Links.{came_of};
+ghost use Rattle.druid_link.specs.Links.{came_of};
 ghost use Rattle.druid_scatter.specs.Rounds.{AreAnswered};
 ghost use Rattle.druid_scatter.specs.Waiting.{sub_if, sub_request, wanted_of};
 
 use crate::ask_round;
 use crate::waiting::Waiting;
+use druid_link::Link;
+use druid_message::{Request, WireFault};
 use druid_query::{Asked, Query, SubQuery};
 use druid_query_text::subquery_text;
-use druid_wire::{Link, Request, WireFault, request_bytes};
+use druid_wire::request_bytes;
 use http::Method;
 use std::alloc::{AllocError, Global};
 use std::thread::Threads;

@@ -1,10 +1,11 @@
 //! Exchanges over many links.
 ghost use denote.Param.Send.{IsSync, IsSend};
 ghost use Rattle.std.specs.Prelude.{◌≡◌, List, ℕ, length, map, option_map, vec_len, IfOk, OnErr, Some};
-ghost use Rattle.druid_wire.specs.Links.{Came, came_of};
+ghost use Rattle.druid_link.specs.Links.{Came, came_of};
 ghost use Rattle.druid_scatter.specs.Rounds.{AnswersOne, AreAnswered};
 
-use druid_wire::{Link, WireFault};
+use druid_link::Link;
+use druid_message::WireFault;
 use std::alloc::{AllocError, Global};
 use std::thread::{Threads, join_mut};
 

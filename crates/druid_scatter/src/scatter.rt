@@ -7,9 +7,9 @@ ghost use Rattle.druid_scatter.specs.Rounds.{AreLinked};
 use crate::gathering::Gathering;
 use crate::waiting::{most_nodes, waiting_for};
 use crate::{Answer, GatherFault, Pick, Plan};
+use druid_link::Link;
 use druid_partial::Partial;
 use druid_query::Query;
-use druid_wire::Link;
 use std::alloc::Global;
 use std::thread::Threads;
 

@@ -1,2 +1,1 @@
-pub mod FolderLemmas
 pub mod ViewLemmas

@@ -1,6 +1,8 @@
 //! Queries, posted to the brokers, and their answers, printed.
-use crate::fault::DeviceFailed;
-use druid_wire::{Link, Request, TcpLink, WireFault, request_bytes, response_of};
+use druid_link::{Link, TcpLink};
+use druid_message::{Request, WireFault};
+use druid_serve_node::DeviceFailed;
+use druid_wire::{request_bytes, response_of};
 use http::Method;
 use std::alloc::Global;
 use std::io;

@@ -5,16 +5,15 @@ ghost use Rattle.druid_inventory.specs.Entry.{max_nodes};
 ghost use Rattle.druid_inventory.specs.Join.{names_of};
 ghost use Rattle.druid_published.specs.Floor.{Rises};
 
-use crate::fault::DeviceFailed;
 use crate::gate::Gate;
-use crate::outside::{REST_MILLISECONDS, limit};
 use druid_broker::{Routes, fetch, serve_one};
 use druid_config::NodeConfig;
 use druid_inventory::Inventory;
+use druid_link::TcpLink;
 use druid_published::{NodeList, Publisher, Receipt, View, open};
 use druid_scatter::Rotate;
+use druid_serve_node::{DeviceFailed, REST_MILLISECONDS, limit};
 use druid_shard::{NodeNo, Reply};
-use druid_wire::TcpLink;
 use std::alloc::{AllocError, Global};
 use std::io::{BufRead, BufReader, BufWriter, Write};
 use std::net::{Net, TcpListener, TcpStream};

@@ -5,12 +5,10 @@ mod asking;
 mod broker;
 mod fault;
 mod gate;
-mod node;
-mod outside;
 mod program;
 mod serving;
 
+pub use druid_serve_node::PEER_SECONDS;
 pub use fault::ServeFault;
-pub use outside::PEER_SECONDS;
 pub use program::run;
 pub use serving::serve;

@@ -1,7 +1,7 @@
 //! Clusters that are served.
 use crate::folders::{NEWER_FILE, OLDER_FILE, file_bytes, fresh_folder, put};
+use druid_link::{Link, TcpLink};
 use druid_serve::serve;
-use druid_wire::{Link, TcpLink};
 use std::alloc::Global;
 use std::fs::File;
 use std::net::{Net, TcpListener, TcpStream};

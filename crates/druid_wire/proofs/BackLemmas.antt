@@ -10,7 +10,8 @@ use Rattle.httparse.specs.Grammar.{AllPass, IsToken, is_token_byte, is_uri_byte,
 use Rattle.httparse.specs.Spans.{name_and_value}
 use Rattle.httparse.proofs.GrammarLemmas.{print_request-append, print_response-append}
 use Rattle.druid_wire.specs.Frame.{IsFramed}
-use Rattle.druid_wire.specs.Messages.{RequestValue, IsRequest, IsResponse, request_length, response_length, body_length, length_or}
+use Rattle.druid_message.specs.Requests.{RequestValue}
+use Rattle.druid_wire.specs.Messages.{IsRequest, IsResponse, request_length, response_length, body_length, length_or}
 use Rattle.druid_wire.specs.Heads.{length_told}
 use Rattle.druid_wire.specs.Written.{fields_text, request_head, request_text, phrase_of, response_head, response_text}
 use Rattle.druid_wire.specs.declared.length.TheConstants.{MAX_BODY}

@@ -4,7 +4,8 @@ use Rattle.std.proofs.lemmas.List.Elements.{All-head, All-tail}
 use Rattle.httparse.specs.Grammar.{LineEnd, crlf, lf, print_end, print_blank, Field, RequestHead, print_request, IsRequestHead, ResponseHead, print_response, IsResponseHead}
 use Rattle.druid_wire.specs.Frame.{IsBlank, IsTextLine, text_of, IsFramed}
 use Rattle.druid_wire.specs.Grammar.{bare_request, bare_response, IsGrammarRequest, IsGrammarResponse}
-use Rattle.druid_wire.specs.Messages.{RequestValue, IsRequest, IsResponse}
+use Rattle.druid_message.specs.Requests.{RequestValue}
+use Rattle.druid_wire.specs.Messages.{IsRequest, IsResponse}
 use Rattle.druid_wire.specs.declared.frame.TheConstants.{MAX_HEAD}
 use Rattle.druid_wire.proofs.FramedLemmas.{first_line, text_not_blank}
 use Rattle.druid_wire.proofs.GrammarLines.{before_feed, blank_lines, end_blank, lines_of, request_start, request_lines, request_bare, response_start, response_lines, response_bare}

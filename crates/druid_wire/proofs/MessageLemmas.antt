@@ -6,8 +6,8 @@ use Rattle.http_header.specs.Token as header
 use Rattle.druid_wire.specs.Frame.{IsFramed}
 use Rattle.druid_wire.specs.Told.{TellsRequest, TellsResponse, LacksBody}
 use Rattle.druid_wire.specs.Messages.{RequestSays, ResponseSays, HasFault}
-use Rattle.druid_wire.specs.declared.fault.WireFault.{WireFault}
-use Rattle.druid_wire.specs.declared.fault.WireFault.TheVariants.{Cut, Read, Write, BadHead, HeadTooLong, NoLength, BodyTooLong, Connect, Memory}
+use Rattle.druid_message.specs.declared.fault.WireFault.{WireFault}
+use Rattle.druid_message.specs.declared.fault.WireFault.TheVariants.{Cut, Read, Write, BadHead, HeadTooLong, NoLength, BodyTooLong, Connect, Memory}
 use Rattle.druid_wire.specs.declared.head.RequestTold.{RequestTold}
 use Rattle.druid_wire.specs.declared.head.ResponseTold.{ResponseTold}
 

@@ -4,9 +4,10 @@ use Rattle.std.proofs.lemmas.List.{take_at, drop_at}
 use Rattle.std.specs.Prelude.{take, drop}
 use Rattle.httparse.specs.Grammar.{RequestHead, ResponseHead, ReadsResponse, status_code}
 use Rattle.httparse.proofs.GrammarLemmas.{request_unique, response_unique}
-use Rattle.druid_wire.specs.Messages.{RequestValue, IsRequestHead, IsResponseHead, RequestSays, ResponseSays, request_length, response_length, HasBadHead, HasFault, EndsInBody, IsRequest, IsResponse}
-use Rattle.druid_wire.specs.declared.fault.WireFault.{WireFault}
-use Rattle.druid_wire.specs.declared.fault.WireFault.TheVariants.{Cut, Read, Write, BadHead, HeadTooLong, NoLength, BodyTooLong, Connect, Memory}
+use Rattle.druid_message.specs.Requests.{RequestValue}
+use Rattle.druid_wire.specs.Messages.{IsRequestHead, IsResponseHead, RequestSays, ResponseSays, request_length, response_length, HasBadHead, HasFault, EndsInBody, IsRequest, IsResponse}
+use Rattle.druid_message.specs.declared.fault.WireFault.{WireFault}
+use Rattle.druid_message.specs.declared.fault.WireFault.TheVariants.{Cut, Read, Write, BadHead, HeadTooLong, NoLength, BodyTooLong, Connect, Memory}
 use Rattle.druid_wire.proofs.FramedLemmas.{one_head, not_cut, not_long}
 use Rattle.druid_wire.proofs.GrammarLines.{request_stays, response_stays}
 

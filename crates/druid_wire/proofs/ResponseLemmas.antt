@@ -5,8 +5,8 @@ use Rattle.druid_wire.specs.Frame.{IsFramed}
 use Rattle.druid_wire.specs.Heads.{NameAndValue, is_coded, length_in}
 use Rattle.druid_wire.specs.Told.{TellsResponse, LacksHead}
 use Rattle.druid_wire.specs.Messages.{length_or, body_length, HasFault, IsOfBytes, IsResponse, RequestSays, ResponseSays}
-use Rattle.druid_wire.specs.declared.fault.WireFault.{WireFault}
-use Rattle.druid_wire.specs.declared.fault.WireFault.TheVariants.{Cut, Read, Write, BadHead, HeadTooLong, NoLength, BodyTooLong, Connect, Memory}
+use Rattle.druid_message.specs.declared.fault.WireFault.{WireFault}
+use Rattle.druid_message.specs.declared.fault.WireFault.TheVariants.{Cut, Read, Write, BadHead, HeadTooLong, NoLength, BodyTooLong, Connect, Memory}
 use Rattle.druid_wire.specs.declared.head.ResponseTold.{ResponseTold}
 use Rattle.druid_wire.specs.declared.length.Length.{Length}
 use Rattle.druid_wire.specs.declared.length.Length.TheVariants.{Unsaid, Unclear, TooLong, Is}

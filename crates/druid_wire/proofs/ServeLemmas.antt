@@ -1,9 +1,10 @@
 -- What is written for what was read.
 use Rattle.std.proofs.Common.{◌≡◌, ◌⊎◌, ℕ, List, Option, Some, None, IfSome, refl, inl, inr}
 use Rattle.std.specs.Io.KnownBytes.{Keeps}
-use Rattle.druid_wire.specs.Messages.{RequestValue, IsRequest, RequestSays, HasFault}
+use Rattle.druid_message.specs.Requests.{RequestValue}
+use Rattle.druid_wire.specs.Messages.{IsRequest, RequestSays, HasFault}
 use Rattle.druid_wire.specs.Served.{refusal_text, Serves, IsSent, IsServed, IsCutShort, FailsToServe}
-use Rattle.druid_wire.specs.declared.fault.WireFault.{WireFault}
+use Rattle.druid_message.specs.declared.fault.WireFault.{WireFault}
 
 -- what is answered to a request
 abbrev pub Responding : Type 1

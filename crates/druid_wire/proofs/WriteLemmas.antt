@@ -3,11 +3,11 @@ use Rattle.std.proofs.Common.{◌≡◌, ℕ, ◌+◌, ◌<◌, ◌≤◌, ◌�
 use Rattle.std.specs.Io.KnownBytes.{Appends}
 use Rattle.std.proofs.lemmas.Bool.{le-leb, lt-leb}
 use Rattle.std.proofs.lemmas.List.{at_drop_more, at_drop_all}
-use Rattle.druid_wire.specs.Messages.{RequestValue}
+use Rattle.druid_message.specs.Requests.{RequestValue}
 use Rattle.druid_stream.specs.Fronts.{AppendsFront}
 use Rattle.druid_wire.specs.Written.{joined, LacksRequest, phrase_of, request_head, request_text, response_head, response_text, answer_text}
-use Rattle.druid_wire.specs.declared.fault.WireFault.{WireFault}
-use Rattle.druid_wire.specs.declared.fault.WireFault.TheVariants.{Write, Memory}
+use Rattle.druid_message.specs.declared.fault.WireFault.{WireFault}
+use Rattle.druid_message.specs.declared.fault.WireFault.TheVariants.{Write, Memory}
 use Rattle.druid_wire.specs.declared.length.TheConstants.{MAX_BODY}
 
 -- the text is told by an equation

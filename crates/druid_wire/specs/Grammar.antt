@@ -1,7 +1,8 @@
 -- Messages in the words of the grammar alone, which says nothing of lines.
 use Rattle.std.specs.Prelude.{◌≡◌, ◌≤◌, ℕ, List, [], ◌++◌, length, Ok}
 use Rattle.httparse.specs.Grammar.{RequestHead, ReadsRequest, print_request, ResponseHead, ReadsResponse, print_response, status_code}
-use Rattle.druid_wire.specs.Messages.{RequestValue, request_length, response_length}
+use Rattle.druid_message.specs.Requests.{RequestValue}
+use Rattle.druid_wire.specs.Messages.{request_length, response_length}
 use Rattle.druid_wire.specs.declared.frame.TheConstants.{MAX_HEAD}
 use Rattle.druid_wire.specs.declared.head.TheConstants.{MAX_FIELDS}
 

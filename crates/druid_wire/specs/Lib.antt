@@ -6,7 +6,4 @@ pub mod Messages
 pub mod Grammar
 pub mod Told
 pub mod Written
-pub mod Links
-pub mod MemoryLinks
-pub mod TcpLinks
 pub mod Served

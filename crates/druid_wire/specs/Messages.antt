@@ -4,17 +4,12 @@ use Rattle.httparse.specs.Grammar.{RequestHead, ReadsRequest, ResponseHead, Read
 use Rattle.httparse.specs.Spans.{name_and_value, RequestExceeds, ResponseExceeds}
 use Rattle.druid_wire.specs.Frame.{IsFramed, EndsInHead, IsLongHead}
 use Rattle.druid_wire.specs.Heads.{NameAndValue, is_coded, length_in}
-use Rattle.druid_wire.specs.declared.fault.WireFault.{WireFault}
-use Rattle.druid_wire.specs.declared.fault.WireFault.TheVariants.{Cut, Read, Write, BadHead, HeadTooLong, NoLength, BodyTooLong, Connect, Memory}
+use Rattle.druid_message.specs.Requests.{RequestValue}
+use Rattle.druid_message.specs.declared.fault.WireFault.{WireFault}
+use Rattle.druid_message.specs.declared.fault.WireFault.TheVariants.{Cut, Read, Write, BadHead, HeadTooLong, NoLength, BodyTooLong, Connect, Memory}
 use Rattle.druid_wire.specs.declared.length.Length.{Length}
 use Rattle.druid_wire.specs.declared.length.Length.TheVariants.{Unsaid, Unclear, TooLong, Is}
 use Rattle.druid_wire.specs.declared.head.TheConstants.{MAX_FIELDS}
-
--- a request, as it is sent and read
-pub record RequestValue : Type 0 where
-  pub method : List ℕ
-  pub target : List ℕ
-  pub body : List ℕ
 
 abbrev pub length_or : Bool → Length → Result ℕ WireFault
 length_or true Unsaid = Err NoLength

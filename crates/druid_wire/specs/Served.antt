@@ -1,21 +1,13 @@
 -- What a server writes for what it reads: the words that all servers share.
-use Rattle.std.specs.Prelude.{◌≡◌, ◌⊎◌, ◌==◌, ℕ, Bool, true, false, List, codes, length, nat_le, Option, Some, None, IfSome, if◌then◌else◌}
-use Rattle.std.specs.List.{before_first, after_first}
+use Rattle.std.specs.Prelude.{◌≡◌, ◌⊎◌, ℕ, Bool, true, false, List, codes, length, nat_le, Option, Some, None, IfSome, if◌then◌else◌}
 use Rattle.std.specs.Io.KnownBytes.{Appends, Keeps}
 use Rattle.druid_stream.specs.Fronts.{AppendsFront}
-use Rattle.druid_wire.specs.Messages.{RequestValue, IsRequest, RequestSays, HasFault}
+use Rattle.druid_message.specs.Requests.{RequestValue}
+use Rattle.druid_wire.specs.Messages.{IsRequest, RequestSays, HasFault}
 use Rattle.druid_wire.specs.Written.{answer_text}
-use Rattle.druid_wire.specs.declared.fault.WireFault.{WireFault}
-use Rattle.druid_wire.specs.declared.fault.WireFault.TheVariants.{Cut, Read, Write, BadHead, HeadTooLong, NoLength, BodyTooLong, Connect, Memory}
+use Rattle.druid_message.specs.declared.fault.WireFault.{WireFault}
+use Rattle.druid_message.specs.declared.fault.WireFault.TheVariants.{Cut, Read, Write, BadHead, HeadTooLong, NoLength, BodyTooLong, Connect, Memory}
 use Rattle.druid_wire.specs.declared.length.TheConstants.{MAX_BODY}
-
--- what stands before the first `?` of a target
-abbrev pub path_of : List ℕ → List ℕ
-path_of target = before_first (λ b. b == 63) target
-
--- what stands behind it, and nothing where there is none
-abbrev pub parameters_of : List ℕ → List ℕ
-parameters_of target = after_first (λ b. b == 63) target
 
 -- the answer has this status and this body
 pub record Tells (wanted : ℕ) (text : List ℕ) (status : ℕ) (body : List ℕ) : Type 0 where

@@ -5,9 +5,9 @@ use Rattle.std.specs.Borrow.{Bor}
 use Rattle.std.specs.Io.KnownBytes.{Keeps}
 use Rattle.http.specs.StatusCode.{reason_phrase}
 use Rattle.druid_stream.specs.Fronts.{AppendsFront}
-use Rattle.druid_wire.specs.Messages.{RequestValue}
-use Rattle.druid_wire.specs.declared.fault.WireFault.{WireFault}
-use Rattle.druid_wire.specs.declared.fault.WireFault.TheVariants.{Cut, Read, Write, BadHead, HeadTooLong, NoLength, BodyTooLong, Connect, Memory}
+use Rattle.druid_message.specs.Requests.{RequestValue}
+use Rattle.druid_message.specs.declared.fault.WireFault.{WireFault}
+use Rattle.druid_message.specs.declared.fault.WireFault.TheVariants.{Cut, Read, Write, BadHead, HeadTooLong, NoLength, BodyTooLong, Connect, Memory}
 use Rattle.druid_wire.specs.declared.length.TheConstants.{MAX_BODY}
 
 -- the fields that each message has, for a body of so many bytes, and the empty line

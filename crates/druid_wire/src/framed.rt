@@ -4,8 +4,8 @@ ghost use Rattle.druid_wire.specs.Frame.{IsPlain, IsFramed};
 ghost use Rattle.druid_wire.specs.Messages.{IsOfBytes};
 ghost use Rattle.druid_wire.specs.Told.{LacksHead};
 
-use crate::fault::WireFault;
 use crate::frame::{MAX_HEAD, is_blank};
+use druid_message::WireFault;
 
 // The first line, without its line feed, and what stands behind it; or none where no line ends.
 #[tactic(auto, using(crate::proofs::SplitLemmas::parted))]

@@ -4,8 +4,8 @@ ghost use Rattle.httparse.specs.Spans.{IsHeaderWithin, header_bytes, IsRequestWi
 ghost use Rattle.druid_wire.specs.Messages.{body_length, RequestSays, ResponseSays};
 ghost use Rattle.druid_wire.specs.Told.{TellsRequest, TellsResponse};
 
-use crate::fault::WireFault;
 use crate::length::{Length, is_coded, length_in};
+use druid_message::WireFault;
 use http::StatusCode;
 use httparse::spans::{
     EMPTY_HEADER_SPAN, HeaderSpan, RequestSpans, ResponseSpans, Span, parse_request, parse_response,

@@ -3,10 +3,11 @@ ghost use Rattle.std.specs.Prelude.{◌≡◌, ◌↔◌, ◌<◌, ◌≤◌, �
 ghost use Rattle.httparse.specs.Grammar.{AllPass, IsToken, is_uri_byte, RequestHead, ReadsRequest, print_request, ResponseHead, ReadsResponse, print_response};
 ghost use Rattle.druid_wire.specs.Frame.{IsFramed, EndsInHead, IsLongHead};
 ghost use Rattle.druid_wire.specs.Grammar.{bare_request, bare_response, IsGrammarRequest, IsGrammarResponse};
-ghost use Rattle.druid_wire.specs.Messages.{RequestValue, IsRequest, IsResponse, HasFault, RequestSays, ResponseSays};
+ghost use Rattle.druid_message.specs.Requests.{RequestValue};
+ghost use Rattle.druid_wire.specs.Messages.{IsRequest, IsResponse, HasFault, RequestSays, ResponseSays};
 ghost use Rattle.druid_wire.specs.Written.{request_head, request_text, response_text};
-ghost use Rattle.druid_wire.specs.declared.fault.WireFault.{WireFault};
-ghost use Rattle.druid_wire.specs.declared.fault.WireFault.TheVariants.{Read, Memory};
+ghost use Rattle.druid_message.specs.declared.fault.WireFault.{WireFault};
+ghost use Rattle.druid_message.specs.declared.fault.WireFault.TheVariants.{Read, Memory};
 ghost use Rattle.druid_wire.specs.declared.frame.TheConstants.{MAX_HEAD};
 ghost use Rattle.druid_wire.specs.declared.length.TheConstants.{MAX_BODY};
 

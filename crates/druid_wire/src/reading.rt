@@ -7,10 +7,9 @@ ghost use Rattle.druid_wire.specs.Told.{TellsRequest, LacksHead, LacksBody};
 ghost use Rattle.druid_wire.specs.Messages.{IsRequest, IsResponse, HasFault, RequestSays, ResponseSays};
 
 use crate::body::read_body;
-use crate::fault::WireFault;
 use crate::frame::{Found, find_head};
 use crate::head::{RequestTold, request_told, response_told};
-use crate::request::Request;
+use druid_message::{Request, WireFault};
 use http::method::MethodError;
 use http::{Method, StatusCode};
 use std::alloc::Global;

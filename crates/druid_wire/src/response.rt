@@ -2,9 +2,9 @@
 ghost use Rattle.std.specs.Prelude.{ℕ, List, IfOk, IfErr, OnErr};
 ghost use Rattle.druid_wire.specs.Messages.{IsResponse, HasFault, IsOfBytes, ResponseSays};
 
-use crate::fault::WireFault;
 use crate::framed::split_head;
 use crate::head::response_told;
+use druid_message::WireFault;
 use http::StatusCode;
 
 /// The status and the body, which is lent, of the response that stands in these bytes; what follows the body is passed over.

@@ -3,9 +3,9 @@ ghost use Rattle.std.specs.Prelude.{◌≡◌, ◌⊎◌, ℕ, List, Some, None,
 ghost use Rattle.std.specs.Io.KnownBytes.{Keeps};
 ghost use Rattle.druid_wire.specs.Served.{refusal_text, IsSent, IsCutShort};
 
-use crate::fault::WireFault;
 use crate::length::MAX_BODY;
 use crate::writing::write_response;
+use druid_message::WireFault;
 use http::StatusCode;
 use std::io::Write;
 

@@ -4,9 +4,8 @@ ghost use Rattle.std.specs.Io.KnownBytes.{Appends};
 ghost use Rattle.druid_stream.specs.Fronts.{AppendsFront};
 ghost use Rattle.druid_wire.specs.Written.{joined, phrase_of, request_text, response_text, answer_text, LacksRequest};
 
-use crate::fault::WireFault;
 use crate::length::MAX_BODY;
-use crate::request::Request;
+use druid_message::{Request, WireFault};
 use druid_stream::write_text;
 use http::StatusCode;
 use itoa::Buffer;

@@ -2,7 +2,8 @@
 use crate::printing::{beside, printed};
 use crate::rows::{Table, assert_row, assert_rows, assert_told, is_told};
 use crate::wire::{spelled, told_of};
-use druid_wire::{WireFault, read_request, read_response, write_response};
+use druid_message::WireFault;
+use druid_wire::{read_request, read_response, write_response};
 use http::StatusCode;
 use std::alloc::Global;
 use std::io;

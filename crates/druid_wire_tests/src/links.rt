@@ -2,7 +2,7 @@
 use crate::printing::{printed, text_of};
 use crate::rows::{Table, assert_rows, assert_told, is_told};
 use crate::wire::large;
-use druid_wire::{Link, MAX_EXCHANGE, MemoryLink};
+use druid_link::{Link, MAX_EXCHANGE, MemoryLink};
 use std::alloc::Global;
 use std::process::Abort;
 

@@ -2,7 +2,8 @@
 use crate::printing::{beside, printed, text_of};
 use crate::rows::{Table, assert_row, assert_rows, assert_told, halves, is_told};
 use crate::wire::spelled;
-use druid_wire::{Request, WireFault, read_request, refuse_request};
+use druid_message::{Request, WireFault};
+use druid_wire::{read_request, refuse_request};
 use std::alloc::Global;
 use std::process::Abort;
 

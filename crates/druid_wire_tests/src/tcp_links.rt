@@ -3,7 +3,7 @@ use crate::links::{REQUEST, exchanged_for};
 use crate::printing::printed;
 use crate::rows::{assert_row, assert_told, halves, is_told};
 use crate::wire::large;
-use druid_wire::{Link, MAX_EXCHANGE, TcpLink};
+use druid_link::{Link, MAX_EXCHANGE, TcpLink};
 use std::alloc::Global;
 use std::io::{Read, Write};
 use std::net::{Net, TcpListener, TcpStream};

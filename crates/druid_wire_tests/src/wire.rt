@@ -1,9 +1,10 @@
 //! Messages, read and written.
 use crate::printing::{beside, printed, text_of};
 use crate::rows::{Table, assert_row, assert_rows, assert_told, halves, is_told};
+use druid_message::{Request, WireFault};
 use druid_wire::{
-    Request, WireFault, read_request, read_response, request_bytes, response_of, send_response,
-    write_request, write_response,
+    read_request, read_response, request_bytes, response_of, send_response, write_request,
+    write_response,
 };
 use http::{Method, StatusCode};
 use std::alloc::Global;

@@ -1,5 +1,5 @@
 use Rattle.std.proofs.Common.{ap}
-use Rattle.druid_wire.specs.Links.{came_of}
+use Rattle.druid_link.specs.Links.{came_of}
 use Rattle.druid_scatter.proofs.TellLemmas.{lost_of}
 use Rattle.druid_scatter.proofs.answering.answer_of.Goals as goal
 

@@ -1,5 +1,5 @@
 use Rattle.std.proofs.Common.{option_map, rules}
-use Rattle.druid_wire.specs.Links.{came_of}
+use Rattle.druid_link.specs.Links.{came_of}
 use Rattle.druid_scatter.proofs.RoundLemmas.{answered_halves}
 use Rattle.druid_scatter.proofs.round.+ask_all+fn-ask_all-join_mut+arg2+fn-ask_all-join_mut+arg3.Goals as goal
 

@@ -1,4 +1,4 @@
-use Rattle.druid_wire.specs.declared.fault.WireFault.TheVariants.{Cut}
+use Rattle.druid_message.specs.declared.fault.WireFault.TheVariants.{Cut}
 use Rattle.druid_wire.proofs.ResponseLemmas.{lacking_head, response_head_faulty, of_bytes, body_cut, no_response_with}
 use Rattle.druid_wire.proofs.response.response_of.Goals as goal
 

@@ -1,5 +1,5 @@
 use Rattle.std.proofs.Common.{◌∙◌, sym, ap, map, option_map, length}
-use Rattle.druid_wire.specs.Links.{came_of}
+use Rattle.druid_link.specs.Links.{came_of}
 use Rattle.druid_scatter.specs.Waiting.{sub_if, wanted_of, made_from}
 use Rattle.druid_scatter.proofs.StateLemmas.{as_many_subs, subs_again, round_ok, made_by, made_err, answered_there}
 use Rattle.druid_scatter.proofs.MadeLemmas.{matched}

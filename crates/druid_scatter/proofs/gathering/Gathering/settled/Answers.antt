@@ -1,5 +1,5 @@
 use Rattle.std.proofs.Common.{map, option_map, arith}
-use Rattle.druid_wire.specs.Links.{came_of}
+use Rattle.druid_link.specs.Links.{came_of}
 use Rattle.druid_scatter.specs.Waiting.{wanted_of}
 use Rattle.druid_scatter.proofs.RoundLemmas.{mapped_at}
 use Rattle.druid_scatter.proofs.StateLemmas.{of_query_at, settled_step, behind_step, settled_all, inside_came}

@@ -1,0 +1,10 @@
+//! Links to servers: over sockets, and in memory.
+#![tactic(auto)]
+
+mod link;
+mod memory_link;
+mod tcp_link;
+
+pub use link::{Link, MAX_EXCHANGE};
+pub use memory_link::MemoryLink;
+pub use tcp_link::{EXCHANGE_SECONDS, TcpLink};

@@ -1,0 +1,291 @@
+//! Links over sockets.
+ghost use Rattle.std.specs.Prelude.{◌≡◌, ◌↔◌, ◌≤◌, ◌<◌, ◌⊎◌, length, take, string_bytes, IfOk, IfErr, IfSome, IsErrOf, OnOk};
+ghost use Rattle.std.specs.Io.KnownBytes.{Appends, Consumes, IsAtEnd};
+ghost use Rattle.std.specs.IoError.{error_kind};
+ghost use Rattle.druid_link.specs.Links.{IsLinkFault, faults_at};
+ghost use Rattle.druid_link.specs.TcpLinks.{fresh_tcp_link, limited};
+
+use crate::{Link, MAX_EXCHANGE};
+use druid_message::WireFault;
+use druid_stream::{MAX_TRIES, is_interrupted};
+use std::alloc::Global;
+use std::io::{Error, ErrorKind, Read, Write};
+use std::marker::Model;
+use std::net::{Net, OpenStream, SocketAddr, TcpStream};
+use std::time::{Clock, Duration, Instant};
+
+/// The longest that an exchange may take, in seconds, connecting included; then it fails.
+pub const EXCHANGE_SECONDS: u64 = 30;
+
+// How many bytes are read at once.
+const PART: usize = 16_384;
+
+/// A link to the server at an address, as `127.0.0.1:8082`. Each exchange makes a connection of its own, which is closed
+/// behind it. `Connect` where the text is no address of a socket, where no connection is made, or where the clock cannot be
+/// read before; `Write` where the socket fails before the request is sent whole; `Read` where the answer cannot be read to
+/// its end. All of them together may take no longer than the limit: behind the connecting it is `Read` where the time is
+/// over, or cannot be told, whether the request is being sent or the answer read. Of what the server gives nothing is
+/// claimed but how much it is.
+#[derive(Drop)]
+pub struct TcpLink<N: Net + Clock> {
+    net: N,
+    address: String,
+    limit: Duration,
+    // How many exchanges failed.
+    failed: u64,
+}
+
+impl<N: Net + Clock> Model for TcpLink<N> {
+    ghost use Rattle.std.specs.Prelude.{string_bytes};
+    ghost use Rattle.druid_link.specs.TcpLinks.{TcpLinkValue};
+
+    ghost Value = { TcpLinkValue };
+
+    ghost view = { λ a. record { address = string_bytes a.address; limit = a.limit; failed = a.failed } };
+}
+
+impl<N: Net + Clock> TcpLink<N> {
+    /// A link to the server at this address, whose exchanges may take `EXCHANGE_SECONDS`.
+    pub fn new(net: N, address: String) -> TcpLink<N>
+        ensures { result ≡ fresh_tcp_link (string_bytes address) }
+    {
+        TcpLink {
+            net,
+            address,
+            limit: Duration::from_secs(EXCHANGE_SECONDS),
+            failed: 0,
+        }
+    }
+
+    /// The same link, whose exchanges may take so long.
+    pub fn with_limit(self, limit: Duration) -> TcpLink<N>
+        ensures { result ≡ limited self limit }
+    {
+        let mut link = self;
+        link.limit = limit;
+        link
+    }
+}
+
+impl<N: Net + Clock> Link for TcpLink<N> {
+    ghost use Rattle.druid_link.specs.TcpLinks.{ExchangesOverTcp};
+
+    ghost exchanges = { ExchangesOverTcp };
+
+    ghost faults = { λ link. link.failed };
+
+    fn exchange(&mut self, alloc: Global, request: &[u8]) -> Result<Vec<u8>, WireFault> {
+        match ask(alloc, &self.net, self.address.as_str(), self.limit, request) {
+            Ok(bytes) => Ok(bytes),
+            Err(fault) => {
+                self.failed = faults_at(fault, self.failed);
+                Err(fault)
+            }
+        }
+    }
+
+    fn faults(&self) -> u64 {
+        self.failed
+    }
+}
+
+// How often the device has failed, after a fault.
+fn faults_at(fault: WireFault, failed: u64) -> u64
+    ensures { result ≡ faults_at fault failed }
+{
+    match fault {
+        WireFault::Read | WireFault::Write | WireFault::Connect => failed.saturating_add(1),
+        WireFault::Cut
+        | WireFault::BadHead
+        | WireFault::HeadTooLong
+        | WireFault::NoLength
+        | WireFault::BodyTooLong
+        | WireFault::Memory => failed,
+    }
+}
+
+// The time that an exchange has, from its start.
+#[derive(Clone, Copy)]
+struct Timer {
+    start: Instant,
+    limit: Duration,
+}
+
+impl Timer {
+    // What is left of it, which is not zero. `None` once it is over, or where the clock cannot be read.
+    fn left<C: Clock>(&self, clock: &C) -> Option<Duration> {
+        let Ok(elapsed) = self.start.elapsed(clock) else {
+            return None;
+        };
+        let left = self.limit.checked_sub(elapsed)?;
+        if left.is_zero() { None } else { Some(left) }
+    }
+}
+
+// One exchange.
+fn ask<N: Net + Clock>(
+    alloc: Global,
+    net: &N,
+    address: &str,
+    limit: Duration,
+    request: &[u8],
+) -> Result<Vec<u8>, WireFault>
+    ensures bound { IfOk result (λ bytes. length bytes.items ≤ MAX_EXCHANGE) }
+    ensures fault { IfErr result IsLinkFault }
+{
+    let Ok(start) = Instant::now(net) else {
+        return Err(WireFault::Connect);
+    };
+    let timer = Timer { start, limit };
+    let Some(mut stream) = connected(net, &timer, address) else {
+        return Err(WireFault::Connect);
+    };
+    match send_all(net, &timer, &mut stream, request) {
+        Ok(()) => {}
+        Err(fault) => return Err(fault),
+    }
+    receive_all(alloc, net, &timer, &mut stream)
+}
+
+// A connection to the server at an address, made within the time.
+fn connected<N: Net + Clock>(net: &N, timer: &Timer, address: &str) -> Option<N::Stream> {
+    let Ok(address) = address.parse::<SocketAddr>() else {
+        return None;
+    };
+    let left = timer.left(net)?;
+    TcpStream::connect_timeout(net, &address, left).ok()
+}
+
+// What a failed write tells: `Read` where it waited until its timeout was over, since the exchange took too long then, and
+// `Write` where it failed for anything else.
+fn send_fault(error: &Error) -> WireFault
+    ensures late { (result ≡ WireFault.Read) ↔
+        ((error_kind error.now ≡ ErrorKind.TimedOut) ⊎ (error_kind error.now ≡ ErrorKind.WouldBlock)) }
+    ensures fault { (result ≡ WireFault.Read) ⊎ (result ≡ WireFault.Write) }
+{
+    match error.kind() {
+        ErrorKind::TimedOut | ErrorKind::WouldBlock => WireFault::Read,
+        _ => WireFault::Write,
+    }
+}
+
+// Writes a front of a text, of one byte at least, within the time, and gives its length. `Read` where the time is over.
+#[tactic(auto, using(druid_stream::proofs::WriteLemmas::kept_twice, druid_stream::proofs::WriteLemmas::kept_appends))]
+fn send_some<C: Clock, S: Write + OpenStream>(
+    clock: &C,
+    timer: &Timer,
+    stream: &mut S,
+    text: &[u8],
+) -> Result<usize, WireFault>
+    ensures bound { IfOk result (λ n. n ≤ length text.now) }
+    ensures progress { IfOk result (λ n. 1 ≤ n) }
+    ensures ok { IfOk result
+        (λ n. Appends (S.contents stream.old) (S.contents stream.new) (take n text.now)) }
+    ensures err { IfErr result (λ fault. (fault ≡ WireFault.Read) ⊎ (fault ≡ WireFault.Write)) }
+{
+    for _ in 0..MAX_TRIES {
+        let Some(left) = timer.left(clock) else {
+            return Err(WireFault::Read);
+        };
+        if stream.set_write_timeout(Some(left)).is_err() {
+            return Err(WireFault::Write);
+        }
+        match stream.write(text) {
+            Ok(0) => return Err(WireFault::Write),
+            Ok(written) => return Ok(written),
+            Err(error) => {
+                if !is_interrupted(&error) {
+                    return Err(send_fault(&error));
+                }
+            }
+        }
+    }
+    Err(WireFault::Write)
+}
+
+// Writes a text within the time. `Read` where the time is over before it is written whole.
+fn send_all<C: Clock, S: Write + OpenStream>(
+    clock: &C,
+    timer: &Timer,
+    stream: &mut S,
+    text: &[u8],
+) -> Result<(), WireFault>
+    ensures ok { OnOk result (Appends (S.contents stream.old) (S.contents stream.new) text.now) }
+    ensures err { IfErr result (λ fault. (fault ≡ WireFault.Read) ⊎ (fault ≡ WireFault.Write)) }
+{
+    let mut rest = text;
+    while !rest.is_empty() {
+        let written = match send_some(clock, timer, stream, rest) {
+            Ok(written) => written,
+            Err(fault) => return Err(fault),
+        };
+        let (_, left) = rest.split_at(written);
+        rest = left;
+    }
+    Ok(())
+}
+
+// Reads what comes next, within the time: no bytes where the other side closed.
+fn receive_some<C: Clock, S: Read + OpenStream>(
+    clock: &C,
+    timer: &Timer,
+    stream: &mut S,
+    part: &mut [u8],
+) -> Result<usize, WireFault>
+    ensures ok { IfOk result (λ n. n ≤ length part.new) }
+    ensures room { length part.new ≡ length part.old }
+    ensures taken { IfOk result
+        (λ n. Consumes (S.remaining stream.old) (S.remaining stream.new) (take n part.new)) }
+    ensures end { IfOk result (λ n. n ≡ 0 → 0 < length part.old → IsAtEnd (S.remaining stream.new)) }
+    ensures err { IfErr result (λ fault. fault ≡ WireFault.Read) }
+{
+    for _ in 0..MAX_TRIES {
+        let Some(left) = timer.left(clock) else {
+            return Err(WireFault::Read);
+        };
+        if stream.set_read_timeout(Some(left)).is_err() {
+            return Err(WireFault::Read);
+        }
+        match stream.read(part) {
+            Ok(count) => return Ok(count),
+            Err(error) => {
+                if !is_interrupted(&error) {
+                    return Err(WireFault::Read);
+                }
+            }
+        }
+    }
+    Err(WireFault::Read)
+}
+
+// Reads all bytes until the other side closes, within the time. Each turn reads one byte at least.
+fn receive_all<C: Clock, S: Read + OpenStream>(
+    alloc: Global,
+    clock: &C,
+    timer: &Timer,
+    stream: &mut S,
+) -> Result<Vec<u8>, WireFault>
+    ensures bound { IfOk result (λ bytes. length bytes.items ≤ MAX_EXCHANGE) }
+    ensures whole { IfOk result (λ bytes. IfSome (S.remaining stream.old) (λ left. bytes.items ≡ left)) }
+    ensures too_long { IsErrOf result WireFault.BodyTooLong
+        → IfSome (S.remaining stream.old) (λ left. MAX_EXCHANGE < length left) }
+    ensures err { IfErr result
+        (λ fault. (fault ≡ WireFault.Read) ⊎ (fault ≡ WireFault.BodyTooLong) ⊎ (fault ≡ WireFault.Memory)) }
+{
+    let mut bytes = Vec::new(alloc);
+    let mut part = [0u8; PART];
+    for _turn in 0..=MAX_EXCHANGE {
+        let count = match receive_some(clock, timer, stream, &mut part) {
+            Ok(count) => count,
+            Err(fault) => return Err(fault),
+        };
+        if count == 0 {
+            return Ok(bytes);
+        }
+        if MAX_EXCHANGE - bytes.len() < count {
+            return Err(WireFault::BodyTooLong);
+        }
+        bytes.extend_from_slice(&part[..count])?;
+    }
+    unreachable!()
+}

@@ -1,0 +1,26 @@
+-- What a data node that does not start is told for.
+use Rattle.druid_node.specs.declared.fault.NodeFault.{NodeFault}
+use Rattle.druid_node.specs.declared.fault.NodeFault.TheVariants as node
+use Rattle.druid_store.specs.declared.fault.StoreFault.{StoreFault}
+use Rattle.druid_store.specs.declared.fault.StoreFault.TheVariants as store
+use Rattle.druid_serve_node.specs.declared.fault.ClusterFault.{ClusterFault}
+use Rattle.druid_serve_node.specs.declared.fault.ClusterFault.TheVariants.{BadFolder, Device}
+
+-- an incarnation file that has no number to go on from, or a device that fails
+abbrev pub of_store : StoreFault → ClusterFault
+of_store store.BadNumber = BadFolder
+of_store store.AtEnd = BadFolder
+of_store store.BadName = BadFolder
+of_store store.Device = Device
+of_store store.Memory = Device
+
+-- a segment file that a node refuses, or a device that fails
+abbrev pub of_node : NodeFault → ClusterFault
+of_node node.Device = Device
+of_node (node.Wire fault) = Device
+of_node node.Memory = Device
+of_node (node.File fault) = BadFolder
+of_node node.NameDiffers = BadFolder
+of_node (node.History fault) = BadFolder
+of_node node.NoFile = BadFolder
+of_node (node.Behind found) = BadFolder

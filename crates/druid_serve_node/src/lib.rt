@@ -1,0 +1,10 @@
+//! A data node, served: its folder, its sockets and its threads. And what comes from outside to all servers.
+#![tactic(auto)]
+
+mod fault;
+mod node;
+mod outside;
+
+pub use fault::{ClusterFault, DeviceFailed};
+pub use node::start_node;
+pub use outside::{PEER_SECONDS, REST_MILLISECONDS, limit, listen};

@@ -1,0 +1,232 @@
+//! A data node: its folder, its sockets and its threads.
+ghost use Rattle.std.specs.Prelude.{◌≡◌, ◌≢◌, ◌≤◌, All, IfOk, OnOk, map, string_bytes};
+ghost use Rattle.std.specs.declared.cmp.Ordering.TheVariants.{Greater};
+ghost use Rattle.druid_shard.specs.Mark.{mark_cmp};
+ghost use Rattle.druid_shard.specs.Reply.{max_changes};
+ghost use Rattle.druid_store.specs.Folder.{names_of};
+ghost use Rattle.druid_serve_node.specs.Files.{is_segment_file, IsTaken, HoldsSegments};
+
+use crate::fault::{ClusterFault, DeviceFailed};
+use crate::outside::{REST_MILLISECONDS, limit, listen};
+use druid_config::NodeConfig;
+use druid_node::{DataNode, NodeState};
+use druid_shard::Mark;
+use druid_store::{DiskFolder, Folder, next_incarnation};
+use std::alloc::{AllocError, Global};
+use std::fs::File;
+use std::io::{BufReader, BufWriter, Write};
+use std::net::{Net, TcpListener, TcpStream};
+use std::rt::Files;
+use std::sync::{Arc, Wait};
+use std::thread;
+use std::thread::{JoinHandle, Threads};
+use std::time::{Clock, Duration};
+
+// The end of the name of a segment file.
+const SEGMENT_END: &[u8] = b".seg";
+
+// The copies of texts.
+fn copies_of(alloc: Global, texts: &[String]) -> Result<Vec<String>, AllocError>
+    ensures { IfOk result (λ copies. map string_bytes copies.items ≡ map string_bytes texts.now) }
+{
+    let mut copies = Vec::with_capacity(alloc, texts.len())?;
+    for text in texts {
+        copies.push(String::from_str(alloc, text.as_str())?)?;
+    }
+    Ok(copies)
+}
+
+// Whether a file of that name is a segment file.
+fn is_segment_file(name: &str) -> bool
+    ensures { result ≡ is_segment_file name.now }
+{
+    name.as_bytes().ends_with(SEGMENT_END)
+}
+
+// Loads the segment files among these.
+fn load_named<R: Wait, F: Folder>(
+    rt: &R,
+    node: &DataNode,
+    folder: &mut F,
+    names: &[String],
+    seen: &mut Mark,
+) -> Result<(), ClusterFault>
+    ensures ok { F.is_honest folder.new → OnOk result (All (IsTaken (F.content folder.old)) (names_of names.now)) }
+    ensures content { F.is_honest folder.new → F.content folder.new ≡ F.content folder.old }
+    ensures honest { F.is_honest folder.new → F.is_honest folder.old }
+{
+    for name in names {
+        if is_segment_file(name.as_str()) {
+            node.load_file(rt, folder, name.as_str(), seen)?;
+        }
+    }
+    Ok(())
+}
+
+// Loads the segment files of a folder, in the order of their names.
+fn load_files<R: Wait, F: Folder>(
+    rt: &R,
+    alloc: Global,
+    node: &DataNode,
+    folder: &mut F,
+) -> Result<(), ClusterFault>
+    ensures { F.is_honest folder.new → OnOk result (HoldsSegments (F.content folder.new)) }
+{
+    let names = folder.list(alloc)?;
+    load_named(rt, node, folder, &names, &mut Mark::never())
+}
+
+// A node of a folder: its incarnation is raised before a segment is read.
+fn loaded<R: Wait, F: Folder>(
+    rt: &R,
+    alloc: Global,
+    folder: &mut F,
+    kept: usize,
+) -> Result<DataNode, ClusterFault>
+    requires some { 1 ≤ kept }
+    requires few { kept ≤ max_changes }
+    ensures { F.is_honest folder.new → OnOk result (HoldsSegments (F.content folder.new)) }
+{
+    let incarnation = next_incarnation(alloc, folder)?;
+    // A device that lies may give anything.
+    if incarnation < 1 {
+        return Err(ClusterFault::Device);
+    }
+    let node = DataNode::new(NodeState::new(alloc, incarnation, kept)?);
+    load_files(rt, alloc, &node, folder)?;
+    Ok(node)
+}
+
+// Loads files of a folder; one that is refused is passed over.
+fn load_later<R: Wait, F: Folder>(
+    rt: &R,
+    node: &DataNode,
+    folder: &mut F,
+    names: &[String],
+    seen: &mut Mark,
+)
+    ensures { mark_cmp seen.old seen.new ≢ Greater }
+{
+    for name in names {
+        drop(node.load_file(rt, folder, name.as_str(), seen));
+    }
+}
+
+// What the thread does that loads files later.
+fn load_from<R: Files<File = File> + AllocGlobal + Wait + Copy>(
+    rt: &R,
+    node: &DataNode,
+    path: String,
+    names: &[String],
+) {
+    let mut folder: DiskFolder<R> = DiskFolder::new(*rt, path);
+    load_later(rt, node, &mut folder, names, &mut Mark::never());
+}
+
+// Starts the thread that loads files once the node stands.
+fn start_loader<
+    R: Files<File = File> + AllocGlobal + Wait + Threads + Copy + Send + Sync + 'static,
+>(
+    rt: &R,
+    node: &Arc<DataNode, Global>,
+    path: String,
+    names: Vec<String>,
+) -> Result<JoinHandle<()>, DeviceFailed>
+where
+    R::Dir: Send,
+{
+    let rt = *rt;
+    let node = Arc::try_clone(node)?;
+    let job = move || load_from(&rt, &node, path, &names);
+    match thread::spawn(&rt, job) {
+        Ok(loader) => Ok(loader),
+        Err(_) => Err(DeviceFailed),
+    }
+}
+
+// Answers one connection.
+fn answer<R: Wait>(rt: &R, alloc: Global, node: &DataNode, stream: &TcpStream, seen: &mut Mark)
+    ensures { mark_cmp seen.old seen.new ≢ Greater }
+{
+    if !limit(stream) {
+        return;
+    }
+    let Ok(mut reader) = BufReader::new(alloc, stream) else {
+        return;
+    };
+    let Ok(mut writer) = BufWriter::new(alloc, stream) else {
+        return;
+    };
+    if node.serve_one(rt, &mut reader, &mut writer, seen).is_ok() {
+        drop(writer.flush());
+    }
+}
+
+// Answers connections.
+fn work<R: Wait + Clock>(
+    rt: &R,
+    alloc: Global,
+    node: &DataNode,
+    listener: &TcpListener,
+    seen: &mut Mark,
+)
+    ensures { mark_cmp seen.old seen.new ≢ Greater }
+{
+    for stream in listener.incoming() {
+        match stream {
+            Ok(stream) => answer(rt, alloc, node, &stream, seen),
+            Err(_) => thread::sleep(rt, Duration::from_millis(REST_MILLISECONDS)),
+        }
+    }
+}
+
+// Starts a thread that answers connections.
+fn start_worker<R: Wait + Threads + Clock + Copy + Send + Sync + 'static>(
+    rt: &R,
+    alloc: Global,
+    node: &Arc<DataNode, Global>,
+    listener: &Arc<TcpListener, Global>,
+) -> Result<(), DeviceFailed> {
+    let rt = *rt;
+    let node = Arc::try_clone(node)?;
+    let listener = Arc::try_clone(listener)?;
+    let job = move || work(&rt, alloc, &node, &listener, &mut Mark::never());
+    match thread::spawn(&rt, job) {
+        Ok(worker) => {
+            drop(worker);
+            Ok(())
+        }
+        Err(_) => Err(DeviceFailed),
+    }
+}
+
+/// Starts a data node: raises its incarnation, loads the segment files of its folder, listens, and starts its threads. It
+/// gives the thread that loads the files that come later.
+pub fn start_node<
+    R: Files<File = File>
+        + Net<Listener = TcpListener, Stream = TcpStream>
+        + AllocGlobal
+        + Wait
+        + Threads
+        + Clock
+        + Copy
+        + Send
+        + Sync
+        + 'static,
+>(rt: &R, alloc: Global, config: &NodeConfig, kept: usize) -> Result<JoinHandle<()>, ClusterFault>
+where
+    R::Dir: Send,
+    requires some { 1 ≤ kept }
+    requires few { kept ≤ max_changes }
+{
+    let path = String::from_str(alloc, config.folder())?;
+    let mut folder: DiskFolder<R> = DiskFolder::new(*rt, String::from_str(alloc, path.as_str())?);
+    let node = Arc::new(alloc, loaded(rt, alloc, &mut folder, kept)?)?;
+    let listener = Arc::new(alloc, listen(rt, config.address())?)?;
+    let loads = copies_of(alloc, config.loads())?;
+    let loader = start_loader(rt, &node, path, loads)?;
+    for _ in 0..config.workers() {
+        start_worker(rt, alloc, &node, &listener)?;
+    }
+    Ok(loader)
+}
