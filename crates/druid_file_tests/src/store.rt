@@ -1,7 +1,7 @@
 use crate::printing::{assert_prints, printed};
-use druid_store::{
-    DiskFolder, Folder, MAX_FILE, MemoryFolder, StoreFault, is_file_name, next_incarnation,
-};
+use druid_folder::{Folder, MAX_FILE, StoreFault, is_file_name};
+use druid_incarnation::next_incarnation;
+use druid_store::{DiskFolder, MemoryFolder};
 use std::alloc::Global;
 use std::path::PathBuf;
 use std::process::Abort;

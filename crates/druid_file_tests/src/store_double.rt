@@ -1,4 +1,5 @@
-use druid_store::{DiskFolder, Folder, StoreFault};
+use druid_folder::{Folder, StoreFault};
+use druid_store::DiskFolder;
 use std::alloc::{Allocator, Global};
 use std::cell::{Cell, RefCell};
 use std::fs::{Metadata, OpenFile, OpenOptions};

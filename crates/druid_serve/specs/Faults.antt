@@ -4,8 +4,8 @@ use Rattle.druid_config.specs.declared.fault.ConfigFault.{ConfigFault}
 use Rattle.druid_config.specs.declared.fault.ConfigFault.TheVariants as config
 use Rattle.druid_node.specs.declared.fault.NodeFault.{NodeFault}
 use Rattle.druid_node.specs.declared.fault.NodeFault.TheVariants as node
-use Rattle.druid_store.specs.declared.fault.StoreFault.{StoreFault}
-use Rattle.druid_store.specs.declared.fault.StoreFault.TheVariants as store
+use Rattle.druid_folder.specs.declared.fault.StoreFault.{StoreFault}
+use Rattle.druid_folder.specs.declared.fault.StoreFault.TheVariants as store
 use Rattle.druid_serve.specs.declared.fault.ClusterFault.{ClusterFault}
 use Rattle.druid_serve.specs.declared.fault.ClusterFault.TheVariants.{BadFolder, Device}
 use Rattle.druid_serve.specs.declared.fault.ServeFault.{ServeFault}

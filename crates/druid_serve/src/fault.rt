@@ -4,8 +4,8 @@ ghost use Rattle.druid_serve.specs.declared.fault.ClusterFault.TheVariants.{Devi
 
 use druid_command_line::Exit;
 use druid_config::ConfigFault;
+use druid_folder::StoreFault;
 use druid_node::NodeFault;
-use druid_store::StoreFault;
 use std::alloc::{AllocError, AllocFailed};
 use thiserror::Error;
 
