@@ -8,6 +8,14 @@ pub(crate) fn printed<T: Display>(rt: &impl Abort, alloc: Global, value: &T) -> 
     format!(in alloc; "{value}").expect(rt, "memory")
 }
 
+/// Asserts that each value prints the text beside it.
+pub(crate) fn assert_prints<T: Display>(rt: &impl Abort, alloc: Global, values: &[(T, &str)]) {
+    for (value, text) in values {
+        let told = printed(rt, alloc, value);
+        assert!(rt; told.as_str() == *text, "{told}");
+    }
+}
+
 /// What two values print, one beside the other.
 pub(crate) fn beside<T: Display, U: Display>(
     rt: &impl Abort,

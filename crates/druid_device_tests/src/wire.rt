@@ -1,6 +1,6 @@
 //! Messages, read and written.
 use crate::printing::{beside, printed, text_of};
-use crate::rows::{Table, assert_row, assert_rows, assert_told, halves, is_told};
+use crate::table::{Table, assert_row, assert_rows, assert_told, halves, is_told};
 use druid_wire::{
     Request, WireFault, read_request, read_response, request_bytes, response_of, send_response,
     write_request, write_response,

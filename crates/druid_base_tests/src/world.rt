@@ -1,13 +1,9 @@
 use crate::printing::{assert_printed, assert_told, owned, printed};
+use crate::rows::{change, mark_told, parsed, push_partitions};
 use druid_inventory::Inventory;
-use druid_segid::{Name, SegmentId, Version};
-use druid_shard::{Change, Descriptor};
-use druid_time::Interval;
 use druid_world::{Event, Sim, SimFault};
 use std::alloc::Global;
-use std::fmt::{Debug, Write};
 use std::process::Abort;
-use std::str::FromStr;
 
 // A run of one node and two brokers, where two changes are kept: an event, what it is answered, and what broker 0 has
 // of the node after it. Then broker 1 has the same.
@@ -80,31 +76,6 @@ restart 0 = ok
 cut 2 = ok
 fail 1 0 = ok";
 
-// What a word of a row says.
-fn parsed<T: FromStr<Err: Debug + Drop>>(rt: &impl Abort, word: &str) -> T {
-    word.parse().expect(rt, "another word")
-}
-
-// A segment whose chunk has one core partition.
-pub(crate) fn segment(rt: &impl Abort, alloc: Global, partition: u16) -> Descriptor {
-    let source = Name::new(alloc, "wiki").expect(rt, "no name");
-    let day = Interval::parse("2024-01-01/2024-01-02").expect(rt, "no interval");
-    let version = Version::new(alloc, "v1").expect(rt, "no version");
-    let id = SegmentId::new(source, day, version, partition);
-    Descriptor::new(id, 1, 7).expect(rt, "core")
-}
-
-// Of `+3` the load of partition 3, and of `-3` the drop.
-fn change(rt: &impl Abort, alloc: Global, text: &str) -> Change {
-    match text.strip_prefix('+') {
-        Some(partition) => Change::Load(segment(rt, alloc, parsed(rt, partition))),
-        None => {
-            let partition = text.strip_prefix('-').expect(rt, "no change");
-            Change::Drop(segment(rt, alloc, parsed(rt, partition)))
-        }
-    }
-}
-
 // An event of two words.
 fn short_event(rt: &impl Abort, word: &str, number: &str) -> Event {
     let packet = parsed(rt, number);
@@ -169,18 +140,10 @@ fn stepped(rt: &impl Abort, alloc: Global, sim: &mut Sim, text: &str) -> String 
     }
 }
 
-// The mark of node 0.
-fn mark_told(rt: &impl Abort, alloc: Global, inventory: &Inventory) -> String {
-    let mark = inventory.mark(0).expect(rt, "no node");
-    format!(in alloc; "{} {}", mark.incarnation(), mark.count()).expect(rt, "memory")
-}
-
 // The mark of node 0 and its partitions.
 fn told(rt: &impl Abort, alloc: Global, inventory: &Inventory) -> String {
-    let mut text = mark_told(rt, alloc, inventory);
-    for segment in inventory.segments(0).expect(rt, "no node") {
-        write!(text, " {}", segment.id().partition()).expect(rt, "memory");
-    }
+    let mut text = mark_told(rt, alloc, inventory.mark(0).expect(rt, "no node"));
+    push_partitions(rt, &mut text, inventory.segments(0).expect(rt, "no node"));
     text
 }
 

@@ -1,6 +1,6 @@
 //! Requests, taken apart and refused.
 use crate::printing::{beside, printed, text_of};
-use crate::rows::{Table, assert_row, assert_rows, assert_told, halves, is_told};
+use crate::table::{Table, assert_row, assert_rows, assert_told, halves, is_told};
 use crate::wire::spelled;
 use druid_wire::{Request, WireFault, read_request, refuse_request};
 use std::alloc::Global;

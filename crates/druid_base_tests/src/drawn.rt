@@ -2,7 +2,7 @@
 //! replay of the node's changes gives.
 ghost use Rattle.std.specs.Prelude.{◌<◌};
 
-use crate::world::segment;
+use crate::rows::descriptor;
 use druid_inventory::Inventory;
 use druid_shard::{Change, Mark, NodeNo};
 use druid_world::{Event, Sim};
@@ -123,7 +123,7 @@ fn draw(draws: &mut Draws, packets: usize) -> Drawn {
 }
 
 fn change(rt: &impl Abort, alloc: Global, load: bool, partition: u16) -> Change {
-    let segment = segment(rt, alloc, partition);
+    let segment = descriptor(rt, alloc, partition);
     if load {
         Change::Load(segment)
     } else {

@@ -1,7 +1,7 @@
 //! Links over sockets of this machine.
 use crate::links::{REQUEST, exchanged_for};
 use crate::printing::printed;
-use crate::rows::{assert_row, assert_told, halves, is_told};
+use crate::table::{assert_row, assert_told, halves, is_told};
 use crate::wire::large;
 use druid_wire::{Link, MAX_EXCHANGE, TcpLink};
 use std::alloc::Global;

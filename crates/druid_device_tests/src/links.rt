@@ -1,6 +1,6 @@
 //! Links in memory.
 use crate::printing::{printed, text_of};
-use crate::rows::{Table, assert_rows, assert_told, is_told};
+use crate::table::{Table, assert_rows, assert_told, is_told};
 use crate::wire::large;
 use druid_wire::{Link, MAX_EXCHANGE, MemoryLink};
 use std::alloc::Global;

@@ -1,6 +1,6 @@
 //! Readers and writers that fail, that are interrupted, and that take a byte at a time.
 use crate::printing::{beside, printed};
-use crate::rows::{Table, assert_row, assert_rows, assert_told, is_told};
+use crate::table::{Table, assert_row, assert_rows, assert_told, is_told};
 use crate::wire::{spelled, told_of};
 use druid_wire::{WireFault, read_request, read_response, write_response};
 use http::StatusCode;
