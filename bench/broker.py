@@ -10,8 +10,8 @@ import os, shutil, subprocess, tempfile
 
 TOP = os.path.dirname(os.path.dirname(os.path.abspath(__file__)))
 PLACE = os.path.join(tempfile.gettempdir(), 'druid_cluster_bench_broker')
-CRATES = ['druid_stream', 'druid_time', 'druid_segid', 'druid_shard', 'druid_timeline', 'druid_changes', 'druid_sync', 'druid_inventory', 'druid_filter', 'druid_rows',
-          'druid_query', 'druid_asked_text', 'druid_query_text', 'druid_partial', 'druid_partial_text', 'druid_segfile', 'druid_store', 'druid_message', 'druid_link', 'druid_wire', 'druid_node', 'druid_published', 'druid_scatter',
+CRATES = ['druid_stream', 'druid_time', 'druid_segid', 'druid_shard', 'druid_members', 'druid_timeline', 'druid_changes', 'druid_sync', 'druid_inventory', 'druid_filter', 'druid_rows',
+          'druid_query', 'druid_asked_text', 'druid_query_text', 'druid_partial', 'druid_partial_text', 'druid_segfile', 'druid_folder', 'druid_store', 'druid_message', 'druid_link', 'druid_wire', 'druid_node', 'druid_published', 'druid_scatter',
           'druid_broker']
 
 

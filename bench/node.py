@@ -10,7 +10,7 @@ import os, shutil, subprocess, tempfile
 TOP = os.path.dirname(os.path.dirname(os.path.abspath(__file__)))
 PLACE = os.path.join(tempfile.gettempdir(), 'druid_cluster_bench_node')
 CRATES = ['druid_stream', 'druid_time', 'druid_segid', 'druid_shard', 'druid_changes', 'druid_sync', 'druid_filter', 'druid_rows', 'druid_query', 'druid_asked_text', 'druid_query_text',
-          'druid_partial', 'druid_partial_text', 'druid_segfile', 'druid_store', 'druid_message', 'druid_wire', 'druid_node']
+          'druid_partial', 'druid_partial_text', 'druid_segfile', 'druid_folder', 'druid_store', 'druid_message', 'druid_wire', 'druid_node']
 
 
 def build():
@@ -19,7 +19,7 @@ def build():
         kept = [line for line in f if line.split(':')[0] in CRATES]
     with open(os.path.join(PLACE, 'crates.txt'), 'w') as f:
         f.writelines(kept)
-        f.write('node: druid_node druid_segfile druid_store druid_wire druid_message druid_partial_text druid_partial druid_query_text druid_asked_text druid_query druid_rows druid_shard druid_segid druid_time druid_stream anyhow\n')
+        f.write('node: druid_node druid_segfile druid_store druid_folder druid_wire druid_message druid_partial_text druid_partial druid_query_text druid_asked_text druid_query druid_rows druid_shard druid_segid druid_time druid_stream anyhow\n')
     for name in CRATES:
         shutil.copytree(os.path.join(TOP, 'crates', name), os.path.join(PLACE, 'crates', name), dirs_exist_ok=True)
     crate = os.path.join(PLACE, 'crates', 'node')

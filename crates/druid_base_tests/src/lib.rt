@@ -1,15 +1,29 @@
-//! What no contract says of the crates from instants to inventories: worked examples, printed texts, and that calls
-//! succeed with ample memory. A module has the name of the crate that it tests.
+//! What no contract says of the crates from instants to inventories, of `replay` and of `druid_world`: worked examples and
+//! runs, printed texts, devices that fail, that calls succeed with ample memory, and drawn runs against a plain replay. A
+//! module has the name of the crate that it tests; `devices`, `following` and `joining` are of `replay`, and `drawn` of
+//! `druid_world`.
 #![tactic(auto)]
 
 #[cfg(test)]
 mod changes;
 #[cfg(test)]
+mod cluster;
+#[cfg(test)]
+mod devices;
+#[cfg(test)]
+mod drawn;
+#[cfg(test)]
+mod following;
+#[cfg(test)]
 mod inventory;
+#[cfg(test)]
+mod joining;
 #[cfg(test)]
 mod printing;
 #[cfg(test)]
 mod rows;
+#[cfg(test)]
+mod script;
 #[cfg(test)]
 mod segid;
 #[cfg(test)]
@@ -20,3 +34,5 @@ mod sync;
 mod time;
 #[cfg(test)]
 mod timeline;
+#[cfg(test)]
+mod world;

@@ -1,7 +1,8 @@
 use crate::printing::{assert_printed, assert_rows, assert_told, owned, printed};
 use crate::rows::{descriptor, member};
+use druid_members::Members;
 use druid_shard::{
-    Descriptor, Mark, Members, Reply, ReplyFault, ShardFault, descriptor_value, read_descriptor,
+    Descriptor, Mark, Reply, ReplyFault, ShardFault, descriptor_value, read_descriptor,
 };
 use serde_json::Value;
 use std::alloc::Global;

@@ -11,7 +11,7 @@ use Rattle.druid_time.specs.Extent.{Extent, Has}
 use Rattle.druid_segid.specs.Group.{Group, same_group, Outranks}
 use Rattle.druid_segid.proofs.GroupLemmas.{Outranks-cases, Outranks-one_way, Outranks-onward}
 use Rattle.druid_shard.specs.Described.{Described}
-use Rattle.druid_shard.specs.Members.{Member, HasPartition, IsComplete, core_count}
+use Rattle.druid_members.specs.Members.{Member, HasPartition, IsComplete, core_count}
 use Rattle.druid_shard.proofs.MemberLemmas.{Contains-cons, Contains-later, Contains-nil, Contains-map, Contains-map_back}
 use Rattle.druid_timeline.specs.Holding.{Held, held_of, members_of}
 use Rattle.druid_timeline.specs.Visible.{IsCandidate, IsVisible}

@@ -3,7 +3,7 @@ use Rattle.std.proofs.Common.{◌≡◌, ℕ, ◌<◌, List, [], ◌∷◌, map,
 use Rattle.std.specs.List.Sorted.{IsStrictlyIncreasing}
 use Rattle.std.proofs.lemmas.List.Elements.{All-head, All-tail}
 use Rattle.druid_time.specs.Extent.{Extent}
-use Rattle.druid_shard.specs.Members.{Member, SameMembers}
+use Rattle.druid_members.specs.Members.{Member, SameMembers}
 use Rattle.druid_timeline.specs.Holding.{Held, members_of, SameHeld}
 use Rattle.druid_timeline.specs.Pieces.{Told, Shown, shown_of, ArePartitions}
 use Rattle.druid_timeline.proofs.HoldingLemmas.{SameHeld-members, ArePiecesIn-same}

@@ -7,9 +7,9 @@ use Rattle.druid_segfile.specs.declared.fault.FileFault.{FileFault}
 use Rattle.druid_segfile.specs.declared.fault.FileFault.TheVariants as file
 use Rattle.druid_segfile.proofs.FrontLemmas.{within_own}
 use Rattle.druid_rows.specs.Segment.{max_text}
-use Rattle.druid_store.specs.Folder.{faults_at}
-use Rattle.druid_store.specs.declared.fault.StoreFault.{StoreFault}
-use Rattle.druid_store.specs.declared.fault.StoreFault.TheVariants as store
+use Rattle.druid_folder.specs.Folder.{faults_at}
+use Rattle.druid_folder.specs.declared.fault.StoreFault.{StoreFault}
+use Rattle.druid_folder.specs.declared.fault.StoreFault.TheVariants as store
 use Rattle.druid_shard.specs.Mark.{Point}
 use Rattle.druid_node.specs.Seen.{RefusesLoad}
 use Rattle.druid_node.specs.Files.{file_name, named, file_at, told_as, RefusesFile, IsOfFile, RefusesBytes, RefusesFound, faults_after_load}

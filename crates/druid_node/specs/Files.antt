@@ -6,8 +6,8 @@ use Rattle.druid_shard.specs.Mark.{Point}
 use Rattle.druid_segfile.specs.Reading.{segment_at}
 use Rattle.druid_segfile.specs.declared.fault.FileFault.{FileFault}
 use Rattle.druid_segfile.specs.declared.fault.FileFault.TheVariants as file
-use Rattle.druid_store.specs.Folder.{faults_at}
-use Rattle.druid_store.specs.declared.fault.StoreFault.TheVariants as store
+use Rattle.druid_folder.specs.Folder.{faults_at}
+use Rattle.druid_folder.specs.declared.fault.StoreFault.TheVariants as store
 use Rattle.druid_node.specs.Seen.{IsBehind, IsLoadRefusal}
 use Rattle.druid_node.specs.declared.fault.NodeFault.{NodeFault}
 use Rattle.druid_node.specs.declared.fault.NodeFault.TheVariants as faults

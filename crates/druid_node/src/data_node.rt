@@ -2,19 +2,19 @@ ghost use Rattle.std.specs.Prelude.{◌≡◌, ◌⊎◌, Some, Ok, IfOk, IfErr,
 ghost use Rattle.std.specs.declared.cmp.Ordering.TheVariants.{Less};
 ghost use Rattle.druid_shard.specs.Mark.{Point, mark_cmp};
 ghost use Rattle.druid_rows.specs.Segment.{Segment};
-ghost use Rattle.druid_store.specs.Folder.{IsOwnFault, read_part, bytes_read};
+ghost use Rattle.druid_folder.specs.Folder.{IsOwnFault, read_part, bytes_read};
 ghost use Rattle.druid_segfile.specs.Reading.{segment_at};
 ghost use Rattle.druid_node.specs.Files.{file_name, named, file_at, told_as, RefusesFile, IsOfFile, RefusesBytes, RefusesFound, faults_after_load};
 ghost use Rattle.druid_node.specs.Seen.{IsBehind, RefusesLoad, RefusesDrop, AnswersFrom, text_of};
 
 use crate::seen::{Answered, drop_as_seen, load_as_seen, respond_as_seen};
 use crate::{NodeFault, NodeState};
+use druid_folder::{Folder, StoreFault};
 use druid_message::Request;
 use druid_rows::Segment;
 use druid_segfile::{FileFault, segment_of};
 use druid_segid::SegmentId;
 use druid_shard::Mark;
-use druid_store::{Folder, StoreFault};
 use std::alloc::{AllocError, Global};
 use std::sync::{Mutex, Wait};
 

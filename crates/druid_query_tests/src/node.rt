@@ -1,11 +1,12 @@
 //! Data nodes over folders in memory, and what they answer to messages.
 use crate::printing::{assert_prints, filled, printed};
+use druid_folder::Folder;
 use druid_node::{DataNode, NodeFault, NodeState};
 use druid_rows::Segment;
 use druid_segfile::{read_segment, write_segment};
 use druid_segid::{Name, SegmentId};
 use druid_shard::Mark;
-use druid_store::{Folder, MemoryFolder};
+use druid_store::MemoryFolder;
 use std::alloc::Global;
 use std::process::Abort;
 use std::sync::Wait;

@@ -18,7 +18,7 @@ use Rattle.druid_segid.specs.Group.{Group as Chunk, group_of, same_group}
 use Rattle.druid_segid.specs.Identifier.{Identifier, same_identifier}
 use Rattle.druid_segid.specs.IdentifierLaws.{same_identifier-true, same_identifier-equiv}
 use Rattle.druid_shard.proofs.MemberLemmas.{Contains-cons, Contains-later, Contains-nil, Contains-map_back}
-use Rattle.druid_shard.specs.Members.{HasPartition}
+use Rattle.druid_members.specs.Members.{HasPartition}
 use Rattle.druid_timeline.specs.Holding.{Held, held_of, members_of}
 use Rattle.druid_timeline.specs.Visible.{IsVisible}
 use Rattle.druid_timeline.specs.Pieces.{Shown, AreRuns, Shows}

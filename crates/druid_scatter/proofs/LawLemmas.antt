@@ -12,7 +12,7 @@ use Rattle.druid_time.specs.Extent.{Has, AnyHas}
 use Rattle.druid_segid.specs.Group.{group_of}
 use Rattle.druid_segid.specs.Identifier.{Identifier, IsIdentifier}
 use Rattle.druid_shard.specs.Described.{Described, IsDescribed}
-use Rattle.druid_shard.specs.Members.{Member}
+use Rattle.druid_members.specs.Members.{Member}
 use Rattle.druid_shard.proofs.MemberLemmas.{Contains-map, Contains-cons, Contains-later, Contains-nil}
 use Rattle.druid_timeline.specs.Holding.{Held, SameHeld}
 use Rattle.druid_timeline.specs.Pieces.{Shown, AreRuns, IsStretch, Shows}

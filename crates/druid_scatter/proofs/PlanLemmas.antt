@@ -13,7 +13,7 @@ use Rattle.druid_time.specs.Extent.{Extent, AnyHas, SameInstants}
 use Rattle.druid_segid.specs.Group.{Group, group_of}
 use Rattle.druid_segid.specs.Identifier.{Identifier}
 use Rattle.druid_shard.specs.Described.{Described}
-use Rattle.druid_shard.specs.Members.{HasPartition}
+use Rattle.druid_members.specs.Members.{HasPartition}
 use Rattle.druid_shard.proofs.MemberLemmas.{Contains-map, Contains-map_back, Contains-flat_map, Contains-flat_map_back, Contains-cons, Contains-later, Contains-nil}
 use Rattle.druid_timeline.specs.Holding.{Held, Serving, held_of, members_of, IsServed}
 use Rattle.druid_timeline.specs.Pieces.{Shown, Told, shown_of, AreRuns, ArePiecesIn, ArePartitions}

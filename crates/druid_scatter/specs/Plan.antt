@@ -7,7 +7,7 @@ use Rattle.druid_time.specs.Extent.{AnyHas}
 use Rattle.druid_segid.specs.Group.{group_of}
 use Rattle.druid_segid.specs.Identifier.{Identifier}
 use Rattle.druid_shard.specs.Described.{Described}
-use Rattle.druid_shard.specs.Members.{HasPartition}
+use Rattle.druid_members.specs.Members.{HasPartition}
 use Rattle.druid_timeline.specs.Holding.{Held, members_of}
 use Rattle.druid_timeline.specs.Pieces.{Shown, ArePiecesIn}
 use Rattle.druid_inventory.specs.Entry.{Entry}

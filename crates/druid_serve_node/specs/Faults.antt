@@ -1,8 +1,8 @@
 -- What a data node that does not start is told for.
 use Rattle.druid_node.specs.declared.fault.NodeFault.{NodeFault}
 use Rattle.druid_node.specs.declared.fault.NodeFault.TheVariants as node
-use Rattle.druid_store.specs.declared.fault.StoreFault.{StoreFault}
-use Rattle.druid_store.specs.declared.fault.StoreFault.TheVariants as store
+use Rattle.druid_folder.specs.declared.fault.StoreFault.{StoreFault}
+use Rattle.druid_folder.specs.declared.fault.StoreFault.TheVariants as store
 use Rattle.druid_serve_node.specs.declared.fault.ClusterFault.{ClusterFault}
 use Rattle.druid_serve_node.specs.declared.fault.ClusterFault.TheVariants.{BadFolder, Device}
 

@@ -3,8 +3,8 @@ ghost use Rattle.std.specs.Prelude.{◌≡◌, ⊤};
 ghost use Rattle.druid_serve_node.specs.Faults.{of_store, of_node};
 ghost use Rattle.druid_serve_node.specs.declared.fault.ClusterFault.TheVariants.{Device};
 
+use druid_folder::StoreFault;
 use druid_node::NodeFault;
-use druid_store::StoreFault;
 use std::alloc::{AllocError, AllocFailed};
 
 /// Why a cluster whose config was read is not served.

@@ -3,15 +3,17 @@ ghost use Rattle.std.specs.Prelude.{◌≡◌, ◌≢◌, ◌≤◌, All, IfOk, 
 ghost use Rattle.std.specs.declared.cmp.Ordering.TheVariants.{Greater};
 ghost use Rattle.druid_shard.specs.Mark.{mark_cmp};
 ghost use Rattle.druid_shard.specs.Reply.{max_changes};
-ghost use Rattle.druid_store.specs.Folder.{names_of};
+ghost use Rattle.druid_folder.specs.Folder.{names_of};
 ghost use Rattle.druid_serve_node.specs.Files.{is_segment_file, IsTaken, HoldsSegments};
 
 use crate::fault::{ClusterFault, DeviceFailed};
 use crate::outside::{REST_MILLISECONDS, limit, listen};
 use druid_config::NodeConfig;
+use druid_folder::Folder;
+use druid_incarnation::next_incarnation;
 use druid_node::{DataNode, NodeState};
 use druid_shard::Mark;
-use druid_store::{DiskFolder, Folder, next_incarnation};
+use druid_store::DiskFolder;
 use std::alloc::{AllocError, Global};
 use std::fs::File;
 use std::io::{BufReader, BufWriter, Write};

@@ -2,7 +2,6 @@ pub mod MovedLemmas
 pub mod SortedLemmas
 pub mod JsonLemmas
 pub mod MemberLemmas
-pub mod SlotLemmas
 pub mod DescribedLemmas
 pub mod ReplayLemmas
 pub mod PlaceLemmas

@@ -1,10 +1,8 @@
 pub mod Each
 pub mod Described
 pub mod Json
-pub mod Members
 pub mod Mark
 pub mod Reply
 pub mod ReplyBody
 pub mod Replay
-pub mod Slots
 pub mod Orders

@@ -8,10 +8,8 @@ mod items;
 mod json;
 mod laws;
 mod mark;
-mod members;
 mod reply;
 mod sets;
-mod slot;
 
 pub use change::{Ask, Cause, Change};
 pub use descriptor::{Descriptor, MAX_CORE, Shard};
@@ -22,7 +20,6 @@ pub use json::{
 };
 pub use laws::{changes_change_one_segment, descriptors_are_read_back, replays_go_on};
 pub use mark::Mark;
-pub use members::Members;
 pub use reply::{Body, Changes, Descriptors, MAX_CHANGES, MAX_SEGMENTS, Reply, ReplyFault};
 pub use sets::{apply_change, find_segment};
 

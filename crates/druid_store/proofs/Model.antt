@@ -1,8 +1,8 @@
 -- The device that does what it is told is honest.
 use Rattle.std.proofs.Common.{◌≡◌, inl, inr, ℕ, ◌-◌, true, false, List, [], ◌∷◌, ◌++◌, Some, refl, sym, ◌∙◌, ap, subst, length, drop, arith, length-append}
-use Rattle.druid_store.proofs.Files.{torn_same}
+use Rattle.druid_folder.proofs.Files.{torn_same}
 use Rattle.druid_store.specs.Event.{Event, did_list, did_read, did_write, did_sync, did_rename, did_remove}
-use Rattle.druid_store.specs.Folder.{Content}
+use Rattle.druid_folder.specs.Folder.{Content}
 use Rattle.druid_store.specs.Honest.{Did, HonestIn}
 use Rattle.druid_store.specs.Model.{had_after, has_after, MayLeave, LeavesAfter, IsRight, AreRight, first_calls, IsHonestModel}
 

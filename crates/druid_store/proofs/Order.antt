@@ -16,8 +16,8 @@ use Rattle.std.specs.declared.cmp.Ordering.{Ordering}
 use Rattle.std.specs.String.{string_bytes, string_cmp, string_eq}
 use Rattle.std.specs.declared.alloc.Global.{Global}
 use Rattle.std.specs.declared.string.String.{String}
-use Rattle.druid_store.specs.Folder.{Content, AreInOrder, AreNames, names_of}
-use Rattle.druid_store.specs.FileName.{IsFileName}
+use Rattle.druid_folder.specs.Folder.{Content, AreInOrder, AreNames, names_of}
+use Rattle.druid_folder.specs.FileName.{IsFileName}
 
 module _ {X Y : Type 0} (f : X → Y) where
   map-cond : (b : Bool) (xs ys : List X) → map f (cond b xs ys) ≡ cond b (map f xs) (map f ys)

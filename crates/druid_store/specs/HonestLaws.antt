@@ -2,7 +2,7 @@
 use Rattle.std.specs.Prelude.{ℕ, ◌≤◌, List, [], ◌∷◌, length}
 use Rattle.std.proofs.Common.{◌≡◌, inl, inr, subst, arith}
 use Rattle.druid_store.specs.Event.{Event}
-use Rattle.druid_store.specs.Folder.{Content}
+use Rattle.druid_folder.specs.Folder.{Content}
 use Rattle.druid_store.specs.Honest.{HonestIn, LeftFrom}
 
 -- a stop may leave what is read

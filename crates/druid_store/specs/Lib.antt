@@ -1,11 +1,7 @@
 pub mod Disk
 pub mod Event
-pub mod FileName
-pub mod Folder
 pub mod Honest
 pub mod HonestLaws
-pub mod Incarnation
-pub mod Keeping
 pub mod Model
 pub mod Noted
 pub mod Record

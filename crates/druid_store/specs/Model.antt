@@ -2,7 +2,7 @@
 -- what it may.
 use Rattle.std.specs.Prelude.{◌≡◌, ℕ, ◌-◌, true, false, List, [], ◌∷◌, length, drop, Some, IfSome, IsSome}
 use Rattle.druid_store.specs.Event.{Event, did_list, did_read, did_write, did_sync, did_rename, did_remove}
-use Rattle.druid_store.specs.Folder.{Content, nothing, with_file, without, renamed, Torn, DoneOrNot, AreNames, read_part}
+use Rattle.druid_folder.specs.Folder.{Content, nothing, with_file, without, renamed, Torn, DoneOrNot, AreNames, read_part}
 use Rattle.druid_store.specs.Honest.{HonestIn, WhereDone}
 
 -- what the device has after a call, from what it had before it: a call that failed did nothing

@@ -2,7 +2,7 @@
 use Rattle.std.specs.Option.{option_map}
 use Rattle.std.specs.Result.{result_ok}
 use Rattle.druid_store.specs.Event.{Event, did_list, did_read, did_write, did_sync, did_rename, did_remove}
-use Rattle.druid_store.specs.Folder.{bytes_read, names_of}
+use Rattle.druid_folder.specs.Folder.{bytes_read, names_of}
 use Rattle.druid_store.specs.declared.log.Note.{Note}
 use Rattle.druid_store.specs.declared.log.Note.TheVariants as note
 

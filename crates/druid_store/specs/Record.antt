@@ -1,6 +1,6 @@
 -- For proofs alone: what the calls of a folder in memory have made of it. Of such a folder its clauses say enough.
 use Rattle.std.specs.Prelude.{◌≡◌, ℕ, ◌≤◌, List, [], ◌∷◌, length, take, Option, Some, None, string_bytes}
-use Rattle.druid_store.specs.Folder.{Content, nothing, with_file, without, renamed, Torn, DoneOrNot}
+use Rattle.druid_folder.specs.Folder.{Content, nothing, with_file, without, renamed, Torn, DoneOrNot}
 use Rattle.druid_store.specs.declared.memory.Call.{Call}
 use Rattle.druid_store.specs.declared.memory.Call.TheVariants.{Looked, Wrote, Synced, Renamed, Removed, Failed}
 use Rattle.druid_store.specs.declared.memory.MemoryFolder.{MemoryFolder}

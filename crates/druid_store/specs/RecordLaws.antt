@@ -2,7 +2,7 @@
 use Rattle.std.specs.Prelude.{◌≡◌, ℕ, ◌≤◌, List, [], ◌∷◌, length, Some, refl}
 use Rattle.std.proofs.Common.{inr, sym, subst, arith}
 use Rattle.std.proofs.lemmas.List.{take_all}
-use Rattle.druid_store.specs.Folder.{Content, nothing}
+use Rattle.druid_folder.specs.Folder.{Content, nothing}
 use Rattle.druid_store.specs.declared.memory.Call.{Call}
 use Rattle.druid_store.specs.declared.memory.Call.TheVariants.{Looked, Wrote, Synced, Renamed, Removed, Failed}
 use Rattle.druid_store.specs.Record.{done, content_after, LeftBy, LeftAfter, IsLeft, LeftSince}

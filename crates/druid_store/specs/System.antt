@@ -5,8 +5,8 @@ use Rattle.std.specs.declared.fs.Metadata.{Metadata}
 use Rattle.std.specs.IoError.{error_kind}
 use Rattle.std.specs.declared.io.Error.{Error}
 use Rattle.std.specs.declared.io.ErrorKind.TheVariants.{NotFound, InvalidFilename, OutOfMemory}
-use Rattle.druid_store.specs.declared.fault.StoreFault.{StoreFault}
-use Rattle.druid_store.specs.declared.fault.StoreFault.TheVariants.{Device, Memory}
+use Rattle.druid_folder.specs.declared.fault.StoreFault.{StoreFault}
+use Rattle.druid_folder.specs.declared.fault.StoreFault.TheVariants.{Device, Memory}
 
 -- the system has no such file
 abbrev pub IsMissing : Error → Type 0

@@ -1,6 +1,6 @@
 -- A device of which nothing is known: no proof can look into these definitions.
 use Rattle.std.specs.Prelude.{◌≡◌, ℕ}
-use Rattle.druid_store.specs.Folder.{Content, nothing}
+use Rattle.druid_folder.specs.Folder.{Content, nothing}
 
 -- what is read after n calls
 pub unknown_content : ℕ → Content

@@ -1,6 +1,6 @@
 ghost use Rattle.std.specs.Prelude.{ℕ, List};
 ghost use Rattle.druid_store.specs.Event.{Event};
-ghost use Rattle.druid_store.specs.Folder.{Content};
+ghost use Rattle.druid_folder.specs.Folder.{Content};
 ghost use Rattle.druid_store.specs.Model.{AreRight, IsHonestModel};
 ghost use Rattle.druid_store.specs.Unknown.{unknown_content, unknown_left, unknown_during};
 

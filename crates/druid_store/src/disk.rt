@@ -1,11 +1,12 @@
 ghost use Rattle.std.specs.Prelude.{◌≡◌, ◌+◌, ◌≤◌, length, false, None, Ok, IfOk, IfErr, IfSome, All};
 ghost use Rattle.druid_store.specs.System.{TellsFile, TellsRemoved, TellsEntry, TellsFault};
-ghost use Rattle.druid_store.specs.FileName.{is_file_name, IsFileName};
-ghost use Rattle.druid_store.specs.Folder.{AreInOrder, max_file, names_of, faults_after, IsOwnFault};
+ghost use Rattle.druid_folder.specs.FileName.{is_file_name, IsFileName};
+ghost use Rattle.druid_folder.specs.Folder.{AreInOrder, max_file, names_of, faults_after, IsOwnFault};
 
+use crate::Device;
 use crate::log::{Log, Note};
 use crate::name::put_in_order;
-use crate::{Device, Folder, MAX_FILE, StoreFault, is_file_name};
+use druid_folder::{Folder, MAX_FILE, StoreFault, is_file_name};
 use std::alloc::{AllocError, Global};
 use std::fs::{Metadata, OpenFile};
 use std::io::{ErrorKind, Read, Write};

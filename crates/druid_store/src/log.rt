@@ -2,7 +2,7 @@ ghost use Rattle.std.specs.Prelude.{◌≡◌, List, [], ◌∷◌};
 ghost use Rattle.std.specs.Borrow.{ftrue};
 ghost use Rattle.druid_store.specs.Event.{Event};
 
-use crate::StoreFault;
+use druid_folder::StoreFault;
 use std::marker::Model;
 
 // The calls made on a folder of the system, the newest first, each with its answer. Only proofs

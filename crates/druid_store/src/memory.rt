@@ -1,11 +1,11 @@
 ghost use Rattle.std.specs.Prelude.{◌≡◌, ◌∷◌, [], ◌++◌, ◌+◌, ◌≤◌, List, ℕ, Some, IfOk, string_bytes, length, OnOk, OnErr, IfErr};
 ghost use Rattle.std.specs.Option.{option_copied, option_map};
-ghost use Rattle.druid_store.specs.declared.fault.StoreFault.TheVariants.{Memory};
-ghost use Rattle.druid_store.specs.Folder.{Content, AreNames, Only, nothing, max_file, names_of, read_part};
+ghost use Rattle.druid_folder.specs.declared.fault.StoreFault.TheVariants.{Memory};
+ghost use Rattle.druid_folder.specs.Folder.{Content, AreNames, Only, nothing, max_file, names_of, read_part};
 ghost use Rattle.druid_store.specs.Record.{done, puts, content_after, file_from};
 
 use crate::name::{FileName, put_in_order};
-use crate::{Folder, MAX_FILE, StoreFault, is_file_name};
+use druid_folder::{Folder, MAX_FILE, StoreFault, is_file_name};
 use std::alloc::{AllocError, Global};
 
 // A call on a folder, with what it was given.
@@ -47,7 +47,7 @@ impl MemoryFolder {
 
 impl Folder for MemoryFolder {
     ghost use Rattle.std.specs.Prelude.{◌≡◌, length};
-    ghost use Rattle.druid_store.specs.Folder.{nothing};
+    ghost use Rattle.druid_folder.specs.Folder.{nothing};
     ghost use Rattle.druid_store.specs.Record.{calls_of, failures_of, content_after, IsLeft, LeftSince};
     ghost use Rattle.druid_store.specs.RecordLaws.{content_may_stay, now_counts, now_alone};
 

@@ -1,24 +1,8 @@
-ghost use Rattle.std.specs.Prelude.{◌≡◌, ◌||◌, ◌==◌, ◌↔◌, List, ℕ, Contains, IfOk, string_bytes};
-ghost use Rattle.std.specs.List.{list_any};
-ghost use Rattle.druid_store.specs.FileName.{is_file_name, IsFileName};
-ghost use Rattle.druid_store.specs.Folder.{AreInOrder, names_of};
+ghost use Rattle.std.specs.Prelude.{◌≡◌, ◌↔◌, List, ℕ, Contains, IfOk, string_bytes};
+ghost use Rattle.druid_folder.specs.FileName.{IsFileName};
+ghost use Rattle.druid_folder.specs.Folder.{AreInOrder, names_of};
 
 use std::alloc::{AllocError, Global};
-
-/// Whether a file of a folder can have the name: it is not empty, is neither `.` nor `..`, and has
-/// no `/` and no NUL byte.
-pub fn is_file_name(name: &str) -> bool
-    ensures { result ≡ is_file_name name.now }
-{
-    name != "" && name != "." && name != ".." && !leads_elsewhere(name.as_bytes())
-}
-
-// Whether a byte ends a part of a path, or the path.
-fn leads_elsewhere(name: &[u8]) -> bool
-    ensures { result ≡ list_any (λ b. b == 47 || b == 0) name.now }
-{
-    name.iter().any(|b| *b == b'/' || *b == 0)
-}
 
 // A name that a file can have.
 #[derive(Drop)]

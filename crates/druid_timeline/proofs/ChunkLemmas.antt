@@ -20,7 +20,7 @@ use Rattle.druid_time.specs.Extent.{Has}
 use Rattle.druid_segid.specs.Identifier.{Identifier}
 use Rattle.druid_segid.specs.Group.{Group, group_of, same_group, Outranks}
 use Rattle.druid_segid.proofs.GroupLemmas.{group_same, Outranks-cases, Outranks-onward}
-use Rattle.druid_shard.specs.Members.{Member, IsComplete, HasMember, HoldsPlace, AllAt, Adds, RemovesPlace, RemovesOne, SameMembers, ServedOnce}
+use Rattle.druid_members.specs.Members.{Member, IsComplete, HasMember, HoldsPlace, AllAt, Adds, RemovesPlace, RemovesOne, SameMembers, ServedOnce}
 use Rattle.druid_shard.proofs.MemberLemmas.{Contains-nil, Contains-cons, Contains-later, Contains-map, Contains-map_back, Contains-flat_map, Contains-flat_map_back}
 use Rattle.druid_timeline.specs.Holding.{Held, members_of, HoldsNothing, IsHeld, IsPlaceOf, AddsHeld, RemovesHeld, RemovesOneHeld, SameHeld}
 use Rattle.druid_timeline.specs.Visible.{IsCandidate, IsVisible}

@@ -7,7 +7,7 @@ use Rattle.std.proofs.lemmas.List.{take_more}
 use Rattle.std.proofs.lemmas.List.Elements.{Contains-get_or}
 use Rattle.druid_time.specs.Extent.{Extent, IsExtent, Has, AnyHas, AreApart, AreParts}
 use Rattle.druid_segid.specs.Group.{Group, same_group}
-use Rattle.druid_shard.specs.Members.{Member}
+use Rattle.druid_members.specs.Members.{Member}
 use Rattle.druid_shard.proofs.MemberLemmas.{Contains-nil}
 use Rattle.druid_timeline.specs.Holding.{members_of}
 use Rattle.druid_timeline.specs.Pieces.{AreRuns, Shows, Told, ArePartitions, ArePiecesIn}

@@ -11,7 +11,7 @@ use Rattle.std.proofs.lemmas.List.Elements.{Contains-push, Contains-push_cases, 
 use Rattle.druid_time.specs.Extent.{Extent, IsExtent, Has, Share}
 use Rattle.druid_segid.specs.Group.{Group}
 use Rattle.druid_segid.proofs.GroupLemmas.{Outranks-one_way}
-use Rattle.druid_shard.specs.Members.{IsComplete}
+use Rattle.druid_members.specs.Members.{IsComplete}
 use Rattle.druid_shard.proofs.MemberLemmas.{Contains-nil, Contains-cons, Contains-later}
 use Rattle.druid_timeline.specs.Pieces.{Shown, IsStretch, AreRuns, Shows}
 use Rattle.druid_timeline.specs.Chunks.{Chunk, IsCandidateOf, NoneOf, IsBestOf}

@@ -12,7 +12,7 @@ use Rattle.std.proofs.lemmas.List.Sorted.{IsPermutation-to_front, IsPermutation-
 use Rattle.std.proofs.lemmas.Map.Keys.{IsDistinct-head, IsDistinct-tail, IsDistinct-cons, IsDistinct-from_apart, IsDistinct-IsPermutation}
 use Rattle.druid_time.specs.Extent.{Extent, IsExtent, Has, AreParts}
 use Rattle.druid_segid.specs.Group.{Group, same_group}
-use Rattle.druid_shard.specs.Members.{IsComplete}
+use Rattle.druid_members.specs.Members.{IsComplete}
 use Rattle.druid_shard.proofs.MemberLemmas.{Contains-nil, Contains-cons, Contains-later}
 use Rattle.druid_timeline.specs.Holding.{members_of}
 use Rattle.druid_timeline.specs.Overshadowed.{IsOvershadowed}

@@ -5,7 +5,7 @@ use Rattle.std.specs.HashMap.{HashMap}
 use Rattle.std.specs.List.{flat_map}
 use Rattle.druid_time.specs.Extent.{Has}
 use Rattle.druid_segid.specs.Group.{Group, same_group, Outranks}
-use Rattle.druid_shard.specs.Members.{Member, IsComplete}
+use Rattle.druid_members.specs.Members.{Member, IsComplete}
 use Rattle.druid_timeline.specs.Holding.{Held}
 
 -- a chunk with its members

@@ -3,7 +3,7 @@ use Rattle.std.specs.Prelude.{◌≡◌, ℕ, List, map, filter, ◌⊎◌, ◌�
 use Rattle.druid_segid.specs.Identifier.{Identifier}
 use Rattle.druid_segid.specs.Group.{Group, group_of, same_group}
 use Rattle.druid_shard.specs.Described.{Described}
-use Rattle.druid_shard.specs.Members.{Member, IsComplete}
+use Rattle.druid_members.specs.Members.{Member, IsComplete}
 
 -- a segment that a node serves: its chunk, and its place there. Of a descriptor only the size is left out
 pub record Held : Type 0 where

@@ -2,7 +2,7 @@
 use Rattle.std.specs.Prelude.{ℕ, ◌<◌, ◌≤◌, List, map, ◌⊎◌, ◌↔◌, Contains}
 use Rattle.druid_time.specs.Extent.{Extent, Share, AnyHas}
 use Rattle.druid_segid.specs.Group.{Group}
-use Rattle.druid_shard.specs.Members.{Member, IsComplete}
+use Rattle.druid_members.specs.Members.{Member, IsComplete}
 use Rattle.druid_timeline.specs.Chunks.{Chunk, IsBestOf}
 use Rattle.druid_timeline.specs.Pieces.{Shown, AreRuns, Shows}
 

@@ -3,15 +3,16 @@ ghost use Rattle.std.specs.Prelude.{◌≡◌, ◌↔◌, ◌⊎◌, ℕ, Contai
 ghost use Rattle.std.specs.HashMap as hash;
 ghost use Rattle.std.specs.List.Sorted.{IsStrictlyIncreasing};
 ghost use Rattle.druid_segid.specs.Group.{Group, group_of, same_group, Outranks};
-ghost use Rattle.druid_shard.specs.Members.{member_of, HoldsPlace, IsComplete, Adds, RemovesPlace, RemovesOne, SameMembers, ServedOnce};
+ghost use Rattle.druid_members.specs.Members.{member_of, HoldsPlace, IsComplete, Adds, RemovesPlace, RemovesOne, SameMembers, ServedOnce};
 ghost use Rattle.druid_time.specs.Extent.{Has};
 ghost use Rattle.druid_timeline.specs.Holding.{IsHeld, HoldsNothing};
 ghost use Rattle.druid_timeline.specs.Chunks.{chunk_of, held_in, IsBest};
 
 use crate::TimelineFault;
 use crate::shared::SharedMembers;
+use druid_members::Members;
 use druid_segid::{GroupKey, Meter, SegmentId};
-use druid_shard::{Descriptor, Members, NodeNo};
+use druid_shard::{Descriptor, NodeNo};
 use druid_time::Instant;
 use std::alloc::{AllocError, Global};
 use std::collections::HashMap;

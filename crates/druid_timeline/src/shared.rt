@@ -1,8 +1,9 @@
 //! The members of a chunk, which copies of a timeline share.
 ghost use Rattle.std.specs.Prelude.{◌≡◌, ◌↔◌, ◌⊎◌, IsTrue, IfOk, IsOkAnd, OnOk, OnErr};
-ghost use Rattle.druid_shard.specs.Members.{member_of, HoldsPlace, Adds, RemovesPlace, SameMembers};
+ghost use Rattle.druid_members.specs.Members.{member_of, HoldsPlace, Adds, RemovesPlace, SameMembers};
 
-use druid_shard::{Descriptor, Members, NodeNo};
+use druid_members::Members;
+use druid_shard::{Descriptor, NodeNo};
 use std::alloc::{AllocError, Global};
 use std::marker::Model;
 use std::sync::Arc;
@@ -16,7 +17,7 @@ pub(crate) struct SharedMembers {
 impl Model for SharedMembers {
     ghost use Rattle.std.specs.Prelude.{List};
     ghost use Rattle.std.specs.Arc.{arc_value};
-    ghost use Rattle.druid_shard.specs.Members.{Member};
+    ghost use Rattle.druid_members.specs.Members.{Member};
 
     ghost Value = { List Member };
 

@@ -4,7 +4,7 @@ ghost use Rattle.std.specs.HashMap as hash;
 ghost use Rattle.std.specs.List.Sorted.{IsNonDecreasing};
 ghost use Rattle.druid_time.specs.Extent.{Extent, Has, AreParts};
 ghost use Rattle.druid_segid.specs.Group.{Group, same_group, Outranks};
-ghost use Rattle.druid_shard.specs.Members.{IsComplete};
+ghost use Rattle.druid_members.specs.Members.{IsComplete};
 ghost use Rattle.druid_timeline.specs.Chunks.{Chunk, IsBestOf};
 ghost use Rattle.druid_timeline.specs.Pieces.{AreRuns, Shows, IsStretch, ArePartitions, shown_of, Told};
 ghost use Rattle.druid_timeline.specs.Active.{StartInOrder};
@@ -13,8 +13,8 @@ ghost use Rattle.druid_timeline.specs.Stretches.{Stretch, shown_by, chunk_by, Ar
 use crate::active::{advance, best_at};
 use crate::chunks::{Chunks, beats};
 use crate::{Partitions, Piece};
+use druid_members::Members;
 use druid_segid::{GroupKey, Meter};
-use druid_shard::Members;
 use druid_time::{Instant, Interval};
 use std::alloc::{AllocError, Global};
 use std::marker::Model;
@@ -32,7 +32,7 @@ pub(crate) struct Candidate<'a> {
 
 impl<'a> Model for Candidate<'a> {
     ghost use Rattle.std.specs.Prelude.{◌≡◌};
-    ghost use Rattle.druid_shard.specs.Members.{IsComplete};
+    ghost use Rattle.druid_members.specs.Members.{IsComplete};
     ghost use Rattle.druid_timeline.specs.Chunks.{Chunk};
     ghost use Rattle.druid_timeline.specs.Pieces.{ArePartitions};
 

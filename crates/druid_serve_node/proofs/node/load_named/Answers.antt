@@ -1,7 +1,7 @@
 use Rattle.std.proofs.Common.{subst, All, ◌∙◌, sym, ap}
 use Rattle.std.proofs.lemmas.Bool.{false≢true}
 use Rattle.std.proofs.lemmas.List.{take_all}
-use Rattle.druid_store.specs.Folder.{names_of}
+use Rattle.druid_folder.specs.Folder.{names_of}
 use Rattle.druid_serve_node.specs.Files.{is_segment_file, IsTaken}
 use Rattle.druid_serve_node.proofs.FolderLemmas.{named_more, taken}
 use Rattle.druid_serve_node.proofs.node.load_named.Goals as goal

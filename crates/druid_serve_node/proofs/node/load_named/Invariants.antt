@@ -1,5 +1,5 @@
 use Rattle.std.proofs.Common.{◌≡◌, All, take}
-use Rattle.druid_store.specs.Folder.{names_of}
+use Rattle.druid_folder.specs.Folder.{names_of}
 use Rattle.druid_serve_node.specs.Files.{IsTaken}
 use Rattle.druid_serve_node.proofs.node.load_named.Given as goal
 

@@ -1,8 +1,8 @@
 use Rattle.std.proofs.Common.{Vec, All, sym, ◌∙◌, subst}
 use Rattle.std.specs.declared.alloc.Global.{Global}
 use Rattle.std.specs.declared.string.String.{String}
-use Rattle.druid_store.specs.FileName.{IsFileName}
-use Rattle.druid_store.specs.Folder.{names_of}
+use Rattle.druid_folder.specs.FileName.{IsFileName}
+use Rattle.druid_folder.specs.Folder.{names_of}
 use Rattle.druid_store.proofs.Order.{valid_push, valid_names}
 use Rattle.druid_store.proofs.disk.files_in.Goals as goal
 use Rattle.druid_store.proofs.disk.files_in.Goals.{then-is_file_name+in_ok-tells_file+then-branch+in_ok-from_str+in_ok-push, else-is_file_name, else-is_file_name-via-then-is_file_name+in_ok-tells_file+else-branch, else-is_file_name-via-else-is_file_name}

@@ -1,6 +1,6 @@
 use Rattle.std.proofs.Common.{All}
-use Rattle.druid_store.specs.FileName.{IsFileName}
-use Rattle.druid_store.specs.Folder.{names_of}
+use Rattle.druid_folder.specs.FileName.{IsFileName}
+use Rattle.druid_folder.specs.Folder.{names_of}
 use Rattle.druid_store.proofs.disk.files_in.Given as goal
 
 abbrev pub invariant-loop-entry : goal.invariant-loop-entry

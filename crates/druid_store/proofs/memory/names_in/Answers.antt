@@ -2,7 +2,7 @@ use Rattle.std.proofs.Common.{◌≡◌, ◌+◌, List, [], ◌∷◌, ◌++◌,
 use Rattle.std.proofs.lemmas.List.{take_more, take_all}
 use Rattle.std.specs.declared.alloc.Global.{Global}
 use Rattle.std.specs.declared.string.String.{String}
-use Rattle.druid_store.specs.Folder.{nothing, names_of}
+use Rattle.druid_folder.specs.Folder.{nothing, names_of}
 use Rattle.druid_store.specs.Record.{content_after}
 use Rattle.druid_store.proofs.Names.{Collected, turn_found, turn_absent, turn_other, names_collected}
 use Rattle.druid_store.proofs.memory.names_in.Goals as goal

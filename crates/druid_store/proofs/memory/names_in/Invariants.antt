@@ -1,5 +1,5 @@
 use Rattle.std.proofs.Common.{take}
-use Rattle.druid_store.specs.Folder.{nothing, names_of}
+use Rattle.druid_folder.specs.Folder.{nothing, names_of}
 use Rattle.druid_store.specs.Record.{content_after}
 use Rattle.druid_store.proofs.Names.{Collected}
 use Rattle.druid_store.proofs.memory.names_in.Given as goal

@@ -1,6 +1,6 @@
 use Rattle.std.proofs.Common.{◌+◌, refl, arith}
-use Rattle.druid_store.specs.Folder.{max_file}
-use Rattle.druid_store.proofs.ReadPart.{whole_read, cut_read, cut_length}
+use Rattle.druid_folder.specs.Folder.{max_file}
+use Rattle.druid_folder.proofs.ReadPart.{whole_read, cut_read, cut_length}
 use Rattle.druid_store.proofs.memory.read_part.Goals as goal
 
 pub returns-then-bytes-le-MAX_FILE-clause-part : goal.returns-then-bytes-le-MAX_FILE-clause-part

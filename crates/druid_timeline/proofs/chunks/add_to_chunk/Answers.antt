@@ -3,7 +3,7 @@ use Rattle.std.specs.HashMap as hash
 use Rattle.std.proofs.lemmas.Bool.{false≢true}
 use Rattle.druid_segid.specs.Identifier.{Identifier}
 use Rattle.druid_segid.specs.Group.{same_group}
-use Rattle.druid_shard.specs.Members.{Member, HoldsPlace, Adds, SameMembers, member_of}
+use Rattle.druid_members.specs.Members.{Member, HoldsPlace, Adds, SameMembers, member_of}
 use Rattle.druid_shard.proofs.MemberLemmas.{Contains-nil}
 use Rattle.druid_timeline.proofs.ChunkLemmas.{at_chunks, always_err}
 use Rattle.druid_timeline.proofs.chunks.add_to_chunk.Goals as goal

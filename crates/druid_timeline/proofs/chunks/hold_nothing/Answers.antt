@@ -2,7 +2,7 @@ use Rattle.std.proofs.Common.{◌∙◌, List, sym, refl, subst}
 use Rattle.std.specs.Map.Iter.{deref_pair}
 use Rattle.std.proofs.lemmas.Bool.{false≢true}
 use Rattle.std.proofs.lemmas.Map.Iter.{rest_more, rest_all}
-use Rattle.druid_shard.specs.Members.{HasMember}
+use Rattle.druid_members.specs.Members.{HasMember}
 use Rattle.druid_timeline.specs.Chunks.{Chunk}
 use Rattle.druid_timeline.proofs.ChunkLemmas.{AreBare, AreBare-next, AreBare-end, HoldsNothing-bare}
 use Rattle.druid_timeline.proofs.chunks.hold_nothing.Goals as goal

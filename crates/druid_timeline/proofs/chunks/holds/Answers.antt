@@ -1,6 +1,6 @@
 use Rattle.std.proofs.Common.{◌∙◌, ◌↔◌, List, sym, subst}
 use Rattle.std.specs.List.{Contains}
-use Rattle.druid_shard.specs.Members.{Member, HoldsPlace, ServedOnce}
+use Rattle.druid_members.specs.Members.{Member, HoldsPlace, ServedOnce}
 use Rattle.druid_timeline.proofs.ChunkLemmas.{any-Contains}
 use Rattle.druid_timeline.proofs.chunks.holds.Goals as goal
 

@@ -1,7 +1,7 @@
 use Rattle.std.proofs.Common.{◌∙◌, ◌≡◌, List, [], Option, Some, IsSome, unwrap_or, sym, ap, refl, subst}
 use Rattle.std.specs.HashMap as hash
 use Rattle.druid_segid.specs.Group.{same_group}
-use Rattle.druid_shard.specs.Members.{Member, AllAt, HoldsPlace, RemovesPlace, RemovesOne, SameMembers, ServedOnce}
+use Rattle.druid_members.specs.Members.{Member, AllAt, HoldsPlace, RemovesPlace, RemovesOne, SameMembers, ServedOnce}
 use Rattle.druid_timeline.specs.Chunks.{chunk_of}
 use Rattle.druid_timeline.proofs.ChunkLemmas.{at_chunks, always_err, RemovesPlace-all, RemovesOne-once}
 use Rattle.druid_timeline.proofs.chunks.remove_from_chunk.Goals as goal

@@ -1,6 +1,6 @@
 use Rattle.std.proofs.Common.{◌≡◌, ◌∙◌, ◌↔◌, ℕ, List, [], Option, Some, unwrap_or, sym, ap, subst}
 use Rattle.std.specs.List.{Contains}
-use Rattle.druid_shard.specs.Members.{Member, HoldsPlace}
+use Rattle.druid_members.specs.Members.{Member, HoldsPlace}
 use Rattle.druid_timeline.specs.Chunks.{chunk_of}
 use Rattle.druid_timeline.proofs.LookupLemmas.{if_ok}
 use Rattle.druid_timeline.proofs.chunks.replicas_in.Goals as goal

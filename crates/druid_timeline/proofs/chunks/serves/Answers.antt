@@ -4,7 +4,7 @@ use Rattle.std.specs.Map.Iter.{deref_pair}
 use Rattle.std.proofs.lemmas.Bool.{false≢true}
 use Rattle.std.proofs.lemmas.Map.Iter.{rest_more, rest_all}
 use Rattle.druid_segid.specs.Group.{group_of}
-use Rattle.druid_shard.specs.Members.{HoldsPlace}
+use Rattle.druid_members.specs.Members.{HoldsPlace}
 use Rattle.druid_timeline.specs.Chunks.{Chunk}
 use Rattle.druid_timeline.proofs.ChunkLemmas.{IsSought, IsSought-next, IsSought-none, IsHeld-entry}
 use Rattle.druid_timeline.proofs.chunks.serves.Goals as goal

@@ -4,7 +4,7 @@ use Rattle.std.specs.Map.Iter.{deref_pair}
 use Rattle.std.proofs.lemmas.Bool.{false≢true}
 use Rattle.std.proofs.lemmas.Map.Iter.{rest_more, rest_all}
 use Rattle.druid_segid.specs.Group.{Group, same_group}
-use Rattle.druid_shard.specs.Members.{IsComplete}
+use Rattle.druid_members.specs.Members.{IsComplete}
 use Rattle.druid_timeline.specs.Chunks.{Chunk}
 use Rattle.druid_timeline.proofs.UnseenLemmas.{AreUnseen, AreUnseen-start, AreUnseen-more, AreUnseen-skip, AreUnseen-end}
 use Rattle.druid_timeline.proofs.overshadowed.unseen_in.Goals as goal

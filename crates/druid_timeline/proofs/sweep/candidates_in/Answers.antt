@@ -3,7 +3,7 @@ use Rattle.std.specs.Map.Iter.{deref_pair}
 use Rattle.std.proofs.lemmas.Bool.{false≢true}
 use Rattle.std.proofs.lemmas.Map.Iter.{rest_more, rest_all}
 use Rattle.druid_time.specs.Extent.{Extent, Share}
-use Rattle.druid_shard.specs.Members.{Member, IsComplete}
+use Rattle.druid_members.specs.Members.{Member, IsComplete}
 use Rattle.druid_timeline.specs.Chunks.{Chunk}
 use Rattle.druid_timeline.proofs.SweepLemmas.{AreGathered, AreGathered-more, AreGathered-skip, AreGathered-end}
 use Rattle.druid_timeline.proofs.sweep.candidates_in.Goals as goal

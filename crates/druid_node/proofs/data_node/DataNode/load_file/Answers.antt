@@ -1,6 +1,6 @@
 use Rattle.std.proofs.Common.{ap, sym, ◌∙◌}
 use Rattle.std.proofs.lemmas.Result.{IfErr-weaker}
-use Rattle.druid_store.specs.Folder.{bytes_read, read_part}
+use Rattle.druid_folder.specs.Folder.{bytes_read, read_part}
 use Rattle.druid_node.specs.Files.{file_at}
 use Rattle.druid_node.proofs.FileLemmas.{found_refuse, found_own, found_uncounted, load_refuses, load_own, load_uncounted, read_refuses, read_own, read_counted, always}
 use Rattle.druid_node.proofs.data_node.DataNode.load_file.Goals as goal

@@ -1,5 +1,5 @@
 use Rattle.std.proofs.Common.{length}
-use Rattle.druid_store.proofs.Files.{torn_same}
+use Rattle.druid_folder.proofs.Files.{torn_same}
 use Rattle.druid_store.specs.Disk.{calls_made}
 use Rattle.druid_store.proofs.disk.DiskFolderFolder.write.Goals as goal
 

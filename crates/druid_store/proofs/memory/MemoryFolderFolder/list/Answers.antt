@@ -1,5 +1,5 @@
 use Rattle.std.proofs.Common.{◌≡◌, ◌∙◌, ap, subst}
-use Rattle.druid_store.specs.Folder.{nothing, AreNames, names_of}
+use Rattle.druid_folder.specs.Folder.{nothing, AreNames, names_of}
 use Rattle.druid_store.specs.Record.{content_after}
 use Rattle.druid_store.specs.declared.memory.Call.TheVariants.{Looked}
 use Rattle.druid_store.proofs.Calls.{content_pushed, left_looked, elapses_pushed}

@@ -1,5 +1,5 @@
 use Rattle.std.proofs.Common.{◌∙◌, ap}
-use Rattle.druid_store.specs.Folder.{nothing, without}
+use Rattle.druid_folder.specs.Folder.{nothing, without}
 use Rattle.druid_store.specs.Record.{content_after}
 use Rattle.druid_store.specs.declared.memory.Call.TheVariants.{Removed}
 use Rattle.druid_store.proofs.Calls.{content_pushed, left_before, without_named}

@@ -1,6 +1,6 @@
 use Rattle.std.proofs.Common.{inl, ◌∙◌, ap}
 use Rattle.std.specs.String.{string_bytes}
-use Rattle.druid_store.specs.Folder.{nothing, renamed}
+use Rattle.druid_folder.specs.Folder.{nothing, renamed}
 use Rattle.druid_store.specs.Record.{content_after}
 use Rattle.druid_store.specs.declared.memory.Call.TheVariants.{Renamed, Failed}
 use Rattle.druid_store.proofs.Calls.{content_pushed, left_before, left_failed, elapses_pushed, undone_left, renamed_named}

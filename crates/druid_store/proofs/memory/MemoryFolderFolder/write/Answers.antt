@@ -1,5 +1,5 @@
 use Rattle.std.proofs.Common.{◌≡◌, Some, refl, ◌∙◌, ap, rules}
-use Rattle.druid_store.specs.Folder.{nothing, with_file}
+use Rattle.druid_folder.specs.Folder.{nothing, with_file}
 use Rattle.druid_store.specs.Record.{content_after}
 use Rattle.druid_store.specs.declared.memory.Call.TheVariants.{Wrote}
 use Rattle.druid_store.proofs.Calls.{content_pushed, left_before, elapses_pushed, torn_unchanged, torn_left, torn_named, on_err}

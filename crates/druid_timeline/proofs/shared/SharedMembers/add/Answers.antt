@@ -1,7 +1,7 @@
 use Rattle.std.proofs.Common.{◌↔◌, List, sym, subst}
 use Rattle.std.specs.Bool.{IsTrue}
 use Rattle.std.specs.Result.{IfOk, OnErr}
-use Rattle.druid_shard.specs.Members.{Member, HoldsPlace, Adds, SameMembers, member_of}
+use Rattle.druid_members.specs.Members.{Member, HoldsPlace, Adds, SameMembers, member_of}
 use Rattle.druid_timeline.proofs.ChunkLemmas.{lent_members, was_ok}
 use Rattle.druid_timeline.proofs.shared.SharedMembers.add.Goals as goal
 

@@ -1,5 +1,5 @@
 use Rattle.std.proofs.Common.{List, sym, subst}
-use Rattle.druid_shard.specs.Members.{Member, RemovesPlace}
+use Rattle.druid_members.specs.Members.{Member, RemovesPlace}
 use Rattle.druid_timeline.proofs.ChunkLemmas.{lent_members, was_ok}
 use Rattle.druid_timeline.proofs.shared.SharedMembers.remove.Goals as goal
 

@@ -1,7 +1,7 @@
 use Rattle.std.proofs.Common.{◌∙◌, ◌≡◌, ◌↔◌, List, sym, ap, subst, rules}
 use Rattle.std.specs.Result.{IsErrOf}
 use Rattle.druid_segid.specs.Group.{Group, group_of}
-use Rattle.druid_shard.specs.Members.{HoldsPlace, Adds, SameMembers, member_of}
+use Rattle.druid_members.specs.Members.{HoldsPlace, Adds, SameMembers, member_of}
 use Rattle.druid_timeline.specs.Holding.{Held, Serving, held_of, IsHeld, AddsHeld, SameHeld}
 use Rattle.druid_timeline.specs.Chunks.{held_in, chunk_of}
 use Rattle.druid_timeline.proofs.ChunkLemmas.{IsHeld-chunk, AddsHeld-chunk, SameHeld-chunk, on_ok, on_err}

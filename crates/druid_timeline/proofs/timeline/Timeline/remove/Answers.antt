@@ -1,7 +1,7 @@
 use Rattle.std.proofs.Common.{◌≡◌, ◌↔◌, ℕ, List, ap, subst, rules}
 use Rattle.std.specs.Result.{IsErrOf}
 use Rattle.druid_segid.specs.Group.{Group, group_of}
-use Rattle.druid_shard.specs.Members.{HoldsPlace, RemovesPlace, RemovesOne, SameMembers}
+use Rattle.druid_members.specs.Members.{HoldsPlace, RemovesPlace, RemovesOne, SameMembers}
 use Rattle.druid_timeline.specs.Holding.{Held, Serving, IsHeld, RemovesHeld, RemovesOneHeld, SameHeld}
 use Rattle.druid_timeline.specs.Chunks.{held_in, chunk_of}
 use Rattle.druid_timeline.proofs.ChunkLemmas.{IsHeld-chunk, RemovesHeld-chunk, RemovesOneHeld-chunk, SameHeld-chunk, on_ok, on_err}

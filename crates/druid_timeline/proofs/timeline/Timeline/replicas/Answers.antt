@@ -1,7 +1,7 @@
 use Rattle.std.proofs.Common.{◌≡◌, ◌↔◌, ℕ, List, ap, subst}
 use Rattle.std.specs.List.{Contains}
 use Rattle.druid_segid.specs.Group.{Group, group_of}
-use Rattle.druid_shard.specs.Members.{HoldsPlace}
+use Rattle.druid_members.specs.Members.{HoldsPlace}
 use Rattle.druid_timeline.specs.Holding.{Held, Serving, IsHeld}
 use Rattle.druid_timeline.specs.Chunks.{chunk_of}
 use Rattle.druid_timeline.proofs.LookupLemmas.{if_ok}

@@ -1,0 +1,365 @@
+//! Runs of drawn events: whatever comes late, twice or never, brokers at equal marks are equal, and each has what a plain
+//! replay of the node's changes gives.
+ghost use Rattle.std.specs.Prelude.{◌<◌};
+
+use crate::rows::descriptor;
+use druid_inventory::Inventory;
+use druid_shard::{Change, Mark, NodeNo};
+use druid_world::{Event, Sim};
+use std::alloc::Global;
+use std::process::Abort;
+
+const RUNS: u64 = 1000;
+
+const EVENTS: usize = 100;
+
+const NODES: NodeNo = 3;
+
+const BROKERS: usize = 4;
+
+const PARTITIONS: u16 = 6;
+
+// Numbers that look random, the same in each run of the test.
+#[derive(Drop)]
+struct Draws {
+    state: u64,
+}
+
+impl Draws {
+    // A number below a bound.
+    fn below(&mut self, bound: u64) -> u64
+        requires { 0 < bound }
+        ensures { result < bound }
+    {
+        self.state = self
+            .state
+            .wrapping_mul(6364136223846793005)
+            .wrapping_add(1442695040888963407);
+        (self.state >> 33) % bound
+    }
+
+    fn node(&mut self) -> NodeNo {
+        self.below(3) as NodeNo
+    }
+
+    fn broker(&mut self) -> usize {
+        self.below(4) as usize
+    }
+
+    // One of the last packets, or the one behind them, which is not there.
+    fn packet(&mut self, packets: usize) -> usize {
+        packets.saturating_sub(self.below(5) as usize)
+    }
+}
+
+// An event, without what it is about.
+#[derive(Clone, Copy)]
+enum Drawn {
+    Record {
+        node: NodeNo,
+        load: bool,
+        partition: u16,
+    },
+    Restart {
+        node: NodeNo,
+    },
+    Ask {
+        broker: usize,
+        node: NodeNo,
+        whole: bool,
+    },
+    Answer {
+        packet: usize,
+    },
+    Seed {
+        peer: usize,
+        broker: usize,
+        node: NodeNo,
+    },
+    Deliver {
+        packet: usize,
+    },
+    Cut {
+        packet: usize,
+    },
+    Fail {
+        broker: usize,
+        node: NodeNo,
+    },
+}
+
+fn draw(draws: &mut Draws, packets: usize) -> Drawn {
+    match draws.below(32) {
+        0..=6 => Drawn::Record {
+            node: draws.node(),
+            load: draws.below(5) < 3,
+            partition: draws.below(6) as u16,
+        },
+        7..=12 => Drawn::Ask {
+            broker: draws.broker(),
+            node: draws.node(),
+            whole: draws.below(4) == 0,
+        },
+        13..=19 => Drawn::Answer {
+            packet: draws.packet(packets),
+        },
+        20..=27 => Drawn::Deliver {
+            packet: draws.packet(packets),
+        },
+        28 => Drawn::Seed {
+            peer: draws.broker(),
+            broker: draws.broker(),
+            node: draws.node(),
+        },
+        29 => Drawn::Cut {
+            packet: draws.packet(packets),
+        },
+        30 => Drawn::Fail {
+            broker: draws.broker(),
+            node: draws.node(),
+        },
+        _ => Drawn::Restart { node: draws.node() },
+    }
+}
+
+fn change(rt: &impl Abort, alloc: Global, load: bool, partition: u16) -> Change {
+    let segment = descriptor(rt, alloc, partition);
+    if load {
+        Change::Load(segment)
+    } else {
+        Change::Drop(segment)
+    }
+}
+
+fn event(rt: &impl Abort, alloc: Global, drawn: Drawn) -> Event {
+    match drawn {
+        Drawn::Record {
+            node,
+            load,
+            partition,
+        } => Event::Record {
+            node,
+            change: change(rt, alloc, load, partition),
+        },
+        Drawn::Restart { node } => Event::Restart { node },
+        Drawn::Ask {
+            broker,
+            node,
+            whole,
+        } => Event::Ask {
+            broker,
+            node,
+            whole,
+        },
+        Drawn::Answer { packet } => Event::Answer { packet },
+        Drawn::Seed { peer, broker, node } => Event::Seed { peer, broker, node },
+        Drawn::Deliver { packet } => Event::Deliver { packet },
+        Drawn::Cut { packet } => Event::Cut { packet },
+        Drawn::Fail { broker, node } => Event::Fail { broker, node },
+    }
+}
+
+// A change of a node that was recorded: of which incarnation, and the partition that it loads or drops.
+#[derive(Clone, Copy, Drop)]
+struct Told {
+    node: NodeNo,
+    incarnation: u64,
+    load: bool,
+    partition: u16,
+}
+
+// What there was in a run, kept plainly.
+#[derive(Drop)]
+struct Plain {
+    told: Vec<Told>,
+    restarts: Vec<NodeNo>,
+    packets: usize,
+}
+
+// The incarnation of a node after some restarts.
+fn incarnation_of(restarts: &[NodeNo], node: NodeNo) -> u64 {
+    let mut incarnation = 1_u64;
+    for restarted in restarts {
+        if *restarted == node {
+            incarnation = incarnation.wrapping_add(1);
+        }
+    }
+    incarnation
+}
+
+// Keeps an event that happened.
+fn keep(rt: &impl Abort, plain: &mut Plain, drawn: Drawn) {
+    match drawn {
+        Drawn::Record {
+            node,
+            load,
+            partition,
+        } => {
+            let told = Told {
+                node,
+                incarnation: incarnation_of(&plain.restarts, node),
+                load,
+                partition,
+            };
+            plain.told.push(told).expect(rt, "memory");
+        }
+        Drawn::Restart { node } => plain.restarts.push(node).expect(rt, "memory"),
+        Drawn::Ask { .. } | Drawn::Answer { .. } | Drawn::Seed { .. } => {
+            plain.packets = plain.packets.wrapping_add(1);
+        }
+        Drawn::Deliver { .. } | Drawn::Cut { .. } | Drawn::Fail { .. } => {}
+    }
+}
+
+// The partition as a bit.
+fn bit(partition: u16) -> u64 {
+    1_u64.wrapping_shl(partition as u32)
+}
+
+// What a node served at a mark, by a plain replay; None where it did not come to it.
+fn replayed(told: &[Told], node: NodeNo, mark: Mark) -> Option<u64> {
+    let mut set = 0_u64;
+    let mut left = mark.count();
+    for change in told {
+        if left > 0 && change.node == node && change.incarnation == mark.incarnation() {
+            left -= 1;
+            set = if change.load {
+                set | bit(change.partition)
+            } else {
+                set & !bit(change.partition)
+            };
+        }
+    }
+    if left == 0 { Some(set) } else { None }
+}
+
+// The partitions of a node that are known, as bits.
+fn held(rt: &impl Abort, inventory: &Inventory, node: NodeNo) -> u64 {
+    let mut held = 0_u64;
+    for segment in inventory.segments(node).expect(rt, "no node") {
+        held |= bit(segment.id().partition());
+    }
+    held
+}
+
+fn mark_of(rt: &impl Abort, inventory: &Inventory, node: NodeNo) -> Mark {
+    inventory.mark(node).expect(rt, "no node")
+}
+
+// Whether what is known of each node is what it served at that mark.
+fn is_true(rt: &impl Abort, plain: &Plain, inventory: &Inventory) -> bool {
+    for node in 0..NODES {
+        let served = replayed(&plain.told, node, mark_of(rt, inventory, node));
+        if served != Some(held(rt, inventory, node)) {
+            return false;
+        }
+    }
+    true
+}
+
+fn have_equal_marks(first: &Inventory, second: &Inventory) -> bool {
+    for node in 0..NODES {
+        if first.mark(node) != second.mark(node) {
+            return false;
+        }
+    }
+    true
+}
+
+// Whether the two are equal where their marks are, and what they are together is true.
+fn agree(rt: &impl Abort, plain: &Plain, first: &Inventory, second: &Inventory) -> bool {
+    if have_equal_marks(first, second) != (first == second) {
+        return false;
+    }
+    let joined = first.join(second).expect(rt, "no join");
+    is_true(rt, plain, &joined)
+}
+
+// Makes the events of a run.
+fn run(rt: &impl Abort, alloc: Global, draws: &mut Draws, sim: &mut Sim, plain: &mut Plain) {
+    for _event in 0..EVENTS {
+        let drawn = draw(draws, plain.packets);
+        if sim.step(event(rt, alloc, drawn)).is_ok() {
+            keep(rt, plain, drawn);
+        }
+    }
+}
+
+fn broker_of<'a>(rt: &impl Abort, sim: &'a Sim, broker: usize) -> &'a Inventory {
+    sim.broker(broker).expect(rt, "no broker")
+}
+
+// Whether all that a broker knows is true, and agrees with what the others know.
+fn is_true_beside_others(rt: &impl Abort, sim: &Sim, plain: &Plain, first: &Inventory) -> bool {
+    for j in 0..BROKERS {
+        if !agree(rt, plain, first, broker_of(rt, sim, j)) {
+            return false;
+        }
+    }
+    is_true(rt, plain, first)
+}
+
+// Whether all that the brokers know after a run is true.
+fn are_true(rt: &impl Abort, sim: &Sim, plain: &Plain) -> bool {
+    for i in 0..BROKERS {
+        if !is_true_beside_others(rt, sim, plain, broker_of(rt, sim, i)) {
+            return false;
+        }
+    }
+    true
+}
+
+// In how many entries nodes were synced, and in how many of these they had changes.
+#[derive(Clone, Copy, Drop)]
+struct Entries {
+    synced: u64,
+    changed: u64,
+}
+
+impl Entries {
+    fn count(&mut self, mark: Mark) {
+        if mark != Mark::never() {
+            self.synced = self.synced.wrapping_add(1);
+        }
+        if mark.count() > 0 {
+            self.changed = self.changed.wrapping_add(1);
+        }
+    }
+
+    // Counts the entries of all brokers.
+    fn count_all(&mut self, rt: &impl Abort, sim: &Sim) {
+        for i in 0..BROKERS {
+            let inventory = broker_of(rt, sim, i);
+            for node in 0..NODES {
+                self.count(mark_of(rt, inventory, node));
+            }
+        }
+    }
+}
+
+// Whether all is true after a drawn run; counts how much brokers came to know.
+fn drawn_run(rt: &impl Abort, alloc: Global, seed: u64, entries: &mut Entries) -> bool {
+    let mut draws = Draws { state: seed };
+    let mut sim = Sim::new(alloc, 3, 4, 5).expect(rt, "memory");
+    let mut plain = Plain {
+        told: Vec::new(alloc),
+        restarts: Vec::new(alloc),
+        packets: 0,
+    };
+    run(rt, alloc, &mut draws, &mut sim, &mut plain);
+    entries.count_all(rt, &sim);
+    are_true(rt, &sim, &plain)
+}
+
+#[test]
+fn brokers_at_equal_marks_are_equal(rt: HostRuntime) {
+    let mut entries = Entries {
+        synced: 0,
+        changed: 0,
+    };
+    for seed in 0..RUNS {
+        assert!(rt; drawn_run(&rt, rt.alloc(), seed, &mut entries), "at {seed}");
+    }
+    // of 12 entries in each of 1,000 runs
+    assert!(rt; entries.synced > 3000 && entries.changed > 2000);
+}

@@ -1,0 +1,30 @@
+//! What no contract says of segment files, of the folders that keep them, of messages and of links: worked examples,
+//! devices and calls of the system that fail, printed texts, and that calls succeed with ample memory. `rows`, `segfile`,
+//! `store` and `stream` have the names of the crates that they test; the others are of `druid_wire`, and `store_double` of
+//! `druid_store`.
+#![tactic(auto)]
+
+#[cfg(test)]
+mod devices;
+#[cfg(test)]
+mod links;
+#[cfg(test)]
+mod printing;
+#[cfg(test)]
+mod rows;
+#[cfg(test)]
+mod segfile;
+#[cfg(test)]
+mod serving;
+#[cfg(test)]
+mod store;
+#[cfg(test)]
+mod store_double;
+#[cfg(test)]
+mod stream;
+#[cfg(test)]
+mod table;
+#[cfg(test)]
+mod tcp_links;
+#[cfg(test)]
+mod wire;

@@ -1,0 +1,254 @@
+use crate::printing::{assert_prints, printed};
+use druid_folder::{Folder, MAX_FILE, StoreFault, is_file_name};
+use druid_incarnation::next_incarnation;
+use druid_store::{DiskFolder, MemoryFolder};
+use std::alloc::Global;
+use std::path::PathBuf;
+use std::process::Abort;
+use std::{env, fs, io, process};
+
+// Whether a folder has a file of this text under that name.
+fn has<F: Folder>(rt: &impl Abort, alloc: Global, folder: &mut F, name: &str, text: &str) -> bool {
+    match folder.read(alloc, name).expect(rt, "a read") {
+        Some(found) => found.as_slice() == text.as_bytes(),
+        None => false,
+    }
+}
+
+// What a folder answers as the next number, as the text of the file that has it, or the fault as it is printed.
+fn next_of<F: Folder>(rt: &impl Abort, alloc: Global, folder: &mut F) -> String {
+    match next_incarnation(alloc, folder) {
+        Ok(number) => format!(in alloc; "{number}\n").expect(rt, "memory"),
+        Err(fault) => printed(rt, alloc, &fault),
+    }
+}
+
+// Whether a folder answers that, and its file then has that text.
+fn answers<F: Folder>(
+    rt: &impl Abort,
+    alloc: Global,
+    folder: &mut F,
+    answer: &str,
+    after: &str,
+) -> bool {
+    next_of(rt, alloc, folder).as_str() == answer && has(rt, alloc, folder, "incarnation", after)
+}
+
+// A folder in memory whose file has these bytes.
+fn folder_with(rt: &impl Abort, alloc: Global, bytes: &[u8]) -> MemoryFolder {
+    let mut folder = MemoryFolder::new(alloc);
+    folder.write("incarnation", bytes).expect(rt, "a write");
+    folder
+}
+
+// The text of a file, the answer, and the text afterwards.
+const NUMBERS: [(&str, &str, &str); 5] = [
+    ("7\n", "8\n", "8\n"),
+    ("99\n", "100\n", "100\n"),
+    (
+        "18446744073709551614\n",
+        "18446744073709551615\n",
+        "18446744073709551615\n",
+    ),
+    (
+        "18446744073709551615\n",
+        "O3: the last incarnation number",
+        "18446744073709551615\n",
+    ),
+    ("07\n", "O2: a bad incarnation number", "07\n"),
+];
+
+// Whether a folder in memory whose file has the first text before answers so.
+fn answers_after(rt: &impl Abort, alloc: Global, before: &str, answer: &str, after: &str) -> bool {
+    let mut folder = folder_with(rt, alloc, before.as_bytes());
+    answers(rt, alloc, &mut folder, answer, after)
+}
+
+#[test]
+fn incarnation_file(rt: HostRuntime) {
+    let alloc = rt.alloc();
+    assert!(rt; answers(&rt, alloc, &mut MemoryFolder::new(alloc), "1\n", "1\n"));
+    for (before, answer, after) in &NUMBERS {
+        assert!(rt;
+            answers_after(&rt, alloc, before, answer, after),
+            "{before:?}"
+        );
+    }
+}
+
+// Whether these bytes are no number.
+fn is_bad(rt: &impl Abort, alloc: Global, bytes: &[u8]) -> bool {
+    let mut folder = folder_with(rt, alloc, bytes);
+    next_incarnation(alloc, &mut folder) == Err(StoreFault::BadNumber)
+}
+
+const TEXTS_WITHOUT_A_NUMBER: [&str; 16] = [
+    "",
+    "\n",
+    "0\n",
+    "+7\n",
+    "-7\n",
+    " 7\n",
+    "7 \n",
+    "7\r\n",
+    "7",
+    "8\n\n",
+    "8\n8\n",
+    "0x8\n",
+    "8.0\n",
+    "18446744073709551616\n",
+    "100000000000000000000\n",
+    "\u{667}\n",
+];
+
+#[test]
+fn files_without_a_number(rt: HostRuntime) {
+    for text in &TEXTS_WITHOUT_A_NUMBER {
+        assert!(rt; is_bad(&rt, rt.alloc(), text.as_bytes()), "at {text:?}");
+    }
+    assert!(rt; is_bad(&rt, rt.alloc(), &[55, 255, 10]));
+}
+
+const TEXTS_OF_FAULTS: [(StoreFault, &str); 5] = [
+    (StoreFault::Device, "O1: the device failed"),
+    (StoreFault::BadNumber, "O2: a bad incarnation number"),
+    (StoreFault::AtEnd, "O3: the last incarnation number"),
+    (StoreFault::BadName, "O4: no name of a file"),
+    (StoreFault::Memory, "O9: out of memory"),
+];
+
+#[test]
+fn printed_faults(rt: HostRuntime) {
+    assert_prints(&rt, rt.alloc(), &TEXTS_OF_FAULTS);
+}
+
+// Names that files can have, and others, with a line feed between two.
+const NAMES: &str = "a\na.seg\n...\n.a\na b\n\u{e9}\n-\n~";
+
+const NO_NAMES: &str = "\n.\n..\n/\na/b\n/a\na/\n../a\na\0\n\0";
+
+// Asserts that each of these is a name of a file, or that none is.
+fn assert_names(rt: &impl Abort, names: &str, are_names: bool) {
+    for name in names.split('\n') {
+        assert!(rt; is_file_name(name) == are_names, "{name:?}");
+    }
+}
+
+#[test]
+fn names_of_files(rt: HostRuntime) {
+    assert_names(&rt, NAMES, true);
+    assert_names(&rt, NO_NAMES, false);
+}
+
+// Whether these are the names of a folder, each with a space behind it.
+fn lists<F: Folder>(rt: &impl Abort, alloc: Global, folder: &mut F, names: &str) -> bool {
+    let mut text = String::new(alloc);
+    for name in folder.list(alloc).expect(rt, "a list") {
+        text.push_str(name.as_str()).expect(rt, "memory");
+        text.push(' ').expect(rt, "memory");
+    }
+    text.as_str() == names
+}
+
+// Whether a folder has no such file.
+fn lacks<F: Folder>(alloc: Global, folder: &mut F, name: &str) -> bool {
+    folder.read(alloc, name) == Ok(None)
+}
+
+fn write<F: Folder>(rt: &impl Abort, folder: &mut F, name: &str, text: &str) {
+    folder.write(name, text.as_bytes()).expect(rt, "a write");
+}
+
+fn rename<F: Folder>(rt: &impl Abort, folder: &mut F, from: &str, to: &str) {
+    folder.rename(from, to).expect(rt, "another name");
+}
+
+fn remove<F: Folder>(rt: &impl Abort, folder: &mut F, name: &str) {
+    folder.remove(name).expect(rt, "a removal");
+}
+
+// Writes three files, one of them twice.
+fn write_three<F: Folder>(rt: &impl Abort, folder: &mut F) {
+    write(rt, folder, "b", "old");
+    write(rt, folder, "b", "second");
+    write(rt, folder, "a.seg", "");
+    write(rt, folder, "c", "third");
+}
+
+// Renames `b` by way of `d` to `c`, which is there.
+fn move_second<F: Folder>(rt: &impl Abort, folder: &mut F) {
+    folder.sync().expect(rt, "a sync");
+    rename(rt, folder, "b", "d");
+    rename(rt, folder, "d", "c");
+}
+
+// Whether a file that is not there cannot be renamed, which counts as a failure.
+fn refuses_to_move<F: Folder>(folder: &mut F) -> bool {
+    folder.rename("b", "c") == Err(StoreFault::Device) && folder.faults() == 1
+}
+
+// Removes what is left, one file twice.
+fn remove_rest<F: Folder>(rt: &impl Abort, folder: &mut F) {
+    remove(rt, folder, "a.seg");
+    remove(rt, folder, "a.seg");
+    remove(rt, folder, "c");
+}
+
+// Puts an empty folder through each of its calls, with the numbers at the end.
+fn try_all<F: Folder>(rt: &impl Abort, alloc: Global, folder: &mut F) {
+    write_three(rt, folder);
+    assert!(rt; lists(rt, alloc, folder, "a.seg b c "));
+    assert!(rt; has(rt, alloc, folder, "b", "second"));
+    move_second(rt, folder);
+    assert!(rt; lists(rt, alloc, folder, "a.seg c "));
+    assert!(rt; lacks(alloc, folder, "b"));
+    assert!(rt; refuses_to_move(folder));
+    assert!(rt; has(rt, alloc, folder, "c", "second"));
+    remove_rest(rt, folder);
+    assert!(rt; lists(rt, alloc, folder, ""));
+    assert!(rt; answers(rt, alloc, folder, "1\n", "1\n"));
+    assert!(rt; answers(rt, alloc, folder, "2\n", "2\n"));
+}
+
+// Each call that may want memory gives its answer, here and on a disk.
+#[test]
+fn ample_memory(rt: HostRuntime) {
+    try_all(&rt, rt.alloc(), &mut MemoryFolder::new(rt.alloc()));
+}
+
+// The path of a folder of this run, for one test.
+fn path_for(rt: &HostRuntime, test: &str) -> io::Result<PathBuf> {
+    let name = format!(in rt.alloc(); "druid_store_{}_{test}", process::id(rt.process()))?;
+    Ok(env::temp_dir(rt)?.join(rt.alloc(), name.as_str())?)
+}
+
+// A folder on the disk, which is made.
+fn fresh_folder(rt: &HostRuntime, path: &PathBuf) -> io::Result<DiskFolder<HostRuntime>> {
+    fs::create_dir(rt, path.as_path())?;
+    let path = String::from_str(rt.alloc(), path.as_str())?;
+    Ok(DiskFolder::new(rt.clone()?, path))
+}
+
+#[test]
+fn ample_memory_on_disk(rt: HostRuntime) {
+    let path = path_for(&rt, "calls").expect(&rt, "a path");
+    let mut folder = fresh_folder(&rt, &path).expect(&rt, "a folder");
+    try_all(&rt, rt.alloc(), &mut folder);
+    fs::remove_dir_all(&rt, path.as_str()).expect(&rt, "a removal");
+}
+
+// How much is read of a file that has two bytes more than 16 MiB.
+fn read_of_long<F: Folder>(rt: &impl Abort, alloc: Global, folder: &mut F) -> usize {
+    let bytes = vec![in alloc; 7; MAX_FILE + 2].expect(rt, "memory");
+    folder.write("b", &bytes).expect(rt, "a write");
+    let found = folder.read(alloc, "b").expect(rt, "a read");
+    found.expect(rt, "a file").len()
+}
+
+#[test]
+fn long_file(rt: HostRuntime) {
+    let path = path_for(&rt, "long").expect(&rt, "a path");
+    let mut folder = fresh_folder(&rt, &path).expect(&rt, "a folder");
+    assert_eq!(rt; read_of_long(&rt, rt.alloc(), &mut folder), MAX_FILE + 1);
+    fs::remove_dir_all(&rt, path.as_str()).expect(&rt, "a removal");
+}

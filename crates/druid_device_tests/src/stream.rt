@@ -1,0 +1,110 @@
+//! Lines and texts over streams: that calls succeed with ample memory, and where a limit lies.
+use crate::printing::text_of;
+use crate::table::{Table, assert_row, assert_rows, is_told};
+use druid_stream::{Next, Part, next_line, next_part, write_text};
+use std::alloc::Global;
+use std::process::Abort;
+
+// The most bytes of a line in these tables.
+const LIMIT: usize = 3;
+
+// What is found behind the lines that were told.
+fn told_behind(rt: &impl Abort, told: String, found: &str) -> String {
+    let mut told = told;
+    told.push_str(found).expect(rt, "memory");
+    told
+}
+
+// A line behind those that were told.
+fn line_behind(rt: &impl Abort, alloc: Global, told: String, line: &[u8]) -> String {
+    let told = told_behind(rt, told, text_of(rt, alloc, line).as_str());
+    told_behind(rt, told, ",")
+}
+
+// The lines of a text, each with a comma behind it, and how reading them ends.
+fn lines_in(rt: &impl Abort, alloc: Global, text: &[u8]) -> String {
+    let mut rest = text;
+    let mut line = Vec::new(alloc);
+    let mut told = String::new(alloc);
+    for _ in 0..9 {
+        match next_line(&mut rest, &mut line, LIMIT).expect(rt, "a line") {
+            Next::Line => told = line_behind(rt, alloc, told, &line),
+            Next::TooLong => return told_behind(rt, told, "too long"),
+            Next::End => return told_behind(rt, told, "end"),
+        }
+    }
+    told
+}
+
+// Texts, with `|` for a line feed, and their lines.
+struct LineTexts;
+
+impl Table for LineTexts {
+    fn holds(&self, rt: &impl Abort, alloc: Global, what: &str, wanted: &str) -> bool {
+        let text = what.replace(alloc, "|", "\n").expect(rt, "memory");
+        is_told(lines_in(rt, alloc, text.as_bytes()), wanted)
+    }
+}
+
+#[test]
+fn ample_memory(rt: HostRuntime) {
+    let rows = "=end
+|=,end
+a=a,end
+ab|c=ab,c,end
+abc|=abc,end
+abc=abc,end
+abcd=too long
+abcd|e=too long
+a||bc|=a,,bc,end";
+    assert_rows(&rt, rt.alloc(), &LineTexts, rows, "=");
+}
+
+// Whether a part of a line with room for two bytes takes these, and leaves those.
+fn is_part(
+    rt: &impl Abort,
+    alloc: Global,
+    text: &[u8],
+    part: Part,
+    taken: &[u8],
+    left: &[u8],
+) -> bool {
+    let mut rest = text;
+    let mut line = Vec::new(alloc);
+    let found = next_part(&mut rest, &mut line, 2).expect(rt, "a part");
+    found == part && line.as_slice() == taken && rest == left
+}
+
+#[test]
+fn ample_memory_for_parts(rt: HostRuntime) {
+    let alloc = rt.alloc();
+    assert_row(
+        &rt,
+        "a feed",
+        is_part(&rt, alloc, b"a\nb", Part::Feed, b"a", b"b"),
+    );
+    assert_row(
+        &rt,
+        "no room",
+        is_part(&rt, alloc, b"abc\n", Part::More, b"ab", b"c\n"),
+    );
+    assert_row(
+        &rt,
+        "no feed",
+        is_part(&rt, alloc, b"ab", Part::More, b"ab", b""),
+    );
+    assert_row(
+        &rt,
+        "the end",
+        is_part(&rt, alloc, b"", Part::Ended, b"", b""),
+    );
+}
+
+#[test]
+fn texts(rt: HostRuntime) {
+    let mut written = Vec::new(rt.alloc());
+    write_text(&mut written, b"ab").expect(&rt, "a text");
+    write_text(&mut written, b"").expect(&rt, "a text");
+    write_text(&mut written, b"c").expect(&rt, "a text");
+    assert_row(&rt, "another text", written.as_slice() == b"abc".as_slice());
+}

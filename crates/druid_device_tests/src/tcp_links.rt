@@ -1,0 +1,148 @@
+//! Links over sockets of this machine.
+use crate::links::{REQUEST, exchanged_for};
+use crate::printing::printed;
+use crate::table::{assert_row, assert_told, halves, is_told};
+use crate::wire::large;
+use druid_link::{Link, MAX_EXCHANGE, TcpLink};
+use std::alloc::Global;
+use std::io::{Read, Write};
+use std::net::{Net, TcpListener, TcpStream};
+use std::process::Abort;
+use std::thread::{Threads, join};
+use std::time::{Clock, Duration};
+use std::{io, thread};
+
+// How many milliseconds an exchange may take with a server that does not end it in that time.
+const LIMIT: u64 = 1_000;
+
+// Writes a byte now and then, for longer than an exchange may take.
+fn drip<C: Clock>(clock: &C, socket: &mut TcpStream) -> io::Result<()> {
+    for _ in 0..12 {
+        socket.write_all(b"x")?;
+        thread::sleep(clock, Duration::from_millis(LIMIT / 6));
+    }
+    Ok(())
+}
+
+// What a server does after it was called and has read a request, before it closes.
+fn serve<C: Clock>(clock: &C, socket: &mut TcpStream, row: &str) -> io::Result<()> {
+    let mut request = [0; 18];
+    socket.read_exact(&mut request)?;
+    match row {
+        "answers" => socket.write_all(b"one"),
+        "stalls" => {
+            thread::sleep(clock, Duration::from_millis(LIMIT * 2));
+            Ok(())
+        }
+        "drips" => drip(clock, socket),
+        _ => Ok(()),
+    }
+}
+
+fn serve_once<C: Clock>(clock: &C, listener: &TcpListener, row: &str) -> io::Result<()> {
+    let (mut socket, _) = listener.accept()?;
+    match row {
+        "reads nothing" => {
+            thread::sleep(clock, Duration::from_millis(LIMIT * 2));
+            Ok(())
+        }
+        _ => serve(clock, &mut socket, row),
+    }
+}
+
+// A listener of this machine.
+fn listening<N: Net<Listener = TcpListener, Stream = TcpStream> + Abort>(net: &N) -> TcpListener {
+    TcpListener::bind(net, "127.0.0.1:0").expect(net, "a listener")
+}
+
+fn address_of(rt: &impl Abort, alloc: Global, listener: &TcpListener) -> String {
+    let address = listener.local_addr().expect(rt, "an address");
+    printed(rt, alloc, &address)
+}
+
+// A link to a server that does what the row says.
+fn linked<N: Net + Clock + Drop>(net: N, address: String, row: &str) -> TcpLink<N> {
+    let limit = match row {
+        "stalls" | "drips" | "reads nothing" => LIMIT,
+        _ => LIMIT * 20,
+    };
+    TcpLink::new(net, address).with_limit(Duration::from_millis(limit))
+}
+
+// What is sent to a server that does what the row says: more than the sockets hold where it reads nothing.
+fn request_for(rt: &impl Abort, alloc: Global, row: &str) -> Vec<u8> {
+    match row {
+        "reads nothing" => large(rt, alloc, MAX_EXCHANGE),
+        _ => REQUEST.to_vec(alloc).expect(rt, "memory"),
+    }
+}
+
+// What an exchange of this request gives, and how often the device has failed then.
+fn told<L: Link>(rt: &impl Abort, alloc: Global, link: &mut L, request: &[u8]) -> String {
+    let came = exchanged_for(rt, alloc, link, request);
+    let faults = printed(rt, alloc, &link.faults());
+    format!(in alloc; "{came}, {faults}").expect(rt, "memory")
+}
+
+// What an exchange tells with a server that is gone.
+fn told_alone<R: Net<Listener = TcpListener, Stream = TcpStream> + Clock + Abort>(
+    rt: &R,
+    alloc: Global,
+) -> String {
+    let address = address_of(rt, alloc, &listening(rt));
+    told(rt, alloc, &mut linked(rt, address, "is gone"), REQUEST)
+}
+
+// What an exchange tells with a server that is there.
+fn told_beside<R: Net<Listener = TcpListener, Stream = TcpStream> + Clock + Threads + Abort + Sync>(
+    rt: &R,
+    alloc: Global,
+    row: &str,
+) -> String {
+    let listener = listening(rt);
+    let mut link = linked(rt, address_of(rt, alloc, &listener), row);
+    let request = request_for(rt, alloc, row);
+    let (_served, told) = join(
+        rt,
+        || serve_once(rt, &listener, row).is_ok(),
+        || told(rt, alloc, &mut link, &request),
+    );
+    told
+}
+
+// What an exchange tells with a server that does what the row says.
+fn told_with<R: Net<Listener = TcpListener, Stream = TcpStream> + Clock + Threads + Abort + Sync>(
+    rt: &R,
+    alloc: Global,
+    row: &str,
+) -> String {
+    match row {
+        "is gone" => told_alone(rt, alloc),
+        _ => told_beside(rt, alloc, row),
+    }
+}
+
+#[test]
+fn links_over_sockets(rt: HostRuntime) {
+    let rows = "answers = one, 0
+closes = , 0
+stalls = X2: the message could not be read, 1
+drips = X2: the message could not be read, 1
+reads nothing = X2: the message could not be read, 1
+is gone = X8: no connection, 1";
+    for row in rows.lines() {
+        let (server, wanted) = halves(&rt, row, " = ");
+        assert_row(
+            &rt,
+            row,
+            is_told(told_with(&rt, rt.alloc(), server), wanted),
+        );
+    }
+}
+
+#[test]
+fn an_address_that_is_none(rt: HostRuntime) {
+    let address = printed(&rt, rt.alloc(), &"nowhere");
+    let told = told(&rt, rt.alloc(), &mut TcpLink::new(&rt, address), REQUEST);
+    assert_told(&rt, told, "X8: no connection, 1");
+}

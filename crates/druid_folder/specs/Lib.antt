@@ -1,0 +1,2 @@
+pub mod FileName
+pub mod Folder

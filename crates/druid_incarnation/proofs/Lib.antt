@@ -1,0 +1,4 @@
+mod Answered
+mod Decimal
+pub mod Moments
+pub mod NumberFile

@@ -1,0 +1,2 @@
+pub mod Incarnation
+pub mod Keeping

@@ -1,0 +1,2 @@
+mod PairLemmas
+pub mod SlotLemmas

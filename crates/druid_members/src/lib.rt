@@ -1,0 +1,7 @@
+//! The members of a chunk: which nodes hold which of its partitions.
+#![tactic(auto)]
+
+mod members;
+mod slot;
+
+pub use members::Members;

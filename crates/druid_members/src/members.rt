@@ -1,0 +1,245 @@
+ghost use Rattle.std.specs.Prelude.{◌≡◌, ℕ, ◌↔◌, ◌≤◌, ◌⊎◌, [], List, IsTrue, IfOk, IsOkAnd, OnErr, Contains, unwrap_or, map, Some};
+ghost use Rattle.std.specs.Ordering.{nat_cmp};
+ghost use Rattle.std.specs.BTreeMap as tree;
+ghost use Rattle.std.specs.List.Sorted.{IsStrictlyIncreasing};
+ghost use Rattle.druid_members.specs.Slots.{NoneEmpty, members_in};
+ghost use Rattle.druid_members.specs.Members.{Member, member_of, core_count, IsComplete, HasMember, HoldsPlace, HasPartition, Adds, RemovesPlace, RemovesOne, AllAt, SameMembers, ServedOnce};
+
+use crate::slot::Slot;
+use druid_shard::{Descriptor, NodeNo};
+use std::alloc::{AllocError, Global};
+use std::collections::BTreeMap;
+use std::marker::Model;
+
+/// The members of one chunk: which node serves which of its partitions, and the number of core partitions that each
+/// names. The caller keeps one for each chunk.
+#[derive(Debug, Drop)]
+pub struct Members {
+    alloc: Global,
+    slots: BTreeMap<u16, Slot>,
+    core: u16,
+    has_member: bool,
+}
+
+impl Model for Members {
+    ghost use Rattle.std.specs.Prelude.{List, ◌≡◌, ◌↔◌, IsTrue};
+    ghost use Rattle.druid_members.specs.Members.{Member, HasMember, core_count};
+    ghost use Rattle.druid_members.specs.Slots.{members_in, NoneEmpty};
+
+    ghost Value = { List Member };
+
+    ghost view = { λ a. members_in a.slots.entries };
+
+    ghost invariant = { λ a. (a.core ≡ core_count (members_in a.slots.entries))
+        × (IsTrue a.has_member ↔ HasMember (members_in a.slots.entries))
+        × NoneEmpty a.slots };
+}
+
+// Adds a node with its core count to a partition. False where it is there already.
+fn add_member(
+    alloc: Global,
+    slots: &mut BTreeMap<u16, Slot>,
+    partition: u16,
+    node: NodeNo,
+    core: u16,
+) -> Result<bool, AllocError>
+    ensures held { IfOk result (λ added. IsTrue added
+        ↔ (Contains (map (λ r. r.0) (unwrap_or (tree.get nat_cmp slots.old partition) [])) node → ⊥)) }
+    ensures added { IsOkAnd result IsTrue → (r : ℕ × ℕ)
+        → Contains (unwrap_or (tree.get nat_cmp slots.new partition) []) r
+        ↔ ((r ≡ (node, core)) ⊎ Contains (unwrap_or (tree.get nat_cmp slots.old partition) []) r) }
+    ensures same { IfOk result (λ added. IsTrue added
+        ⊎ (unwrap_or (tree.get nat_cmp slots.new partition) [] ≡ unwrap_or (tree.get nat_cmp slots.old partition) [])) }
+    ensures err { OnErr result
+        (unwrap_or (tree.get nat_cmp slots.new partition) [] ≡ unwrap_or (tree.get nat_cmp slots.old partition) []) }
+    ensures others { (q : ℕ) → (q ≡ partition → ⊥) → tree.get nat_cmp slots.new q ≡ tree.get nat_cmp slots.old q }
+    ensures ordered { tree.IsOrdered nat_cmp slots.new }
+    ensures was_ordered { tree.IsOrdered nat_cmp slots.old }
+    ensures none_empty { NoneEmpty slots.old → NoneEmpty slots.new }
+{
+    // Read for the proof: the reader tells what its type keeps.
+    let _ = slots.len();
+    if let Some(slot) = slots.get_mut(&partition) {
+        return slot.add(node, core);
+    }
+    let mut slot = Slot::new(alloc);
+    slot.add(node, core)?;
+    slots.insert(partition, slot)?;
+    Ok(true)
+}
+
+// Takes a node out of a partition. False where it is not there. No partition stays without a node.
+fn remove_member(slots: &mut BTreeMap<u16, Slot>, partition: u16, node: NodeNo) -> bool
+    ensures held { IsTrue result
+        ↔ Contains (map (λ r. r.0) (unwrap_or (tree.get nat_cmp slots.old partition) [])) node }
+    ensures removed { (r : ℕ × ℕ) → Contains (unwrap_or (tree.get nat_cmp slots.new partition) []) r
+        ↔ (Contains (unwrap_or (tree.get nat_cmp slots.old partition) []) r × (r.0 ≡ node → ⊥)) }
+    ensures one { IsTrue result → (core : ℕ) × ((r : ℕ × ℕ)
+        → Contains (unwrap_or (tree.get nat_cmp slots.old partition) []) r
+        ↔ ((r ≡ (node, core)) ⊎ Contains (unwrap_or (tree.get nat_cmp slots.new partition) []) r)) }
+    ensures others { (q : ℕ) → (q ≡ partition → ⊥) → tree.get nat_cmp slots.new q ≡ tree.get nat_cmp slots.old q }
+    ensures ordered { tree.IsOrdered nat_cmp slots.new }
+    ensures was_ordered { tree.IsOrdered nat_cmp slots.old }
+    ensures none_empty { NoneEmpty slots.old → NoneEmpty slots.new }
+{
+    // Read for the proof: the reader tells what its type keeps.
+    let _ = slots.len();
+    let Some(slot) = slots.get_mut(&partition) else {
+        return false;
+    };
+    if !slot.remove(node) {
+        return false;
+    }
+    if slot.is_empty() {
+        slots.remove(&partition);
+    }
+    true
+}
+
+// The greatest number of core partitions that a member names. It is at most `bound`, so nothing is looked at behind
+// the first member that names as many.
+fn core_of(slots: &BTreeMap<u16, Slot>, bound: u16) -> u16
+    requires { core_count (members_in slots.now.entries) ≤ bound }
+    ensures { result ≡ core_count (members_in slots.now.entries) }
+{
+    let mut core: u16 = 0;
+    for (_, slot) in slots.iter() {
+        core = core.max(slot.core());
+        if core == bound {
+            return core;
+        }
+    }
+    core
+}
+
+// The keys of a map, in order.
+fn keys_of(alloc: Global, slots: &BTreeMap<u16, Slot>) -> Result<Vec<u16>, AllocError>
+    ensures { IfOk result (λ v. v.items ≡ tree.keys slots.now) }
+{
+    slots.keys().copied().collect(alloc)
+}
+
+impl Members {
+    /// No members.
+    pub fn new(alloc: Global) -> Members
+        ensures { result ≡ [] }
+    {
+        Members {
+            alloc,
+            slots: BTreeMap::new(alloc),
+            core: 0,
+            has_member: false,
+        }
+    }
+
+    /// Adds the partition of a descriptor, served by a node. False where the node serves that partition already, and
+    /// then nothing changes.
+    pub fn add(&mut self, descriptor: &Descriptor, node: NodeNo) -> Result<bool, AllocError>
+        ensures held { IfOk result (λ added. IsTrue added
+            ↔ (HoldsPlace self.old descriptor.now.id.partition node → ⊥)) }
+        ensures added { IsOkAnd result IsTrue → Adds self.old self.new (member_of node descriptor.now) }
+        ensures same { IfOk result (λ added. IsTrue added ⊎ SameMembers self.old self.new) }
+        ensures err { OnErr result (SameMembers self.old self.new) }
+    {
+        let partition = descriptor.id().partition();
+        let core = descriptor.core();
+        let added = add_member(self.alloc, &mut self.slots, partition, node, core)?;
+        if added {
+            self.core = self.core.max(core);
+            self.has_member = true;
+        }
+        Ok(added)
+    }
+
+    /// Takes a partition from what a node serves. False where the node does not serve it, and then nothing changes. It
+    /// takes no memory.
+    pub fn remove(&mut self, partition: u16, node: NodeNo) -> bool
+        ensures held { IsTrue result ↔ HoldsPlace self.old partition node }
+        ensures removed { RemovesPlace self.old self.new partition node }
+        ensures one { IsTrue result → RemovesOne self.old self.new partition node }
+        ensures same { IsTrue result ⊎ SameMembers self.old self.new }
+    {
+        let removed = remove_member(&mut self.slots, partition, node);
+        if removed {
+            self.core = core_of(&self.slots, self.core);
+            self.has_member = !self.slots.is_empty();
+        }
+        removed
+    }
+
+    /// Whether there is no member.
+    pub fn is_empty(&self) -> bool
+        ensures { IsTrue result ↔ (HasMember self.now → ⊥) }
+    {
+        !self.has_member
+    }
+
+    /// Whether no member would be left without the one of this partition that this node serves.
+    pub fn is_only(&self, partition: u16, node: NodeNo) -> bool
+        ensures { IsTrue result ↔ AllAt self.now partition node }
+    {
+        for (other, slot) in self.slots.iter() {
+            if *other != partition || !slot.is_only(node) {
+                return false;
+            }
+        }
+        true
+    }
+
+    /// The greatest number of core partitions that a member names, and 0 without members.
+    pub fn core(&self) -> u16
+        ensures { result ≡ core_count self.now }
+    {
+        self.core
+    }
+
+    /// The nodes that serve a partition, rising.
+    pub fn replicas(&self, partition: u16) -> &[NodeNo]
+        ensures rising { IsStrictlyIncreasing result.now }
+        ensures nodes { (n : ℕ) → Contains result.now n ↔ HoldsPlace self.now partition n }
+        ensures once { ServedOnce self.now partition }
+    {
+        // Read for the proof: the reader tells what its type keeps.
+        let _ = self.slots.len();
+        match self.slots.get(&partition) {
+            Some(slot) => slot.nodes(),
+            None => &[],
+        }
+    }
+
+    /// The partitions that a node serves, rising.
+    pub fn partitions(&self) -> Result<Vec<u16>, AllocError>
+        ensures rising { IfOk result (λ v. IsStrictlyIncreasing v.items) }
+        ensures all { IfOk result (λ v. (p : ℕ) → Contains v.items p ↔ HasPartition self.now p) }
+    {
+        // Read for the proof: the reader tells what its type keeps.
+        let _ = self.slots.len();
+        let keys = keys_of(self.alloc, &self.slots)?;
+        Ok(keys)
+    }
+
+    /// Whether there is a member and each core partition is some member's.
+    pub fn is_complete(&self) -> bool
+        ensures { IsTrue result ↔ IsComplete self.now }
+    {
+        for partition in 0..self.core {
+            if self.replicas(partition).is_empty() {
+                return false;
+            }
+        }
+        self.has_member
+    }
+}
+
+impl Clone for Members {
+    ghost is_clone = { λ members copy. copy ≡ members };
+
+    fn clone(&self) -> Result<Members, AllocError> {
+        Ok(Members {
+            alloc: self.alloc,
+            slots: self.slots.clone()?,
+            core: self.core,
+            has_member: self.has_member,
+        })
+    }
+}
