@@ -39,7 +39,7 @@ impl<'a> Model for Spelled<'a> {
     ghost invariant = { λ a. IsVersion a.version.now };
 }
 
-// A piece, its texts lent. Pieces are in the order of the parts of their segments, and then of their own starts and ends.
+// A piece, with borrowed texts. Pieces are in the order of the parts of their segments, and then of their own starts and ends.
 #[derive(Drop)]
 struct LentAsked<'a> {
     source: &'a str,
@@ -210,7 +210,7 @@ fn inside_of<'a>(source: &'a str, value: &'a Value) -> Option<LentAsked<'a>>
     }
 }
 
-/// Whether each value is a piece of a segment of that source, and lies inside it. It takes no memory.
+/// Whether each value is a piece of a segment of that source, and lies inside it. Does not allocate.
 pub fn are_inside(source: &str, values: &[Value]) -> bool
     ensures { result ≡ list_all (λ value. is_some (inside_at source.now (view value))) values.now }
 {
@@ -343,7 +343,7 @@ pub fn asked_values(alloc: Global, asked: &[Asked]) -> Result<Vec<Value>, AllocE
     Ok(all)
 }
 
-/// Whether `read_asked` reads a piece of a segment of that source. It takes no memory.
+/// Whether `read_asked` reads a piece of a segment of that source. Does not allocate.
 pub fn is_asked(source: &Name, value: &Value) -> bool
     ensures { result ≡ is_some (asked_at source.now (view value.now)) }
 {

@@ -54,7 +54,7 @@ fn refusals(rt: HostRuntime) {
     assert_answered(&rt, rt.alloc(), rows);
 }
 
-// Asserts that each of these lines is bad behind that row.
+// Asserts that each of these lines is bad after that row.
 fn assert_bad(rt: &impl Abort, alloc: Global, before: &str, lines: &str) {
     for line in lines.lines() {
         let rows = format!(in alloc; "{before}{line} => bad").expect(rt, "memory");
@@ -108,7 +108,7 @@ fn too_many_segments(rt: HostRuntime) {
     assert_too_many(&rt, rt.alloc(), "@at1;", 20_000);
 }
 
-// How reading a reply ends, as it is told.
+// How reading a reply ends, as it is reported.
 fn read_end(rt: &impl Abort, alloc: Global, text: &str) -> String {
     match read_reply(alloc, text.as_bytes()) {
         Ok(_) => owned(rt, alloc, "read"),

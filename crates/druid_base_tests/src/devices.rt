@@ -7,7 +7,7 @@ use std::io;
 use std::io::{BufReader, ErrorKind, Read, Write};
 use std::process::Abort;
 
-// What the calls of a device do: a letter for each, of which the last is for all calls behind it too.
+// What the calls of a device do: a letter for each, of which the last is for all calls after it too.
 #[derive(Drop)]
 struct Plan<'a> {
     letters: &'a [u8],
@@ -78,7 +78,7 @@ impl Write for PlannedWriter<'_> {
 
 const ANSWERS: &str = "{\"brokers\":1}\n{\"pieces\":[]}\n";
 
-// A script of two lines, of which the second is answered in two writes, or one with a bad line behind them.
+// A script of two lines, of which the second is answered in two writes, or one with a bad line after them.
 fn script(name: &str) -> &'static str {
     match name {
         "good" =>
@@ -174,7 +174,7 @@ fn list_of(rt: &impl Abort, alloc: Global, words: &str) -> Vec<String> {
     list
 }
 
-// Asserts that the words over an input of one line end so: what is told, and what is answered.
+// Asserts that the words over an input of one line end so: what is reported, and what is answered.
 fn assert_obeyed(
     rt: &impl Abort,
     alloc: Global,

@@ -46,7 +46,7 @@ impl Draws {
         self.below(4) as usize
     }
 
-    // One of the last packets, or the one behind them, which is not there.
+    // One of the last packets, or the one after them, which is not there.
     fn packet(&mut self, packets: usize) -> usize {
         packets.saturating_sub(self.below(5) as usize)
     }

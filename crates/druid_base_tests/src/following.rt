@@ -86,7 +86,7 @@ fn push_snapshot(rt: &impl Abort, rows: &mut String) {
     push(rt, rows, "@end;} => @moved1;\n");
 }
 
-// Appends two changes behind a mark, and their answer.
+// Appends two changes after a mark, and their answer.
 fn push_two(
     rt: &impl Abort,
     rows: &mut String,

@@ -1,4 +1,4 @@
-//! Texts of values, whose types say nothing to a proof, and tables of what is told.
+//! Texts of values, whose types say nothing to a proof, and tables of what is reported.
 use std::alloc::Global;
 use std::fmt::Display;
 use std::process::Abort;
@@ -13,12 +13,12 @@ pub(crate) fn printed<T: Display>(rt: &impl Abort, alloc: Global, value: &T) -> 
     format!(in alloc; "{value}").expect(rt, "memory")
 }
 
-/// Asserts that what is told of a text is what is wanted.
+/// Asserts that what is reported of a text is what is wanted.
 pub(crate) fn assert_told(rt: &impl Abort, text: &str, told: String, wanted: &str) {
     assert!(rt; told.as_str() == wanted, "at {text}: {told}");
 }
 
-/// Asserts what is told of the text of each row `TEXT = WANTED`.
+/// Asserts what is reported of the text of each row `TEXT = WANTED`.
 pub(crate) fn assert_rows<R: Abort, F: Fn(&R, Global, &str) -> String>(
     rt: &R,
     alloc: Global,

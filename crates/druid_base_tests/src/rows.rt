@@ -66,12 +66,12 @@ pub(crate) fn mark_told(rt: &impl Abort, alloc: Global, mark: Mark) -> String {
     format!(in alloc; "{} {}", mark.incarnation(), mark.count()).expect(rt, "memory")
 }
 
-/// Appends the partition of a segment, behind this.
+/// Appends the partition of a segment, after this.
 pub(crate) fn push_partition(rt: &impl Abort, told: &mut String, sign: &str, segment: &Descriptor) {
     write!(told, "{sign}{}", segment.id().partition()).expect(rt, "memory");
 }
 
-/// Appends the partitions of these segments, each behind a blank.
+/// Appends the partitions of these segments, each after a blank.
 pub(crate) fn push_partitions(rt: &impl Abort, told: &mut String, segments: &[Descriptor]) {
     for segment in segments {
         push_partition(rt, told, " ", segment);

@@ -4,7 +4,7 @@ use druid_sync::{AskFault, SyncFault, ask_target, read_ask, read_reply, reply_te
 use std::alloc::Global;
 use std::process::Abort;
 
-// Texts of replies, and what is told of them: `same` is the same text again. The first is of a delta without changes at
+// Texts of replies, and what is reported of them: `same` is the same text again. The first is of a delta without changes at
 // count 5 of incarnation 1.
 const REPLIES: &str =
     "{\"counter\":{\"counter\":5,\"hash\":1},\"from\":{\"counter\":5,\"hash\":1},\"requests\":[],\"resetCause\":null,\"resetCounter\":false} = same

@@ -78,7 +78,7 @@ P1D/2024-01-32 = C1: not a time
 2024-01-02/2024-01-01 = C3: an empty interval
 2024-01-01T00:00/2024-01-01 = C3: an empty interval";
 
-// Intervals with a space between, and the parts of the set of their instants, each with a space behind it.
+// Intervals with a space between, and the parts of the set of their instants, each with a space after it.
 const SETS: &str = " =\u{20}
 2024-01-01T00:00/2024-01-01T06:00 2024-01-01T06:00/2024-01-01T12:00 = 2024-01-01T00:00:00.000Z/2024-01-01T12:00:00.000Z\u{20}
 2024-01-03/2024-01-04 2024-01-01T06:00/2024-01-01T12:00 2024-01-01T00:00/2024-01-01T06:00 = 2024-01-01T00:00:00.000Z/2024-01-01T12:00:00.000Z 2024-01-03T00:00:00.000Z/2024-01-04T00:00:00.000Z\u{20}";

@@ -21,7 +21,7 @@ const CASES: &str = "2024-01-01/2024-01-02 v1 0 2 =\u{20}
 2024-01-01/2024-01-02 v1 0 1,2024-01-01/2024-01-02 v2 2 3,2024-01-01/2024-01-02 v2 0 3,2024-01-01/2024-01-02 v2 1 3 = v2 2024-01-01T00:00:00.000Z/2024-01-02T00:00:00.000Z [0, 1, 2];";
 
 // Steps on a timeline, begun without segments: `+` a segment that node 0 serves from now on, `-` one that it serves no
-// more. Beside each stand the visible pieces of the day after it and, behind a bar, the overshadowed chunks, or else
+// more. Beside each stand the visible pieces of the day after it and, after a bar, the overshadowed chunks, or else
 // the fault. A newer version cuts an older one, and goes; a newer version completes, and goes; versions hide others.
 const CUTS: &str =
     "+ 2024-01-01/2024-01-02 v1 0 1 = v1 2024-01-01T00:00:00.000Z/2024-01-02T00:00:00.000Z [0];|
@@ -50,7 +50,7 @@ const HIDES: &str =
 - 2024-01-01T10:00/2024-01-01T12:00 v1 0 1 = v3 2024-01-01T00:00:00.000Z/2024-01-02T00:00:00.000Z [0];|v2 2024-01-01T00:00:00.000Z/2024-01-01T10:00:00.000Z;v10 2024-01-01T10:00:00.000Z/2024-01-01T12:00:00.000Z;v2 2024-01-01T10:00:00.000Z/2024-01-01T12:00:00.000Z;
 - 2024-01-01/2024-01-02 v3 0 1 = v2 2024-01-01T00:00:00.000Z/2024-01-01T10:00:00.000Z [0];v2 2024-01-01T10:00:00.000Z/2024-01-01T12:00:00.000Z [0];|v10 2024-01-01T10:00:00.000Z/2024-01-01T12:00:00.000Z;";
 
-// Steps on a timeline of which a copy was made before, and beside each what is told of the copy and of the timeline.
+// Steps on a timeline of which a copy was made before, and beside each what is reported of the copy and of the timeline.
 const COPIES: &str =
     "+ 2024-01-01/2024-01-02 v1 5 2 = v1 2024-01-01T00:00:00.000Z/2024-01-02T00:00:00.000Z [0, 1]; then v1 2024-01-01T00:00:00.000Z/2024-01-02T00:00:00.000Z [0, 1, 5];|
 - 2024-01-01/2024-01-02 v1 0 2 = v1 2024-01-01T00:00:00.000Z/2024-01-02T00:00:00.000Z [0, 1]; then |";
@@ -115,7 +115,7 @@ fn push_version(rt: &impl Abort, alloc: Global, told: &mut String, key: &GroupKe
     told.push_str(version.as_str()).expect(rt, "memory");
 }
 
-// What is told of the pieces of the day.
+// What is reported of the pieces of the day.
 fn told(rt: &impl Abort, alloc: Global, timeline: &Timeline) -> String {
     let mut told = String::new(alloc);
     for piece in &pieces(rt, alloc, timeline) {
@@ -142,7 +142,7 @@ fn all_told(rt: &impl Abort, alloc: Global, timeline: &Timeline) -> String {
     told
 }
 
-// What is told after a step on a timeline.
+// The result of a step on a timeline.
 fn after(rt: &impl Abort, alloc: Global, timeline: &mut Timeline, step: &str) -> String {
     match edit(rt, alloc, timeline, step) {
         Ok(()) => all_told(rt, alloc, timeline),
@@ -150,7 +150,7 @@ fn after(rt: &impl Abort, alloc: Global, timeline: &mut Timeline, step: &str) ->
     }
 }
 
-// Asserts what is told after each of these steps on a timeline.
+// Asserts the result after each of these steps on a timeline.
 fn assert_steps(rt: &impl Abort, alloc: Global, steps: &str) {
     let mut timeline = timeline(rt, alloc, "wiki");
     for row in steps.lines() {
@@ -159,7 +159,7 @@ fn assert_steps(rt: &impl Abort, alloc: Global, steps: &str) {
     }
 }
 
-// What is told of a copy of a timeline after a step on the timeline, and of the timeline.
+// What is reported of a copy of a timeline after a step on the timeline, and of the timeline.
 fn copied(rt: &impl Abort, alloc: Global, step: &str) -> String {
     let mut timeline = served(
         rt,

@@ -201,7 +201,7 @@ fn refusals(rt: HostRuntime) {
     assert_answers(&rt, rt.alloc(), &mut sim, REFUSED);
 }
 
-// Each call that may answer want of memory is made, and its answer is another.
+// Each call that may answer out of memory is made, and its answer is another.
 #[test]
 fn ample_memory(rt: HostRuntime) {
     let mut sim = new_sim(&rt, rt.alloc());

@@ -123,7 +123,7 @@ module _ {K : Type 0} where
   seek_plain rs (b ∷ path) h =
       on_byte rs b path (no_param rs h) (no_catch rs h) ∙ seek_plain (step b rs) path (still_plain b rs h) ∙ literal_step b rs path
 
-  -- ---- a part of a path behind a front
+  -- ---- a part of a path after a front
 
   -- the row of the front and a part, if the path is such
   abbrev pub with_part : List ℕ → K → List ℕ → Option K
@@ -181,7 +181,7 @@ module _ {K : Type 0} where
       by true here next = here
       by false here next = next ∙ sym (none_more (literal (step b rs) path))
 
-  -- the same by the front and what is behind it
+  -- the same by the front and what is after it
   pub part_behind : (w : List ℕ) (k : K) (path : List ℕ)
       → with_part w k path ≡ cond (bytes_eq (take (length w) path) w && is_part (drop (length w) path)) (Some k) None
   part_behind [] k path = refl

@@ -77,7 +77,7 @@ module _ {L : Type 0} (step : L → List ℕ → Came → L → Type 0) (names :
   on_route request status body path route is_path is_route answer =
       subst (λ (r : Route). RespondsAt step names r floor after old new request status body) (is_route ∙ ap route_of is_path) answer
 
-  -- where nothing is read, that is told
+  -- where nothing is read, that is reported
   pub unread : (route : Route) (request : RequestValue) (status : ℕ) (body : List ℕ) → TakesInventory route request
       → AnswersStale names floor status body ⊎ IsOutOfMemory status body → after ≡ floor → new ≡ old
       → RespondsAt step names route floor after old new request status body

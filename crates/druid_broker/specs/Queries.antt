@@ -15,7 +15,7 @@ use Rattle.druid_scatter.specs.Gathered.{Exchange, AreMade, IsGathered}
 use Rattle.druid_link.specs.Links.{Came}
 use Rattle.druid_wire.specs.Served.{Tells}
 
--- the rows are whole, or what is missing is told beside them
+-- the rows are whole, or what is missing is listed beside them
 abbrev pub TellsRows : Query → List Asked → List Group → ℕ → List ℕ → Type 0
 TellsRows query [] groups status body = Tells 200 (result_text query groups) status body
 TellsRows query (a ∷ more) groups status body = Tells 503 (shortfall_text query (a ∷ more) groups) status body
@@ -37,7 +37,7 @@ AnswersQuery step inventory bytes old new status body =
     ((query : Query) × IsReadOf bytes (Ok query) × AnswersRows step inventory query old new status body)
     ⊎ ((fault : QueryFault) × (fault ≢ Memory) × IsReadOf bytes (Err fault) × Tells 400 (refusal_text fault) status body × (new ≡ old))
 
--- want of memory: some exchanges may have been made for the query, if the bytes read as one
+-- out of memory: some exchanges may have been made for the query, if the bytes read as one
 abbrev pub WantsMemory : {L : Type 0} → (L → List ℕ → Came → L → Type 0) → List ℕ → List L → List L → Type 0
 WantsMemory step bytes old new =
     (new ≡ old) ⊎ ((query : Query) × (exchanges : List Exchange) × IsReadOf bytes (Ok query) × AreMade step query exchanges old new)

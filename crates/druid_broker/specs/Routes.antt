@@ -27,7 +27,7 @@ pub data Route : Type 0 where
   entry : (node : List ℕ) → Route
   nowhere : Route
 
--- the part behind `/druid-internal/v1/inventory/`, where it is one, and not empty
+-- the part after `/druid-internal/v1/inventory/`, where it is one, and not empty
 abbrev pub entry_front : List ℕ
 entry_front = codes "/druid-internal/v1/inventory/"
 
@@ -48,13 +48,13 @@ route_of path =
     else (if bytes_eq path (codes "/druid/broker/v1/loadstatus") then load_status
     else entry_route path))))
 
--- ---- want of memory
+-- ---- out of memory
 
 -- memory was refused for the answer
 abbrev pub IsOutOfMemory : ℕ → List ℕ → Type 0
 IsOutOfMemory status body = Tells 500 (codes "{\"error\":\"Memory\"}") status body
 
--- an answer that takes memory
+-- an answer that allocates
 abbrev pub OrOutOfMemory : (ℕ → List ℕ → Type 0) → ℕ → List ℕ → Type 0
 OrOutOfMemory P status body = P status body ⊎ IsOutOfMemory status body
 

@@ -41,7 +41,7 @@ entry_request node = get_request (entry_target node)
 abbrev pub Responds : List ℕ → ℕ → List ℕ → Type 0
 Responds bytes status body = (rest : List ℕ) × IsResponse bytes status body rest
 
--- the bytes are no response, and that is told: by a fault of the bytes, since no device and no memory has a part in it
+-- the bytes are no response, and that is reported: by a fault of the bytes, since no device and no memory has a part in it
 abbrev pub IsNoResponse : List ℕ → WireFault → Type 0
 IsNoResponse bytes fault =
     HasFault ResponseSays bytes fault × IsOfBytes fault × ((status : ℕ) (body rest : List ℕ) → IsResponse bytes status body rest → ⊥)
@@ -58,7 +58,7 @@ IsAnswerTo came (Err (Reply fault)) =
 IsAnswerTo came (Err (Apply fault)) = ⊥
 IsAnswerTo came (Err Memory) = (came ≡ Err wire.Memory) ⊎ ((bytes body : List ℕ) × (came ≡ Ok bytes) × Responds bytes 200 body)
 
--- one exchange leads the link from old to new, and is told
+-- one exchange leads the link from old to new, and is reported
 pub record IsTold {L : Type 0} (step : L → List ℕ → Came → L → Type 0) (request : RequestValue) (old new : L) (answer : Result Body TurnFault) : Type 0 where
   pub came : Came
   pub made : step old (request_text request) came new
@@ -70,7 +70,7 @@ Fetches step request old new answer = IsTold step request old new answer ⊎ ((a
 
 -- ---- a node's changes
 
--- a reset that answers an ask for what comes behind a mark: then all is asked for
+-- a reset that answers an ask for what comes after a mark: then all is asked for
 abbrev pub StartsAgain : Ask → Result Body TurnFault → Type 0
 StartsAgain (Since m) (Ok (Reset cause at)) = ⊤
 StartsAgain ask answer = ⊥
@@ -82,7 +82,7 @@ IsFetched {L} step ask old new answer =
     ⊎ ((between : L) × (first : Body) × IsTold step (ask_request ask) old between (Ok first) × StartsAgain ask (Ok first)
     × Fetches step (ask_request Whole) between new answer)
 
--- the node is asked for what comes behind its mark in the inventory
+-- the node is asked for what comes after its mark in the inventory
 abbrev pub IsFetchedFrom : {L : Type 0} → (L → List ℕ → Came → L → Type 0) → List Entry → ℕ → L → L → Result Body TurnFault → Type 0
 IsFetchedFrom step inventory node old new answer =
     (e : Entry) × (slice_get inventory node ≡ Some e) × IsFetched step (ask_of e.mark) old new answer
@@ -94,7 +94,7 @@ abbrev pub TakesTurn : (Result Body TurnFault → Type 0) → List Entry → ℕ
 TakesTurn Fetched old node outcome new =
     (reply : Body) × (entry : Entry) × Fetched (Ok reply) × StepsAt old node reply outcome entry × (new ≡ slice_set old node entry)
 
--- what was fetched is no reply, or one that is not applied; want of memory comes of either
+-- what was fetched is no reply, or one that is not applied; out of memory comes of either
 abbrev pub FailsTurn : (Result Body TurnFault → Type 0) → List Entry → ℕ → TurnFault → Type 0
 FailsTurn Fetched inventory node (Apply fault) = (reply : Body) × Fetched (Ok reply) × RefusedAt inventory node reply fault
 FailsTurn Fetched inventory node Memory =

@@ -28,7 +28,7 @@ TakesInventory load_status request = bytes_eq request.method (codes "GET") ≡ t
 TakesInventory (entry node) request = (bytes_eq request.method (codes "GET") ≡ true) × IsSome (number_at node)
 TakesInventory nowhere request = ⊥
 
--- what was found is behind what the view knows
+-- what was found is older than what the view knows
 abbrev pub AnswersStale : List (List ℕ) → List Point → ℕ → List ℕ → Type 0
 AnswersStale names floor status body =
     Tells 500 (codes "{\"error\":\"Stale\"}") status body × (node : ℕ) × (at found : Point) × TellsRead names floor (Stale node at found)

@@ -38,7 +38,7 @@ pub(crate) fn refuse_query(alloc: Global, fault: QueryFault) -> Response
     }
 }
 
-// What is told of what was gathered.
+// What is reported of what was gathered.
 fn tell_rows(alloc: Global, query: &Query, answer: &Answer) -> Result<Response, AllocError>
     requires { IsPartialFor query.now answer.now.partial }
     ensures { IfOk result (λ r. TellsRows query.now answer.now.missing answer.now.partial.groups r.status r.body) }

@@ -12,7 +12,7 @@ enum Text {
     Made(String),
 }
 
-/// A status and a body. A fixed body takes no memory.
+/// A status and a body. A fixed body does not allocate.
 #[derive(Drop)]
 pub(crate) struct Response {
     status: StatusCode,
@@ -62,7 +62,7 @@ impl Response {
         Response::fixed(StatusCode::INTERNAL_SERVER_ERROR, "{\"error\":\"Memory\"}")
     }
 
-    /// The answer where what was found is behind what the view knows.
+    /// The answer where what was found is older than what the view knows.
     pub(crate) fn stale() -> Response
         ensures { Tells 500 (codes "{\"error\":\"Stale\"}") result.status result.body }
     {

@@ -48,7 +48,7 @@ fn router(alloc: Global) -> Result<Router<Place>, InsertError>
     Ok(router)
 }
 
-// What stands behind the front of such a path.
+// What follows the front of such a path.
 #[tactic(auto, using(crate::proofs::RouteLemmas::front_end))]
 fn behind_front(path: &[u8]) -> &[u8]
     ensures { result.now ≡ drop (length entry_front) path.now }
@@ -73,7 +73,7 @@ impl Routes {
         })
     }
 
-    // Where a path leads. It takes no memory.
+    // Where a path leads. Does not allocate.
     pub(crate) fn route_of<'a>(&self, path: &'a str) -> Route<'a>
         ensures { lent_route result ≡ route_of path.now }
     {

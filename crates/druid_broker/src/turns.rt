@@ -21,7 +21,7 @@ use http::{Method, StatusCode};
 use std::alloc::{AllocError, Global};
 use std::sync::Wait;
 
-// What is told of a body that does not read.
+// What is reported of a body that does not read.
 fn reply_fault(fault: SyncFault) -> TurnFault
     ensures { ((fault ≡ SyncFault.Memory) × (result ≡ TurnFault.Memory)) ⊎ ((fault ≢ SyncFault.Memory) × (result ≡ TurnFault.Reply fault)) }
 {
@@ -32,7 +32,7 @@ fn reply_fault(fault: SyncFault) -> TurnFault
     }
 }
 
-// What is told of a link that failed.
+// What is reported of a link that failed.
 fn link_fault(fault: WireFault) -> TurnFault
     ensures { ((fault ≡ WireFault.Memory) × (result ≡ TurnFault.Memory)) ⊎ ((fault ≢ WireFault.Memory) × (result ≡ TurnFault.Wire fault)) }
 {
@@ -43,7 +43,7 @@ fn link_fault(fault: WireFault) -> TurnFault
     }
 }
 
-// The reply that is told by these bytes.
+// The reply in these bytes.
 fn reply_in(alloc: Global, bytes: &[u8]) -> Result<Reply, TurnFault>
     ensures { IsAnswerTo (Ok bytes.now) result }
 {
@@ -118,7 +118,7 @@ fn ask_node<L: Link>(alloc: Global, ask: &Ask, link: &mut L) -> Result<Reply, Tu
     Ok(reply)
 }
 
-/// Asks a node for what changed behind its mark in the inventory, or for all where it was never synced. A reset is followed: all
+/// Asks a node for what changed after its mark in the inventory, or for all where it was never synced. A reset is followed: all
 /// is asked for then, once, in the same call. K1 where the link fails or what comes back is no response, K4 where its status is
 /// not 200, K2 where its body is no reply, K9 where memory was refused.
 pub fn fetch<L: Link>(
@@ -175,7 +175,7 @@ fn publish_reply<T: Wait, N: NodeList>(
     }
 }
 
-// Asks a node for what changed behind its mark in what is published.
+// Asks a node for what changed after its mark in what is published.
 fn fetch_change<N: NodeList, L: Link>(
     alloc: Global,
     publisher: &Publisher<N>,

@@ -267,7 +267,7 @@ fn is_asked_once<R: Handle, N: NodeList>(
     made_by_two(made) == (1, 1) && told.as_str() == wanted
 }
 
-// Puts a server that answers these bytes behind a link.
+// Puts a server that answers these bytes after a link.
 fn set_bytes<R: Handle, N: NodeList>(
     alloc: Global,
     made: &mut Cluster<R, N>,

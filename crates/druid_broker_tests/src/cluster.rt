@@ -1,4 +1,4 @@
-//! Clusters in memory: data nodes, each behind a link of its own, and a broker that follows them.
+//! Clusters in memory: data nodes, each after a link of its own, and a broker that follows them.
 ghost use Rattle.std.specs.Prelude.{◌≡◌, ◌⊎◌, ◌≤◌, IsTrue, length, IfOk, IfErr};
 ghost use Rattle.druid_inventory.specs.Join.{names_of};
 
@@ -27,7 +27,7 @@ pub(crate) trait Handle: Abort + Wait + Threads + Copy + Send + Sync {}
 
 impl<R: Abort + Wait + Threads + Copy + Send + Sync> Handle for R {}
 
-/// What stands behind a link.
+/// What follows a link.
 #[derive(Drop)]
 pub(crate) enum Behind {
     /// A data node.
@@ -43,7 +43,7 @@ pub(crate) enum Behind {
 pub(crate) struct TestLink<R: Handle> {
     rt: R,
     behind: Behind,
-    // What was seen of the node behind it.
+    // What was seen of the node after it.
     seen: Mark,
     made: u64,
     faults: u64,
@@ -114,7 +114,7 @@ impl<R: Handle> TestLink<R> {
         }
     }
 
-    /// Puts something else behind it.
+    /// Puts something else after it.
     pub(crate) fn set(&mut self, behind: Behind) {
         self.behind = behind;
         self.seen = Mark::never();
@@ -460,7 +460,7 @@ fn link_at<R: Handle, N: NodeList>(cluster: &mut Cluster<R, N>, place: usize) ->
     cluster.links.get_mut(place).expect(&rt, "a link")
 }
 
-/// Puts something else behind a link.
+/// Puts something else after a link.
 pub(crate) fn set<R: Handle, N: NodeList>(
     cluster: &mut Cluster<R, N>,
     place: usize,

@@ -54,7 +54,7 @@ pub(crate) struct PlainQuery {
     pub(crate) by_value: bool,
 }
 
-// What is told of a group.
+// What is reported of a group.
 #[derive(Clone, Copy, Drop)]
 struct Told {
     count: i64,
@@ -75,7 +75,7 @@ fn sum(told: Option<i64>, number: i64) -> i64 {
     told.unwrap_or(0).wrapping_add(number)
 }
 
-// What is told with one row more.
+// What is counted with one row more.
 fn with_row(told: Told, row: PlainRow) -> Told {
     let count = told.count.wrapping_add(1);
     let Some(number) = row.number else {
@@ -112,7 +112,7 @@ fn number(rt: &impl Abort, alloc: Global, number: Option<i64>, none: &str) -> St
     }
 }
 
-// Adds a part to a text, behind what stands between two.
+// Adds a part to a text, after what stands between two.
 fn push_part(rt: &impl Abort, text: &mut String, between: &str, part: &str) {
     if !text.as_str().is_empty() {
         text.push_str(between).expect(rt, "memory");
@@ -250,7 +250,7 @@ impl Plain {
         Some(bucket.saturating_mul(4).saturating_add(value))
     }
 
-    // Adds the rows of a segment to what is told of the groups.
+    // Adds the rows of a segment to what is reported of the groups.
     fn add_rows(&self, groups: &mut [Told], query: PlainQuery, segment: &PlainSegment) {
         for row in &segment.rows {
             if let Some(place) = self.place(query, segment, *row)
@@ -261,7 +261,7 @@ impl Plain {
         }
     }
 
-    // What is told of each group, by its place.
+    // What is reported of each group, by its place.
     fn groups(&self, rt: &impl Abort, alloc: Global, query: PlainQuery) -> Vec<Told> {
         let mut groups = vec![in alloc; NOTHING; HOURS.saturating_mul(4)].expect(rt, "memory");
         for segment in &self.segments {
@@ -282,7 +282,7 @@ impl Plain {
         text
     }
 
-    // The hour behind the last of a run of one chunk.
+    // The hour after the last of a run of one chunk.
     fn run_end(&self, chunk: usize, start: usize, end: usize) -> usize {
         for hour in start..end {
             if self.visible(hour) != Some(chunk) {

@@ -13,12 +13,12 @@ pub(crate) fn replaced(rt: &impl Abort, alloc: Global, text: &str, part: &str, b
     text.replace(alloc, part, by).expect(rt, "memory")
 }
 
-/// What stands before the first such text in a line, and what behind it.
+/// What stands before the first such text in a line, and what after it.
 pub(crate) fn halves<'a>(rt: &impl Abort, line: &'a str, between: &str) -> (&'a str, &'a str) {
     line.split_once(between).expect(rt, "no line")
 }
 
-/// Asserts that this is told of a line.
+/// Asserts that this is the fault of a line.
 pub(crate) fn assert_told(rt: &impl Abort, line: &str, told: String, wanted: &str) {
     assert!(rt; told.as_str() == wanted, "{line}");
 }

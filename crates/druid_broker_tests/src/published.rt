@@ -40,7 +40,7 @@ fn read<R: Wait + Abort, N: NodeList>(rt: &R, alloc: Global, view: &mut View<N>)
     first_mark(rt, alloc, &found)
 }
 
-// What is told of a reply that is not published.
+// What is reported of a reply that is not published.
 fn refused<R: Wait + Abort, N: NodeList>(
     rt: &R,
     alloc: Global,
@@ -67,7 +67,7 @@ fn publish_to<R: Wait + Abort, N: NodeList>(
     view.learn(&receipt);
 }
 
-// What the views read before a snapshot is published and its receipt told to the first of them, then, and once a reply was refused.
+// What the views read before a snapshot is published and its receipt given to the first of them, then, and once a reply was refused.
 fn views_read<R: Wait + Abort, N: NodeList>(
     rt: &R,
     alloc: Global,

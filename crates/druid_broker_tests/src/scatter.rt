@@ -69,7 +69,7 @@ fn ample_memory(rt: HostRuntime) {
     assert!(rt; made_over(&rt, rt.alloc(), parts) == [(1, 1), (1, 1)]);
 }
 
-// The inventory once a node told that it serves the only segment.
+// The inventory once a node reported that it serves the only segment.
 fn with_node(rt: &impl Abort, alloc: Global, inventory: &Inventory, node: NodeNo) -> Inventory {
     let mut peer = link(rt, alloc, SNAPSHOT);
     let reply = fetch_entry(alloc, &mut peer, node).expect(rt, "a reply");

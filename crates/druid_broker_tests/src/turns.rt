@@ -18,7 +18,7 @@ use std::sync::Wait;
 
 // Replies in turn, and what following the node tells: the outcome, or the fault. A reply is a status and a body; with `-` in front
 // its last byte is cut off. With `!` in front it is these bytes, in which `|` stands for a carriage return and a line feed, and `#`
-// for 64 fields. `@` stands for the load of a segment. The mark that is then held stands behind.
+// for 64 fields. `@` stands for the load of a segment. The mark that is then held stands after.
 const TURNS: &str =
     "200 {\"counter\":{\"counter\":5,\"hash\":1},\"from\":null,\"requests\":[@],\"resetCause\":null,\"resetCounter\":false} = Moved 1 5
 -200 {\"counter\":{\"counter\":5,\"hash\":1},\"from\":{\"counter\":5,\"hash\":1},\"requests\":[],\"resetCause\":null,\"resetCounter\":false} = K1: X1: the message is cut off 1 5

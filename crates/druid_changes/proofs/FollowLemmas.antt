@@ -12,7 +12,7 @@ use Rattle.druid_shard.specs.declared.reply.Body.TheVariants.{Delta}
 use Rattle.druid_shard.proofs.ReplayLemmas.{replay_from-append}
 use Rattle.druid_changes.specs.Answer.{answer, cause_of, reset_or_delta, mark_behind}
 
--- the changes behind a mark lead from the set there to the whole history's
+-- the changes after a mark lead from the set there to the whole history's
 behind_mark : (history : List Change) (n : ℕ) (held set : List Described) → replay history ≡ Some set → replay (take n history) ≡ Some held → replay_from held (drop n history) ≡ Some set
 behind_mark history n held set whole front =
     ap (λ o. option_and_then (λ t. replay_from t (drop n history)) o) (sym front)

@@ -1,4 +1,4 @@
--- What is kept of a history: after one change more, and behind a mark.
+-- What is kept of a history: after one change more, and after a mark.
 use Rattle.std.proofs.Common.{◌≡◌, ℕ, ◌+◌, ◌-◌, ◌<◌, ◌≤◌, suc, zero, nat_eq, nat_lt, nat_le, if◌then◌else◌, append_assoc, add-one, Bool, true, false, not, List, [], ◌∷◌, ◌++◌, length, drop, Some, None, Result, Err, refl, sym, ap, ◌∙◌, subst, arith, inl, inr, length-append}
 use Rattle.std.specs.Bool.{⊤}
 use Rattle.std.specs.Option.{option_and_then, option_or}
@@ -62,9 +62,9 @@ kept-more old c strict room h = record {
   stands = stands-more old c h.history strict room h.stands;
 }
 
--- ---- behind a mark
+-- ---- after a mark
 
--- the changes behind the mark are there, and are kept
+-- the changes after the mark are there, and are kept
 pub record IsWithin (incarnation count limit : ℕ) (mark : Point) : Type 0 where
   pub incarnation_is : mark.incarnation ≡ incarnation
   pub before : mark.count ≤ count
@@ -99,7 +99,7 @@ enough-kept kept mark h within =
     let n = length-kept kept h.history h.stands in
     omega (arith, within.near, within.before)
 
--- the last kept ones are those behind the mark
+-- the last kept ones are those after the mark
 pub behind-kept : (kept : Kept) (mark : Point) (history : List Change) → StandsFor kept history → IsWithin kept.incarnation kept.count kept.limit mark
     → drop (length kept.changes - (kept.count - mark.count)) kept.changes ≡ drop mark.count history
 behind-kept kept mark history h within =
@@ -140,7 +140,7 @@ no_refusal kept c h =
     let parts = taken (is_strict kept.set c) (has_room kept.set c) (nat_le last_count kept.count) (not_strict c) Full CountAtEnd h in
     record { strict = parts.0; room = parts.1; more = leb-false last_count kept.count parts.2 }
 
--- no refusal is want of memory
+-- no refusal is out of memory
 named : (strict room end : Bool) (a : HistoryFault) → (a ≡ faults.Memory → ⊥) → option_or (if not strict then Some a else (if not room then Some Full else None)) (if end then Some CountAtEnd else None) ≡ Some faults.Memory → ⊥
 named true true true a other h = absurd (cc)
 named true true false a other h = absurd (cc)
@@ -209,7 +209,7 @@ pub snapshot_of_view : (reply : Body) (mark : Point) (given set : List Described
 snapshot_of_view reply mark given set now h copied at view is =
     snapshot-is mark set reply h (subst (λ (ds : List Described). IsSnapshotOf mark ds reply) copied is) ∙ (λ i. Snapshot (at i) (view i))
 
--- the copied changes are all those behind the mark
+-- the copied changes are all those after the mark
 pub record IsDeltaOf (kept : Kept) (mark : Point) (items : List Change) : Type 0 where
   pub within : IsWithin kept.incarnation kept.count kept.limit mark
   pub long : length items ≡ kept.count - mark.count

@@ -10,18 +10,18 @@ use Rattle.druid_shard.specs.declared.change.Change.{Change}
 use Rattle.druid_shard.specs.declared.reply.Body.{Body}
 use Rattle.druid_shard.specs.declared.reply.Body.TheVariants.{Delta, Snapshot, Reset}
 
--- the mark behind a history
+-- the mark after a history
 abbrev pub mark_behind : ℕ → List Change → Point
 mark_behind incarnation history = record { incarnation = incarnation; count = length history }
 
--- why a node that keeps so many changes has not those behind a mark
+-- why a node that keeps so many changes has not those after a mark
 unfoldable pub cause_of : ℕ → ℕ → ℕ → Point → Option Cause
 cause_of incarnation count limit mark =
     if not (mark.incarnation == incarnation) then Some OtherIncarnation
     else (if nat_lt count mark.count then Some Ahead
     else (if nat_lt limit (count - mark.count) then Some TooOld else None))
 
--- the changes behind a mark, or why the broker has to begin anew
+-- the changes after a mark, or why the broker has to begin anew
 abbrev pub reset_or_delta : ℕ → List Change → Point → Option Cause → Body
 reset_or_delta incarnation history mark (Some cause) = Reset cause (mark_behind incarnation history)
 reset_or_delta incarnation history mark None =

@@ -90,7 +90,7 @@ impl History {
         of_set
     }
 
-    /// Whether it would record the change, if memory is had. It takes no memory.
+    /// Whether it would record the change, if memory is had. Does not allocate.
     pub fn accepts(&self, change: &Change) -> bool
         ensures { IsTrue result ↔ (refusal self.now change.now ≡ None) }
     {
@@ -122,7 +122,7 @@ impl History {
         Ok(())
     }
 
-    /// The mark behind its changes.
+    /// The mark after its changes.
     pub fn mark(&self) -> Mark
         ensures value { result ≡ record { incarnation = self.now.incarnation; count = self.now.count } }
         ensures behind { (history : List Event) → StandsFor self.now history
@@ -143,7 +143,7 @@ impl History {
         self.segments.to_vec(self.alloc)
     }
 
-    // Why it has not the changes behind a mark.
+    // Why it has not the changes after a mark.
     #[tactic(auto, unfolding(crate::specs::Answer::cause_of))]
     fn cause(&self, mark: Mark) -> Option<Cause>
         ensures { result ≡ cause_of self.now.incarnation self.now.count self.now.limit mark }
@@ -186,7 +186,7 @@ impl History {
         Ok(reply)
     }
 
-    // The changes behind a mark, which are all kept.
+    // The changes after a mark, which are all kept.
     fn delta(&self, mark: Mark) -> Result<Reply, AllocError>
         requires { cause_of self.now.incarnation self.now.count self.now.limit mark ≡ None }
         ensures { IfOk result (λ reply. (history : List Event) → StandsFor self.now history
@@ -200,7 +200,7 @@ impl History {
         Ok(reply)
     }
 
-    /// What it answers to a broker: all that is served, or the changes behind the broker's mark, or why it has not
+    /// What it answers to a broker: all that is served, or the changes after the broker's mark, or why it has not
     /// these. Nothing waits.
     pub fn since(&self, ask: &Ask) -> Result<Reply, AllocError>
         ensures answer { IfOk result (λ reply. (history : List Event) → StandsFor self.now history

@@ -50,7 +50,7 @@ impl Segments {
     pub(crate) fn lacks(&self, segment: &Descriptor) -> bool
         ensures { result ≡ is_strict self.now (Load segment.now) }
     {
-        // Read for the proof: the reader tells what its type keeps.
+        // For the proof: reading it exposes the invariant of its type.
         let _ = self.entries.len();
         !self.entries.contains_key(segment.id())
     }
@@ -59,7 +59,7 @@ impl Segments {
     pub(crate) fn holds(&self, segment: &Descriptor) -> bool
         ensures { result ≡ is_strict self.now (Dropped segment.now) }
     {
-        // Read for the proof: the reader tells what its type keeps.
+        // For the proof: reading it exposes the invariant of its type.
         let _ = self.entries.len();
         match self.entries.get(segment.id()) {
             Some(held) => held == segment,
@@ -101,7 +101,7 @@ impl Segments {
         requires { IsTrue (is_strict self.old (Dropped segment.now)) }
         ensures { self.new ≡ without_segment segment.now self.old }
     {
-        // Read for the proof: the reader tells what its type keeps.
+        // For the proof: reading it exposes the invariant of its type.
         let _ = self.entries.len();
         self.entries.remove(segment.id());
     }

@@ -68,7 +68,7 @@ brokers_some o = by (all_decided IsName name_decided o.names) (own_decided (λ (
 abbrev ReplyAnswer : List Entry → ℕ → Data → Type 0
 ReplyAnswer inventory node d = (answer : Answer) × (next : List Entry) × TakesReply inventory node d answer next
 
--- a reply that an entry refuses; no entry refuses one for an unknown node or for want of memory
+-- a reply that an entry refuses; no entry refuses one for an unknown node or for lack of memory
 refused_some : (inventory : List Entry) (node : ℕ) (d : Data) (body : Body) → IsRead d (Ok body) → (e : Entry) → slice_get inventory node ≡ Some e
     → (fault : ApplyFault) → Refuses e body fault → ReplyAnswer inventory node d
 refused_some inventory node d body read e got steps.UnknownNode h = absurd (unsaid body h) where

@@ -26,7 +26,7 @@ first_piece later p ps =
 above_none : (i : ℕ) → true ≡ nat_lt 0 (i + 1)
 above_none i = grind (arith, nat_tests)
 
--- the piece at a place, and what is behind it
+-- the piece at a place, and what is after it
 pub piece_next : (later : Bool) (ps : List Told) (i : ℕ) (p : Told) → i < length ps → p ≡ get_or ps i p → rest_of later (drop i ps) ≡ (comma_if later ++ compact_text (piece_data p)) ++ rest_of (nat_lt 0 (i + 1)) (drop (i + 1) ps)
 piece_next later ps i p h is =
     ap (rest_of later) (drop_more ps i p h)

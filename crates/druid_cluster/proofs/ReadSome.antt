@@ -141,7 +141,7 @@ form_marked d =
 
 -- ---- answers
 
--- a value is read, or its fault is told
+-- a value is read, or its fault is given
 abbrev pub IsReadSo : Option Form → Type 0
 IsReadSo f =
     ((body : Body) × Answers f (Ok body))

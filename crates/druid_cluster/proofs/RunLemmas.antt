@@ -56,7 +56,7 @@ ends (Some xs) None b w state n way none = absurd way
 ends (Some xs) (Some ys) b w state n way none =
     (way.0 ++ [], way.2 [] done (subst (λ (zs : List ℕ). Runs state n (lines_of zs) [] done) (sym none) (refl, inl refl)), subst (Appends b w) (sym (append-nil way.0)) way.1)
 
--- a device may fail at any line, and behind the last
+-- a device may fail at any line, and after the last
 can_break : (state : Option (List (List Entry))) (n : ℕ) (lines : List (List ℕ)) → Runs state n lines [] (broken_at n)
 can_break state n [] = (refl, inr refl)
 can_break state n (line ∷ more) = inr (inl (inl refl, refl))

@@ -1,4 +1,4 @@
--- What the program does with the words behind its name.
+-- What the program does with the arguments.
 use Rattle.std.specs.Prelude.{ℕ, List, [], ◌∷◌, ◌++◌, codes, ⊤, Option, Result, Ok, Err}
 use Rattle.druid_cluster.specs.Runs.{done, Writes, EndsBy}
 use Rattle.druid_cluster.specs.Status.{status_of, fault_text}

@@ -27,7 +27,7 @@ IsFront state line out =
     × (back : List ℕ) × (line_text answer ≡ out ++ back) × (0 < length back))
 
 -- from what stands, the lines from this number on are answered so, one after another, and the run ends so; a device
--- may fail at any line, and behind the last
+-- may fail at any line, and after the last
 abbrev pub Runs : Option (List (List Entry)) → ℕ → List (List ℕ) → List ℕ → End → Type 0
 Runs state number [] out end = (out ≡ []) × ((end ≡ done) ⊎ (end ≡ broken_at number))
 Runs state number (line ∷ more) out end =
@@ -41,7 +41,7 @@ abbrev pub Writes : Option (List ℕ) → Option (List ℕ) → Option (List ℕ
 Writes input old new end =
     IfSome input (λ xs. (out : List ℕ) × Runs None 1 (lines_of xs) out end × Appends old new out)
 
--- what a fault of a run tells; a number that does not fit its type is told as the greatest that does
+-- what a fault of a run tells; a number that does not fit its type is given as the greatest that does
 abbrev pub EndsBy : Option (List ℕ) → Option (List ℕ) → Option (List ℕ) → ReplayFault → Type 0
 EndsBy input old new (BadCommand number) = Writes input old new (bad_at number)
 EndsBy input old new (Device number) =

@@ -1,4 +1,4 @@
--- What contracts of private functions see of commands and of values that are lent. Only proofs use these words.
+-- What contracts of private functions see of commands and of values that are borrowed. Only proofs use these words.
 use Rattle.std.specs.Prelude.{ℕ, ◌<◌, List, [], map, unwrap_or}
 use Rattle.serde_json.specs.Find.{as_str}
 use Rattle.serde_json.specs.declared.value.Value.{Value}

@@ -40,7 +40,7 @@ TakesBrokers o (Taken count) next =
     AreNodes o.names × (count ≡ o.count) × (next ≡ Some (replicate o.count (map fresh o.names)))
 TakesBrokers o answer next = ⊥
 
--- what tells that a reply was not read; the value of a line is JSON, and want of memory is not told
+-- what tells that a reply was not read; the value of a line is JSON, and out of memory is not reported
 abbrev pub unread : SyncFault → Option Refusal
 unread replies.NotJson = None
 unread replies.Shape = Some refusals.Shape
@@ -142,7 +142,7 @@ abbrev pub IsNoCommand : Option (List (List Entry)) → Data → Type 0
 IsNoCommand None d = opening_at d ≡ None
 IsNoCommand (Some brokers) d = command_at (length brokers) d ≡ None
 
--- ---- want of memory: no refusal that is seen without memory holds
+-- ---- out of memory: no refusal that is seen without allocating holds
 
 -- reading a reply wants it, or the step of one that was read
 abbrev pub ReplyWants : List Entry → ℕ → Data → Type 0
@@ -163,7 +163,7 @@ CommandWants brokers (join from into) =
     (own other : List Entry) × Holds brokers into own × Holds brokers from other × TellsJoin own other joins.Memory
 CommandWants brokers (equal left right) = ⊥
 
--- carrying a line's JSON out may want memory
+-- carrying a line's JSON out may run out of memory
 abbrev pub WantsMemory : Option (List (List Entry)) → Data → Type 0
 WantsMemory None d = (opening : Opening) × (opening_at d ≡ Some opening) × AreNodes opening.names
 WantsMemory (Some brokers) d =

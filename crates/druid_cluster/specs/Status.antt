@@ -12,7 +12,7 @@ abbrev pub line_of : ReplayFault → ℕ
 line_of (BadCommand number) = number
 line_of (Device number) = number
 
--- what is told of it
+-- what is reported of it
 abbrev pub fault_text : ReplayFault → List ℕ
 fault_text (BadCommand number) = codes "line " ++ decimal number ++ codes ": bad command"
 fault_text (Device number) = codes "line " ++ decimal number ++ codes ": device"

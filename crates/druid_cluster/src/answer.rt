@@ -37,7 +37,7 @@ pub enum Refusal {
     UnknownNode,
     /// A3: the delta is of another incarnation of the node.
     OtherIncarnation,
-    /// A2: the delta begins behind the mark that is held.
+    /// A2: the delta begins after the mark that is held.
     Gap,
     /// A4: a load of a segment whose identifier is held, or a drop of one that is not held as it is.
     NotStrict,
@@ -101,7 +101,7 @@ impl Pieces {
         Pieces { items }
     }
 
-    /// The pieces, lent.
+    /// The pieces, borrowed.
     pub fn as_slice(&self) -> &[Piece]
         ensures { result.now ≡ self.now }
     {
@@ -132,7 +132,7 @@ impl Marks {
         Marks { items }
     }
 
-    /// The marks, lent.
+    /// The marks, borrowed.
     pub fn as_slice(&self) -> &[Mark]
         ensures { result.now ≡ self.now }
     {

@@ -110,7 +110,7 @@ fn brokers_of(value: &Value) -> Option<Opening<'_>>
     }
 }
 
-/// The brokers that the value asks for: the first command does, and no other. It takes no memory.
+/// The brokers that the value asks for: the first command does, and no other. Does not allocate.
 #[tactic(auto, unfolding(crate::specs::Commands::opening_at))]
 pub fn opening_of(value: &Value) -> Option<Opening<'_>>
     ensures value { option_map opening_seen result ≡ opening_at (view value.now) }

@@ -13,7 +13,7 @@ use std::alloc::Global;
 use std::io;
 use std::io::{BufRead, BufReader, BufWriter, Read, Write};
 
-/// How the program ends: its exit status, and whether the error writer took what it was told.
+/// How the program ends: its exit status, and whether the error writer took what was written to it.
 #[derive(Drop)]
 pub struct Ending {
     /// The exit status.
@@ -70,7 +70,7 @@ fn replay_all<R: BufRead, W: Write, E: Write>(
     }
 }
 
-/// Does what the words behind the program's name ask for. `replay` alone answers the commands of the input, and tells a
+/// Does what the program's arguments ask for. `replay` alone answers the commands of the input, and tells a
 /// fault on the error writer; any other words get the usage line there, with status 2, and nothing is read or written.
 pub fn obey<R: BufRead, W: Write, E: Write>(
     alloc: Global,
@@ -121,7 +121,7 @@ fn replay_buffered<R: Read + Drop, W: Write + Drop, E: Write>(
     replay_all(alloc, &mut reader, &mut writer, errors).status
 }
 
-/// The whole program, over its handles: the words behind its name, standard input, standard output and standard error. It
+/// The whole program, over its handles: the arguments, standard input, standard output and standard error. It
 /// answers the exit status: 3 where the words could not be read, 2 where they ask for nothing, and else the status of a
 /// replay of the input.
 pub fn run_program<R: Read + Drop, W: Write + Drop, E: Write>(

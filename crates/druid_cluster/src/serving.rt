@@ -18,7 +18,7 @@ use druid_timeline::Timeline;
 use serde_json::Value;
 use std::alloc::{AllocError, Global};
 
-// Whether each text is a name. It takes no memory.
+// Whether each text is a name. Does not allocate.
 #[tactic(auto, using(crate::proofs::NameLemmas::not_all, crate::proofs::NameLemmas::names_more))]
 fn are_names(nodes: &[Value]) -> bool
     ensures { IsTrue result ↔ All IsName (texts_in nodes.now) }
@@ -39,7 +39,7 @@ fn text_at(nodes: &[Value], place: usize) -> &str
     text_of(&nodes[place])
 }
 
-// Whether no text stands twice. It takes no memory.
+// Whether no text stands twice. Does not allocate.
 fn have_own_texts(nodes: &[Value]) -> bool
     ensures { IsTrue result ↔ HaveOwnNames (texts_in nodes.now) }
 {
@@ -94,7 +94,7 @@ fn take_brokers(
     Ok((Answer::Taken(count), Some(brokers)))
 }
 
-// What tells that a reply was not read; want of memory is not told.
+// What tells that a reply was not read; out of memory is not reported.
 fn unread(fault: SyncFault) -> Option<Refusal>
     ensures { result ≡ unread fault }
 {
@@ -108,7 +108,7 @@ fn unread(fault: SyncFault) -> Option<Refusal>
     }
 }
 
-// What tells that a reply was not applied; want of memory is not told.
+// What tells that a reply was not applied; out of memory is not reported.
 fn not_applied(fault: ApplyFault) -> Option<Refusal>
     ensures { result ≡ not_applied fault }
 {
@@ -123,7 +123,7 @@ fn not_applied(fault: ApplyFault) -> Option<Refusal>
     }
 }
 
-// What tells that inventories were not joined; want of memory is not told.
+// What tells that inventories were not joined; out of memory is not reported.
 fn not_joined(fault: JoinFault) -> Option<Refusal>
     ensures { result ≡ not_joined fault }
 {

@@ -13,7 +13,7 @@ use std::alloc::{AllocError, Global};
 use std::io;
 use std::io::Write;
 
-// The text of a piece, behind a comma where another stands before it.
+// The text of a piece, after a comma where another stands before it.
 #[tactic(auto, using(crate::proofs::PlainLemmas::piece_plain))]
 fn piece_text(alloc: Global, piece: &Piece, later: bool) -> Result<String, AllocError>
     ensures { IfOk result (λ text.
@@ -28,7 +28,7 @@ fn piece_text(alloc: Global, piece: &Piece, later: bool) -> Result<String, Alloc
     Ok(text)
 }
 
-// Writes the text of a piece, behind a comma where another stands before it.
+// Writes the text of a piece, after a comma where another stands before it.
 fn write_piece<W: Write>(
     alloc: Global,
     piece: &Piece,

@@ -5,7 +5,7 @@
 use std::process::ExitCode;
 use std::{env, io};
 
-// The words behind the program's name.
+// The program's arguments.
 fn words(rt: &HostRuntime) -> io::Result<Vec<String>> {
     let mut args = env::args(rt)?;
     let _program = args.next();

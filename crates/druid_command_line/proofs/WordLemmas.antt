@@ -1,4 +1,4 @@
--- The words behind the program's name.
+-- The program's arguments.
 use Rattle.std.proofs.Common.{◌≡◌, ℕ, List, [], ◌∷◌, length, get_or, map, string_bytes, Global, String, arith, sym, ap}
 
 -- where there is one word

@@ -1,4 +1,4 @@
--- What the words behind the program's name ask for.
+-- What the program's arguments ask for.
 use Rattle.std.specs.Prelude.{◌≡◌, ℕ, List, [], ◌∷◌, codes}
 
 -- the one word `replay`

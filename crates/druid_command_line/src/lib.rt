@@ -1,4 +1,4 @@
-//! What the words behind the program's name ask for, and the statuses that it exits with.
+//! What the program's arguments ask for, and the statuses that it exits with.
 #![tactic(auto)]
 
 mod exit;

@@ -205,7 +205,7 @@ within d told read =
       few_turns = count_below (codes "turns") d told.turns parts.turns;
     }
 
--- what holds of queries as they are told holds of them as they are posted
+-- what holds of queries as the config has them holds of them as they are posted
 pub posted_so : (P : Asked → Type 0) (queries : List Posted) → All P (map asked_of queries) → All (λ q. P (asked_of q)) queries
 posted_so P queries all k d below =
     subst P (get_or-map asked_of queries k d (asked_of d) below) (all k (asked_of d) (omega (arith, below, length-map queries asked_of)))

@@ -54,7 +54,7 @@ cluster_of nodes brokers queries connections kept turns = record {
   turns = turns;
 }
 
--- a query as it is told: the place of the broker that is asked, and the JSON that the text of the query reads as
+-- a query of a config: the place of the broker that is asked, and the JSON that the text of the query reads as
 pub record Asked : Type 0 where
   pub broker : ℕ
   pub query : Option Data

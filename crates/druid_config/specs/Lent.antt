@@ -1,4 +1,4 @@
--- What the reader finds in JSON, lent: only proofs use this.
+-- What the reader finds in JSON, borrowed: only proofs use this.
 use Rattle.std.specs.Prelude.{ℕ, List, [], map, Option, Some, None}
 use Rattle.serde_json.specs.Find.{as_str}
 use Rattle.serde_json.specs.View.{view}

@@ -10,13 +10,13 @@ use Rattle.druid_config.specs.declared.fault.ConfigFault.TheVariants as faults
 abbrev pub ReadsAs : List ℕ → Data → Type 0
 ReadsAs bytes d = IsUtf8 bytes × (read bytes ≡ Some d)
 
--- the config that is told, or that none is. Want of memory comes only where nothing is to be refused
+-- the config that the bytes give, or that none is. out of memory only where nothing else is refused
 abbrev pub Gives : Result Cluster ConfigFault → Option Told → Type 0
 Gives (Ok config) told = told ≡ Some (told_of config)
 Gives (Err faults.Refused) told = told ≡ None
 Gives (Err faults.Memory) told = IsSome told
 
--- the same out of bytes, which may be no JSON; reading JSON may want memory at any byte
+-- the same out of bytes, which may be no JSON; reading JSON may run out of memory at any byte
 abbrev pub IsReadOf : List ℕ → Result Cluster ConfigFault → Type 0
 IsReadOf bytes (Ok config) = (d : Data) × ReadsAs bytes d × (config_at d ≡ Some (told_of config))
 IsReadOf bytes (Err faults.Refused) = (d : Data) → ReadsAs bytes d → config_at d ≡ None

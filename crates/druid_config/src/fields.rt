@@ -1,4 +1,4 @@
-//! The fields of a config, read out of JSON. Nothing here takes memory.
+//! The fields of a config, read out of JSON. Nothing here allocates.
 ghost use Rattle.std.specs.Prelude.{◌≡◌, ◌≤◌, IsTrue, IfSome, option_map};
 ghost use Rattle.serde_json.specs.View.{view, items_view};
 ghost use Rattle.druid_segid.specs.Names.{is_name};

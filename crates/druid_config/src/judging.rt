@@ -1,4 +1,4 @@
-//! Whether JSON is a config, judged without memory.
+//! Whether JSON is a config, judged without allocating.
 ghost use Rattle.std.specs.Prelude.{◌≡◌, ◌+◌, ◌<◌, [], is_some, option_map, length, drop, slice_index_or};
 ghost use Rattle.std.specs.List.{list_all, list_any};
 ghost use Rattle.std.specs.Str.{bytes_eq};

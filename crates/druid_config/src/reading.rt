@@ -28,7 +28,7 @@ pub fn config_of(alloc: Global, value: &Value) -> Result<Config, ConfigFault>
 }
 
 /// Reads a config out of a text: `Refused` where the bytes are no JSON in UTF-8, and where the value is no config. Reading
-/// JSON takes memory as it goes, so `Memory` may come before what is to be refused.
+/// JSON allocates as it goes, so `Memory` may come before what is to be refused.
 pub fn read_config(alloc: Global, bytes: &[u8]) -> Result<Config, ConfigFault>
     ensures { IsReadOf bytes.now result }
 {

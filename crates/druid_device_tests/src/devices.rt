@@ -10,7 +10,7 @@ use std::io;
 use std::io::{BufRead, BufReader, ErrorKind, Read, Write};
 use std::process::Abort;
 
-// What the calls of a device do: a letter for each, of which the last is for all calls behind it too.
+// What the calls of a device do: a letter for each, of which the last is for all calls after it too.
 #[derive(Drop)]
 struct Plan<'a> {
     letters: &'a [u8],
@@ -18,7 +18,7 @@ struct Plan<'a> {
 
 impl Plan<'_> {
     // How many bytes the next call takes: `a` all that it can, `1` one, and `0` none; `i` is interrupted, `m` fails
-    // for want of memory, and `f` fails.
+    // for lack of memory, and `f` fails.
     fn take(&mut self, most: usize) -> io::Result<usize> {
         let Some((letter, rest)) = self.letters.split_first() else {
             return Ok(most);

@@ -85,7 +85,7 @@ fn exchanged_length<L: Link>(rt: &impl Abort, alloc: Global, link: &mut L) -> St
     }
 }
 
-// How many bytes a reply gives that has so many more than an exchange may give, or its fault; and what comes behind it.
+// How many bytes a reply gives that has so many more than an exchange may give, or its fault; and what comes after it.
 fn large_reply(rt: &impl Abort, alloc: Global, more: usize) -> String {
     let reply = large(rt, alloc, MAX_EXCHANGE.saturating_add(more));
     let mut link = link_of(rt, alloc, reply, 9);

@@ -9,7 +9,7 @@ use std::process::Abort;
 use std::str::FromStr;
 
 // Segments of one row of the day that begins with 1970: the names of the dimensions and of the metrics, the instant, the
-// values and the numbers, and what is told of it. `*7` is seven letters, `#7` seven names, and `-` null.
+// values and the numbers, and what is reported of it. `*7` is seven letters, `#7` seven names, and `-` null.
 const JUDGED: &str = "AZ_az,*100;09;0;x,-;5;ok
 ;m;0;x;5;U1
 a-b;m;0;x;5;U1
@@ -188,7 +188,7 @@ fn push_first(rt: &impl Abort, alloc: Global, schema: Schema, row: &Row) -> Resu
     push(&mut builder, row)
 }
 
-// Whether a row is told so, both ways, in a segment of these names.
+// Whether a row is reported so, both ways, in a segment of these names.
 fn is_row_told(
     rt: &impl Abort,
     alloc: Global,
@@ -200,7 +200,7 @@ fn is_row_told(
         && told(new_segment(rt, alloc, schema(rt, alloc, dimensions, metrics), row)) == wanted
 }
 
-// Whether a line of the table is told so.
+// Whether a line of the table is reported so.
 fn is_told(rt: &impl Abort, alloc: Global, line: &str) -> bool {
     let mut parts = line.split(';');
     let dimensions = parts.next().expect(rt, "dimensions");

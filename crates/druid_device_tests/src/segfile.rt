@@ -87,7 +87,7 @@ fn patched(rt: &impl Abort, alloc: Global, place: usize, digits: &str) -> Vec<u8
     bytes
 }
 
-// Whether the vector is told so once the hexadecimal bytes stand at that place: `4 00 F3`.
+// Whether the vector is reported so once the hexadecimal bytes stand at that place: `4 00 F3`.
 fn is_told(rt: &impl Abort, alloc: Global, line: &str) -> bool {
     let mut words = line.split(' ');
     let place = words.next().expect(rt, "a place");
@@ -170,7 +170,7 @@ fn changed_bytes(rt: HostRuntime) {
     }
 }
 
-// The first length at which the front of the bytes is not told as cut.
+// The first length at which the front of the bytes is not reported as cut.
 fn first_uncut(alloc: Global, bytes: &[u8]) -> usize {
     for len in 0..bytes.len() {
         if told(alloc, &bytes[..len]) != "F2" {
@@ -196,7 +196,7 @@ fn cut_or_long_files(rt: HostRuntime) {
     assert!(rt; ends_there(&rt, rt.alloc(), three_rows()));
 }
 
-// Puts each of these behind the bytes.
+// Puts each of these after the bytes.
 fn extend(rt: &impl Abort, bytes: &mut Vec<u8>, parts: &[&[u8]]) {
     for part in parts {
         bytes.extend_from_slice(part).expect(rt, "memory");
@@ -237,7 +237,7 @@ fn large(rt: &impl Abort, alloc: Global, last: u8) -> Vec<u8> {
     bytes
 }
 
-// What is told of such a file, once it has that many bytes more.
+// What is reported of such a file, once it has that many bytes more.
 fn told_of_large(rt: &impl Abort, alloc: Global, last: u8, more: usize) -> (usize, &'static str) {
     let mut bytes = large(rt, alloc, last);
     for _ in 0..more {
@@ -246,7 +246,7 @@ fn told_of_large(rt: &impl Abort, alloc: Global, last: u8, more: usize) -> (usiz
     (bytes.len(), told(alloc, &bytes))
 }
 
-// Two parameters of such a file, its length, and what is told of it.
+// Two parameters of such a file, its length, and what is reported of it.
 const LARGE_FILES: [(u8, usize, usize, &str); 5] = [
     (173, 0, 16_777_215, "ok"),
     (174, 0, 16_777_216, "ok"),
@@ -358,7 +358,7 @@ fn reader_of(bytes: &[u8], step: usize, fault: Option<ErrorKind>) -> Source<'_> 
     }
 }
 
-// What is told of a reader of the vector's first bytes that then fails.
+// What is reported of a reader of the vector's first bytes that then fails.
 fn told_of_broken(
     rt: &impl Abort,
     alloc: Global,
@@ -370,7 +370,7 @@ fn told_of_broken(
     answer(read_segment(alloc, &mut reader))
 }
 
-// How many bytes are read, what happens then, and what is told.
+// How many bytes are read, what happens then, and what is reported.
 const READS: [(usize, Option<ErrorKind>, &str); 5] = [
     (67, None, "ok"),
     (66, None, "F2"),
@@ -440,7 +440,7 @@ fn told_of_narrow(
     answer(write_segment(alloc, &segment, &mut writer))
 }
 
-// How many bytes are written, what happens then, and what is told.
+// How many bytes are written, what happens then, and what is reported.
 const WRITES: [(usize, Option<ErrorKind>, &str); 5] = [
     (67, None, "ok"),
     (66, None, "F8"),

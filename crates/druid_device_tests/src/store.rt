@@ -140,7 +140,7 @@ fn names_of_files(rt: HostRuntime) {
     assert_names(&rt, NO_NAMES, false);
 }
 
-// Whether these are the names of a folder, each with a space behind it.
+// Whether these are the names of a folder, each with a space after it.
 fn lists<F: Folder>(rt: &impl Abort, alloc: Global, folder: &mut F, names: &str) -> bool {
     let mut text = String::new(alloc);
     for name in folder.list(alloc).expect(rt, "a list") {
@@ -210,7 +210,7 @@ fn try_all<F: Folder>(rt: &impl Abort, alloc: Global, folder: &mut F) {
     assert!(rt; answers(rt, alloc, folder, "2\n", "2\n"));
 }
 
-// Each call that may want memory gives its answer, here and on a disk.
+// Each call that may run out of memory gives its answer, here and on a disk.
 #[test]
 fn ample_memory(rt: HostRuntime) {
     try_all(&rt, rt.alloc(), &mut MemoryFolder::new(rt.alloc()));

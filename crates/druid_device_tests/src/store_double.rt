@@ -9,7 +9,7 @@ use std::rc::Rc;
 use std::rt::Files;
 use std::{io, str};
 
-// What was called, each call with a space behind it, and which call is to fail.
+// What was called, each call with a space after it, and which call is to fail.
 #[derive(Drop)]
 struct Tape {
     made: RefCell<String>,

@@ -8,20 +8,20 @@ use std::process::Abort;
 // The most bytes of a line in these tables.
 const LIMIT: usize = 3;
 
-// What is found behind the lines that were told.
+// What is found after the lines that were returned.
 fn told_behind(rt: &impl Abort, told: String, found: &str) -> String {
     let mut told = told;
     told.push_str(found).expect(rt, "memory");
     told
 }
 
-// A line behind those that were told.
+// A line after those that were returned.
 fn line_behind(rt: &impl Abort, alloc: Global, told: String, line: &[u8]) -> String {
     let told = told_behind(rt, told, text_of(rt, alloc, line).as_str());
     told_behind(rt, told, ",")
 }
 
-// The lines of a text, each with a comma behind it, and how reading them ends.
+// The lines of a text, each with a comma after it, and how reading them ends.
 fn lines_in(rt: &impl Abort, alloc: Global, text: &[u8]) -> String {
     let mut rest = text;
     let mut line = Vec::new(alloc);

@@ -8,12 +8,12 @@ pub(crate) trait Table {
     fn holds(&self, rt: &impl Abort, alloc: Global, what: &str, wanted: &str) -> bool;
 }
 
-/// What stands before the first such text in a row, and what behind it.
+/// What stands before the first such text in a row, and what after it.
 pub(crate) fn halves<'a>(rt: &impl Abort, row: &'a str, between: &str) -> (&'a str, &'a str) {
     row.split_once(between).expect(rt, "no row")
 }
 
-/// Whether this is told.
+/// Whether this is the fault.
 pub(crate) fn is_told(told: String, wanted: &str) -> bool {
     told.as_str() == wanted
 }
@@ -23,7 +23,7 @@ pub(crate) fn assert_row(rt: &impl Abort, row: &str, holds: bool) {
     assert!(rt; holds, "{row}");
 }
 
-/// Asserts that this is told.
+/// Asserts that this is the fault.
 pub(crate) fn assert_told(rt: &impl Abort, told: String, wanted: &str) {
     assert!(rt; told.as_str() == wanted, "{told}");
 }

@@ -153,13 +153,13 @@ fn shown(rt: &impl Abort, alloc: Global, bytes: &[u8]) -> String {
         .expect(rt, "memory")
 }
 
-// What is told, and what is left behind it.
+// The result, and what is left after it.
 fn with_rest(rt: &impl Abort, alloc: Global, told: String, rest: &[u8]) -> String {
     let left = shown(rt, alloc, rest);
     format!(in alloc; "{told} [{left}]").expect(rt, "memory")
 }
 
-// A request, without what is left behind it.
+// A request, without what is left after it.
 fn shown_request(rt: &impl Abort, alloc: Global, request: &Request) -> String {
     let method = request.method().as_str();
     let target = request.target();
@@ -176,7 +176,7 @@ fn request_in(rt: &impl Abort, alloc: Global, text: &[u8]) -> String {
     }
 }
 
-// A response, without what is left behind it.
+// A response, without what is left after it.
 fn shown_response(rt: &impl Abort, alloc: Global, status: StatusCode, body: &[u8]) -> String {
     let code = printed(rt, alloc, &status.as_u16());
     let body = shown(rt, alloc, body);
@@ -218,7 +218,7 @@ impl Table for ResponseTexts {
     }
 }
 
-// The same where their bytes are at hand. What follows a response is not told.
+// The same where their bytes are at hand. What follows a response is not reported.
 struct ResponseBytes;
 
 impl Table for ResponseBytes {
@@ -277,7 +277,7 @@ fn repeated(rt: &impl Abort, alloc: Global, part: &str, count: usize) -> String 
     part.repeat(alloc, count).expect(rt, "memory")
 }
 
-// What is to stand behind these lines of a head so that it has so many bytes: one long field.
+// What is to stand after these lines of a head so that it has so many bytes: one long field.
 fn long_field(rt: &impl Abort, alloc: Global, lines: &str, length: usize) -> String {
     // Seven are those of the field's name and of the two line ends.
     let least = spelled(rt, alloc, lines).len().saturating_add(7);
@@ -285,7 +285,7 @@ fn long_field(rt: &impl Abort, alloc: Global, lines: &str, length: usize) -> Str
     format!(in alloc; "A: {value}|").expect(rt, "memory")
 }
 
-// Fields behind these lines of a head: so many, or one that makes it so many bytes.
+// Fields after these lines of a head: so many, or one that makes it so many bytes.
 fn fields(rt: &impl Abort, alloc: Global, lines: &str, kind: &str, size: usize) -> String {
     if kind == "bytes" {
         long_field(rt, alloc, lines, size)
@@ -294,7 +294,7 @@ fn fields(rt: &impl Abort, alloc: Global, lines: &str, kind: &str, size: usize) 
     }
 }
 
-// A head behind these lines: what is large in it and how large, and how many blank lines stand before it.
+// A head after these lines: what is large in it and how large, and how many blank lines stand before it.
 fn large_head(rt: &impl Abort, alloc: Global, lines: &str, what: &str) -> Vec<u8> {
     let (kind, sizes) = halves(rt, what, " ");
     let (size, blank) = halves(rt, sizes, " ");

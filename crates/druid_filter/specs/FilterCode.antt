@@ -1,4 +1,4 @@
--- Filters told apart, so that a value may contain them: only proofs use this.
+-- Filters, each a constructor, so that a value may contain them: only proofs use this.
 use Rattle.std.specs.Prelude.{◌≡◌, ℕ, List, Option}
 use Rattle.std.specs.Coded.{Coded, coded_ℕ, coded_list, coded_option}
 use Rattle.std.proofs.Common.{◌<◌, ◌⊎◌, inl, inr, ap, refl, arith}

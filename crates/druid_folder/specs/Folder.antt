@@ -103,7 +103,7 @@ abbrev pub faults_after : {T : Type 0} → Result T StoreFault → ℕ → ℕ
 faults_after (Ok x) n = n
 faults_after (Err e) n = faults_at e n
 
--- the fault is the device's or want of memory
+-- the fault is the device's or out of memory
 abbrev pub IsOwnFault : StoreFault → Type 0
 IsOwnFault Device = Unit {0}
 IsOwnFault BadNumber = ⊥

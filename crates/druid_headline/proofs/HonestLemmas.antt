@@ -83,7 +83,7 @@ status_fits : (held : List Segment) (bytes : List ℕ) (status : ℕ) (body : Li
 status_fits held bytes status body (inl t) = let is = t.2.2.status_is in (omega (arith, is), omega (arith, is))
 status_fits held bytes status body (inr t) = let is = t.3.status_is in (omega (arith, is), omega (arith, is))
 
--- ---- what is told
+-- ---- what is reported
 
 -- what an answer tells is what was written of it
 told_is : (sub : SubQuery) (held : List Segment) (a : NodeAnswer) (json : Data) (missed : List Asked) (groups : List Group)
@@ -172,7 +172,7 @@ other_status query asked node status body segments low high other missed groups 
     let sent = subst (λ (text : List ℕ). IsResponse text 200 told_so.body told_so.rest) (sym bytes) told_so.response in
     absurd (other (written_is status body told_so.body told_so.rest low high sent).0)
 
--- and so is one that may tell want of memory in the place of the answer
+-- and so is one that may tell out of memory in the place of the answer
 pub honest_in_turn : (state : State) (query : Query) (asked : List Asked) (node status : ℕ) (body : List ℕ) (segments : List Segment)
     → IsQuery query → IsAsked query.source asked → All HasWords state.held → RespondsInTurn state (request_for query asked) status body
     → AreAmong asked state.held segments

@@ -43,7 +43,7 @@ pub fn queries_are_exact<L: Link>()
         → status ≡ 200 → body ≡ result_text query answer.groups }
 {}
 
-/// What a data node of ours answers to a request for pieces is honest, want of memory included, over any list of segments in
+/// What a data node of ours answers to a request for pieces is honest, out of memory included, over any list of segments in
 /// which each segment that it holds and is asked for stands under its identifier: so a node that went on since the broker learned
 /// of it, and holds more, is honest too. The numbers of the rows that it holds are of 64 bits, as those of each segment are.
 pub fn nodes_are_honest()

@@ -1,4 +1,4 @@
--- Lists of entries behind pointers.
+-- Lists of entries after pointers.
 use Rattle.std.proofs.Common.{◌≡◌, ℕ, List, [], ◌∷◌, map, set, Some, Result, Ok, Err, refl, sym, ap, ◌∙◌}
 use Rattle.std.specs.List.{AllZip, slice_get}
 use Rattle.std.specs.Result.{IfOk, MatchResult}
@@ -24,7 +24,7 @@ map-copied f (x ∷ xs) (y ∷ ys) h = λ i. h.0 i ∷ map-copied f xs ys h.1 i
 pub set-found : {X : Type 0} (xs : List X) (i : ℕ) (x : X) → slice_get xs i ≡ Some x → set xs i x ≡ xs
 set-found xs i x e = ap (λ (y : _). set xs i y) (sym (get_or_from_slice_get xs i x x e)) ∙ set-get_or xs i x
 
--- what is told of a value, without what is told of an error
+-- what is reported of a value, without what is reported of an error
 pub ok_case : {T E : Type 0} (r : Result T E) (P : T → Type 0) (Q : E → Type 0) → MatchResult r P Q → IfOk r P
 ok_case (Ok x) P Q h = h
 ok_case (Err e) P Q h = tt

@@ -201,7 +201,7 @@ later_each-names (x ∷ a) (y ∷ b) e =
 
 -- ---- one entry after another
 
--- the later entries of the first n nodes, and behind them those of the first list
+-- the later entries of the first n nodes, and after them those of the first list
 abbrev pub later_first : ℕ → List Entry → List Entry → List Entry
 later_first zero a b = a
 later_first (suc n) [] b = []
@@ -240,12 +240,12 @@ later_first-all (suc n) (x ∷ a) (y ∷ b) e f = ap (λ (es : List Entry). late
 pub later_read : {X : Type 0} (f : X → Entry) (xs : List X) (i : ℕ) (x : X) → i < length xs → x ≡ get_or xs i x → slice_get (map f xs) i ≡ Some (f x)
 later_read f xs i x l e = found_behind f xs i x l e
 
--- an entry that is not behind stays
+-- an entry that is not after stays
 pub not_behind : (es : List Entry) (n : ℕ) (x y : Entry) → slice_get es n ≡ Some x → is_lt (mark_cmp x.mark y.mark) ≡ false
     → (e : Entry) × (slice_get es n ≡ Some e) × (es ≡ set es n (later e y))
 not_behind es n x y f e = (x, f, sym (ap (set es n) (ap (λ (t : Bool). if t then y else x) e) ∙ set-found es n x f))
 
--- and one that is behind is replaced
+-- and one that is older is replaced
 pub behind : (es now : List Entry) (n : ℕ) (x y z : Entry) → slice_get es n ≡ Some x → is_lt (mark_cmp x.mark y.mark) ≡ true → now ≡ set es n z → z ≡ y
     → (e : Entry) × (slice_get es n ≡ Some e) × (now ≡ set es n (later e y))
 behind es now n x y z f e made is = (x, f, made ∙ ap (set es n) (is ∙ sym (ap (λ (t : Bool). if t then y else x) e)))

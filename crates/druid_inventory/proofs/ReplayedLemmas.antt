@@ -83,7 +83,7 @@ untouched s t (c ∷ cs) id h e none x same =
 
 -- ---- the last change of an identifier
 
--- a change among others, and what comes before it and behind it
+-- a change among others, and what comes before it and after it
 pub record Replayed (s t : List Described) (cs : List Change) (j : ℕ) (c : Change) : Type 0 where
   pub before : List Described
   pub behind : List Described

@@ -46,7 +46,7 @@ stopped_more s cs more c t u e none whole =
     let step = and_then-some (λ v. replay_from v more) (changed parts.0 c) u parts.2 in
     none-some step.0 (sym none ∙ ap (λ (x : List Described). changed x c) (sym same) ∙ step.1)
 
--- a longer front begins with a shorter one and the change behind it
+-- a longer front begins with a shorter one and the change after it
 longer : (cs : List Change) (k j : ℕ) (c : Change) → slice_get cs k ≡ Some c → k < j → (more : List Change) × (take j cs ≡ take k cs ++ c ∷ more)
 longer [] k j c e l = absurd (none-some c e)
 longer (x ∷ xs) k zero c e l = absurd (omega arith)

@@ -28,7 +28,7 @@ HaveOwnNames names =
     (i j : ℕ) (d : List ℕ) → i < length names → j < length names
     → slice_index_or names i d ≡ slice_index_or names j d → i ≡ j
 
--- what to ask a node for that is known up to a mark: all, where it was never synced, and else what comes behind
+-- what to ask a node for that is known up to a mark: all, where it was never synced, and else what comes after
 abbrev pub ask_of : Point → Ask
 ask_of mark = if same_mark mark never then Whole else Since mark
 

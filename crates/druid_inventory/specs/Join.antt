@@ -40,7 +40,7 @@ RefusesJoin a b (faults.Conflict node) =
     (names_of a ≡ names_of b) × ConflictAt a b node × ((i : ℕ) → i < node → ConflictAt a b i → ⊥)
 RefusesJoin a b faults.Memory = ⊥
 
--- the fault that tells why they are not joined; want of memory comes only where nothing is to be refused
+-- the fault that tells why they are not joined; out of memory only where nothing else is refused
 abbrev pub TellsJoin : List Entry → List Entry → JoinFault → Type 0
 TellsJoin a b faults.Memory = (joined : List Entry) × IsJoin a b joined
 TellsJoin a b fault = RefusesJoin a b fault

@@ -122,6 +122,6 @@ RefusedAt inventory node body fault = (e : Entry) × (slice_get inventory node �
 -- the fault that tells why a reply of a node is not applied
 abbrev pub Tells : List Entry → ℕ → Body → ApplyFault → Type 0
 Tells inventory node body faults.UnknownNode = slice_get inventory node ≡ None
--- want of memory comes only where nothing is to be refused
+-- out of memory only where nothing else is refused
 Tells inventory node body faults.Memory = (outcome : Outcome) × (new : Entry) × StepsAt inventory node body outcome new
 Tells inventory node body fault = RefusedAt inventory node body fault

@@ -41,7 +41,7 @@ pub enum ApplyFault {
     /// A3: the delta is of another incarnation of the node.
     #[error("A3: another incarnation")]
     OtherIncarnation,
-    /// A2: the delta begins behind the mark that is held.
+    /// A2: the delta begins after the mark that is held.
     #[error("A2: a gap")]
     Gap,
     /// A4: a load of a segment whose identifier is held, or a drop of one that is not held as it is.

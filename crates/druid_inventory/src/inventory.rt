@@ -116,7 +116,7 @@ impl Inventory {
         })
     }
 
-    // The same inventory, which shares all with this one. It takes no memory, but an owner more.
+    // The same inventory, which shares all with this one. Does not allocate: one more owner is counted.
     fn shared(&self) -> Result<Inventory, AllocError>
         ensures { IfOk result (λ inventory. inventory ≡ self.now) }
     {
@@ -169,7 +169,7 @@ impl Inventory {
         Timelines::clone(&self.timelines)
     }
 
-    // The entries, lent.
+    // The entries, borrowed.
     fn entries(&self) -> &[Arc<Known, Global>]
         ensures value { map arc_value result.now ≡ self.now }
         ensures few { length result.now ≤ max_nodes }
@@ -177,7 +177,7 @@ impl Inventory {
         self.entries.as_slice()
     }
 
-    /// How many nodes the list has. It takes no memory.
+    /// How many nodes the list has. Does not allocate.
     pub fn node_count(&self) -> NodeNo
         ensures value { result ≡ length self.now }
         ensures few { length self.now ≤ max_nodes }
@@ -185,7 +185,7 @@ impl Inventory {
         self.entries().len() as NodeNo
     }
 
-    /// How far a node's history has been followed; None where the list has no such node. It takes no memory.
+    /// How far a node's history has been followed; None where the list has no such node. Does not allocate.
     pub fn mark(&self, node: NodeNo) -> Option<Mark>
         ensures { result ≡ option_map (λ e. e.mark) (slice_get self.now node) }
     {
@@ -193,7 +193,7 @@ impl Inventory {
         Some(known.mark())
     }
 
-    /// What a node serves at its mark, by identifier; None where the list has no such node. It takes no memory.
+    /// What a node serves at its mark, by identifier; None where the list has no such node. Does not allocate.
     pub fn segments(&self, node: NodeNo) -> Option<&[Descriptor]>
         ensures value { option_map (λ set. set.now) result ≡ option_map (λ e. e.set) (slice_get self.now node) }
         ensures sorted { IfSome result (λ set. AreSorted set.now) }
@@ -203,7 +203,7 @@ impl Inventory {
         Some(known.set())
     }
 
-    /// The timeline of a data source; None exactly where no node serves a segment of it. It takes no memory.
+    /// The timeline of a data source; None exactly where no node serves a segment of it. Does not allocate.
     pub fn timeline(&self, source: &Name) -> Option<&Timeline>
         ensures some { IsSome result ↔ HasSource self.now source.now }
         ensures source { IfSome result (λ timeline. timeline.now.source ≡ source.now) }
@@ -328,8 +328,8 @@ impl Inventory {
         Inventory::of(self.alloc, entries, timelines)
     }
 
-    /// What to ask a node for: all that it serves where it was never synced, and else the changes behind its mark; None
-    /// where the list has no such node. It takes no memory.
+    /// What to ask a node for: all that it serves where it was never synced, and else the changes after its mark; None
+    /// where the list has no such node. Does not allocate.
     pub fn next_ask(&self, node: NodeNo) -> Option<Ask>
         ensures { result ≡ option_map (λ e. ask_of e.mark) (slice_get self.now node) }
     {
@@ -431,7 +431,7 @@ impl Inventory {
     }
 }
 
-/// A copy shares all with the inventory. It takes no memory, but an owner more.
+/// A copy shares all with the inventory. Does not allocate: one more owner is counted.
 impl Clone for Inventory {
     ghost is_clone = { λ inventory copy. copy ≡ inventory };
 

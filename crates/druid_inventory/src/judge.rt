@@ -35,7 +35,7 @@ fn held_after<'a>(
     ensures { (t : List Described) → replay_from set.now changes.now ≡ Some t
         → IsHolderOf t id.now (option_copied result) }
 {
-    // Read for the proof: the reader tells what its type keeps.
+    // For the proof: reading it exposes the invariant of its type.
     let _ = id.partition();
     let mut left = changes.len();
     while left > 0 {

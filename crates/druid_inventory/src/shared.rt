@@ -86,7 +86,7 @@ impl SharedTimeline {
         })
     }
 
-    // The timeline, lent.
+    // The timeline, borrowed.
     pub(crate) fn lent(&self) -> &Timeline
         ensures { result.now ≡ self.now }
     {

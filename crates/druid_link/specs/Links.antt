@@ -13,7 +13,7 @@ abbrev pub came_of : Result (Vec ℕ Global) WireFault → Came
 came_of (Ok bytes) = Ok bytes.items
 came_of (Err fault) = Err fault
 
--- what an exchange may fail for: its device, too many bytes, and want of memory
+-- what an exchange may fail for: its device, too many bytes, and out of memory
 abbrev pub IsLinkFault : WireFault → Type 0
 IsLinkFault Cut = ⊥
 IsLinkFault Read = Unit {0}

@@ -21,10 +21,10 @@ pub const EXCHANGE_SECONDS: u64 = 30;
 const PART: usize = 16_384;
 
 /// A link to the server at an address, as `127.0.0.1:8082`. Each exchange makes a connection of its own, which is closed
-/// behind it. `Connect` where the text is no address of a socket, where no connection is made, or where the clock cannot be
+/// after it. `Connect` where the text is no address of a socket, where no connection is made, or where the clock cannot be
 /// read before; `Write` where the socket fails before the request is sent whole; `Read` where the answer cannot be read to
-/// its end. All of them together may take no longer than the limit: behind the connecting it is `Read` where the time is
-/// over, or cannot be told, whether the request is being sent or the answer read. Of what the server gives nothing is
+/// its end. All of them together may take no longer than the limit: after the connecting it is `Read` where the time is
+/// over, or cannot be read, whether the request is being sent or the answer read. Of what the server gives nothing is
 /// claimed but how much it is.
 #[derive(Drop)]
 pub struct TcpLink<N: Net + Clock> {

@@ -161,7 +161,7 @@ Contains-taken {X} xs i out li at x = (forth, back) where
   back (inr there) =
       Contains-permutation (out ∷ remove xs i) xs x (IsPermutation-sym _ _ moved) (Contains-later out (remove xs i) x there)
 
--- pairs whose first numbers rise are told apart by them
+-- pairs whose first numbers rise are distinguished by them
 pub rising-once : (ps : List (ℕ × ℕ)) → IsStrictlyIncreasing (map (λ (p : ℕ × ℕ). p.0) ps) → (x y : ℕ × ℕ) → Contains ps x → Contains ps y → x.0 ≡ y.0 → x ≡ y
 rising-once ps up x y (i, li, ei) (j, lj, ej) same = elim (cases_order i j) [
   | inl level ↦ sym ei ∙ get_or_default ps i x y li ∙ ap (λ (k : ℕ). get_or ps k y) level ∙ ej

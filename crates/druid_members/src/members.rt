@@ -57,7 +57,7 @@ fn add_member(
     ensures was_ordered { tree.IsOrdered nat_cmp slots.old }
     ensures none_empty { NoneEmpty slots.old → NoneEmpty slots.new }
 {
-    // Read for the proof: the reader tells what its type keeps.
+    // For the proof: reading it exposes the invariant of its type.
     let _ = slots.len();
     if let Some(slot) = slots.get_mut(&partition) {
         return slot.add(node, core);
@@ -82,7 +82,7 @@ fn remove_member(slots: &mut BTreeMap<u16, Slot>, partition: u16, node: NodeNo) 
     ensures was_ordered { tree.IsOrdered nat_cmp slots.old }
     ensures none_empty { NoneEmpty slots.old → NoneEmpty slots.new }
 {
-    // Read for the proof: the reader tells what its type keeps.
+    // For the proof: reading it exposes the invariant of its type.
     let _ = slots.len();
     let Some(slot) = slots.get_mut(&partition) else {
         return false;
@@ -96,7 +96,7 @@ fn remove_member(slots: &mut BTreeMap<u16, Slot>, partition: u16, node: NodeNo) 
     true
 }
 
-// The greatest number of core partitions that a member names. It is at most `bound`, so nothing is looked at behind
+// The greatest number of core partitions that a member names. It is at most `bound`, so nothing is looked at after
 // the first member that names as many.
 fn core_of(slots: &BTreeMap<u16, Slot>, bound: u16) -> u16
     requires { core_count (members_in slots.now.entries) ≤ bound }
@@ -152,7 +152,7 @@ impl Members {
     }
 
     /// Takes a partition from what a node serves. False where the node does not serve it, and then nothing changes. It
-    /// takes no memory.
+    /// does not allocate.
     pub fn remove(&mut self, partition: u16, node: NodeNo) -> bool
         ensures held { IsTrue result ↔ HoldsPlace self.old partition node }
         ensures removed { RemovesPlace self.old self.new partition node }
@@ -199,7 +199,7 @@ impl Members {
         ensures nodes { (n : ℕ) → Contains result.now n ↔ HoldsPlace self.now partition n }
         ensures once { ServedOnce self.now partition }
     {
-        // Read for the proof: the reader tells what its type keeps.
+        // For the proof: reading it exposes the invariant of its type.
         let _ = self.slots.len();
         match self.slots.get(&partition) {
             Some(slot) => slot.nodes(),
@@ -212,7 +212,7 @@ impl Members {
         ensures rising { IfOk result (λ v. IsStrictlyIncreasing v.items) }
         ensures all { IfOk result (λ v. (p : ℕ) → Contains v.items p ↔ HasPartition self.now p) }
     {
-        // Read for the proof: the reader tells what its type keeps.
+        // For the proof: reading it exposes the invariant of its type.
         let _ = self.slots.len();
         let keys = keys_of(self.alloc, &self.slots)?;
         Ok(keys)

@@ -95,7 +95,7 @@ impl Slot {
         let Ok(at) = place_of(&self.nodes, node) else {
             return false;
         };
-        // Read for the proof: the reader tells what its type keeps.
+        // For the proof: reading it exposes the invariant of its type.
         let _ = self.cores.len();
         self.nodes.remove(at);
         self.cores.remove(at);

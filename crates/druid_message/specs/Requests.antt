@@ -12,6 +12,6 @@ pub record RequestValue : Type 0 where
 abbrev pub path_of : List ℕ → List ℕ
 path_of target = before_first (λ b. b == 63) target
 
--- what stands behind it, and nothing where there is none
+-- what follows it, and nothing where there is none
 abbrev pub parameters_of : List ℕ → List ℕ
 parameters_of target = after_first (λ b. b == 63) target

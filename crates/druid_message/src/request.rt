@@ -69,7 +69,7 @@ impl Request {
         path
     }
 
-    /// What stands behind the first `?` of its target; nothing where there is none.
+    /// What follows the first `?` of its target; nothing where there is none.
     pub fn parameters(&self) -> &str
         ensures { result.now ≡ parameters_of self.now.target }
     {

@@ -237,7 +237,7 @@ not_there (x ∷ xs) id y none there same =
       ]
     ]
 
--- an identifier that is not held is apart from the first, and not held behind it
+-- an identifier that is not held is apart from the first, and not held after it
 absent_parts : (x : Segment) (xs : List Segment) (id : Identifier) → segment_named id (x ∷ xs) ≡ None → (same_identifier id x.descriptor.id ≡ false) × (segment_named id xs ≡ None)
 absent_parts x xs id none = by_test (same_identifier id x.descriptor.id) none where
   by_test : (b : Bool) → cond b (Some x) (segment_named id xs) ≡ None → (b ≡ false) × (segment_named id xs ≡ None)

@@ -49,7 +49,7 @@ over found seen next Less e h less = absurd (h refl)
 over found seen next Equal e h less = sym (mark_cmp-total.congr found seen next e) ∙ less
 over found seen next Greater e h less = mark_cmp-total.trans seen found next (mark_cmp-total.antisymm seen found ∙ ap ordering_reverse e) less
 
--- a change of a state that is not behind what was seen gives a mark above that
+-- a change of a state that is not older than what was seen gives a mark above that
 pub raised : (old new : State) (c : Change) (seen after : Point) → IsKept old.history → IsAtLeast (mark_of old) seen → Records old.history new.history c → after ≡ mark_of new → mark_cmp seen after ≡ Less
 raised old new c seen after kept at is same =
     ap (mark_cmp seen) same ∙ over (mark_of old) seen (mark_of new) (mark_cmp (mark_of old) seen) refl at (rises old.history new.history c kept is)

@@ -46,7 +46,7 @@ IsOfFile (faults.File file.Memory) = ⊥
 IsOfFile (faults.Wire fault) = ⊥
 IsOfFile other = ⊤
 
--- the fault that tells what a file's bytes are: want of memory is told as that
+-- the fault that tells what a file's bytes are: out of memory is that
 abbrev pub told_as : FileFault → NodeFault
 told_as file.Magic = faults.File file.Magic
 told_as file.Cut = faults.File file.Cut
@@ -58,7 +58,7 @@ told_as file.Read = faults.File file.Read
 told_as file.Write = faults.File file.Write
 told_as file.Memory = faults.Memory
 
--- why bytes that were read are not taken; want of memory comes only where they spell a segment
+-- why bytes that were read are not taken; out of memory only where they spell a segment
 abbrev pub RefusesBytes : List ℕ → List ℕ → NodeFault → Type 0
 RefusesBytes name bytes faults.Device = ⊥
 RefusesBytes name bytes (faults.File fault) = segment_at bytes ≡ Err fault

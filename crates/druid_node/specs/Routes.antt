@@ -69,7 +69,7 @@ AnswersAt Nowhere state request status body = Tells 404 (codes "{\"error\":\"NoR
 abbrev pub Responds : State → RequestValue → ℕ → List ℕ → Type 0
 Responds state request status body = AnswersAt (route_of (path_of request.target)) state request status body
 
--- want of memory is told in the place of the answer
+-- out of memory in the place of the answer
 abbrev pub RespondsInTurn : State → RequestValue → ℕ → List ℕ → Type 0
 RespondsInTurn state request status body =
     Responds state request status body ⊎ Tells 500 (codes "{\"error\":\"Memory\"}") status body

@@ -24,11 +24,11 @@ mark_of state = record { incarnation = state.history.incarnation; count = state.
 abbrev pub IsBehind : Point → Point → Type 0
 IsBehind found seen = mark_cmp found seen ≡ Less
 
--- the state is not behind what was seen
+-- the state is not older than what was seen
 abbrev pub IsAtLeast : Point → Point → Type 0
 IsAtLeast found seen = mark_cmp found seen ≢ Less
 
--- N8, exactly where the state is behind what was seen, and else why the state refuses
+-- N8, exactly where the state is older than what was seen, and else why the state refuses
 abbrev pub RefusesAsSeen : (NodeFault → Type 0) → Point → Point → NodeFault → Type 0
 RefusesAsSeen Why found seen fault =
     (IsBehind found seen × (fault ≡ faults.Behind found)) ⊎ (IsAtLeast found seen × Why fault)
@@ -69,12 +69,12 @@ AnswersFrom before after request status body =
     (state : State) × IsState state × IsKept state.history × (mark_of state ≡ after) × (mark_cmp before after ≢ Greater)
     × RespondsInTurn state request status body
 
--- the body of an answer, where want of memory may stand in its place
+-- the body of an answer, where out of memory may stand in its place
 abbrev pub text_of : Option (Vec ℕ Global) → List ℕ
 text_of None = codes "{\"error\":\"Memory\"}"
 text_of (Some body) = body.items
 
--- a state that is not behind what was seen answers so
+-- a state that is not older than what was seen answers so
 abbrev pub AnswersSince : Point → RequestValue → ℕ → List ℕ → Type 0
 AnswersSince before request status body = (after : Point) × AnswersFrom before after request status body
 
@@ -101,7 +101,7 @@ pub record IsServedAsSeen (seen now : Point) (before after old new : Option (Lis
   pub served : IsAnswered seen now before after status body ⊎ IsRefused seen now before status body
   pub is_sent : IsSent old new status body sent
 
--- N8: a request was read, and the state is behind what was seen; nothing was written
+-- N8: a request was read, and the state is older than what was seen; nothing was written
 pub record IsPassedBy (seen : Point) (before after old new : Option (List ℕ)) (fault : NodeFault) : Type 0 where
   pub found : Point
   pub behind : IsBehind found seen
@@ -109,7 +109,7 @@ pub record IsPassedBy (seen : Point) (before after old new : Option (List ℕ)) 
   pub read : IfSome before (λ input. (request : RequestValue) × (rest : List ℕ) × (after ≡ Some rest) × IsRequest input request rest)
   pub unwritten : new ≡ old
 
--- an answer was begun, of a state that is not behind what was seen, or of none
+-- an answer was begun, of a state that is not older than what was seen, or of none
 pub record IsBegun (seen : Point) (before after old new : Option (List ℕ)) (cause : WireFault) : Type 0 where
   pub now : Point
   pub status : ℕ

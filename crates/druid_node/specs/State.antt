@@ -37,7 +37,7 @@ pub record HoldsMore (old new : List Segment) (segment : Segment) : Type 0 where
 pub record HoldsLess (old new : List Segment) (id : Identifier) : Type 0 where
   pub members : (s : Segment) → Contains new s ↔ ((s.descriptor.id ≡ id → ⊥) × Contains old s)
 
--- the new history is the old one with the change behind it, of the same incarnation, and as much is kept of it
+-- the new history is the old one with the change after it, of the same incarnation, and as much is kept of it
 pub record Records (old new : Kept) (change : Change) : Type 0 where
   pub incarnation : new.incarnation ≡ old.incarnation
   pub limit : new.limit ≡ old.limit
@@ -54,7 +54,7 @@ pub record Leaves (old new : State) (segment : Segment) : Type 0 where
   pub records : Records old.history new.history (Drop segment.descriptor)
   pub holds : HoldsLess old.held new.held segment.descriptor.id
 
--- why a change is not made: what the history refuses it for, and want of memory only where it refuses nothing
+-- why a change is not made: what the history refuses it for, and out of memory only where it refuses nothing
 abbrev pub Refuses : Kept → Change → NodeFault → Type 0
 Refuses kept change faults.Device = ⊥
 Refuses kept change (faults.File fault) = ⊥

@@ -18,7 +18,7 @@ use druid_shard::Mark;
 use std::alloc::{AllocError, Global};
 use std::sync::{Mutex, Wait};
 
-/// A data node: it loads segments from files, and answers requests. Its state is behind a lock, so threads may share it.
+/// A data node: it loads segments from files, and answers requests. Its state is under a lock, so threads may share it.
 ///
 /// A caller of it has a mark of its own, `seen`, which is (0, 0) at first: that of the last state that did what it asked for.
 /// A call that is given `seen` never answers Ok from a state whose mark is below it: no later Ok with that `seen` answers from
@@ -43,7 +43,7 @@ fn read_fault(fault: StoreFault) -> NodeFault
     }
 }
 
-// What the bytes of a file are told as.
+// The fault for the bytes of a file.
 fn file_fault(fault: FileFault) -> NodeFault
     ensures { result ≡ told_as fault }
 {
@@ -135,10 +135,10 @@ impl DataNode {
     }
 
     /// Loads the segment of the file of that name, of which a folder gives no more than 16 MiB and a byte, and sees the mark
-    /// behind that. N1 where the device fails, N6 where there is no such file, N2 where its bytes are no segment, N3 where the
-    /// file is not called by the text of the segment's identifier and `.seg`. Then N8 where the node's state is behind what was
+    /// after that. N1 where the device fails, N6 where there is no such file, N2 where its bytes are no segment, N3 where the
+    /// file is not called by the text of the segment's identifier and `.seg`. Then N8 where the node's state is older than what was
     /// seen, and then the refusals of `NodeState::load`. N9 where memory was refused, which the read of the folder may tell in
-    /// place of all of these, and what comes behind it only where the bytes are a segment. Where it fails all is as it was.
+    /// place of all of these, and what comes after it only where the bytes are a segment. Where it fails all is as it was.
     pub fn load_file<F: Folder>(
         &self,
         rt: &impl Wait,
@@ -168,7 +168,7 @@ impl DataNode {
         }
     }
 
-    /// Drops a segment, and sees the mark behind that. N8 where the node's state is behind what was seen, and then the refusals
+    /// Drops a segment, and sees the mark after that. N8 where the node's state is older than what was seen, and then the refusals
     /// of `NodeState::drop_segment`. Where it fails all is as it was.
     pub fn drop_segment(
         &self,

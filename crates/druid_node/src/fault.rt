@@ -29,7 +29,7 @@ pub enum NodeFault {
     /// N6: the folder has no file of that name.
     #[error("N6: no such file")]
     NoFile,
-    /// N8: its state is behind the mark that the caller has seen. It tells the state's mark.
+    /// N8: its state is older than the mark that the caller has seen. It tells the state's mark.
     #[error("N8: behind what was seen")]
     Behind(Mark),
     /// N9: memory was refused.

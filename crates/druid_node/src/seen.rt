@@ -26,7 +26,7 @@ pub(crate) struct Answered {
     pub(crate) mark: Mark,
 }
 
-// The mark of a state, where it is not behind what was seen.
+// The mark of a state, where it is not older than what was seen.
 pub(crate) fn mark_as_seen(state: &NodeState, seen: Mark) -> Result<Mark, NodeFault>
     ensures ok { IfOk result (λ mark. (mark ≡ mark_of state.now) × IsAtLeast (mark_of state.now) seen) }
     ensures err { IfErr result (λ fault. IsBehind (mark_of state.now) seen × (fault ≡ NodeFault.Behind (mark_of state.now))) }
@@ -40,7 +40,7 @@ pub(crate) fn mark_as_seen(state: &NodeState, seen: Mark) -> Result<Mark, NodeFa
     Ok(found)
 }
 
-// Loads a segment into a state that is not behind what was seen, and sees it.
+// Loads a segment into a state that is not older than what was seen, and sees it.
 pub(crate) fn load_as_seen(
     state: &mut NodeState,
     segment: Segment,
@@ -65,7 +65,7 @@ pub(crate) fn load_as_seen(
     }
 }
 
-// Drops a segment from a state that is not behind what was seen, and sees that.
+// Drops a segment from a state that is not older than what was seen, and sees that.
 pub(crate) fn drop_as_seen(
     state: &mut NodeState,
     id: &SegmentId,
@@ -91,7 +91,7 @@ pub(crate) fn drop_as_seen(
     }
 }
 
-// What a state that is not behind what was seen answers to a request. Want of memory is told by status 500 and no body.
+// What a state that is not older than what was seen answers to a request. Out of memory is status 500 and no body.
 pub(crate) fn respond_as_seen(
     state: &NodeState,
     request: &Request,

@@ -84,14 +84,14 @@ impl NodeState {
         None
     }
 
-    // Loads a segment that is not refused. Want of memory leaves all as it was.
+    // Loads a segment that is not refused. Out of memory leaves all as it was.
     fn take(&mut self, segment: Segment) -> Result<(), NodeFault>
         requires { refusal self.old.history (Load segment.descriptor) ≡ None }
         ensures ok { OnOk result (Takes self.old self.new segment) }
         ensures err { IfErr result (λ fault. fault ≡ NodeFault.Memory) }
         ensures unchanged { OnErr result (self.new ≡ self.old) }
     {
-        // Read for the proof: the readers tell what their types keep.
+        // For the proof: reading it exposes the invariant of its type.
         let _held = self.held.len();
         let _mark = self.history.mark();
         let descriptor = segment.descriptor().clone()?;
@@ -127,7 +127,7 @@ impl NodeState {
         ensures err { IfErr result (RefusesToDrop self.old.history (segment_named id.now self.old.held)) }
         ensures unchanged { OnErr result (self.new ≡ self.old) }
     {
-        // Read for the proof: the reader tells what its type keeps.
+        // For the proof: reading it exposes the invariant of its type.
         let _held = self.held.len();
         let Some(segment) = self.held.find(id) else {
             return Err(NodeFault::History(HistoryFault::NotServed));
@@ -156,7 +156,7 @@ impl NodeState {
         }
     }
 
-    /// What it answers to a broker that follows it: all that it serves, or the changes behind the broker's mark, or why it has
+    /// What it answers to a broker that follows it: all that it serves, or the changes after the broker's mark, or why it has
     /// not these. N9 where memory was refused for copies.
     pub fn since(&self, ask: &Ask) -> Result<Reply, NodeFault>
         ensures ok { IfOk result (λ reply. (history : List Event) → StandsFor self.now.history history
@@ -170,7 +170,7 @@ impl NodeState {
         }
     }
 
-    /// The mark behind its changes.
+    /// The mark after its changes.
     pub fn mark(&self) -> Mark
         ensures value { result ≡ record { incarnation = self.now.history.incarnation; count = self.now.history.count } }
         ensures behind { (history : List Event) → StandsFor self.now.history history

@@ -31,7 +31,7 @@ inserted kinds (e ∷ es) key v none = by_order (key_cmp key e.0) none (inserted
     by_order Equal none later = absurd (cc)
     by_order Greater none later = ap (λ l. group_of_entry e ∷ l) (later none)
 
--- a key behind another is not at those before
+-- a key after another is not at those before
 gone : (key : Key) (es : List (Key × Vec (Option ℤ) Global)) → AllByRecursion (λ k. key_cmp key k ≡ Less) (keys_of es) → lookup (is_at (key_cmp key)) es ≡ None
 gone key [] below = refl
 gone key (e ∷ es) below = ap (λ o. cond (is_eq o) (Some e.1) (lookup (is_at (key_cmp key)) es)) below.0 ∙ gone key es below.1

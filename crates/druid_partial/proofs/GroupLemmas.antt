@@ -58,7 +58,7 @@ eq_yes Less e = absurd (cc)
 eq_yes Equal e = refl
 eq_yes Greater e = absurd (cc)
 
--- ---- what is told at a key
+-- ---- what is counted at a key
 
 abbrev pub at : AggregatorKind → Key → ℕ → List Group → Option ℤ
 at kind key place rows = told kind (known (column key place rows))
@@ -146,7 +146,7 @@ occurs_or key (g ∷ rows) =
     (λ apart. ⊎_elim (λ o. inl (occurs_there g rows key o)) (λ none. inr (λ o. ⊎_elim apart none (occurs_cases g rows key o))) (occurs_or key rows))
     (same_or g.key key _ refl)
 
--- where a key does not occur, nothing is told
+-- where a key does not occur, nothing is counted
 pub at-absent : (kind : AggregatorKind) (place : ℕ) (key : Key) (rows : List Group) → (Occurs key rows → ⊥) → at kind key place rows ≡ None
 at-absent kind place key [] none = refl
 at-absent kind place key (g ∷ rows) none =
@@ -177,7 +177,7 @@ in_order_more g gs below s = (all_below g gs below, s)
 first_is_gone : (g : Group) (gs : List Group) → InOrder (g ∷ gs) → Occurs g.key gs → ⊥
 first_is_gone g gs s o = less_apart g.key o.0.key (below_rest g gs s o.0 o.1) (sym o.2)
 
--- of groups in order, each alone tells what is told at its key
+-- of groups in order, each alone tells what is counted at its key
 pub at_group : (kind : AggregatorKind) (place : ℕ) (gs : List Group) → InOrder gs → (g : Group) → Contains gs g → at kind g.key place gs ≡ one kind place g
 at_group kind place [] s g c = absurd (contains_none g c)
 at_group kind place (x ∷ xs) s g c =

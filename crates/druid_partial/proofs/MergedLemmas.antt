@@ -60,7 +60,7 @@ joined_length (c ∷ kinds) (x ∷ xs) (y ∷ ys) p q = ap suc (joined_length ki
 
 -- ---- one group more in front
 
--- all rows are behind a key
+-- all rows are after a key
 abbrev pub Behind : Key → List Group → Type 0
 Behind key rows = (row : Group) → Contains rows row → key_cmp key row.key ≡ Less
 

@@ -80,7 +80,7 @@ joined-assoc kind (Some x) None z = refl
 joined-assoc kind (Some x) (Some y) None = refl
 joined-assoc kind (Some x) (Some y) (Some z) = ap (λ n. Some n) (join_two-assoc kind x y z)
 
--- ---- what is told of numbers
+-- ---- what is reported of numbers
 
 abbrev pub told : AggregatorKind → List ℤ → Option ℤ
 told kind [] = None
@@ -91,7 +91,7 @@ told-append kind [] ys = refl
 told-append kind (x ∷ xs) ys =
     ap (joined kind (Some (alone kind x))) (told-append kind xs ys) ∙ sym (joined-assoc kind (Some (alone kind x)) (told kind xs) (told kind ys))
 
--- a number that is told stands for those behind it
+-- a number that is counted stands for those after it
 abbrev pub again : AggregatorKind → Option ℤ → Option ℤ
 again kind x = told kind (known (x ∷ []))
 

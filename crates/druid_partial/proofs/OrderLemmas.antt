@@ -42,7 +42,7 @@ unfolding IsStrictlySortedBy
 no_rows kinds groups e = let P : List Group → Type 0 = λ gs. IsResult kinds [] gs in
     subst P (sym e) (record { ordered = tt; each = λ g c. absurd (contains_none g c); whole = λ g c. absurd (contains_none g c) })
 
--- ---- lent texts
+-- ---- borrowed texts
 
 abbrev pub lent : List (Option (Bor (List ℕ))) → List (Option (List ℕ))
 lent values = map (option_map (λ text. text.now)) values

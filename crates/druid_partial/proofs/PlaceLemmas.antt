@@ -97,7 +97,7 @@ are_sources query fields = each query.aggregations
     each [] = All-nil (IsSource fields)
     each (a ∷ more) = All-cons (IsSource fields) _ _ (for_inside fields a.kind _ (then_inside fields a.field)) (each more)
 
--- what is read at the places is what the query is told
+-- what is read at the places is what the query gets
 pub values_told : (query : Query) (fields : Schema) (row : Row) → map (at_place row.dimensions) (places_of query fields) ≡ map (value_for fields row) query.dimensions
 values_told query fields row = each query.dimensions
   where

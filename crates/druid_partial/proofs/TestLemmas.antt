@@ -100,7 +100,7 @@ any_more value values fs i f ts more t h is e was one =
     ∙ ap (λ b. any_passes value (each_says (take i fs)) || b) (one ∙ ap (λ g. passes value (says g)) is)
     ∙ sym (any_says_push value (take i fs) (get_or fs i f)) ∙ ap (λ l. any_passes value (each_says l)) (sym (take_more fs i f h))
 
--- a place behind the last is null
+-- a place after the last is null
 pub place_behind : (values : List (Option (List ℕ))) (place : ℕ) → length values ≤ place → at_place values (Some place) ≡ None
 place_behind values place h = get_or-eq_default values None h
 

@@ -45,7 +45,7 @@ key_cmp = then_cmp bucket_cmp values_cmp
 abbrev pub key_of : Group → Key
 key_of g = g.key
 
--- each key is behind the one before
+-- each key is after the one before
 abbrev pub InOrder : List Group → Type 0
 InOrder groups = IsStrictlySortedBy key_cmp (map key_of groups)
 

@@ -8,14 +8,14 @@ use Rattle.druid_query.specs.declared.aggregator.AggregatorKind.{AggregatorKind}
 use Rattle.druid_query.specs.declared.aggregator.AggregatorKind.TheVariants.{Count, LongSum, LongMin, LongMax}
 use Rattle.druid_partial.specs.Groups.{Group, key_cmp}
 
--- what is told of one number
+-- what is reported of one number
 abbrev pub alone : AggregatorKind → ℤ → ℤ
 alone Count x = int_wrap w64 x
 alone LongSum x = int_wrap w64 x
 alone LongMin x = x
 alone LongMax x = x
 
--- what is told of the numbers behind two told ones
+-- what is reported of the numbers after two counted ones
 abbrev pub join_two : AggregatorKind → ℤ → ℤ → ℤ
 join_two Count x y = int_wrap w64 (x +ℤ y)
 join_two LongSum x y = int_wrap w64 (x +ℤ y)
@@ -39,7 +39,7 @@ join_numbers (kind ∷ kinds) (x ∷ xs) (y ∷ ys) = joined kind x y ∷ join_n
 abbrev pub join_groups : List AggregatorKind → Group → Group → Group
 join_groups kinds a b = record { key = a.key; numbers = join_numbers kinds a.numbers b.numbers }
 
--- a group, put among those of the second list; `rest` merges what stands behind it in its own list
+-- a group, put among those of the second list; `rest` merges what follows it in its own list
 abbrev pub put : List AggregatorKind → Group → (List Group → List Group) → List Group → List Group
 put kinds x rest [] = x ∷ rest []
 put kinds x rest (y ∷ ys) =

@@ -15,7 +15,7 @@ abbrev pub segment_named : Identifier → List Segment → Option Segment
 segment_named id [] = None
 segment_named id (s ∷ more) = if same_identifier id s.descriptor.id then Some s else segment_named id more
 
--- the identifier of each is that of none behind it
+-- the identifier of each is that of none after it
 abbrev pub HaveOwnSegments : List Segment → Type 0
 HaveOwnSegments [] = ⊤
 HaveOwnSegments (s ∷ more) = (segment_named s.descriptor.id more ≡ None) × HaveOwnSegments more

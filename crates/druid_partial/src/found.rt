@@ -22,7 +22,7 @@ pub(crate) fn add<'a>(
     ensures { OnOk result (groups_of found.new.entries
         ≡ merged kinds.now (record { key = key.entry; numbers = numbers.items } ∷ []) (groups_of found.old.entries)) }
 {
-    // Read for the proof: the reader tells what its type keeps.
+    // For the proof: reading it exposes the invariant of its type.
     let _ = found.len();
     if let Some(held) = found.get_mut(&key) {
         join_numbers(kinds, &mut numbers, held);

@@ -12,7 +12,7 @@ fn sum(mine: i64, theirs: i64) -> i64
     mine.wrapping_add(theirs)
 }
 
-// What an aggregator tells of the rows behind two numbers. Null is of no rows.
+// What an aggregator tells of the rows after two numbers. Null is of no rows.
 pub(crate) fn join_number(
     kind: AggregatorKind,
     mine: Option<i64>,

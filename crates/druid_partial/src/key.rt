@@ -9,7 +9,7 @@ use std::alloc::{AllocError, Global};
 use std::cmp::Ordering;
 use std::marker::Model;
 
-// Where a row stands in a result: its bucket, and its values of the query's dimensions, lent by the segment.
+// Where a row stands in a result: its bucket, and its values of the query's dimensions, borrowed from the segment.
 #[derive(Drop)]
 pub(crate) struct LentKey<'a> {
     bucket: Instant,

@@ -7,7 +7,7 @@ ghost use Rattle.druid_partial.specs.Orders as order;
 use std::cmp::Ordering;
 use std::marker::Model;
 
-// The value of a dimension, lent. None for null.
+// The value of a dimension, borrowed. None for null.
 #[derive(Debug, Drop)]
 pub(crate) struct LentValue<'a> {
     text: Option<&'a str>,

@@ -51,9 +51,9 @@ fn take_next(
 }
 
 /// The merge of two partials of one query: the keys of both, each with what the aggregators tell of the rows of both. It
-/// moves the groups, and takes memory for their list alone, before it begins.
+/// moves the groups, and allocates for their list alone, before it begins.
 ///
-/// Want of memory gives both back as they were.
+/// Out of memory gives both back as they were.
 pub fn merge(alloc: Global, left: Partial, right: Partial) -> Result<Partial, MergeRefused>
     requires { left.kinds ≡ right.kinds }
     ensures groups { IfOk result (λ both. IsMerge left.kinds left.groups right.groups both.groups) }

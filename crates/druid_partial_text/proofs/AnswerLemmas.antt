@@ -67,7 +67,7 @@ pub within_more : (asked : List Asked) (i : ℕ) (a : Asked) → i < length aske
 within_more asked i a h is one before k d low below =
     below_more (λ (n : ℕ). (e : Asked) → IsOfSegment (get_or asked n e)) i (λ n l e. before n e (omega arith) l) (at_read asked IsOfSegment i a h is one) k below d
 
--- ---- what is told where pieces are missing
+-- ---- what a client gets where pieces are missing
 
 shortfall_joined : (t : List Token) (b k s m r e : Token) (p g : List Token)
     → (((((((t ++ b ∷ []) ++ k ∷ []) ++ s ∷ []) ++ m ∷ []) ++ p) ++ r ∷ []) ++ g) ++ e ∷ [] ≡ t ++ b ∷ k ∷ s ∷ m ∷ (p ++ r ∷ (g ++ e ∷ []))

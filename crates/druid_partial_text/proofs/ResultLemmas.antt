@@ -37,7 +37,7 @@ pub rows_last : (front : List Token) (kind : QueryType) (es : List (String Globa
     → front ++ end_array ∷ [] ≡ front ++ rest_of (row_items kind es (drop i groups))
 rows_last front kind es groups i h = ended front (row_items kind es (drop i groups)) (ap (row_items kind es) (drop_of_length-le groups h))
 
--- each group is told by name
+-- each group is written by name
 row_told : (q : Query) (es : List (String Global × Column)) (g : Group) → TellsBy q es → IsGroupFor q g → row_by q.kind es g ≡ row_data q g
 row_told q es g tells for = ap (λ ms. kinded_row q.kind (object ms) g.key.bucket) (tells g for.values for.numbers)
 

@@ -33,7 +33,7 @@ answer_data missing groups =
 abbrev pub answer_text : NodeAnswer → List ℕ
 answer_text a = compact_text (answer_data a.missing a.partial.groups)
 
--- what a client is told where pieces are missing: these pieces, and the rows of a result without them
+-- What a client gets where pieces are missing: these pieces, and the rows of a result without them
 abbrev pub shortfall_of : List Asked → Data → Data
 shortfall_of missing rows =
     object (member (codes "error") (string (codes "SegmentsMissing"))
@@ -71,14 +71,14 @@ pub record ListsAnswer (sub : SubQuery) (d : Data) : Type 0 where
   pub listed : Lists sub.query rows groups
 
 -- what reading an answer out of JSON answers. Whether each piece was asked for, and whether a key stands twice, shows once
--- pieces and groups are in order, and to put them in order may want memory
+-- pieces and groups are in order, and to put them in order may run out of memory
 abbrev pub IsAnswer : SubQuery → Data → Result NodeAnswer PartialFault → Type 0
 IsAnswer sub d (Ok a) = (a.partial.kinds ≡ kinds_of sub.query) × TellsAnswer sub d a.missing a.partial.groups
 IsAnswer sub d (Err faults.Shape) = (missing : List Asked) (groups : List Group) → TellsAnswer sub d missing groups → ⊥
 IsAnswer sub d (Err faults.Memory) = ListsAnswer sub d
 IsAnswer sub d (Err faults.NotJson) = ⊥
 
--- the same out of bytes, which may be no JSON; reading JSON may want memory at any byte
+-- the same out of bytes, which may be no JSON; reading JSON may run out of memory at any byte
 abbrev pub IsAnswerOf : SubQuery → List ℕ → Result NodeAnswer PartialFault → Type 0
 IsAnswerOf sub bytes (Err faults.NotJson) = (d : Data) → ReadsAs bytes d → ⊥
 IsAnswerOf sub bytes (Err faults.Memory) = ⊤

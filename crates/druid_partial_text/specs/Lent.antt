@@ -1,4 +1,4 @@
--- A row as the reader lends it: only proofs use this.
+-- A row as the reader borrows it: only proofs use this.
 use Rattle.std.specs.Prelude.{◌≡◌, ℕ, ℤ, List, length, slice_get, slice_index_or, All, Option, Some, None, IsSome}
 use Rattle.std.specs.Option.{IsSomeAnd}
 use Rattle.std.specs.declared.cmp.Ordering.TheVariants.{Less}

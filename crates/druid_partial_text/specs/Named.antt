@@ -29,7 +29,7 @@ NamesValues ds old new = (g : Group) → length g.key.values ≡ length ds → m
 abbrev pub NamesNumbers : List Aggregator → List (String Global × Column) → List (String Global × Column) → Type 0
 NamesNumbers all old new = (g : Group) → length g.numbers ≡ length all → members_by g new ≡ with_numbers all g.numbers (members_by g old)
 
--- each group with as much as the query asks is told by name
+-- each group with as much as the query asks is written by name
 abbrev pub TellsBy : Query → List (String Global × Column) → Type 0
 TellsBy q es =
     (g : Group) → length g.key.values ≡ length q.dimensions → length g.numbers ≡ length q.aggregations

@@ -21,12 +21,12 @@ integer_at d = option_and_then as_i64 (as_number d)
 unfoldable pub number_or_null : Data → Option (Option ℤ)
 number_or_null d = if is_some (as_null d) then Some None else option_map Some (integer_at d)
 
--- the instant that is so many milliseconds behind the year 0, of the years 0000 to 9999
+-- the instant that is so many milliseconds after the year 0, of the years 0000 to 9999
 abbrev pub instant_behind : ℤ → Option ℕ
 instant_behind (pos t) = if nat_lt t instant_count then Some t else None
 instant_behind (negsuc n) = None
 
--- the instant that is so many milliseconds behind 1970-01-01T00:00:00.000Z
+-- the instant that is so many milliseconds after 1970-01-01T00:00:00.000Z
 unfoldable pub instant_of : ℤ → Option ℕ
 instant_of ms = instant_behind (ms +ℤ pos unix_epoch)
 

@@ -31,7 +31,7 @@ struct Listed<'a> {
     rows: &'a [Value],
 }
 
-// It takes no memory.
+// Does not allocate.
 #[tactic(auto, using(crate::proofs::MissedLemmas::no_missing, crate::proofs::MissedLemmas::no_rows, crate::proofs::MissedLemmas::no_pieces, crate::proofs::MissedLemmas::other_rows, crate::proofs::MissedLemmas::lists_read))]
 fn listed_in<'a>(sub: &SubQuery, value: &'a Value) -> Option<Listed<'a>>
     ensures some { IfSome result (λ l. AreLists sub.now (view value.now) (items_view l.missing.now) (items_view l.rows.now)) }

@@ -9,7 +9,7 @@ use druid_time::Interval;
 use std::cmp::Ordering;
 use std::marker::Model;
 
-// A piece, its segment lent. Pieces are in the order of their segments, and then of their own starts and ends.
+// A piece, with a borrowed segment. Pieces are in the order of their segments, and then of their own starts and ends.
 #[derive(Drop)]
 pub(crate) struct LentPiece<'a> {
     segment: &'a SegmentId,

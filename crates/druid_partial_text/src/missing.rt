@@ -17,7 +17,7 @@ use serde_json::Value;
 use std::alloc::{AllocError, Global};
 use std::collections::BTreeSet;
 
-// Whether each is a piece of a segment of the source. It takes no memory.
+// Whether each is a piece of a segment of the source. Does not allocate.
 pub(crate) fn are_pieces(source: &Name, values: &[Value]) -> bool
     ensures { result ≡ list_all (λ value. is_some (asked_at source.now (view value))) values.now }
 {

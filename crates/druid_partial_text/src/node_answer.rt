@@ -20,7 +20,7 @@ impl Model for NodeAnswer {
 }
 
 impl NodeAnswer {
-    /// The answer that is told by that partial, with those pieces missing. Its text is read back where each of them was asked
+    /// The answer with that partial, with those pieces missing. Its text is read back where each of them was asked
     /// for.
     pub fn new(partial: Partial, missing: Vec<Asked>) -> NodeAnswer
         ensures { result ≡ record { partial = partial; missing = missing.items } }

@@ -44,7 +44,7 @@ fn number_of(value: &Value) -> Option<Option<i64>>
     Some(Some(value.as_i64()?))
 }
 
-// The instant that is so many milliseconds behind 1970.
+// The instant that is so many milliseconds after 1970.
 #[tactic(auto, using(crate::proofs::ReadLemmas::instant_new))]
 fn instant_of(ms: i64) -> Option<Instant>
     ensures { result ≡ instant_of ms }
@@ -80,7 +80,7 @@ fn three_of(values: &[Value]) -> Option<Three<'_>>
     })
 }
 
-// A row, its lists lent.
+// A row, with borrowed lists.
 #[derive(Drop)]
 struct Lent<'a> {
     bucket: Instant,
@@ -168,7 +168,7 @@ fn is_row(query: &Query, first: Instant, value: &Value) -> bool
     }
 }
 
-// Whether all are rows of a partial of the query. It takes no memory.
+// Whether all are rows of a partial of the query. Does not allocate.
 #[tactic(auto, using(crate::proofs::RowLemmas::rows_all, crate::proofs::RowLemmas::rows_at))]
 fn are_rows(query: &Query, values: &[Value]) -> bool
     ensures { IsTrue result ↔ AreRows query.now (items_view values.now) }
@@ -292,7 +292,7 @@ fn in_order(mut groups: Vec<Group>) -> Option<Vec<Group>>
     }
 }
 
-// The rows of a partial of the query that a value lists. It takes no memory.
+// The rows of a partial of the query that a value lists. Does not allocate.
 #[tactic(auto, using(crate::proofs::MadeLemmas::no_list, crate::proofs::MadeLemmas::no_such_rows, crate::proofs::MadeLemmas::is_list))]
 pub(crate) fn rows_in<'a>(query: &Query, value: &'a Value) -> Option<&'a [Value]>
     ensures is { IfSome result (λ rows. view value.now ≡ array (items_view rows.now)) }

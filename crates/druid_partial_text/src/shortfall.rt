@@ -1,4 +1,4 @@
-//! What a client is told where pieces are missing.
+//! What a client gets where pieces are missing.
 ghost use Rattle.std.specs.Prelude.{◌≡◌, ◌++◌, IfOk, OnOk, string_bytes};
 ghost use Rattle.druid_partial_text.specs.Answers.{shortfall_of, shortfall_text};
 ghost use Rattle.druid_partial_text.specs.Named.{rows_by};
@@ -36,7 +36,7 @@ fn push_shortfall(
     out.end_object()
 }
 
-/// What a client is told where pieces are missing: `{"error":"SegmentsMissing","missing":[..],"partial":[..]}`, with the pieces
+/// What a client gets where pieces are missing: `{"error":"SegmentsMissing","missing":[..],"partial":[..]}`, with the pieces
 /// as in a query to a node, and the rows as `result_text` writes them.
 #[tactic(auto, using(crate::proofs::ResultLemmas::shortfall_printed))]
 pub fn shortfall_text(

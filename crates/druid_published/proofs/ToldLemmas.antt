@@ -23,7 +23,7 @@ not_memory apply.TooMany h = refl
 not_memory apply.Conflict h = refl
 not_memory apply.Memory h = absurd (h refl)
 
--- what the inventory tells, told on
+-- what the inventory says, passed on
 pub told_on : (inventory : List Entry) (node : ℕ) (body : Body) (f : ApplyFault) → Tells inventory node body f → TellsPublish inventory node body (publish_fault f)
 told_on inventory node body apply.UnknownNode h = (λ e. cc, h)
 told_on inventory node body apply.OtherIncarnation h = (λ e. cc, h)

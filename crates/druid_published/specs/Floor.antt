@@ -1,4 +1,4 @@
--- What a view was told of each node, and what an inventory that it reads is measured by.
+-- What a view learned of each node, and what an inventory that it reads is measured by.
 use Rattle.std.specs.Prelude.{◌≡◌, ℕ, ◌<◌, true, List, length, map, Some, slice_get, if◌then◌else◌}
 use Rattle.std.specs.List.{zip}
 use Rattle.std.specs.Ordering.{is_lt}

@@ -12,12 +12,12 @@ use Rattle.druid_published.specs.Floor.{marks_of, IsFirstStale}
 use Rattle.druid_published.specs.declared.fault.PublishFault.{PublishFault}
 use Rattle.druid_published.specs.declared.fault.PublishFault.TheVariants as faults
 
--- want of memory, or why else a reply is not applied
+-- out of memory, or why else a reply is not applied
 abbrev pub publish_fault : ApplyFault → PublishFault
 publish_fault apply.Memory = faults.Memory
 publish_fault fault = faults.Apply fault
 
--- the fault that tells why a reply of a node is not published; want of memory only where nothing is to be refused
+-- the fault that tells why a reply of a node is not published; out of memory only where nothing is to be refused
 abbrev pub TellsPublish : List Entry → ℕ → Body → PublishFault → Type 0
 TellsPublish inventory node body (faults.Apply fault) = (fault ≢ apply.Memory) × Tells inventory node body fault
 TellsPublish inventory node body (faults.Stale stale at found) = ⊥

@@ -12,7 +12,7 @@ pub enum PublishFault {
     /// B1: the reply is not applied.
     #[error("B1: {0}")]
     Apply(ApplyFault),
-    /// B2: what was found is behind what the view knows; it is the least such node.
+    /// B2: what was found is older than what the view knows; it is the least such node.
     #[error("B2: node {node} is behind")]
     Stale {
         /// The node.

@@ -62,7 +62,7 @@ impl<N: NodeList> Model for Publisher<N> {
     ghost invariant = { λ a. names_of (arc_value a.inventory) ≡ N.names };
 }
 
-/// A reader of what is published. A contract sees its floor: of each node, the latest mark that it read or was told.
+/// A reader of what is published. A contract sees its floor: of each node, the latest mark that it read or learned.
 #[derive(Drop)]
 pub struct View<N: NodeList> {
     slot: Arc<Mutex<Slot<N>>, Global>,
@@ -169,7 +169,7 @@ fn set_floor(floor: &mut [Mark], inventory: &Inventory)
     }
 }
 
-// Want of memory is B9, and why else a reply is not applied B1.
+// Out of memory is B9, and why else a reply is not applied B1.
 #[tactic(auto, using(crate::proofs::ToldLemmas::not_memory))]
 fn fault_of(fault: ApplyFault) -> PublishFault
     ensures { result ≡ publish_fault fault }
@@ -323,7 +323,7 @@ impl<N: NodeList> Publisher<N> {
         self.published(rt, node, reply)
     }
 
-    // The same, with the fault told once.
+    // The same, with the fault made in one place.
     fn published(
         &mut self,
         rt: &impl Wait,
@@ -374,7 +374,7 @@ impl<N: NodeList> Publisher<N> {
         })
     }
 
-    /// The inventory. It takes no memory.
+    /// The inventory. Does not allocate.
     pub fn inventory(&self) -> &Inventory
         ensures { result.now ≡ self.now }
     {
@@ -407,7 +407,7 @@ impl<N: NodeList> View<N> {
         Ok(found)
     }
 
-    /// The floor becomes the later of itself and what a receipt tells, node by node. It takes no memory.
+    /// The floor becomes the later of itself and what a receipt tells, node by node. Does not allocate.
     pub fn learn(&mut self, receipt: &Receipt<N>)
         ensures later { self.new ≡ later_marks self.old receipt.now }
         ensures rises { Rises self.old self.new }

@@ -15,14 +15,14 @@ use Rattle.druid_query.specs.declared.fault.QueryFault.TheVariants as faults
 use Rattle.druid_query.specs.declared.query_type.QueryType.{QueryType}
 use Rattle.druid_query.proofs.StepLemmas.{stop, pass, last, bound}
 
--- what is read behind the granularity, what is made of the parts, and the names in the result of that
+-- what is read after the granularity, what is made of the parts, and the names in the result of that
 pub record Reading (T S : Type 0) : Type 0 where
   pub timed : List ℕ → Data → Result T Refusal
   pub make : QueryType → List ℕ → Granularity → T → Option Condition → List Dimension → List Aggregator → S
   pub dimensions : S → List Dimension
   pub aggregations : S → List Aggregator
 
--- ---- what is read behind each part
+-- ---- what is read after each part
 
 abbrev pub after_dimensions : {T S : Type 0} → Reading T S → Data → QueryType → List ℕ → Granularity → T → Option Condition → List Dimension → Result S Refusal
 after_dimensions r d k s g t f ds = aggregations_at d >>= λ all. Ok (r.make k s g t f ds all)
@@ -262,7 +262,7 @@ module _ {T S : Type 0} (r : Reading T S) (d : Data) (read : Reads r d) where
   pub aggregations_read : IsOk (aggregations_at d)
   aggregations_read = is_ok (aggregations_at d) read.1.aggregations read.1.aggregations_is
 
--- ---- want of memory
+-- ---- out of memory
 
 -- another fault says the same
 pub to_after : {A B : Type 0} (before : Result B Refusal) (e : QueryFault) (read : Result A Refusal) → (e ≡ faults.Memory → ⊥) → Tells e read → TellsAfter before e read
@@ -274,7 +274,7 @@ to_after before faults.LimitPassed read other t = t
 to_after before faults.DoubledName read other t = t
 to_after before faults.Memory read other t = absurd (other refl)
 
--- one fault is carried on, and so is want of memory
+-- one fault is carried on, and so is out of memory
 pub carried : {A B C D : Type 0} (old : Result B Refusal) (read : Result A Refusal) (new : Result D Refusal) (whole : Result C Refusal) (e : QueryFault)
     → (IsOk old → IsOk new) → ((e ≡ faults.Memory → ⊥) → Tells e read → Tells e whole) → TellsAfter old e read → TellsAfter new e whole
 carried old read new whole faults.NotJson memory other t = other (λ h. cc) t
@@ -285,7 +285,7 @@ carried old read new whole faults.LimitPassed memory other t = other (λ h. cc) 
 carried old read new whole faults.DoubledName memory other t = other (λ h. cc) t
 carried old read new whole faults.Memory memory other t = memory t
 
--- an answer without want of memory
+-- an answer without out of memory
 pub checks_after : {A B : Type 0} (before : Result B Refusal) (answer : Result ⊤ QueryFault) (read : Result A Refusal) → (answer ≡ Err faults.Memory → ⊥) → Checks answer read → ChecksAfter before answer read
 checks_after before (Ok t) read other h = h
 checks_after before (Err e) read other h = to_after before e read (λ same. other (ap Err same)) h

@@ -1,4 +1,4 @@
--- What a client is told of a refused query has no float.
+-- What a client gets for a refused query has no float.
 use Rattle.std.proofs.Common.{◌≡◌, ℕ, List, false, refl}
 use Rattle.serde_json.specs.Written.{has_float}
 use Rattle.druid_query.specs.Refused.{field_data}

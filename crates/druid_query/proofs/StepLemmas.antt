@@ -38,7 +38,7 @@ last (Ok t) (Ok x) g other h = refl
 last (Ok t) (Err y) g other h = absurd (cc)
 last (Err e) r g other h = stop r (λ x. Ok (g x)) e (λ same. other (ap Err same)) h
 
--- what stands behind a step that went on
+-- what follows a step that went on
 pub bound : {A B : Type 0} (r : Result A Refusal) (f : A → Result B Refusal) (y : B) → (r >>= f) ≡ Ok y → (x : A) × (r ≡ Ok x) × (f x ≡ Ok y)
 bound (Ok x) f y h = (x, refl, h)
 bound (Err e) f y h = absurd (cc)

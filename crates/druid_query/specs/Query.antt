@@ -14,7 +14,7 @@ pub record Dimension : Type 0 where
   pub dimension : List ℕ
   pub output_name : List ℕ
 
--- what is told of each group of rows, and its name in the result. To count takes no field
+-- what is reported of each group of rows, and its name in the result. To count takes no field
 pub record Aggregator : Type 0 where
   pub name : List ℕ
   pub kind : AggregatorKind

@@ -113,7 +113,7 @@ IsQuery q = (d : Data) × (query_at d ≡ Ok q)
 abbrev pub ReadsAs : List ℕ → Data → Type 0
 ReadsAs bytes d = IsUtf8 bytes × (read bytes ≡ Some d)
 
--- the same out of bytes, which may be no JSON; reading JSON may want memory at any byte
+-- the same out of bytes, which may be no JSON; reading JSON may run out of memory at any byte
 abbrev pub IsReadBy : {A : Type 0} → (Data → Result A Refusal) → List ℕ → Result A QueryFault → Type 0
 IsReadBy at bytes (Err faults.NotJson) = (d : Data) → ReadsAs bytes d → ⊥
 IsReadBy at bytes (Err faults.Memory) = ⊤

@@ -32,7 +32,7 @@ Tells (faults.Field key) read = read ≡ Err (bad_field key.now)
 Tells faults.BadInterval read = read ≡ Err bad_interval
 Tells faults.LimitPassed read = read ≡ Err limit_passed
 Tells faults.DoubledName read = read ≡ Err doubled_name
--- want of memory comes only where nothing is to be refused
+-- out of memory only where nothing else is refused
 Tells faults.Memory read = IsOk read
 
 -- what a function answered is what reading gives, unless memory was refused
@@ -45,7 +45,7 @@ abbrev pub Checks : {A : Type 0} → Result ⊤ QueryFault → Result A Refusal 
 Checks (Ok _) read = IsOk read
 Checks (Err e) read = Tells e read
 
--- the same where a search takes memory on the way: then want of memory says only that nothing before the search is to be
+-- the same where a search allocates on the way: then out of memory says only that nothing before the search is to be
 -- refused
 abbrev pub TellsAfter : {A B : Type 0} → Result B Refusal → QueryFault → Result A Refusal → Type 0
 TellsAfter before faults.Memory read = IsOk before

@@ -1,4 +1,4 @@
--- What a client is told of a query that is refused.
+-- What a client gets for a query that is refused.
 use Rattle.std.specs.Prelude.{ℕ, List, codes}
 use Rattle.serde_json.specs.Data.{Data, object, member, no_members, string}
 use Rattle.serde_json.specs.Written.{compact_text}

@@ -88,8 +88,8 @@ before_search d = do
   granularity ← granularity_at d
   pieces_at source d
 
--- what reading a subquery answers. That search takes memory, so want of memory may come in place of a refusal that
--- stands behind it
+-- what reading a subquery answers. That search allocates, so out of memory may come in place of a refusal that
+-- follows it
 abbrev pub GivesSub : Data → Result SubQuery QueryFault → Type 0
 GivesSub d answer = GivesAfter (before_search d) answer (subquery_at d)
 

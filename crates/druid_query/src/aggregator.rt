@@ -16,7 +16,7 @@ pub enum AggregatorKind {
     LongMax,
 }
 
-/// What is told of each group of rows, and its name in the result.
+/// What is reported of each group of rows, and its name in the result.
 #[derive(Debug, Drop)]
 pub struct Aggregator {
     name: String,

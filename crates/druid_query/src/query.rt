@@ -132,7 +132,7 @@ impl Query {
         &self.parts.dimensions
     }
 
-    /// What is told of each group.
+    /// What is reported of each group.
     pub fn aggregations(&self) -> &[Aggregator]
         ensures { result.now ≡ self.now.aggregations }
     {

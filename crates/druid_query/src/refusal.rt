@@ -1,4 +1,4 @@
-//! What a client is told of a query that is refused.
+//! What a client gets for a query that is refused.
 ghost use Rattle.std.specs.Prelude.{◌≡◌, IfOk, string_bytes};
 ghost use Rattle.serde_json.specs.View.{view};
 ghost use Rattle.serde_json.specs.Written.{compact_text};
@@ -25,7 +25,7 @@ fn field_text(alloc: Global, key: &str) -> Result<String, AllocError>
     field_value(alloc, key)?.to_string(alloc)
 }
 
-/// The JSON that a client is told of a refused query: `{"error":"Q1"}` and so on with the number, `{"error":"Q3","field":name}`
+/// The JSON that a client gets for a refused query: `{"error":"Q1"}` and so on with the number, `{"error":"Q3","field":name}`
 /// where a field has another shape, and `{"error":"Memory"}` where memory was refused.
 pub fn refusal_text(alloc: Global, fault: QueryFault) -> Result<String, AllocError>
     ensures { IfOk result (λ text. string_bytes text ≡ refusal_text fault) }

@@ -264,7 +264,7 @@ const UNREADABLE: &str = "GET /status/health|| = 400 {\"error\":\"X4\"}";
 
 const READABLE: &str = "GET /status/health HTTP/1.1|| = 200 true";
 
-// Of what is no request nothing is seen, and what comes behind it is answered as if it had not been.
+// Of what is no request nothing is seen, and what comes after it is answered as if it had not been.
 #[test]
 fn unreadable_is_not_seen(rt: HostRuntime) {
     let node = node(&rt, rt.alloc());

@@ -83,7 +83,7 @@ fn number(rt: &impl Abort, word: &str) -> Option<i64> {
     }
 }
 
-// The instant so many milliseconds behind the begin of the first day.
+// The instant so many milliseconds after the begin of the first day.
 fn instant(rt: &impl Abort, digits: &str) -> Instant {
     let start = Instant::parse("2024-01-01").expect(rt, "an instant");
     let ms: i64 = digits.parse().expect(rt, "milliseconds");
@@ -148,7 +148,7 @@ fn both(rt: &impl Abort, alloc: Global, query: &Query, first: Partial, second: P
     merge(alloc, first, second).expect(rt, "memory")
 }
 
-// What the segments tell, each put behind those before it or in front of them.
+// What the segments tell, each put after those before it or in front of them.
 fn told(rt: &impl Abort, alloc: Global, query: &Query, segments: &str, in_front: bool) -> Partial
     ensures { IsPartialFor query.now result }
 {

@@ -85,7 +85,7 @@ fn missed(rt: &impl Abort, alloc: Global) -> Asked {
     read.expect(rt, "a piece")
 }
 
-// What is told of a partial where that piece is missing.
+// What is reported of a partial where that piece is missing.
 fn told_short(rt: &impl Abort, alloc: Global, query: &Query, text: &str) -> String {
     let partial = read_partial(alloc, query, &value(rt, alloc, text)).expect(rt, "a partial");
     let missing = [missed(rt, alloc)];

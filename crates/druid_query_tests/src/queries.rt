@@ -14,7 +14,7 @@ fn query(rt: &impl Abort, alloc: Global, source: &str, more: &str, pieces: &str)
     ).expect(rt, "memory")
 }
 
-// A piece of a partition, by its ends behind midnight.
+// A piece of a partition, by its ends after midnight.
 fn piece(rt: &impl Abort, alloc: Global, text: &str) -> String {
     let (part, ends) = text.split_once(" ").expect(rt, "a partition");
     let (start, end) = ends.split_once(" ").expect(rt, "two ends");
@@ -125,7 +125,7 @@ fn subqueries_are_refused(rt: HostRuntime) {
     }
 }
 
-// What a query has behind its type, and its answer: a name that stands twice, and the values of a dimension. `@` stands for
+// What a query has after its type, and its answer: a name that stands twice, and the values of a dimension. `@` stands for
 // the keys that are common to both.
 const OTHERS: &str =
     "\"timeseries\",@,\"aggregations\":[{\"type\":\"count\",\"name\":\"n\"},{\"type\":\"count\",\"name\":\"n\"}]} = 400 {\"error\":\"Q6\"}

@@ -1,4 +1,4 @@
-//! Parts of queries, copies, and what a client is told of a refusal.
+//! Parts of queries, copies, and what a client gets for a refusal.
 use crate::printing::assert_prints;
 use druid_query::{Aggregator, AggregatorKind, Dimension, QueryFault, refusal_text};
 use druid_query_text::{query_text, read_query};
@@ -8,7 +8,7 @@ use std::process::Abort;
 const QUERY: &str =
     "{\"aggregations\":[],\"dataSource\":\"w\",\"filter\":null,\"granularity\":\"all\",\"intervals\":[\"2024-01-01T00:00:00.000Z/2024-01-02T00:00:00.000Z\"],\"queryType\":\"timeseries\"}";
 
-// What a client is told of each refusal.
+// What a client gets for each refusal.
 const REFUSALS: [(QueryFault, &str); 7] = [
     (QueryFault::NotJson, "{\"error\":\"Q1\"}"),
     (QueryFault::UnknownType, "{\"error\":\"Q2\"}"),

@@ -69,7 +69,7 @@ const QUERIES: &str = "[ = Q1: not JSON
 #,\"dimensions\":[\"d\",{\"type\":\"default\",\"dimension\":\"e\"},{\"type\":\"default\",\"dimension\":\"d\",\"outputName\":\"x\"}]} = {\"aggregations\":[],\"dataSource\":\"w\",\"dimensions\":[{\"dimension\":\"d\",\"outputName\":\"d\",\"type\":\"default\"},{\"dimension\":\"e\",\"outputName\":\"e\",\"type\":\"default\"},{\"dimension\":\"d\",\"outputName\":\"x\",\"type\":\"default\"}],\"filter\":null,\"granularity\":\"all\",\"intervals\":[\"2024-01-01T00:00:00.000Z/2024-01-02T00:00:00.000Z\"],\"queryType\":\"groupBy\"}
 @,\"filter\":{\"fields\":[{\"dimension\":\"d\",\"type\":\"selector\",\"value\":null},{\"field\":{\"dimension\":\"e\",\"type\":\"in\",\"values\":[\"\",null,\"x\"]},\"type\":\"not\"},{\"fields\":[],\"type\":\"or\"}],\"type\":\"and\"}} = {\"aggregations\":[],\"dataSource\":\"w\",\"filter\":{\"fields\":[{\"dimension\":\"d\",\"type\":\"selector\",\"value\":null},{\"field\":{\"dimension\":\"e\",\"type\":\"in\",\"values\":[\"\",null,\"x\"]},\"type\":\"not\"},{\"fields\":[],\"type\":\"or\"}],\"type\":\"and\"},\"granularity\":\"all\",\"intervals\":[\"2024-01-01T00:00:00.000Z/2024-01-02T00:00:00.000Z\"],\"queryType\":\"timeseries\"}";
 
-// Texts at the limits: what stands in front, an item and how often it stands, what is between two, what stands behind, and
+// Texts at the limits: what stands in front, an item and how often it stands, what is between two, what stands after, and
 // `taken` or the fault.
 const LIMITS: &str = "@,\"intervals\":[|\"2024-01-01/2024-01-02\"|1000|,|]}|taken
 @,\"intervals\":[|\"2024-01-01/2024-01-02\"|1001|,|]}|Q5: a limit is passed
@@ -112,7 +112,7 @@ fn told_of(rt: &impl Abort, alloc: Global, text: &str) -> String {
     }
 }
 
-// A text behind the keys that are common to all, with that type.
+// A text after the keys that are common to all, with that type.
 fn typed(rt: &impl Abort, alloc: Global, kind: &str, rest: &str) -> String {
     format!(in alloc; "{COMMON}\"{kind}\"{rest}").expect(rt, "memory")
 }
@@ -141,7 +141,7 @@ fn is_told_of(rt: &impl Abort, alloc: Global, row: &str) -> bool {
     told_of(rt, alloc, text.as_str()).as_str() == wanted
 }
 
-// What is told of a text: `taken`, where it is a query that is written and read again, or its fault.
+// What is reported of a text: `taken`, where it is a query that is written and read again, or its fault.
 fn is_taken(rt: &impl Abort, alloc: Global, text: &str, wanted: &str) -> bool {
     let once = told(rt, alloc, text);
     if wanted != "taken" {
@@ -166,7 +166,7 @@ fn number(rt: &impl Abort, digits: &str) -> u64 {
 }
 
 // The text of a row at a limit: what stands in front, an item and how often it stands, what is between two, and what stands
-// behind.
+// after.
 fn limited(rt: &impl Abort, alloc: Global, row: &str) -> String {
     let mut parts = row.split("|");
     let front = parts.next().expect(rt, "a front");

@@ -8,7 +8,7 @@ use std::process::Abort;
 
 // In each row `~` stands for the printed interval of 2024-01-01. A later key of the same name counts.
 
-// Pieces, and what is told where they are asked for: `taken`, where the subquery is written as it stands and read again, or
+// Pieces, and what is answered where they are asked for: `taken`, where the subquery is written as it stands and read again, or
 // the fault.
 const PIECES: &str = "# = Q3: intervals has another shape
 7 = Q3: intervals has another shape
@@ -37,7 +37,7 @@ const PIECES: &str = "# = Q3: intervals has another shape
 {\"chunk\":\"~\",\"itvl\":\"~\",\"part\":0,\"ver\":\"v\"},{\"chunk\":\"~\",\"itvl\":\"~\",\"part\":0,\"ver\":\"w\"} = taken
 {\"chunk\":\"~\",\"itvl\":\"~\",\"part\":0,\"ver\":\"v\"},{\"chunk\":\"2024-01-01T00:00:00.000Z/2024-01-03T00:00:00.000Z\",\"itvl\":\"~\",\"part\":0,\"ver\":\"v\"} = taken";
 
-// What stands behind a subquery that is in order, and its fault.
+// What follows a subquery that is in order, and its fault.
 const REFUSED: &str = ",\"queryType\":\"topN\",\"dataSource\":7} = Q2: no query of a known type
 ,\"dataSource\":\"a/b\",\"granularity\":7} = Q3: dataSource has another shape
 ,\"granularity\":\"none\",\"intervals\":7} = Q3: granularity has another shape
@@ -62,7 +62,7 @@ const REFUSED: &str = ",\"queryType\":\"topN\",\"dataSource\":7} = Q2: no query 
 ,\"subtotalsSpec\":7} = Q3: subtotalsSpec has another shape
 ,\"queryType\":\"groupBy\",\"dimensions\":[\"n\"],\"aggregations\":[{\"type\":\"count\",\"name\":\"n\"}]} = Q6: a doubled name";
 
-// What stands behind a subquery that is in order, and its text.
+// What follows a subquery that is in order, and its text.
 const WRITTEN: &str =
     "} = {\"aggregations\":[],\"dataSource\":\"w\",\"filter\":null,\"granularity\":\"all\",\"intervals\":{\"segments\":[{\"chunk\":\"~\",\"itvl\":\"~\",\"part\":0,\"ver\":\"v\"}],\"type\":\"segments\"},\"queryIntervals\":[\"~\"],\"queryType\":\"timeseries\"}
 ,\"queryType\":\"groupBy\",\"dimensions\":[\"d\"],\"granularity\":\"DAY\",\"filter\":{\"type\":\"selector\",\"dimension\":\"e\",\"value\":null},\"aggregations\":[{\"type\":\"count\",\"name\":\"n\"}],\"queryIntervals\":[\"2024-01-01/2024-01-02\",\"2030-01-01/2030-01-02\"],\"context\":7} = {\"aggregations\":[{\"name\":\"n\",\"type\":\"count\"}],\"dataSource\":\"w\",\"dimensions\":[{\"dimension\":\"d\",\"outputName\":\"d\",\"type\":\"default\"}],\"filter\":{\"dimension\":\"e\",\"type\":\"selector\",\"value\":null},\"granularity\":\"day\",\"intervals\":{\"segments\":[{\"chunk\":\"~\",\"itvl\":\"~\",\"part\":0,\"ver\":\"v\"}],\"type\":\"segments\"},\"queryIntervals\":[\"~\",\"2030-01-01T00:00:00.000Z/2030-01-02T00:00:00.000Z\"],\"queryType\":\"groupBy\"}";
@@ -95,7 +95,7 @@ fn asking(rt: &impl Abort, alloc: Global, pieces: &str, intervals: &str, back: &
     spelled(rt, alloc, text.expect(rt, "memory").as_str())
 }
 
-// Whether a text is told so: `taken`, where it is written as it stands, or its fault.
+// Whether a text is reported so: `taken`, where it is written as it stands, or its fault.
 fn is_told(rt: &impl Abort, alloc: Global, text: &str, wanted: &str) -> bool {
     let wanted = if wanted == "taken" { text } else { wanted };
     told(rt, alloc, text).as_str() == wanted

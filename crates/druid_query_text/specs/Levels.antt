@@ -68,7 +68,7 @@ IsWithin deep (all fields) = items_depth fields < deep
 IsWithin deep (any fields) = items_depth fields < deep
 IsWithin deep (negation field) = depth field < deep
 
--- a level as the reader lends it
+-- a level as the reader borrows it
 abbrev pub layer_lent : Level → Layer
 layer_lent (lent.Selector dimension value) = selector dimension.now (option_map (λ s. s.now) value)
 layer_lent (lent.Among dimension values) = among dimension.now (items_view values.now)

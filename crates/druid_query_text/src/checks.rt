@@ -1,4 +1,4 @@
-//! The first refusal of a value, found without memory.
+//! The first refusal of a value, found without allocating.
 ghost use Rattle.std.specs.Prelude.{◌≡◌, ◌≢◌, ◌↔◌, Err, codes, nat_le, length, option_map, option_and_then, is_some};
 ghost use Rattle.std.specs.List.{list_all};
 ghost use Rattle.serde_json.specs.View.{view, items_view};

@@ -1,4 +1,4 @@
-//! Whether the names in the result are distinct, judged without memory.
+//! Whether the names in the result are distinct, judged without allocating.
 ghost use Rattle.std.specs.Prelude.{◌≡◌, ℕ, ◌+◌, ◌^◌, ◌<◌, [], List, Ok, Some, length, map, drop, slice_index_or};
 ghost use Rattle.std.specs.List.{list_any};
 ghost use Rattle.std.specs.Str.{bytes_eq};

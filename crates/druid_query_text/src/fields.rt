@@ -1,4 +1,4 @@
-//! The fields of a query, read out of JSON: the shape of each. Nothing here takes memory.
+//! The fields of a query, read out of JSON: the shape of each. Nothing here allocates.
 ghost use Rattle.std.specs.Prelude.{◌≡◌, option_map, is_some};
 ghost use Rattle.std.specs.List.{list_all};
 ghost use Rattle.serde_json.specs.View.{view, items_view};

@@ -17,7 +17,7 @@ use druid_shard::text_field;
 use serde_json::Value;
 use std::alloc::{AllocError, Global};
 
-// A filter seen one level deep, its texts lent.
+// A filter seen one level deep, with borrowed texts.
 #[derive(Drop)]
 enum Level<'a> {
     Selector(&'a str, Option<&'a str>),

@@ -4,7 +4,7 @@ use druid_query::{Aggregator, AggregatorKind};
 use std::alloc::{AllocError, Global};
 use std::marker::Model;
 
-// An aggregator, its texts lent.
+// An aggregator, with borrowed texts.
 #[derive(Drop)]
 pub(crate) struct LentAggregator<'a> {
     name: &'a str,

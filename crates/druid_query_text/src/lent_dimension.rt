@@ -4,7 +4,7 @@ use druid_query::Dimension;
 use std::alloc::{AllocError, Global};
 use std::marker::Model;
 
-// A dimension, its texts lent.
+// A dimension, with borrowed texts.
 #[derive(Drop)]
 pub(crate) struct LentDimension<'a> {
     dimension: &'a str,

@@ -117,7 +117,7 @@ fn check_sub_parts(alloc: Global, value: &Value) -> Result<(), QueryFault>
     check_aggregations(value)
 }
 
-// The first refusal of a value. Want of memory comes of the search for pieces that overlap.
+// The first refusal of a value. Out of memory comes of the search for pieces that overlap.
 pub(crate) fn check_subquery(alloc: Global, value: &Value) -> Result<(), QueryFault>
     ensures { ChecksAfter (before_search (view value.now)) result (subquery_at (view value.now)) }
 {

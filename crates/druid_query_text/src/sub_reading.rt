@@ -67,10 +67,10 @@ fn built(alloc: Global, value: &Value) -> Result<SubQuery, AllocError>
 }
 
 /// Reads a subquery: the refusals of `query_of`, in its order, where `intervals` holds an object of the type `segments` with
-/// the pieces that are asked for, and `queryIntervals`, which is read behind it, a list of the query's own intervals. Q3 where
+/// the pieces that are asked for, and `queryIntervals`, which is read after it, a list of the query's own intervals. Q3 where
 /// no piece is asked for or one has another shape, its `part` and `ver` included; then Q4 where a text is no interval, a piece
-/// is not inside its segment, or two pieces of one segment overlap. To find the latter takes memory: Q9 may come in place of
-/// that refusal and of those behind it, and else comes last.
+/// is not inside its segment, or two pieces of one segment overlap. To find the latter allocates: Q9 may come in place of
+/// that refusal and of those after it, and else comes last.
 pub fn subquery_of(alloc: Global, value: &Value) -> Result<SubQuery, QueryFault>
     ensures { GivesSub (view value.now) result }
 {
@@ -84,7 +84,7 @@ pub fn subquery_of(alloc: Global, value: &Value) -> Result<SubQuery, QueryFault>
 }
 
 /// Reads a subquery out of a text: Q1 where the bytes are no JSON in UTF-8, and then the refusals of the value. Reading JSON
-/// takes memory as it goes, so Q9 may come before a fault that stands further on.
+/// allocates as it goes, so Q9 may come before a fault that stands further on.
 pub fn read_subquery(alloc: Global, bytes: &[u8]) -> Result<SubQuery, QueryFault>
     ensures { IsReadBy subquery_at bytes.now result }
 {

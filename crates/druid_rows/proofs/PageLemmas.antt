@@ -43,7 +43,7 @@ rows_in_push d m (time ∷ times) texts numbers row ht hn rt rm =
     let rest = rows_in_push d m times (drop d texts) (drop m numbers) row texts_left numbers_left rt rm in
     rw (row_first n d texts row.dimensions ht, row_first n m numbers row.metrics hn, row_rest n d texts row.dimensions ht, row_rest n m numbers row.metrics hn, rest) refl
 
--- adds a row behind the others
+-- adds a row after the others
 pub ruleset push_steps = (rows_in_push, common_steps)
 
 -- the row at a place
@@ -112,7 +112,7 @@ rows_shorter d m (time ∷ times) texts numbers h =
     let cut = ap bytes_of (take-append-drop d texts) in
     omega (arith, rest, row_shorter first, bytes_of-append (take d texts) (drop d texts), cut, sum_by-cons (λ (n : ℕ). n) (row_length first) (map row_length others))
 
--- where a row has room behind the others, so have its texts
+-- where a row has room after the others, so have its texts
 pub room_for_texts : (d m : ℕ) (times : List ℕ) (texts : List (Option (List ℕ))) (numbers : List (Option ℤ)) (sheet : Sheet) (row : Row) → sheet_of d m times texts numbers ≡ sheet → length texts ≡ length times * d → sum (map row_length sheet.rows) + row_length row ≤ max_text → bytes_of texts + bytes_of row.dimensions ≤ max_text
 room_for_texts d m times texts numbers sheet row e long room =
     omega (arith, rows_shorter d m times texts numbers long, row_shorter row, ap (λ (s : Sheet). sum (map row_length s.rows)) e, room)

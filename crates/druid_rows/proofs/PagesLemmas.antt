@@ -37,7 +37,7 @@ row_in_full full last page table i e h there below =
     let found = row_in_page 256 last full last.rows (i / 256) (i % 256) page no_row h below within in
     ap (λ (p : Sheet). get_or p.rows (i % 256) no_row) there ∙ sym found ∙ ap (λ (k : ℕ). get_or (rows_of full ++ last.rows) k no_row) place ∙ ap (λ (s : Sheet). get_or s.rows i no_row) e
 
--- the row of a table at a place behind its n full pages
+-- the row of a table at a place after its n full pages
 pub row_in_last : (full : List Sheet) (last table : Sheet) (n i : ℕ) → sheet_in full last ≡ table → All (IsFull page_rows last) full → n ≡ length full → length full ≤ i / 256 → i < length table.rows → (i - n * 256 < length last.rows) × (get_or last.rows (i - n * 256) no_row ≡ get_or table.rows i no_row)
 row_in_last full last table n i e h pages past within =
     let rows : rows_of full ++ last.rows ≡ table.rows = ap (λ (s : Sheet). s.rows) e in

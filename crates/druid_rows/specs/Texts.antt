@@ -39,7 +39,7 @@ pub record Keeps (old_bytes : List ℕ) (old_cells : List (Option Span)) (bytes 
   pub more_cells : List (Option Span)
   pub cells_are : cells ≡ old_cells ++ more_cells
 
--- what was there stands in front, and these texts behind it
+-- what was there stands in front, and these texts after it
 pub record Grows (old_bytes : List ℕ) (old_cells : List (Option Span)) (bytes : List ℕ) (cells : List (Option Span)) (more : List (Option (List ℕ))) : Type 0 where
   pub keeps : Keeps old_bytes old_cells bytes cells
   pub spans : AreSpans bytes cells

@@ -46,7 +46,7 @@ impl SegmentBuilder {
         }
     }
 
-    /// Adds a row behind the others. `TooLong` where a limit would be passed, then `RowShape`, then `RowOutside`, and
+    /// Adds a row after the others. `TooLong` where a limit would be passed, then `RowShape`, then `RowOutside`, and
     /// then `Memory`; a refusal leaves the rows as they were.
     pub fn push(&mut self, row: &Row) -> Result<(), RowFault>
         ensures ok { OnOk result (self.new ≡ with_row self.old row.now) }
@@ -62,7 +62,7 @@ impl SegmentBuilder {
         self.push_lent(&row.lend())
     }
 
-    /// Adds a row of these values behind the others, as `push` does. Each text is copied once, to where it stays.
+    /// Adds a row of these values after the others, as `push` does. Each text is copied once, to where it stays.
     pub fn push_values<T: AsStr>(
         &mut self,
         time: Instant,

@@ -10,7 +10,7 @@ use std::marker::Model;
 /// The most bytes of the value of a dimension.
 pub const MAX_VALUE: usize = 1_024;
 
-// A row whose values are lent.
+// A row whose values are borrowed.
 #[derive(Debug, Drop)]
 pub(crate) struct LentRow<'a, T: AsStr> {
     time: Instant,

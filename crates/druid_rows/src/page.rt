@@ -92,7 +92,7 @@ impl Page {
         ensures { option_map (λ text. text.now) result
             ≡ slice_index_or (slice_index_or self.now.rows row no_row).dimensions dimension None }
     {
-        // Read for the proof: the reader tells what its type keeps.
+        // For the proof: reading it exposes the invariant of its type.
         let _cells = self.texts.len();
         self.texts.get(row * self.dimensions + dimension)
     }
@@ -138,7 +138,7 @@ impl Page {
         &self.numbers[start..start + self.metrics]
     }
 
-    // Adds a row behind the others, or nothing.
+    // Adds a row after the others, or nothing.
     #[tactic(auto, using(crate::proofs::PageLemmas::push_steps))]
     pub(crate) fn push<T: AsStr>(&mut self, row: &LentRow<'_, T>) -> Result<(), AllocError>
         requires widths { HasWidths self.old.dimensions self.old.metrics row.now }

@@ -62,7 +62,7 @@ impl Row {
         &self.metrics
     }
 
-    // Its values, lent.
+    // Its values, borrowed.
     pub(crate) fn lend(&self) -> LentRow<'_, String>
         ensures { result ≡ self.now }
     {

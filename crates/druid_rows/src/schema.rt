@@ -50,7 +50,7 @@ fn are_field_names(names: &[String]) -> bool
 }
 
 impl Schema {
-    /// Whether the text is a field name: 1 to 100 bytes of `A-Z a-z 0-9 _`. It takes no memory.
+    /// Whether the text is a field name: 1 to 100 bytes of `A-Z a-z 0-9 _`. Does not allocate.
     pub fn accepts(name: &str) -> bool
         ensures test { result ≡ is_field_name name.now }
         ensures names { IsTrue result ↔ IsFieldName name.now }
@@ -86,7 +86,7 @@ impl Schema {
         &self.metrics
     }
 
-    // Whether its names are field names and distinct. It takes no memory.
+    // Whether its names are field names and distinct. Does not allocate.
     pub(crate) fn is_valid(&self) -> bool
         ensures { IsTrue result ↔ IsSchema self.now }
     {

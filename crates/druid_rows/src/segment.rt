@@ -102,7 +102,7 @@ fn are_inside(interval: Interval, rows: &[Row]) -> bool
     rows.iter().all(|row| interval.contains(row.time()))
 }
 
-// The room that is left in the text of a segment of these rows, or why they make none. It takes no memory.
+// The room that is left in the text of a segment of these rows, or why they make none. Does not allocate.
 fn judge(descriptor: &Descriptor, schema: &Schema, rows: &[Row]) -> Result<usize, RowFault>
     ensures valid { OnOk result (IsSegment (segment_of descriptor.now schema.now rows.now)) }
     ensures room { IfOk result (λ room. room ≡ max_text - text_length (segment_of descriptor.now schema.now rows.now)) }
@@ -196,7 +196,7 @@ impl Segment {
         })
     }
 
-    // The room that is left behind one more row. None where a limit would be passed.
+    // The room that is left after one more row. None where a limit would be passed.
     pub(crate) fn room_behind<T: AsStr>(&self, row: &LentRow<'_, T>) -> Option<usize>
         ensures { SomeIff result (IsWithinLimits (with_row self.now row.now))
             (max_text - text_length (with_row self.now row.now)) }

@@ -35,7 +35,7 @@ impl Model for Table {
     ghost invariant = { λ a. All (IsFull page_rows a.last) a.full.items };
 }
 
-// Puts the last page behind the full ones, and an empty one in its place.
+// Puts the last page after the full ones, and an empty one in its place.
 fn turn(full: &mut Vec<Page>, last: &mut Page) -> Result<(), AllocError>
     ensures full { OnOk result (full.new.items ≡ full.old.items ++ last.old ∷ []) }
     ensures last { OnOk result
@@ -137,7 +137,7 @@ impl Table {
         page.row(place)
     }
 
-    // Adds a row behind the others, or nothing.
+    // Adds a row after the others, or nothing.
     pub(crate) fn push<T: AsStr>(&mut self, row: &LentRow<'_, T>) -> Result<(), AllocError>
         requires widths { HasWidths self.old.dimensions self.old.metrics row.now }
         requires room { sum (map row_length self.old.rows)

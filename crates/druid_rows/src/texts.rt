@@ -15,7 +15,7 @@ pub(crate) struct Span {
     end: u32,
 }
 
-// Texts that may be null. Their bytes stand one after another, so that a text takes no memory of its own.
+// Texts that may be null. Their bytes stand one after another, so that a text does not allocate of its own.
 #[derive(Debug, Drop)]
 pub(crate) struct Texts {
     bytes: String,
@@ -52,7 +52,7 @@ fn append_text(bytes: &mut String, text: &str) -> Result<Span, AllocError>
     })
 }
 
-// Appends a value. A refusal may leave its bytes behind.
+// Appends a value. A refusal may leave its bytes in place.
 fn append_value<T: AsStr>(
     bytes: &mut String,
     cells: &mut Vec<Option<Span>>,
@@ -73,7 +73,7 @@ fn append_value<T: AsStr>(
     Ok(())
 }
 
-// Appends values one by one. A refusal may leave some of them behind.
+// Appends values one by one. A refusal may leave some of them in place.
 fn append_values<T: AsStr>(
     bytes: &mut String,
     cells: &mut Vec<Option<Span>>,
@@ -118,7 +118,7 @@ impl Texts {
         Some(&self.bytes.as_str()[span.start as usize..span.end as usize])
     }
 
-    // Adds these behind the others, or none of them.
+    // Adds these after the others, or none of them.
     pub(crate) fn extend<T: AsStr>(&mut self, values: &[Option<T>]) -> Result<(), AllocError>
         requires { bytes_of self.old + bytes_of (texts_by T.text values.now) ≤ max_text }
         ensures ok { OnOk result (self.new ≡ self.old ++ texts_by T.text values.entry.now) }

@@ -1,4 +1,4 @@
--- What honest nodes told, gathered, is what the visible rows tell.
+-- What honest nodes answered, gathered, is what the visible rows tell.
 use Rattle.std.proofs.Common.{◌≡◌, ◌||◌, ◌&&◌, ◌+◌, ◌<◌, ◌≤◌, ℕ, zero, suc, arith, Bool, true, false, not, cond, List, [], ◌∷◌, ◌++◌, length, get_or, map, filter, Option, Some, None, Result, Ok, refl, sym, ap, ◌∙◌, subst, inl, inr, ◌⊎◌}
 use Rattle.std.specs.Bool.{nat_le, nat_lt}
 use Rattle.std.specs.Cmp.{first_so, second_so, IsTotalOrder}
@@ -85,7 +85,7 @@ any_told p (x ∷ xs) a there h =
 
 -- ---- pieces that stand apart
 
--- none overlaps one behind it
+-- none overlaps one after it
 abbrev AllApart : List Asked → Type 0
 AllApart [] = ⊤
 AllApart (a ∷ more) = ((b : Asked) → Contains more b → Overlap a b → ⊥) × AllApart more
@@ -309,7 +309,7 @@ passes_row query s row = passes_if (value_in s.fields.dimensions row.dimensions)
 both_true : (a b : Bool) → a ≡ true → b ≡ true → (a && b) ≡ true
 both_true a b ha hb = ap (λ x. x && b) ha ∙ hb
 
--- a row is told by some of these pieces
+-- a row is counted by some of these pieces
 told_found : (query : Query) (xs : List Asked) (s : Segment) (row : Row) → is_told query xs s row ≡ true
     → (a : Asked) × Contains xs a × (a.0 ≡ s.descriptor.id) × (is_asked query a.1 s.fields row ≡ true)
 told_found query xs s row h =

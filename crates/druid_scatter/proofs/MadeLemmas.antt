@@ -28,7 +28,7 @@ some_step : {L : Type 0} (step : L → List ℕ → Came → L → Type 0) (quer
 some_step step query [] came a b h = let e : Some came ≡ None = h.0 in absurd (cc)
 some_step step query (x ∷ xs) came a b h = h
 
--- those behind a node leave its link alone
+-- those after a node leave its link alone
 later : {L : Type 0} (step : L → List ℕ → Came → L → Type 0) (query : Query) (wanted : ℕ → List Asked) (came : List (Option Came)) (m j : ℕ) (a : L) → j < m → Leads step query j (made_from wanted m came) a a
 later step query wanted [] m j a h = refl
 later step query wanted (None ∷ more) m j a h = later step query wanted more (m + 1) j a (omega arith)

@@ -88,7 +88,7 @@ part_order source t (p ∷ parts) h = (
   part_order source t parts (rest_rises p parts h),
 )
 
--- each run behind the first starts where that ends, or later
+-- each run after the first starts where that ends, or later
 pub runs_behind : (a : Shown) (more : List Shown) → AreRuns (a ∷ more) → (s : Shown) → Contains more s → a.interval.end ≤ s.interval.start
 runs_behind a [] r s c = absurd (Contains-nil s c)
 runs_behind a (b ∷ more) r s c =

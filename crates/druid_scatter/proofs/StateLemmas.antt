@@ -56,7 +56,7 @@ taken query round node old new e missing kinds groups mine theirs a k m i = inl 
   itself = subst (λ (ks : List AggregatorKind). IsResult ks groups groups) theirs i;
 })
 
--- ---- what is told
+-- ---- what is reported
 
 tell_more : (query : Query) (exchanges : List Exchange) (rows : List Group) (e : Exchange) (missing : List Asked) (groups : List Group) → TellAll query exchanges rows → Answers query e missing groups
     → TellAll query (exchanges ++ e ∷ []) (rows ++ groups)
@@ -253,7 +253,7 @@ goes_on query round a b c old mid new es fs g h = λ pairs waits exchanges o s.
 pub goes_nowhere : (query : Query) (round node : ℕ) (state : State) → Goes query round node node state state []
 goes_nowhere query round node state = λ pairs waits exchanges o s. subst (λ (es : List Exchange). IsState query waits state round node es) (sym (append-nil exchanges)) s
 
--- those behind are still asked for the same
+-- those after are still asked for the same
 pub still_wanted : (round node : ℕ) (old new : State) (sub : Option SubQuery) (came : Option Came) → TookIf round node old new sub came → (n : ℕ) → node < n → wanted_of round new.waiting n ≡ wanted_of round old.waiting n
 still_wanted round node old new None came t n h = ap (λ (s : State). wanted_of round s.waiting n) t
 still_wanted round node old new (Some sub) None t n h = ap (λ (s : State). wanted_of round s.waiting n) t

@@ -1,4 +1,4 @@
--- What a gathered answer is good for, where what nodes told was honest: the rows that are visible, but those of missing pieces.
+-- What a gathered answer is good for, where the nodes' answers were honest: the rows that are visible, but those of missing pieces.
 use Rattle.std.specs.Prelude.{◌≡◌, ◌&&◌, ℕ, Bool, true, not, List, map, filter, Contains, ◌↔◌}
 use Rattle.std.specs.List.{flat_map, list_any}
 use Rattle.druid_time.specs.Extent.{AnyHas}

@@ -63,7 +63,7 @@ pub record Tells (sub : SubQuery) (bytes : List ℕ) (missing : List Asked) (gro
 abbrev pub TellsNothing : SubQuery → List ℕ → Type 0
 TellsNothing sub bytes = (missing : List Asked) (groups : List Group) → Tells sub bytes missing groups → ⊥
 
--- the exchanges of a round: of this node and those behind it, with each that was asked
+-- the exchanges of a round: of this node and those after it, with each that was asked
 abbrev pub made_from : (ℕ → List Asked) → ℕ → List (Option Came) → List Exchange
 made_from wanted node [] = []
 made_from wanted node (None ∷ more) = made_from wanted (node + 1) more
@@ -104,7 +104,7 @@ pub record Holds (gives : Exchange → Asked → Type 0) (waits left : List Wait
   pub asked_once : (a : Asked) (n : ℕ) → AtOnePlace exchanges (λ x y. Asks x a n × Asks y a n)
   pub given_once : (a : Asked) → AtOnePlace exchanges (λ x y. gives x a × gives y a)
 
--- what waits, and what was told so far
+-- what waits, and what was answered so far
 pub record State : Type 0 where
   pub waiting : List Waiting
   pub partial : Partial

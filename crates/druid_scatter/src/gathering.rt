@@ -21,7 +21,7 @@ use std::alloc::{AllocError, Global};
 use std::marker::Model;
 use std::thread::Threads;
 
-// The pieces that wait for an answer, and what was told of the others.
+// The pieces that wait for an answer, and what was answered of the others.
 #[derive(Debug, Drop)]
 pub(crate) struct Gathering {
     waiting: Vec<Waiting>,
@@ -37,7 +37,7 @@ impl Model for Gathering {
 }
 
 impl Gathering {
-    // These pieces wait, and that was told.
+    // These pieces wait, and that was answered.
     pub(crate) fn new(waiting: Vec<Waiting>, partial: Partial) -> Gathering
         ensures { result ≡ record { waiting = waiting.items; partial = partial } }
     {
@@ -60,7 +60,7 @@ impl Gathering {
             → IfOk result (λ new. IsPartialFor query new.partial) }
     {
         let (told, missing) = answer.into_parts();
-        // Read for the proof: the reader tells what its type keeps.
+        // For the proof: reading it exposes the invariant of its type.
         let _ = told.groups();
         let waiting = keep_missing(alloc, self.waiting, round, node, &missing)?;
         match merge(alloc, self.partial, told) {

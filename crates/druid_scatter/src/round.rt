@@ -29,7 +29,7 @@ fn has_request(requests: &[Option<Vec<u8>>]) -> bool {
 }
 
 // What each link answers, place by place: the halves at once, the front one on a thread of its own, where both have a request. The
-// answers go to places that are there already, so that no thread wants memory for them.
+// answers go to places that are there already, so that no thread allocates for them.
 fn ask_all<L: Link + Send, R: Threads + Sync>(
     rt: &R,
     alloc: &Global,
@@ -89,7 +89,7 @@ fn no_answers(
 /// waiting. `rt` starts the threads. One of the links is asked by the thread that calls, so a single link needs no other; where
 /// none can be started, the links are asked one after another.
 ///
-/// Want of memory is of the list of answers alone, and then nothing was sent.
+/// Out of memory is of the list of answers alone, and then nothing was sent.
 pub fn ask_round<L: Link + Send, R: Threads + Sync>(
     rt: &R,
     alloc: Global,

@@ -41,7 +41,7 @@ segment_with_row s v h is more short = record {
   inside = All-push (IsInside s.descriptor.id.interval) s.rows v h.inside is.time.0;
 }
 
--- a row that was read has room, and those behind it have room behind it
+-- a row that was read has room, and those after it have room after it
 pub room_for_row : (short : FileFault) (s : Segment) (shape : Shape) (count i : ℕ) (bytes : List ℕ) (v : Row) (after : List ℕ) → HasRoom s shape (count - i) (length bytes) → i < count → IsBytes bytes → values_at short shape bytes ≡ Ok (v, after)
     → HasRoom (with_row s v) shape (count - (i + 1)) (length after) × IsBytes after
 room_for_row short s shape count i bytes v after room lt fits e =

@@ -1,4 +1,4 @@
--- Readers are steady: with more bytes behind, each gives the same value or the same fault, unless the bytes ended in it. None gives the fault of a failed write.
+-- Readers are steady: with more bytes after, each gives the same value or the same fault, unless the bytes ended in it. None gives the fault of a failed write.
 use Rattle.std.proofs.Common.{◌≡◌, ◌≢◌, ◌⊎◌, ℕ, zero, suc, ◌<◌, ◌≤◌, Bool, true, false, ◌&&◌, cond, ltb, leb, eqb, List, [], ◌∷◌, ◌++◌, length, take, drop, Option, Some, None, Result, Ok, Err, refl, sym, ap, subst, ◌∙◌, arith, inl, inr}
 use Rattle.std.specs.Prelude.{ok_or, bytes_eq, nat_le}
 use Rattle.std.specs.Str.{is_utf8}

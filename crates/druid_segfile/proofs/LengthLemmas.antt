@@ -63,7 +63,7 @@ four_fronts : (a m b t c f e n g : List ℕ) → a ≡ m ++ b → b ≡ t ++ c �
 four_fronts a m b t c f e n g p q r s =
     omega (arith, ap length p, ap length q, ap length r, ap length s, length-append m b, length-append t c, length-append f e, length-append n g)
 
--- the head of a segment, with what stands behind it
+-- the head of a segment, with what follows it
 pub length_head : (d : Described) (fields : Schema) (a b c e g number : List ℕ) → length number ≡ 4 → a ≡ magic ++ b → b ≡ descriptor d ++ c → c ≡ (names fields.dimensions ++ names fields.metrics) ++ e → e ≡ number ++ g → length a ≡ head_length d fields + length g
 length_head d fields a b c e g number four p q r s =
     let whole = four_fronts a magic b (descriptor d) c (names fields.dimensions ++ names fields.metrics) e number g p q r s in

@@ -207,7 +207,7 @@ signed_read short = record {
       step_again (number_read short w64 (2 ^ 64) wide64) (λ part. Ok (cast_signed w64 part.0, part.1)) (cast_unsigned w64 z) rest (bits_below z fits) ∙ ap (λ (m : ℤ). Ok (m, rest)) (to_z-of_z w64 z fits);
 }
 
--- ---- texts behind their lengths
+-- ---- texts after their lengths
 
 pub short_text_read : (short : FileFault) (limit : ℕ) → limit < 256 → Reads (List ℕ) (short_text_at short limit) short_text (λ text. length text ≤ limit)
 unfolding short_text_at
@@ -225,7 +225,7 @@ short_text_read short limit small = record {
       ∙ (bytes_read short (length text)).again text rest refl;
 }
 
--- what the value of a dimension is spelled with behind its mark
+-- what the value of a dimension is spelled with after its mark
 abbrev pub text : List ℕ → List ℕ
 text bytes = to_be_bytes w16 (length bytes) ++ bytes
 

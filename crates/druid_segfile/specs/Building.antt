@@ -8,7 +8,7 @@ use Rattle.druid_segfile.specs.declared.fault.FileFault.{FileFault}
 use Rattle.druid_time.specs.Results.{◌>>=◌}
 use Rattle.druid_segfile.specs.Reading.{Cursor, Shape, shape_of, magic_at, descriptor_at, fields_at, number_at, at_most, each_at, values_at}
 
--- the bytes behind the part are left, and nothing is kept of it; or the fault is the one of reading
+-- the bytes after the part are left, and nothing is kept of it; or the fault is the one of reading
 abbrev pub Passes : {X : Type 0} → Cursor → Cursor → Result X FileFault → Result (List ℕ) FileFault → Type 0
 Passes old new (Ok x) read = (read ≡ Ok new.rest) × (new.short ≡ old.short)
 Passes old new (Err fault) read = read ≡ Err fault
@@ -48,6 +48,6 @@ pub record HasRoom (segment : Segment) (shape : Shape) (count len : ℕ) : Type 
   pub rows : length segment.rows + count ≤ max_rows
   pub text : text_length segment + len ≤ max_text
 
--- the segment with the rows that are read behind its own
+-- the segment with the rows that are read after its own
 abbrev pub with_read : Segment → Result (List Row × List ℕ) FileFault → Result (Segment × List ℕ) FileFault
 with_read segment read = read >>= λ x. Ok (segment_of segment.descriptor segment.fields (segment.rows ++ x.0), x.1)

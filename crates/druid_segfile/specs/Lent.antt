@@ -1,4 +1,4 @@
--- The bytes of texts that are lent.
+-- The bytes of texts that are borrowed.
 use Rattle.std.specs.Prelude.{ℕ, List, map, Option}
 use Rattle.std.specs.Borrow.{Bor}
 use Rattle.druid_rows.specs.Rows.{texts_by}

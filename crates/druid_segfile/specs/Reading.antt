@@ -41,7 +41,7 @@ pub record Cursor : Type 0 where
   pub rest : List ℕ
   pub short : FileFault
 
--- the part, seen by `view`, is what reading gives, and the cursor stands behind it; or the fault is the one of reading
+-- the part, seen by `view`, is what reading gives, and the cursor follows it; or the fault is the one of reading
 abbrev pub TakesAs : {X A : Type 0} → (X → A) → Cursor → Cursor → Result X FileFault → Result (A × List ℕ) FileFault → Type 0
 TakesAs view old new (Ok x) read = (read ≡ Ok (view x, new.rest)) × (new.short ≡ old.short)
 TakesAs view old new (Err fault) read = read ≡ Err fault
@@ -75,14 +75,14 @@ at_most limit n = if nat_lt limit n then Err TooLong else Ok n
 unfoldable pub accepted : {A : Type 0} → (A → Bool) → A → Result A FileFault
 accepted test value = if test value then Ok value else Err Field
 
--- a text behind its length, which is one byte
+-- a text after its length, which is one byte
 unfoldable pub short_text_at : FileFault → ℕ → List ℕ → Result (List ℕ × List ℕ) FileFault
 short_text_at short limit bytes = do
   part ← byte_at short bytes
   len ← at_most limit part.0
   bytes_at short len part.1
 
--- a text behind its length, which is two bytes
+-- a text after its length, which is two bytes
 unfoldable pub text_at : FileFault → List ℕ → Result (List ℕ × List ℕ) FileFault
 text_at short bytes = do
   part ← number_at short w16 bytes
@@ -178,7 +178,7 @@ field_names_at short (suc n) before bytes = do
   others ← field_names_at short n (before ++ name.0 ∷ []) name.1
   Ok (name.0 ∷ others.0, others.1)
 
--- the names of the dimensions, or of the metrics, behind their number, which is one byte
+-- the names of the dimensions, or of the metrics, after their number, which is one byte
 unfoldable pub names_at : FileFault → List (List ℕ) → List ℕ → Result (List (List ℕ) × List ℕ) FileFault
 names_at short before bytes = do
   part ← byte_at short bytes
@@ -204,7 +204,7 @@ row_time_at short interval bytes = do
   time ← ok_or (instant_in interval (instant_of ms.0)) RowOutside
   Ok (time, ms.1)
 
--- a mark, and behind 1 a text
+-- a mark, and after 1 a text
 unfoldable pub text_value_at : FileFault → List ℕ → Result (Option (List ℕ) × List ℕ) FileFault
 text_value_at short [] = Err short
 text_value_at short (zero ∷ rest) = Ok (None, rest)
@@ -213,7 +213,7 @@ text_value_at short (suc zero ∷ rest) = do
   Ok (Some text.0, text.1)
 text_value_at short (suc (suc mark) ∷ rest) = Err Field
 
--- a mark, and behind 1 a number
+-- a mark, and after 1 a number
 unfoldable pub number_value_at : FileFault → List ℕ → Result (Option ℤ × List ℕ) FileFault
 number_value_at short [] = Err short
 number_value_at short (zero ∷ rest) = Ok (None, rest)
@@ -235,7 +235,7 @@ values_at short shape bytes = do
   metrics ← each_at (number_value_at short) shape.metrics dimensions.1
   Ok (record { time = time.0; dimensions = dimensions.0; metrics = metrics.0 }, metrics.1)
 
--- the rows behind their number
+-- the rows after their number
 unfoldable pub rows_at : FileFault → Shape → List ℕ → Result (List Row × List ℕ) FileFault
 rows_at short shape bytes = do
   part ← number_at short w32 bytes

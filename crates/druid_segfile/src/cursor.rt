@@ -137,7 +137,7 @@ impl<'a> Cursor<'a> {
         Ok(i64::from_be_bytes(*number))
     }
 
-    // A text behind its length, which is one byte.
+    // A text after its length, which is one byte.
     #[tactic(auto, unfolding(crate::specs::Reading::short_text_at))]
     pub(crate) fn short_text(&mut self, limit: usize) -> Result<&'a [u8], FileFault>
         ensures { TakesAs (λ text. text.now) self.old self.new result (short_text_at self.old.short limit self.old.rest) }
@@ -147,7 +147,7 @@ impl<'a> Cursor<'a> {
         self.bytes(len)
     }
 
-    // A text behind its length, which is two bytes.
+    // A text after its length, which is two bytes.
     #[tactic(auto, unfolding(crate::specs::Reading::text_at))]
     pub(crate) fn text(&mut self) -> Result<&'a str, FileFault>
         ensures { TakesAs (λ text. text.now) self.old self.new result (text_at self.old.short self.old.rest) }

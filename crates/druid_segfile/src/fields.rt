@@ -99,7 +99,7 @@ impl<'a> Cursor<'a> {
         Ok(names)
     }
 
-    // Names behind their number, which is one byte. None of them is one of the others.
+    // Names after their number, which is one byte. None of them is one of the others.
     #[tactic(auto, unfolding(crate::specs::Reading::names_at, crate::specs::Reading::at_most))]
     fn names(&mut self, others: &[&str]) -> Result<Names<'a>, FileFault>
         ensures { TakesAs (λ names. texts_lent names.items) self.old self.new result

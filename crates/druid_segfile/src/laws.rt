@@ -21,7 +21,7 @@ pub fn cut_files_are_cut()
     ensures { (s : Segment) (k : ℕ) → IsSegment s → Fits s → k < length (spelling s) → segment_at (take k (spelling s)) ≡ Err Cut }
 {}
 
-/// A file that goes on behind its segment has trailing bytes, whatever they are and however many.
+/// A file that goes on after its segment has trailing bytes, whatever they are and however many.
 pub fn longer_files_have_trailing_bytes()
     ensures { (s : Segment) (more : List ℕ) → IsSegment s → Fits s → 0 < length more → segment_at (spelling s ++ more) ≡ Err Trailing }
 {}

@@ -44,7 +44,7 @@ type Texts<'a> = ArrayVec<Option<&'a str>, MAX_FIELDS>;
 // The numbers of a row.
 type Numbers = ArrayVec<Option<i64>, MAX_FIELDS>;
 
-// The values of one row after the other. They take no memory.
+// The values of one row after the other. They do not allocate.
 #[derive(Debug, Drop)]
 pub(crate) struct RowValues<'a> {
     texts: Texts<'a>,
@@ -161,7 +161,7 @@ impl<'a> Cursor<'a> {
     }
 }
 
-// What is told of a fault of values that were judged: memory was refused.
+// What is reported of a fault of values that were judged: memory was refused.
 pub(crate) fn want_of_memory(fault: RowFault) -> AllocError
     requires { fault ≡ RowFault.Memory }
 {

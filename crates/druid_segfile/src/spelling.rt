@@ -1,4 +1,4 @@
-//! The parts of a spelling, each put behind what was spelled before.
+//! The parts of a spelling, each put after what was spelled before.
 ghost use Rattle.std.specs.Prelude.{◌≡◌, ◌<◌, ◌≤◌, ◌++◌, length, map, All, IfOk, IfSome, OnOk};
 ghost use Rattle.std.specs.Option.{option_map};
 ghost use Rattle.std.specs.List.{flat_map};
@@ -29,7 +29,7 @@ fn append_interval(out: &mut Vec<u8>, extent: Interval) -> Result<(), AllocError
     Ok(())
 }
 
-// A text behind its length, which is one byte.
+// A text after its length, which is one byte.
 fn append_short_text(out: &mut Vec<u8>, text: &str) -> Result<(), AllocError>
     requires { length text.now < 256 }
     ensures { OnOk result (out.new.items ≡ out.old.items ++ short_text text.now) }
@@ -38,7 +38,7 @@ fn append_short_text(out: &mut Vec<u8>, text: &str) -> Result<(), AllocError>
     out.extend_from_slice(text.as_bytes())
 }
 
-// Names behind their number, which is one byte.
+// Names after their number, which is one byte.
 fn append_names(out: &mut Vec<u8>, texts: &[String]) -> Result<(), AllocError>
     requires count { length texts.now < 256 }
     requires each { All (λ name. length name < 256) (texts_of texts.now) }
@@ -83,7 +83,7 @@ pub(crate) fn heading(alloc: Global, segment: &Segment) -> Result<Vec<u8>, Alloc
     Ok(out)
 }
 
-// A text behind its mark and its length, or the mark of null.
+// A text after its mark and its length, or the mark of null.
 fn append_text_value(out: &mut Vec<u8>, value: Option<&str>) -> Result<(), AllocError>
     requires { IfSome (option_map (λ text. text.now) value) (λ text. length text ≤ max_value) }
     ensures { OnOk result (out.new.items
@@ -98,7 +98,7 @@ fn append_text_value(out: &mut Vec<u8>, value: Option<&str>) -> Result<(), Alloc
     out.extend_from_slice(text.as_bytes())
 }
 
-// A number behind its mark, or the mark of null.
+// A number after its mark, or the mark of null.
 fn append_number_value(out: &mut Vec<u8>, value: Option<i64>) -> Result<(), AllocError>
     ensures { OnOk result (out.new.items ≡ out.old.items ++ number_value value) }
 {

@@ -44,7 +44,7 @@ fn write_gathered<W: Write>(writer: &mut W, gathered: &mut Vec<u8>) -> Result<()
 }
 
 /// Writes the spelling of a segment. `Write` where the writer fails and `Memory` where memory is refused, also to the
-/// writer: then it has got some front of the spelling, and not the whole. An interrupted write is made again, but not for
+/// writer: then it has got some front of the spelling, and not the whole. An interrupted write is retried, 1,000 times in a row at
 /// ever. Nothing is flushed.
 pub fn write_segment<W: Write>(
     alloc: Global,

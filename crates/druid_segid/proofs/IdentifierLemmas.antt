@@ -28,7 +28,7 @@ length-partition_suffix p h =
       | inr some ↦ rw (ne_eqb p 0 some) (omega (arith, length-decimal-le 5 p (omega arith) (omega arith) (omega arith)))
     ]
 
--- what stands behind the source
+-- what follows the source
 abbrev pub behind_source : Identifier → List ℕ
 behind_source id =
     codes "_" ++ (instant_text id.interval.start ++ (codes "_" ++ (instant_text id.interval.end ++ (codes "_" ++ (id.version ++ partition_suffix id.partition)))))
@@ -173,7 +173,7 @@ suffix_same p q h k e =
       ]
     ]
 
--- what stands behind the start
+-- what follows the start
 behind_start : Identifier → List ℕ
 behind_start id = codes "_" ++ (instant_text id.interval.end ++ (codes "_" ++ (id.version ++ partition_suffix id.partition)))
 

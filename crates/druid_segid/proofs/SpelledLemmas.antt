@@ -100,7 +100,7 @@ read_whole source text id r =
     rw (r.rest_is, r.tail_is, r.interval_is, r.version_is, r.partition_is)
     (ap (λ (s : List ℕ). made s id.interval id.version id.partition) (sym r.of_source))
 
--- ---- what stands behind the source
+-- ---- what follows the source
 
 behind-to : (front text rest : List ℕ) → behind front text ≡ Some rest → text ≡ front ++ rest
 behind-to front text rest h =
@@ -127,7 +127,7 @@ rest_at-made source rest = rw (behind-made source (95 ∷ rest)) (behind-made (c
 
 -- ---- the places of the parts
 
--- the two instants and what stands behind them
+-- the two instants and what stands after them
 record Placed (rest tail : List ℕ) : Type 0 where
   long : 50 < length rest
   whole : rest ≡ take 24 rest ++ (95 ∷ (take 24 (drop 25 rest) ++ (95 ∷ tail)))

@@ -21,7 +21,7 @@ pub record IsIdentifier (id : Identifier) : Type 0 where
   pub version : IsVersion id.version
   pub partition : id.partition < 65536
 
--- what stands behind the version: nothing for partition 0
+-- what follows the version: nothing for partition 0
 abbrev pub partition_suffix : ℕ → List ℕ
 partition_suffix p = if p == 0 then [] else codes "_" ++ decimal p
 

@@ -24,15 +24,15 @@ pub data Refusal : Type 0 where
 abbrev pub is_underscore : ℕ → Bool
 is_underscore b = b == 95
 
--- what stands behind a front
+-- what follows a front
 abbrev pub behind : List ℕ → List ℕ → Option (List ℕ)
 behind front text = if bytes_eq (take (length front) text) front then Some (drop (length front) text) else None
 
--- what stands behind the source and `_`
+-- what follows the source and `_`
 unfoldable pub rest_at : List ℕ → List ℕ → Option (List ℕ)
 rest_at source text = option_and_then (behind (codes "_")) (behind source text)
 
--- what stands behind the interval: each of the two instants takes 24 bytes, and `_` stands behind each
+-- what follows the interval: each of the two instants takes 24 bytes, and `_` stands after each
 unfoldable pub tail_at : List ℕ → Option (List ℕ)
 tail_at rest =
     if nat_le 51 (length rest) && is_underscore (slice_index rest 24) && is_underscore (slice_index rest 49)
@@ -58,7 +58,7 @@ version_at tail = if is_version (before_first is_underscore tail) then Some (bef
 unfoldable pub partition_number : List ℕ → Option ℕ
 partition_number digits = option_and_then (λ n. if nat_le 1 n && nat_lt n 65536 then Some n else None) (number_at digits)
 
--- the partition stands behind that `_`. Without one it is 0
+-- the partition follows that `_`. Without one it is 0
 unfoldable pub partition_at : List ℕ → Option ℕ
 partition_at tail = if list_any is_underscore tail then partition_number (after_first is_underscore tail) else Some 0
 
@@ -80,7 +80,7 @@ Tells faults.BadInterval read = read ≡ Err bad_interval
 Tells faults.BadVersion read = read ≡ Err bad_version
 Tells faults.BadPartition read = read ≡ Err bad_partition
 Tells faults.BadName read = ⊥
--- want of memory comes only where nothing is to be refused
+-- out of memory only where nothing else is refused
 Tells faults.Memory read = IsOk read
 
 -- what a function answered is what reading gives, unless memory was refused

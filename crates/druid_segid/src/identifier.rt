@@ -42,7 +42,7 @@ impl SegmentId {
             ≡ record { source = source; interval = interval; version = version; partition = partition } }
         ensures valid { IsIdentifier result }
     {
-        // Read for the proof: the readers tell what their types keep.
+        // For the proof: reading it exposes the invariant of its type.
         let _source = source.as_str();
         let _start = interval.start();
         let _version = version.as_str();

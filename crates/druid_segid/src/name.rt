@@ -49,7 +49,7 @@ fn are_name_bytes(bytes: &[u8]) -> bool
 }
 
 impl Name {
-    /// Whether the text is a name. It takes no memory.
+    /// Whether the text is a name. Does not allocate.
     pub fn accepts(text: &str) -> bool
         ensures test { result ≡ is_name text.now }
         ensures names { IsTrue result ↔ IsName text.now }

@@ -19,7 +19,7 @@ fn number_in(digits: &str) -> Option<u64>
     Some(number)
 }
 
-/// The number below 2^64 that prints as these bytes: decimal digits, none of them a leading zero. It takes no memory.
+/// The number below 2^64 that prints as these bytes: decimal digits, none of them a leading zero. Does not allocate.
 #[tactic(auto, using(crate::proofs::NumberLemmas::text_facts))]
 pub fn number_of(digits: &[u8]) -> Option<u64>
     ensures { result ≡ number_at digits.now }

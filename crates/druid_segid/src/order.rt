@@ -9,7 +9,7 @@ use crate::SegmentId;
 use crate::spelling::{LONGEST, LONGEST_SUFFIX, append_suffix};
 use std::cmp::Ordering;
 
-// Compares a text with two that stand one behind the other.
+// Compares a text with two that stand one after the other.
 fn cmp_with_pair(text: &[u8], front: &[u8], rest: &[u8]) -> Ordering
     ensures { result ≡ slice_cmp nat_cmp text.now (front.now ++ rest.now) }
 {
@@ -74,7 +74,7 @@ impl SegmentId {
         mine[..my_len].cmp(&theirs[..their_len])
     }
 
-    // Compares what stands behind the end.
+    // Compares what follows the end.
     fn cmp_tail(&self, other: &SegmentId) -> Ordering
         ensures { result
             ≡ slice_cmp nat_cmp (self.now.version ++ partition_suffix self.now.partition)

@@ -14,10 +14,10 @@ use std::str;
 // The bytes of a printed instant.
 const INSTANT: usize = 24;
 
-// Where the version begins, behind two instants and two `_`.
+// Where the version begins, after two instants and two `_`.
 const VERSION: usize = 50;
 
-// What stands behind the source and `_`.
+// What follows the source and `_`.
 #[tactic(auto, unfolding(crate::specs::Parsed::rest_at))]
 fn rest_of<'a>(source: &str, text: &'a [u8]) -> Option<&'a [u8]>
     ensures { option_map (λ rest. rest.now) result ≡ rest_at source.now text.now }
@@ -26,7 +26,7 @@ fn rest_of<'a>(source: &str, text: &'a [u8]) -> Option<&'a [u8]>
     behind.strip_prefix(b"_")
 }
 
-// What stands behind the interval.
+// What follows the interval.
 #[tactic(auto, using(crate::proofs::ParsedLemmas::tail_facts), unfolding(crate::specs::Parsed::tail_at))]
 fn tail_of(rest: &[u8]) -> Option<&[u8]>
     ensures value { option_map (λ tail. tail.now) result ≡ tail_at rest.now }
@@ -108,7 +108,7 @@ fn partition_number(digits: &[u8]) -> Option<u16>
     }
 }
 
-// The partition stands behind the version and `_`. Without these it is 0.
+// The partition follows the version and `_`. Without these it is 0.
 #[tactic(auto, using(crate::proofs::ParsedLemmas::partition_facts))]
 fn partition_of(tail: &[u8]) -> Option<u16>
     ensures { result ≡ partition_at tail.now }

@@ -11,7 +11,7 @@ use std::str;
 // The most bytes that the text of an identifier has.
 pub(crate) const LONGEST: usize = 221;
 
-// The most bytes that stand behind the version.
+// The most bytes that follow the version.
 pub(crate) const LONGEST_SUFFIX: usize = 6;
 
 // Copies the bytes to the place `at`, and returns where they end.
@@ -35,7 +35,7 @@ fn append_instant(out: &mut [u8], at: usize, instant: Instant) -> usize
     append(out, at, &text)
 }
 
-// Writes what stands behind the version.
+// Writes what follows the version.
 pub(crate) fn append_suffix(out: &mut [u8], at: usize, partition: u16) -> usize
     requires { at + 6 ≤ length out.old }
     ensures end { result ≡ at + length (partition_suffix partition) }

@@ -39,7 +39,7 @@ impl Text {
         })
     }
 
-    // The text, lent.
+    // The text, borrowed.
     pub(crate) fn as_str(&self) -> &str
         ensures { result.now ≡ self.now }
     {

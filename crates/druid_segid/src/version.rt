@@ -48,7 +48,7 @@ fn are_version_bytes(bytes: &[u8]) -> bool
 }
 
 impl Version {
-    /// Whether the text is a version. It takes no memory.
+    /// Whether the text is a version. Does not allocate.
     pub fn accepts(text: &str) -> bool
         ensures test { result ≡ is_version text.now }
         ensures versions { IsTrue result ↔ IsVersion text.now }
@@ -97,7 +97,7 @@ impl Version {
         self.text.as_str().len()
     }
 
-    // The text, lent. Others get a copy: versions are compared by the rank of their group alone.
+    // The text, borrowed. Others get a copy: versions are compared by the rank of their group alone.
     pub(crate) fn as_str(&self) -> &str
         ensures value { result.now ≡ self.now }
         ensures version { IsVersion self.now }

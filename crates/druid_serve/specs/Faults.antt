@@ -1,4 +1,4 @@
--- What a cluster that is not served is told for.
+-- Why a cluster is not served.
 use Rattle.std.specs.Prelude.{ℕ}
 use Rattle.druid_config.specs.declared.fault.ConfigFault.{ConfigFault}
 use Rattle.druid_config.specs.declared.fault.ConfigFault.TheVariants as config
@@ -7,7 +7,7 @@ use Rattle.druid_serve_node.specs.declared.fault.ClusterFault.TheVariants.{BadFo
 use Rattle.druid_serve.specs.declared.fault.ServeFault.{ServeFault}
 use Rattle.druid_serve.specs.declared.fault.ServeFault.TheVariants as served
 
--- a config that is none, or want of memory
+-- a config that is none, or out of memory
 abbrev pub of_config : ConfigFault → ServeFault
 of_config config.Refused = served.BadConfig
 of_config config.Memory = served.Device

@@ -11,7 +11,7 @@ abbrev pub IsConfig : List ℕ → Type 0
 IsConfig bytes = (d : Data) × (told : Told) × ReadsAs bytes d × (config_at d ≡ Some told)
 
 -- how the bytes are served as a config: they are refused only where they are none, and a folder only where they are one. A device
--- that fails and want of memory say nothing of the bytes
+-- that fails and out of memory say nothing of the bytes
 abbrev pub ServesAs : List ℕ → Result ⊤ ServeFault → Type 0
 ServesAs bytes (Ok done) = IsConfig bytes
 ServesAs bytes (Err BadConfig) = IsConfig bytes → ⊥

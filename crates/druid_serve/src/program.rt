@@ -69,7 +69,7 @@ where
     }
 }
 
-/// The whole program, over its handles: the words behind its name, standard input, standard output and standard error. It
+/// The whole program, over its handles: the arguments, standard input, standard output and standard error. It
 /// answers the exit status. `serve CONFIG` serves the cluster of the config at that path; all else is up to
 /// `druid_cluster::run_program`.
 pub fn run<

@@ -95,7 +95,7 @@ fn start_one<
     start_broker::<R, Brand>(rt, alloc, opening, nodes)
 }
 
-// Starts the brokers behind their listeners.
+// Starts the brokers after their listeners.
 fn start_brokers<
     R: Net<Listener = TcpListener, Stream = TcpStream>
         + Wait

@@ -1,4 +1,4 @@
--- What a data node that does not start is told for.
+-- Why a data node does not start.
 use Rattle.druid_node.specs.declared.fault.NodeFault.{NodeFault}
 use Rattle.druid_node.specs.declared.fault.NodeFault.TheVariants as node
 use Rattle.druid_folder.specs.declared.fault.StoreFault.{StoreFault}

@@ -8,7 +8,7 @@ fn whole() -> &'static str {
     "{\"brokers\":[{\"address\":\"127.0.0.1:9001\",\"workers\":16}],\"connections\":0,\"kept\":1000,\"nodes\":[{\"address\":\"127.0.0.1:65535\",\"folder\":\"f\",\"loads\":[\"a.seg\"],\"name\":\"n0\",\"workers\":1}],\"queries\":[{\"broker\":0,\"query\":{}}],\"turns\":1000000}"
 }
 
-// What stands before the first such text, and what behind it.
+// What stands before the first such text, and what after it.
 fn halves<'a>(rt: &impl Abort, text: &'a str, between: &str) -> (&'a str, &'a str) {
     text.split_once(between).expect(rt, "no such text")
 }
@@ -27,7 +27,7 @@ fn changed(rt: &impl Abort, alloc: Global, from: &str, to: &str) -> String {
     format!(in alloc; "{front}{to}{back}").expect(rt, "memory")
 }
 
-// Asserts what is told of each config. A row has a text, and what stands in its place.
+// Asserts what is reported of each config. A row has a text, and what stands in its place.
 fn assert_told(rt: &impl Abort, alloc: Global, rows: &str, wanted: &str) {
     for row in rows.lines() {
         let (from, to) = halves(rt, row, " = ");

@@ -85,7 +85,7 @@ fn config(rt: &impl Abort, alloc: Global, place: &Place, connections: u64) -> St
     ).expect(rt, "memory")
 }
 
-// What a config is told: the status, a line feed, what was printed and what was told on the error writer.
+// What a config comes to: the status, a line feed, what was printed and what was written to the error writer.
 fn served<
     R: Files<File = File>
         + Net<Listener = TcpListener, Stream = TcpStream>
@@ -110,7 +110,7 @@ where
     format!(in alloc; "{status}\n{printed}{told}").expect(rt, "memory")
 }
 
-// What the config of a place is told.
+// What the config of a place comes to.
 fn served_at<
     R: Files<File = File>
         + Net<Listener = TcpListener, Stream = TcpStream>
@@ -166,7 +166,7 @@ fn incarnations<R: Files<File = File> + AllocGlobal + Abort>(
     format!(in alloc; "{older}{newer}").expect(rt, "memory")
 }
 
-// What is told of a config that is served: the answer to its query is printed.
+// What is reported of a config that is served: the answer to its query is printed.
 const SERVED: &str =
     "0\n200\n[{\"result\":{\"n\":4},\"timestamp\":\"2024-01-01T00:00:00.000Z\"}]\n";
 
@@ -194,7 +194,7 @@ fn no_config(rt: HostRuntime) {
     }
 }
 
-// What the config of a place is told, once a file of a folder has these bytes: the first node's where the name begins with a
+// What the config of a place comes to, once a file of a folder has these bytes: the first node's where the name begins with a
 // slash.
 fn told_with<
     R: Files<File = File>
@@ -309,7 +309,7 @@ fn keep_asking<L: Link, C: Clock>(
     answered
 }
 
-// Serves a cluster of which this many connections from outside are waited for, and gives what it is told and how many were
+// Serves a cluster of which this many connections from outside are waited for, and gives what it printed and how many were
 // answered.
 fn served_to_others<
     R: Files<File = File>

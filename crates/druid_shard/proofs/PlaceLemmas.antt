@@ -30,7 +30,7 @@ precedes_itself a before = let tied = tied_itself nat_list_cmp_total a in absurd
 abbrev pub AllBefore : List Described → Identifier → ℕ → Type 0
 AllBefore s id low = (k : ℕ) (x : Described) → k < low → Precedes (identifier_text (get_or s k x).id) (identifier_text id)
 
--- those from high on come behind it
+-- those from high on come after it
 abbrev pub AllBehind : List Described → Identifier → ℕ → Type 0
 AllBehind s id high = (k : ℕ) (x : Described) → high ≤ k → k < length s → Precedes (identifier_text id) (identifier_text (get_or s k x).id)
 

@@ -93,7 +93,7 @@ abbrev pub Tells : {A : Type 0} → ShardFault → Result A Refusal → Type 0
 Tells faults.ShardType read = read ≡ Err other_type
 Tells faults.BadShard read = read ≡ Err bad_shard
 Tells (faults.BadField key) read = read ≡ Err (bad_field key.now)
--- want of memory comes only where nothing is to be refused
+-- out of memory only where nothing else is refused
 Tells faults.Memory read = IsOk read
 
 -- what a function answered is what reading gives, unless memory was refused

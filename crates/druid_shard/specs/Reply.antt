@@ -38,7 +38,7 @@ pub record IsSnapshot (at : Point) (segments : List Described) : Type 0 where
   pub few : length segments ≤ max_segments
   pub sorted : AreSorted segments
 
--- the mark to is that many changes behind from, in its incarnation
+-- the mark to is that many changes after from, in its incarnation
 pub record IsAsFar (from to : Point) (changes : ℕ) : Type 0 where
   pub incarnation : to.incarnation ≡ from.incarnation
   pub count : to.count ≡ from.count + changes

@@ -28,17 +28,17 @@ impl Clone for Change {
 pub enum Ask {
     /// All that the node serves.
     Whole,
-    /// The changes behind a mark, whose incarnation is at least 1.
+    /// The changes after a mark, whose incarnation is at least 1.
     Since(Mark),
 }
 
-/// Why a node has no changes behind the mark that it was asked about.
+/// Why a node has no changes after the mark that it was asked about.
 #[derive(Clone, Copy, Debug, PartialEq, Eq)]
 pub enum Cause {
     /// The mark is of another incarnation than the node's.
     OtherIncarnation,
     /// The mark is ahead of the node.
     Ahead,
-    /// Changes behind the mark are no longer kept.
+    /// Changes after the mark are no longer kept.
     TooOld,
 }

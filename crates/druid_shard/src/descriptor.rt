@@ -95,7 +95,7 @@ impl Descriptor {
         ensures value { SomeIff result (core ≤ max_core) (record { id = id; core = core; size = size }) }
         ensures valid { IfSome result IsDescribed }
     {
-        // Read for the proof: the reader tells what its type keeps.
+        // For the proof: reading it exposes the invariant of its type.
         let _ = id.partition();
         if core <= MAX_CORE {
             Some(Descriptor { id, core, size })

@@ -27,7 +27,7 @@ impl<T> Items<T> {
         Items { items }
     }
 
-    /// The values, lent.
+    /// The values, borrowed.
     pub fn as_slice(&self) -> &[T]
         ensures { result.now ≡ self.now }
     {

@@ -114,7 +114,7 @@ fn version_field(value: &Value) -> Option<&str>
     }
 }
 
-// What the value of a descriptor says, its texts lent.
+// What the value of a descriptor says, with borrowed texts.
 #[derive(Drop)]
 struct Parts<'a> {
     source: &'a str,
@@ -165,7 +165,7 @@ fn parts_of(value: &Value) -> Result<Parts<'_>, ShardFault>
     }
 }
 
-/// Whether a value is a descriptor: the refusal of `read_descriptor` where it is none. It takes no memory.
+/// Whether a value is a descriptor: the refusal of `read_descriptor` where it is none. Does not allocate.
 pub fn check_descriptor(value: &Value) -> Result<(), ShardFault>
     ensures read { Checks result (descriptor_at (view value.now)) }
     ensures memory { result ≢ Err ShardFault.Memory }

@@ -24,7 +24,7 @@ impl Model for Mark {
 }
 
 impl Mark {
-    /// The mark behind that many changes of an incarnation.
+    /// The mark after that many changes of an incarnation.
     pub fn new(incarnation: u64, count: u64) -> Mark
         ensures { result ≡ record { incarnation = incarnation; count = count } }
     {

@@ -42,7 +42,7 @@ pub enum Body {
     Delta {
         /// The mark before the first change.
         from: Mark,
-        /// The mark behind the last change.
+        /// The mark after the last change.
         to: Mark,
         /// The changes.
         changes: Changes,
@@ -92,7 +92,7 @@ fn are_sorted(segments: &[Descriptor]) -> bool
     true
 }
 
-// Whether the second mark is that many changes behind the first, in its incarnation.
+// Whether the second mark is that many changes after the first, in its incarnation.
 fn is_as_far(from: Mark, to: Mark, changes: u64) -> bool
     ensures { IsTrue result ↔ IsAsFar from to changes }
 {
@@ -104,7 +104,7 @@ impl Reply {
     ghost use Rattle.druid_shard.specs.declared.reply.Body.TheVariants.{Delta, Reset};
 
     /// The changes of one incarnation of a node between two marks, in order. Y5 where there are more than 1,000, and
-    /// then Y3 where the marks are of two incarnations or are not as far apart as there are changes. It takes no memory.
+    /// then Y3 where the marks are of two incarnations or are not as far apart as there are changes. Does not allocate.
     pub fn delta(from: Mark, to: Mark, changes: Vec<Change>) -> Result<Reply, ReplyFault>
         requires from { 1 ≤ from.incarnation }
         requires to { 1 ≤ to.incarnation }
@@ -127,7 +127,7 @@ impl Reply {
         })
     }
 
-    /// That a node has not the changes that it was asked for, and its mark. It takes no memory.
+    /// That a node has not the changes that it was asked for, and its mark. Does not allocate.
     pub fn reset(cause: Cause, at: Mark) -> Reply
         requires { 1 ≤ at.incarnation }
         ensures { result ≡ Reset cause at }
@@ -138,7 +138,7 @@ impl Reply {
     }
 
     /// All that a node serves at a mark; the segments may stand in any order, and the reply has them by identifier.
-    /// Y5 where there are more than 20,000, and then Y4 where an identifier stands twice. It takes no memory.
+    /// Y5 where there are more than 20,000, and then Y4 where an identifier stands twice. Does not allocate.
     pub fn snapshot(at: Mark, mut segments: Vec<Descriptor>) -> Result<Reply, ReplyFault>
         requires { 1 ≤ at.incarnation }
         ensures ok { IfOk result (IsSnapshotOf at segments.items) }

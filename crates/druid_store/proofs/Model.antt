@@ -1,4 +1,4 @@
--- The device that does what it is told is honest.
+-- The device that obeys is honest.
 use Rattle.std.proofs.Common.{◌≡◌, inl, inr, ℕ, ◌-◌, true, false, List, [], ◌∷◌, ◌++◌, Some, refl, sym, ◌∙◌, ap, subst, length, drop, arith, length-append}
 use Rattle.druid_folder.proofs.Files.{torn_same}
 use Rattle.druid_store.specs.Event.{Event, did_list, did_read, did_write, did_sync, did_rename, did_remove}

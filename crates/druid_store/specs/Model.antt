@@ -1,4 +1,4 @@
--- For one law alone, that the premise of a `DiskFolder` can hold: a device that does what it is told, of which a stop leaves
+-- For one law alone, that the premise of a `DiskFolder` can hold: a device that obeys, of which a stop leaves
 -- what it may.
 use Rattle.std.specs.Prelude.{◌≡◌, ℕ, ◌-◌, true, false, List, [], ◌∷◌, length, drop, Some, IfSome, IsSome}
 use Rattle.druid_store.specs.Event.{Event, did_list, did_read, did_write, did_sync, did_rename, did_remove}

@@ -6,7 +6,7 @@ ghost use Rattle.druid_store.specs.Unknown.{unknown_content, unknown_left, unkno
 
 use std::marker::Brand;
 
-/// What happens on the device behind a [`crate::DiskFolder`], which no code can know. A type
+/// What happens on the device under a [`crate::DiskFolder`], which no code can know. A type
 /// parameter stands for it, so that what is proved holds whatever it is.
 pub trait Device {
     /// What is read after so many calls.
@@ -28,7 +28,7 @@ impl Device for Brand {
     ghost during = { unknown_during };
 }
 
-/// A device can be honest: one that does what it is told is, in all calls whose answers are right.
+/// A device can be honest: one that obeys is, in all calls whose answers are right.
 pub fn honest_model()
     ensures { (calls : List Event) → AreRight calls → IsHonestModel calls }
 {}

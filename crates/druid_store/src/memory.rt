@@ -165,7 +165,7 @@ fn read_part(alloc: Global, bytes: &[u8]) -> Result<Vec<u8>, AllocError>
     Vec::from_slice(alloc, &bytes[..MAX_FILE + 1])
 }
 
-// Puts a call behind the others.
+// Puts a call after the others.
 fn note(calls: &mut Vec<Call>, call: Call) -> Result<(), StoreFault>
     ensures ok { OnOk result (calls.new.items ≡ calls.old.items ++ call ∷ []) }
     ensures err { OnErr result (calls.new.items ≡ calls.old.items) }

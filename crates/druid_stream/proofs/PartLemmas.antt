@@ -28,7 +28,7 @@ end_before None b none end = tt
 end_before (Some xs) None none end = absurd none
 end_before (Some xs) (Some ys) none end = none ∙ end
 
--- a part behind tries that brought nothing
+-- a part after tries that brought nothing
 pub resumed : (part : Part) (start old new : List ℕ) (room : ℕ) (a b c : Option (List ℕ)) → old ≡ start → Consumes a b [] → IsPart part old new room b c → IsPart part start new room a c
 resumed part start old new room a b c same none p = record {
   front = p.front;

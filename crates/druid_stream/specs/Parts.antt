@@ -4,7 +4,7 @@ use Rattle.std.specs.Io.KnownBytes.{Consumes, IsAtEnd}
 use Rattle.druid_stream.specs.declared.lines.Part.{Part}
 use Rattle.druid_stream.specs.declared.lines.Part.TheVariants.{More, Feed, Ended}
 
--- the line feed that is taken behind what the line gets
+-- the line feed that is taken after what the line gets
 abbrev pub feed_of : Part → List ℕ
 feed_of More = []
 feed_of Feed = 10 ∷ []

@@ -7,7 +7,7 @@ use crate::interrupted::{MAX_TRIES, is_interrupted};
 use std::io;
 use std::io::{BufRead, ErrorKind};
 
-/// What stands behind some bytes of a line.
+/// What follows some bytes of a line.
 #[derive(Clone, Copy, Debug, PartialEq, Eq, Drop)]
 pub enum Part {
     /// There may be more of it.
@@ -30,7 +30,7 @@ impl Part {
     }
 }
 
-// How many bytes there are before the first line feed, but no more than there is room for, and what stands behind them.
+// How many bytes there are before the first line feed, but no more than there is room for, and what stands after them.
 fn scan(bytes: &[u8], room: usize) -> (usize, Part)
     ensures bound { result.0 + length (feed_of result.1) ≤ length bytes.now }
     ensures short { result.0 ≤ room }
@@ -74,8 +74,8 @@ fn append_part<R: BufRead>(reader: &mut R, line: &mut Vec<u8>, room: usize) -> i
     Ok(part)
 }
 
-/// Appends what the reader has at hand of a line, but no more bytes than there is room for, and takes the line feed behind
-/// them. An interrupted read is made again, but not for ever.
+/// Appends what the reader has at hand of a line, but no more bytes than there is room for, and takes the line feed after
+/// them. An interrupted read is retried, 1,000 times in a row at most.
 #[tactic(auto, using(crate::proofs::PartLemmas::resumed, crate::proofs::PartLemmas::still))]
 pub fn next_part<R: BufRead>(reader: &mut R, line: &mut Vec<u8>, room: usize) -> io::Result<Part>
     ensures part { IfOk result (λ part. IsPart part line.old.items line.new.items room
@@ -108,7 +108,7 @@ pub enum Next {
 }
 
 /// Reads the next line, without its line feed, in place of what `line` had. Of a line of more bytes than the limit it keeps
-/// one byte more than that, and the reader stands somewhere in it. An interrupted read is made again, but not for ever.
+/// one byte more than that, and the reader stands somewhere in it. An interrupted read is retried, 1,000 times in a row at most.
 #[tactic(auto, using(crate::proofs::LineLemmas::grown_plain, crate::proofs::LineLemmas::grown_taken, crate::proofs::LineLemmas::grown_length, crate::proofs::LineLemmas::finds_more, crate::proofs::LineLemmas::finds_long, crate::proofs::LineLemmas::finds_end))]
 pub fn next_line<R: BufRead>(reader: &mut R, line: &mut Vec<u8>, limit: usize) -> io::Result<Next>
     ensures found { IfOk result (λ next. IfSome (R.remaining reader.old)

@@ -31,7 +31,7 @@ fn write_some<W: Write>(writer: &mut W, text: &[u8]) -> io::Result<usize>
 }
 
 /// Writes a text. Where the writer fails, or takes nothing, it has got some front of the text, and not the whole. An
-/// interrupted write is made again, but not for ever.
+/// interrupted write is retried, 1,000 times in a row at most.
 pub fn write_text<W: Write>(writer: &mut W, text: &[u8]) -> io::Result<()>
     ensures ok { OnOk result (Appends (W.contents writer.old) (W.contents writer.new) text.now) }
     ensures err { OnErr result

@@ -27,14 +27,14 @@ given_other name key value ps qs done all next is before =
     ap (λ l. done ++ l) (sym (ap (values_at name) next ∙ choose false name (key, value) qs (sym is)))
     ∙ before
 
--- a value behind the only one
+-- a value after the only one
 pub given_twice : (given : Given) (values : List (List ℕ)) (v : Bor (List ℕ)) (w : List ℕ) → given ≡ Once v → IsGiven given values
     → (a b : List ℕ) × (rest : List (List ℕ)) × (values ++ w ∷ [] ≡ a ∷ b ∷ rest)
 given_twice given values v w e is =
     let once : values ≡ v.now ∷ [] = subst (λ g. IsGiven g values) e is in
     (v.now, w, [], ap (λ l. l ++ w ∷ []) once)
 
--- a value behind more
+-- a value after more
 pub given_thrice : (given : Given) (values : List (List ℕ)) (w : List ℕ) → given ≡ Twice → IsGiven given values
     → (a b : List ℕ) × (rest : List (List ℕ)) × (values ++ w ∷ [] ≡ a ∷ b ∷ rest)
 given_thrice given values w e is =

@@ -41,7 +41,7 @@ item_next {A} f front later xs i x h is =
     ∙ ap (λ (y : A). front ++ (comma_if later ++ (compact_text (f y) ++ items_text true (items_of (map f rest))))) is
     ∙ sym (ap (λ (ys : List A). front ++ items_text later (items_of (map f ys))) (drop_more xs i x h))
 
--- behind the last stands the bracket
+-- after the last stands the bracket
 pub item_last : {A : Type 0} (f : A → Data) (front : List ℕ) (later : Bool) (xs : List A) (i : ℕ) → length xs ≤ i
     → front ++ codes "]" ≡ front ++ items_text later (items_of (map f (drop i xs)))
 item_last {A} f front later xs i h = sym (ap (λ (ys : List A). front ++ items_text later (items_of (map f ys))) (drop_of_length-le xs h))

@@ -18,7 +18,7 @@ ask_text Whole = codes "/druid-internal/v1/segments"
 ask_text (Since m) = codes "/druid-internal/v1/segments?" ++ query_text m
 
 -- the values of the parameters of that name, in order. Parameters stand between `&`, a name before the first `=`, and
--- its value behind it
+-- its value after it
 abbrev pub values_at : List ℕ → List (List ℕ × List ℕ) → List (List ℕ)
 values_at name parameters = map (λ p. p.1) (filter (λ p. bytes_eq p.0 name) parameters)
 

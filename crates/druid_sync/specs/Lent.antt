@@ -1,4 +1,4 @@
--- The five fields of a reply, as the reader lends them: only proofs use this.
+-- The five fields of a reply, as the reader borrows them: only proofs use this.
 use Rattle.serde_json.specs.View.{view, items_view}
 use Rattle.druid_sync.specs.Read.{Five}
 use Rattle.druid_sync.specs.declared.reading.Lent.{Lent}

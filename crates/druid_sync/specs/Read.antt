@@ -158,7 +158,7 @@ Answers (Some (begun_again cause at)) answer = answer ≡ Ok (Reset cause at)
 abbrev pub IsRead : Data → Result Body SyncFault → Type 0
 IsRead d answer = Answers (form_at d) answer
 
--- the same out of bytes, which may be no JSON; reading JSON may want memory at any byte
+-- the same out of bytes, which may be no JSON; reading JSON may run out of memory at any byte
 abbrev pub IsReadOf : List ℕ → Result Body SyncFault → Type 0
 IsReadOf bytes (Err faults.NotJson) = (d : Data) → ReadsAs bytes d → ⊥
 IsReadOf bytes (Err faults.Memory) = ⊤

@@ -80,7 +80,7 @@ reply_data (Reset cause at) = five_fields at None [] (Some cause)
 abbrev pub reply_text : Body → List ℕ
 reply_text body = compact_text (reply_data body)
 
--- the text of a reply up to its changes, and from behind them on
+-- the text of a reply up to its changes, and from after them on
 unfoldable pub front_text : Point → Option Point → List ℕ
 front_text counter from =
     codes "{\"counter\":" ++ (compact_text (mark_data counter)

@@ -16,8 +16,8 @@ fn since_text(alloc: Global, count: u64, incarnation: u64) -> Result<String, All
     format!(in alloc; "/druid-internal/v1/segments?counter={count}&hash={incarnation}")
 }
 
-/// The target of an ask: `/druid-internal/v1/segments` for the whole, and with `?counter=C&hash=H` behind it for what comes
-/// behind the mark of count C in incarnation H.
+/// The target of an ask: `/druid-internal/v1/segments` for the whole, and with `?counter=C&hash=H` after it for what comes
+/// after the mark of count C in incarnation H.
 pub fn ask_target(alloc: Global, ask: &Ask) -> Result<String, AllocError>
     ensures { IfOk result (λ text. string_bytes text ≡ ask_text ask.now) }
 {
@@ -63,7 +63,7 @@ fn values_given<'a>(query: &'a str, name: &str) -> Given<'a>
     given
 }
 
-// An ask for what comes behind a mark, by the digits of its count and of its incarnation.
+// An ask for what comes after a mark, by the digits of its count and of its incarnation.
 #[tactic(auto, unfolding(crate::specs::Asks::since_at))]
 fn since_of(counter: &[u8], hash: &[u8]) -> Option<Ask>
     ensures { result ≡ since_at counter.now hash.now }

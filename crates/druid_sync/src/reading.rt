@@ -30,7 +30,7 @@ fn mark_of(value: &Value) -> Option<Mark>
     }
 }
 
-// Whether a value is a change. It takes no memory.
+// Whether a value is a change. Does not allocate.
 #[tactic(auto, unfolding(crate::specs::Read::change_at))]
 fn is_change(value: &Value) -> bool
     ensures { result ≡ is_some (change_at (view value.now)) }
@@ -42,7 +42,7 @@ fn is_change(value: &Value) -> bool
     check_descriptor(value).is_ok()
 }
 
-// Whether a value is a change that loads a segment. It takes no memory.
+// Whether a value is a change that loads a segment. Does not allocate.
 #[tactic(auto, unfolding(crate::specs::Read::change_at))]
 fn is_load(value: &Value) -> bool
     ensures { result ≡ is_some (load_at (view value.now)) }
@@ -127,7 +127,7 @@ fn cause_of(value: &Value) -> Option<Cause>
     None
 }
 
-// The five fields of a reply, lent.
+// The five fields of a reply, borrowed.
 #[derive(Drop)]
 struct Lent<'a> {
     at: Mark,
@@ -202,7 +202,7 @@ fn snapshot_of(alloc: Global, at: Mark, loads: &[Value]) -> Result<Reply, SyncFa
     }
 }
 
-// The mark that is so many changes behind another one of its incarnation, if there is one.
+// The mark that is so many changes after another one of its incarnation, if there is one.
 fn is_as_far(from: Mark, to: Mark, changes: usize) -> bool
     ensures { IsTrue result ↔ IsAsFar from to changes }
 {

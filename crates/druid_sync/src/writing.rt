@@ -67,7 +67,7 @@ fn request_text(alloc: Global, action: &str, descriptor: &Descriptor) -> Result<
     request_value(alloc, action, descriptor)?.to_string(alloc)
 }
 
-// Appends the JSON of a change that does this with a segment, behind a comma where another stands before it.
+// Appends the JSON of a change that does this with a segment, after a comma where another stands before it.
 #[tactic(auto, using(crate::proofs::TextLemmas::two_pushed))]
 fn push_request(
     alloc: Global,
@@ -99,7 +99,7 @@ fn push_change(
     }
 }
 
-// Appends the JSON of changes, and the bracket behind them.
+// Appends the JSON of changes, and the bracket after them.
 #[tactic(auto, using(crate::proofs::TextLemmas::item_next, crate::proofs::TextLemmas::item_last))]
 fn push_changes(alloc: Global, text: &mut String, changes: &[Change]) -> Result<(), AllocError>
     ensures { OnOk result (string_bytes text.new
@@ -111,7 +111,7 @@ fn push_changes(alloc: Global, text: &mut String, changes: &[Change]) -> Result<
     text.push_str("]")
 }
 
-// Appends the JSON of loads of these segments, and the bracket behind them.
+// Appends the JSON of loads of these segments, and the bracket after them.
 #[tactic(auto, using(crate::proofs::TextLemmas::item_next, crate::proofs::TextLemmas::item_last))]
 fn push_loads(alloc: Global, text: &mut String, segments: &[Descriptor]) -> Result<(), AllocError>
     ensures { OnOk result (string_bytes text.new
@@ -147,7 +147,7 @@ fn front_of(alloc: Global, counter: Mark, from: Option<Mark>) -> Result<String, 
     Ok(text)
 }
 
-// The text of a reply from behind its changes on.
+// The text of a reply from after its changes on.
 #[tactic(auto, using(crate::proofs::TextLemmas::back_of_none, crate::proofs::TextLemmas::back_of_other, crate::proofs::TextLemmas::back_of_ahead, crate::proofs::TextLemmas::back_of_old))]
 fn back_of(cause: Option<Cause>) -> &'static str
     ensures { result.now ≡ back_text cause }

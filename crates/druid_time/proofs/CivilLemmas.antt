@@ -344,7 +344,7 @@ civil_of-same_year c t date e hour minute second milli =
     let day : day_number c ≡ t / 86_400_000 = omega (arith, signed_arith, day_number-jiff c date.2.0, first_day) in
     civil_of-found c t civil (rw day (sym (time_of_day-sum t _ _ _ _ hour minute second milli)))
 
--- the day that lies that many days behind 0000-01-01 has the date of the instants in it
+-- the day that lies that many days after 0000-01-01 has the date of the instants in it
 pub civil_of-date : (c : Civil) (t : ℕ) (y : ℤ) → y ≡ pos c.year → IsCivilDate y c.month c.day → days_from_civil y c.month c.day ≡ days_from_civil (pos 0) 1 1 +ℤ pos (t / 86_400_000) → c.hour ≡ t % 86_400_000 / 3_600_000 → c.minute ≡ t % 3_600_000 / 60_000 → c.second ≡ t % 60_000 / 1000 → c.milli ≡ t % 1000 → civil_of t ≡ c
 civil_of-date c t y year date e =
     civil_of-same_year c t (let P : ℤ → Type 0 = λ z. IsCivilDate z c.month c.day in subst P year date) (let Q : ℤ → Type 0 = λ z. days_from_civil z c.month c.day ≡ days_from_civil (pos 0) 1 1 +ℤ pos (t / 86_400_000) in subst Q year e)
@@ -409,7 +409,7 @@ days_cast c r h e =
     let fits : Fits w64 (day_number c) = omega (arith, limit) in
     rw e (rw (to_z_pos w32 (day_number c) small) (refl, (tt, fits)))
 
--- 1970 begins 719,528 days behind the year 0
+-- 1970 begins 719,528 days after the year 0
 pub instant_of-1970 : instant_of new_year_1970 ≡ unix_epoch
 unfolding instant_of
 instant_of-1970 =

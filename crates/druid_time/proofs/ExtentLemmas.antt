@@ -76,7 +76,7 @@ AnyHas-IsPermutation xs ys t p h =
 
 -- ---- parts
 
--- a part may follow that begins behind a gap
+-- a part may follow that begins after a gap
 pub AreApart-push : (xs : List Extent) (a b : Extent) → AreApart (xs ++ a ∷ []) → a.end < b.start → AreApart ((xs ++ a ∷ []) ++ b ∷ [])
 AreApart-push [] a b h gap = (gap, tt)
 AreApart-push (x ∷ []) a b h gap = (h.0, (gap, tt))
@@ -88,7 +88,7 @@ AreApart-last [] a b h same = tt
 AreApart-last (x ∷ []) a b h same = (rw (← same) h.0, tt)
 AreApart-last (x ∷ y ∷ xs) a b h same = (h.0, AreApart-last (y ∷ xs) a b h.1 same)
 
--- what follows a part begins behind its end
+-- what follows a part begins after its end
 part_before : (a : Extent) (xs : List Extent) (k : ℕ) (d : Extent) → AreApart (a ∷ xs) → All IsExtent xs → k < length xs → a.end < (get_or xs k d).start
 part_before a [] k d apart each h = absurd (omega arith)
 part_before a (b ∷ bs) zero d apart each h = apart.0
@@ -123,7 +123,7 @@ ends_rise xs h i j d low below =
       | inr reached ↦ let same : i ≡ j = omega arith in omega (arith, ap (λ (k : ℕ). (get_or xs k d).end) same)
     ]
 
--- an instant lies in the first part that ends behind it, or in none
+-- an instant lies in the first part that ends after it, or in none
 pub AnyHas-at : (xs : List Extent) (i : ℕ) (t : ℕ) → AreParts xs → ((k : ℕ) (d : Extent) → k < i → (get_or xs k d).end ≤ t) → ((k : ℕ) (d : Extent) → i ≤ k → k < length xs → t < (get_or xs k d).end) → AnyHas xs t → (i < length xs) × ((d : Extent) → (get_or xs i d).start ≤ t)
 AnyHas-at xs i t h early late has =
     let found = Contains-AnyHas xs t has in
@@ -163,7 +163,7 @@ pub ends_partitioned : (xs : List Extent) (t : ℕ) → AreParts xs → IsPartit
 ends_partitioned xs t h i j d low below e =
     up_to (get_or xs i d).end t (omega (arith, ends_rise xs h i j d low below, at_most (get_or xs j d).end t e))
 
--- the first part that ends behind an instant holds it, or none does
+-- the first part that ends after an instant holds it, or none does
 abbrev IsFirstBehind : List Extent → ℕ → ℕ → Type 0
 IsFirstBehind xs t i = IsPartitionPoint (λ e. is_le (nat_cmp e.end t) ≡ true) (λ e. is_le (nat_cmp e.end t) ≡ false) xs i
 
@@ -188,7 +188,7 @@ AnyHas-none_behind xs seen t i n h same at past len has =
 
 -- ---- a set has one list of parts
 
--- the instants of the later parts lie behind the end of the first
+-- the instants of the later parts lie after the end of the first
 behind_first : (a : Extent) (xs : List Extent) (t : ℕ) → AreParts (a ∷ xs) → AnyHas xs t → a.end < t
 behind_first a xs t h more =
     let found = Contains-AnyHas xs t more in
@@ -225,7 +225,7 @@ ends_le a b xs ys h k same start =
 SameInstants-sym : (xs ys : List Extent) → SameInstants xs ys → SameInstants ys xs
 SameInstants-sym xs ys same t = ((same t).1, (same t).0)
 
--- behind equal first parts the rest has the same instants
+-- after equal first parts the rest has the same instants
 rest_within : (a b : Extent) (xs ys : List Extent) → AreParts (a ∷ xs) → SameInstants (a ∷ xs) (b ∷ ys) → a.end ≡ b.end → (t : ℕ) → AnyHas xs t → AnyHas ys t
 rest_within a b xs ys h same end t has =
     elim ((same t).0 (inr has)) [

@@ -82,7 +82,7 @@ IsMerged-join first rest i done last next h below is valid touch =
       before = λ k d low high. h.before k d (omega arith) high;
     }
 
--- behind a gap a new part begins
+-- after a gap a new part begins
 pub IsMerged-push : (first : Extent) (rest : List Extent) (i : ℕ) (done : List Extent) (last next : Extent) → IsMerged first rest i done last → i < length rest → next ≡ get_or rest i next → IsExtent next → last.end < next.start → ((k : ℕ) (d : Extent) → i + 1 ≤ k → k < length rest → next.start ≤ (get_or rest k d).start) → IsMerged first rest (i + 1) (done ++ last ∷ []) next
 IsMerged-push first rest i done last next h below is valid gap sorted =
     record {

@@ -408,7 +408,7 @@ pub extent_at-both : (text : List ℕ) (s t : ℕ) → position_or_len is_slash 
 unfolding extent_at
 extent_at-both text s t first last start end = rw (one_slash text first last, start, end) refl
 
--- what the code sees behind the first `/`
+-- what the code sees after the first `/`
 pub slashes_are : (text end bytes : List ℕ) (r v : Bool) → end ≡ after_first is_slash text → bytes ≡ end → r ≡ list_any is_slash bytes → r ≡ v → list_any is_slash (after_first is_slash text) ≡ v
 slashes_are text end bytes r v cut same is e = ap (list_any is_slash) (sym (same ∙ cut)) ∙ sym is ∙ e
 

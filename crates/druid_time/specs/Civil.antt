@@ -64,14 +64,14 @@ abbrev pub new_year_1970 : Civil
 new_year_1970 =
     record { year = 1970; month = 1; day = 1; hour = 0; minute = 0; second = 0; milli = 0 }
 
--- the year of the day that lies d days behind the start of the year y, and its place in it, from 0: a year at a
+-- the year of the day that lies d days after the start of the year y, and its place in it, from 0: a year at a
 -- time, at most n of them
 unfoldable pub year_at : ℕ → ℕ → ℕ → ℕ × ℕ
 year_at zero y d = (y, d)
 year_at (suc n) y d =
     if nat_lt d (days_in_year (pos y)) then (y, d) else year_at n (suc y) (d - days_in_year (pos y))
 
--- the month of the day that lies d days behind the start of the month m, and its place in it, from 0: a month
+-- the month of the day that lies d days after the start of the month m, and its place in it, from 0: a month
 -- at a time
 unfoldable pub month_at : ℕ → ℕ → ℕ → ℕ → ℕ × ℕ
 month_at zero y m d = (m, d)

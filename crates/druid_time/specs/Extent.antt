@@ -44,7 +44,7 @@ AnyHas (e ∷ more) t = Has e t ⊎ AnyHas more t
 abbrev pub SameInstants : List Extent → List Extent → Type 0
 SameInstants xs ys = (t : ℕ) → AnyHas xs t ↔ AnyHas ys t
 
--- the parts of a set of instants: none is empty, each lies behind the one before, with a gap between
+-- the parts of a set of instants: none is empty, each lies after the one before, with a gap between
 pub record AreParts (parts : List Extent) : Type 0 where
   pub each : All IsExtent parts
   pub apart : AreApart parts

@@ -22,6 +22,6 @@ pub record StartsBucket (step t b : ℕ) : Type 0 where
   pub not_above : b ≤ t
   pub greatest : (c : ℕ) → IsMultiple step c → c ≤ t → c ≤ b
 
--- the instant without what goes past the last whole length. 1970 begins whole lengths behind the year 0
+-- the instant without what goes past the last whole length. 1970 begins whole lengths after the year 0
 abbrev pub bucket_at : Granularity → ℕ → Option ℕ
 bucket_at granularity t = option_map (λ step. t - t % step) (bucket_length granularity)

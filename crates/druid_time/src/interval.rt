@@ -68,7 +68,7 @@ impl Interval {
         self.start
     }
 
-    /// The first instant that lies behind it.
+    /// The first instant that lies after it.
     pub fn end(&self) -> Instant
         ensures value { result ≡ self.now.end }
         ensures valid { IsExtent self.now }

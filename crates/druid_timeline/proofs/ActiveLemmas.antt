@@ -15,7 +15,7 @@ use Rattle.druid_timeline.specs.Active.{StartInOrder, StartBehind, AreSplit}
 use Rattle.druid_timeline.specs.Stretches.{AreCandidatesIn, NoBoundWithin}
 use Rattle.druid_timeline.proofs.SweepLemmas.{IsBestOf-within, drop_next}
 
--- ---- lent items
+-- ---- borrowed items
 
 abbrev pub lent : List (Bor Chunk) → List Chunk
 lent items = map (λ (c : Bor Chunk). c.now) items
@@ -114,7 +114,7 @@ behind_first first later t order below e (i, l, at) =
     let same : (get_or (first ∷ later) i e).0.interval.start ≡ e.0.interval.start = ap (λ (x : Chunk). x.0.interval.start) at in
     omega (arith, up, same, below)
 
--- where the first of the rest starts behind the instant, all of them do
+-- where the first of the rest starts after the instant, all of them do
 pub StartBehind-first : (chunks : List Chunk) (place t : ℕ) (first : Chunk) → StartInOrder chunks → place < length chunks → first ≡ get_or chunks place first → t < first.0.interval.start → StartBehind (drop place chunks) t
 StartBehind-first chunks place t first order l at below =
     let e = drop_next chunks place first l at in

@@ -215,7 +215,7 @@ at_chunks R old new s t e f h =
     subst (λ (o : Option (List Member)). R (unwrap_or old []) (unwrap_or o [])) (sym f)
     (subst (λ (o : Option (List Member)). R (unwrap_or o []) t) e h)
 
--- members that are lent for an edit are those that were shared
+-- members that are borrowed for an edit are those that were shared
 pub lent_members : (lent inside now : List Member) → (lent ≡ inside) ⊎ (lent ≡ inside) → inside ≡ now → lent ≡ now
 lent_members lent inside now (inl e) f = e ∙ f
 lent_members lent inside now (inr e) f = e ∙ f
@@ -431,7 +431,7 @@ IsHeld-entry m node id g ms u there same =
       λ h. subst (λ (xs : List Member). HoldsPlace xs id.partition node) found (held.0 h),
     )
 
--- a test of the nodes that are lent
+-- a test of the nodes that are borrowed
 pub any-Contains : (ns : List ℕ) (n : ℕ) → IsTrue (list_any (λ y. eqb y n) ns) ↔ Contains ns n
 any-Contains [] n = (λ e. absurd (false≢true e), λ there. absurd (Contains-nil n there))
 any-Contains (x ∷ ns) n = by_test (eqb x n) refl (any-Contains ns n) where

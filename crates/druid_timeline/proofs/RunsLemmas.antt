@@ -25,7 +25,7 @@ Shows-from_start a (b ∷ more) t g h (inr later) =
     let behind : a.interval.end ≤ b.interval.start = h.1 in
     omega arith
 
--- the runs behind the first show nothing before it ends
+-- the runs after the first show nothing before it ends
 pub Shows-behind : (a : Shown) (more : List Shown) (t : ℕ) (g : Group) → AreRuns (a ∷ more) → Shows more t g → a.interval.end ≤ t
 Shows-behind a [] t g h later = absurd later
 Shows-behind a (b ∷ more) t g h later =

@@ -104,9 +104,9 @@ Shows-until front a b t g sta stb touch same =
           let from : b.interval.start ≤ t = here.1.0 in
           inr (same ∙ here.0, (omega arith, here.1.1))
 
--- ---- a run behind others
+-- ---- a run after others
 
--- new is old with the run behind it, where that is joined to the last if it goes on
+-- new is old with the run after it, where that is joined to the last if it goes on
 pub record IsPushed (old new : List Stretch) (run : Stretch) : Type 0 where
   pub runs : AreRuns (map shown_by new)
   pub shows : (t : ℕ) (g : Group) → Shows (map shown_by new) t g ↔ (Shows (map shown_by old) t g ⊎ ((run.shown.group ≡ g) × Has run.shown.interval t))
@@ -523,7 +523,7 @@ IsBestOf-within part chunks found h t in_part g =
 
 -- ---- lists by their places
 
--- what is left at a place is the item there, and what is left behind it
+-- what is left at a place is the item there, and what is left after it
 pub drop_next : {X : Type 0} (xs : List X) (i : ℕ) (x : X) → i < length xs → x ≡ get_or xs i x → drop i xs ≡ x ∷ drop (i + 1) xs
 drop_next {X} xs i x l e =
     drop-cons xs i x l ∙ ap (λ (y : X). y ∷ drop (suc i) xs) (sym e) ∙ ap (λ (k : ℕ). x ∷ drop k xs) (sym (add-one i))

@@ -258,6 +258,6 @@ IsSeen-empty chunks seen g none empty = (
   λ h. absurd (IsSeen-none chunks g empty h),
 )
 
--- the complete chunks that are not told of, where what is told of is what is seen
+-- the complete chunks that are not reported, where what is reported is what is seen
 pub unseen_of : (told seen : Type 0) (P : Type 0) → told ↔ seen → (P × (told → ⊥)) ↔ (P × (seen → ⊥))
 unseen_of told seen P h = (λ both. (both.0, λ s. both.1 (h.1 s)), λ both. (both.0, λ t. both.1 (h.0 t)))

@@ -7,7 +7,7 @@ use Rattle.druid_timeline.specs.Chunks.{Chunk}
 abbrev pub StartInOrder : List Chunk → Type 0
 StartInOrder chunks = IsNonDecreasingBy (λ (e : Chunk). e.0.interval.start) chunks
 
--- each starts behind the instant
+-- each starts after the instant
 abbrev pub StartBehind : List Chunk → ℕ → Type 0
 StartBehind chunks t = (e : Chunk) → Contains chunks e → t < e.0.interval.start
 

@@ -47,7 +47,7 @@ cut_piece part s = option_map (λ e. record { interval = e; group = s.group }) (
 abbrev pub cut : List Extent → List Shown → List Shown
 cut parts pieces = flat_map (λ part. filter_map (cut_piece part) pieces) parts
 
--- a piece as it is told: with all partitions of the chunk
+-- a piece as it is returned: with all partitions of the chunk
 pub record Told : Type 0 where
   pub interval : Extent
   pub group : Group

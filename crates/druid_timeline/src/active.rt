@@ -27,7 +27,7 @@ pub(crate) fn best_at<'b, 'a>(
     best
 }
 
-// Adds those from a place on that start at the instant or before, and gives the place behind them.
+// Adds those from a place on that start at the instant or before, and gives the place after them.
 fn take_started<'b, 'a>(
     active: &mut Vec<&'b Candidate<'a>>,
     sorted: &'b [Candidate<'a>],

@@ -36,7 +36,7 @@ fn is_chunk_of(key: &GroupKey, id: &SegmentId) -> bool
     key.interval() == id.interval() && key.version() == id.version()
 }
 
-// Whether a node serves a segment. It takes no memory, and passes over all chunks.
+// Whether a node serves a segment. It does not allocate, and passes over all chunks.
 pub(crate) fn serves(chunks: &Chunks, id: &SegmentId, node: NodeNo) -> bool
     ensures { IsTrue result ↔ IsHeld (held_in chunks.now.entries) node id.now }
 {
@@ -79,7 +79,7 @@ pub(crate) fn add_to_chunk(
     ensures unique { hash.IsUnique same_group chunks.new }
     ensures was_unique { hash.IsUnique same_group chunks.old }
 {
-    // Read for the proof: the reader tells what its type keeps.
+    // For the proof: reading it exposes the invariant of its type.
     let _ = chunks.len();
     if let Some(members) = chunks.get_mut(&key) {
         if holds(members, descriptor.id().partition(), node) {
@@ -116,7 +116,7 @@ pub(crate) fn remove_from_chunk(
     ensures unique { hash.IsUnique same_group chunks.new }
     ensures was_unique { hash.IsUnique same_group chunks.old }
 {
-    // Read for the proof: the reader tells what its type keeps.
+    // For the proof: reading it exposes the invariant of its type.
     let _ = chunks.len();
     let Some(members) = chunks.get_mut(key) else {
         return Err(TimelineFault::NotThere);
@@ -144,7 +144,7 @@ pub(crate) fn replicas_in(
         ↔ HoldsPlace (chunk_of chunks.now key.now) partition n) }
     ensures unique { hash.IsUnique same_group chunks.now }
 {
-    // Read for the proof: the reader tells what its type keeps.
+    // For the proof: reading it exposes the invariant of its type.
     let _ = chunks.len();
     match chunks.get(key) {
         Some(shared) => Vec::from_slice(alloc, shared.lent().replicas(partition)),

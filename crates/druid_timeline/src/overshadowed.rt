@@ -134,7 +134,7 @@ pub(crate) fn overshadowed_in(
     ensures sorted { IfOk result (λ v. IsStrictlySortedBy place_cmp v.items) }
     ensures unique { hash.IsUnique same_group chunks.now }
 {
-    // Read for the proof: the reader tells what its type keeps.
+    // For the proof: reading it exposes the invariant of its type.
     let _ = chunks.len();
     let seen = seen_in(alloc, chunks)?;
     let mut unseen = unseen_in(alloc, chunks, &seen)?;

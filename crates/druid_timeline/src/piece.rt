@@ -31,7 +31,7 @@ impl Partitions {
         })
     }
 
-    /// The numbers, lent.
+    /// The numbers, borrowed.
     pub fn as_slice(&self) -> &[u16]
         ensures { result.now ≡ self.now }
     {

@@ -34,7 +34,7 @@ impl SharedMembers {
         })
     }
 
-    // The members, lent.
+    // The members, borrowed.
     pub(crate) fn lent(&self) -> &Members
         ensures { result.now ≡ self.now }
     {

@@ -303,7 +303,7 @@ fn bounds_in(
     Ok(bounds)
 }
 
-// Adds a run behind the others: it is joined to the last one where that goes on.
+// Adds a run after the others: it is joined to the last one where that goes on.
 fn push_run<'a>(runs: &mut Vec<Run<'a>>, run: Run<'a>) -> Result<(), AllocError>
     requires runs { AreRuns (map shown_by runs.old.items) }
     requires stretch { IsStretch run.shown }
@@ -353,7 +353,7 @@ fn add_stretch<'a>(
     }
 }
 
-// Adds what is visible in a part, which lies behind the runs. Between two bounds only the active candidates are looked
+// Adds what is visible in a part, which lies after the runs. Between two bounds only the active candidates are looked
 // at, and they are few where few chunks overlap.
 fn add_part<'a>(
     alloc: Global,
@@ -394,7 +394,7 @@ pub(crate) fn runs_in<'a>(
     ensures runs { IfOk result (λ v. AreRunsIn parts.now chunks.now.entries v.items) }
     ensures unique { hash.IsUnique same_group chunks.now }
 {
-    // Read for the proof: the reader tells what its type keeps.
+    // For the proof: reading it exposes the invariant of its type.
     let _ = chunks.len();
     let candidates = sorted_candidates(alloc, chunks, parts)?;
     let mut runs = Vec::new(alloc);

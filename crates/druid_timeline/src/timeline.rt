@@ -136,7 +136,7 @@ impl Timeline {
         remove_from_chunk(&mut self.chunks, &key, id.partition(), node)
     }
 
-    /// The chunk that is visible at an instant, if one is. It takes no memory.
+    /// The chunk that is visible at an instant, if one is. Does not allocate.
     pub fn at(&self, instant: Instant) -> Option<&GroupKey>
         ensures { MatchOption result (NothingVisible self.now.held instant)
             (λ key. IsVisible self.now.held instant key.now) }

@@ -56,7 +56,7 @@ shared_fields n low =
     (All-cons IsField (field (codes "Content-Length") (32 ∷ decimal n)) (field (codes "Connection") (codes " close") ∷ []) (length_field n low)
     (All-cons IsField (field (codes "Connection") (codes " close")) [] (literal_field (codes "Connection") (codes " close") (omega arith) refl refl) (All-nil IsField)))
 
--- the length is told once, and is read back
+-- the length is given once, and is read back
 said : (needed : Bool) (n : ℕ) → n ≤ MAX_BODY → body_length needed (map name_and_value (shared (decimal n))) ≡ Ok n
 said needed n low = ap (λ (l : List ℕ). length_or needed (length_told l)) (decimal_trimmed n (omega arith)) ∙ ap (length_or needed) (length_told_again n low)
 

@@ -20,7 +20,7 @@ nothing_taken more old new room b c e same w =
     let none : w.front ≡ [] = nil w.front (omega (arith, same, ap length w.grown, length-append old w.front)) in
     (w.grown ∙ ap (λ l. old ++ l) none ∙ append-nil old, subst (Consumes b c) none w.taken)
 
--- bytes behind tries that brought nothing
+-- bytes after tries that brought nothing
 pub taken_again : (more : Bool) (start old new : List ℕ) (room : ℕ) (a b c : Option (List ℕ)) → old ≡ start → Consumes a b [] → IsTaken more old new room b c
     → IsTaken more start new room a c
 taken_again more start old new room a b c same none w = record {

@@ -49,7 +49,7 @@ digits_stay : (ds : List ℕ) → AllPass is_ascii_digit ds → skip_ows ds ≡ 
 digits_stay [] all = refl
 digits_stay (c ∷ cs) all = skip_ows_no {b = c} {all = c ∷ cs} {rest = cs} refl (sym (not_blank c (All-head (λ b. IsTrue (is_ascii_digit b)) c cs all)))
 
--- as the value of a field they stand behind a space
+-- as the value of a field they follow a space
 pub decimal_trimmed : (n : ℕ) → n < 2 ^ 64 → trim_ows (32 ∷ decimal n) ≡ decimal n
 decimal_trimmed n low =
     let digits = decimal_digits n low in

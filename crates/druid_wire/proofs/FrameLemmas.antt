@@ -11,7 +11,7 @@ use Rattle.druid_wire.specs.declared.frame.TheConstants.{MAX_HEAD}
 use Rattle.druid_stream.specs.declared.lines.Part.{Part}
 use Rattle.druid_stream.specs.declared.lines.Part.TheVariants.{More, Feed, Ended}
 
--- blank lines were taken, and behind them the lines of head
+-- blank lines were taken, and after them the lines of head
 pub record HasLines (head : List ℕ) (a b : Option (List ℕ)) : Type 0 where
   pub blank : List (List ℕ)
   pub lines : List (List ℕ)
@@ -28,7 +28,7 @@ text_of-push lines line = flat_map-append (λ l. l ++ 10 ∷ []) lines (line ∷
 pub no_lines : (a : Option (List ℕ)) → HasLines [] a a
 no_lines a = record { blank = []; lines = []; blanks = All-nil IsBlank; each = All-nil IsTextLine; is = refl; short = omega arith; taken = Consumes-nil a }
 
--- what stands behind the lines is the line that was taken
+-- what follows the lines is the line that was taken
 behind : (old mid front : List ℕ) → mid ≡ old ++ front → drop (length old) mid ≡ front
 behind old mid front e = ap (λ l. drop (length old) l) e ∙ drop-append_seam old front
 
@@ -87,7 +87,7 @@ blank_more old mid room a b c h w empty is_blank = record {
     all = ap (λ l. (text_of h.blank ++ l) ++ (w.front ++ 10 ∷ [])) none ∙ ap (λ l. l ++ (w.front ++ 10 ∷ [])) (append-nil (text_of h.blank))
         ∙ sym (text_of-push h.blank w.front) ∙ sym (append-nil (text_of (h.blank ++ w.front ∷ [])))
 
--- the blank line behind the others
+-- the blank line after the others
 pub head_found : (old mid : List ℕ) (room : ℕ) (a b c : Option (List ℕ)) → HasLines old a b → IsLine Feed old mid room b c → room + length old ≤ MAX_HEAD
     → 0 < length old → IsBlank (drop (length old) mid) → IfSome a (λ input. (rest : List ℕ) × (c ≡ Some rest) × IsFramed input (mid ++ 10 ∷ []) rest)
 head_found old mid room None b c h w fits some is_blank = tt
@@ -156,7 +156,7 @@ head_too_long old mid room (Some input) (Some more) (Some rest) h w fits = recor
   over = omega (arith, fits, w.ends.3, ap length h.is, length-append (text_of h.lines) w.front, length-append w.ends.0 rest);
 }
 
--- ---- the same of a part that is told by an equation, of a head by what it has now
+-- ---- the same of a part that is given by an equation, of a head by what it has now
 
 pub long_at : (part : Part) (old mid : List ℕ) (room : ℕ) (a b c : Option (List ℕ)) → part ≡ More → HasLines old a b → IsLine part old mid room b c
     → MAX_HEAD ≤ room + length old → IfSome a IsLongHead

@@ -5,7 +5,7 @@ use Rattle.druid_wire.specs.Frame.{IsPlain, IsBlank, IsTextLine, text_of, IsFram
 
 -- ---- lines
 
--- the first of some lines, and what is behind it
+-- the first of some lines, and what is after it
 pub first_line : (line : List ℕ) (lines : List (List ℕ)) (rest : List ℕ) → text_of (line ∷ lines) ++ rest ≡ line ++ 10 ∷ (text_of lines ++ rest)
 first_line line lines rest = append_assoc (line ++ 10 ∷ []) (text_of lines) rest ∙ append_assoc line (10 ∷ []) (text_of lines ++ rest)
 
@@ -44,7 +44,7 @@ text_not_blank (l ∷ lines) blank behind rest texts some is e =
     let same = line_once l blank (text_of lines ++ rest) behind first.0 (blank_plain blank is) (sym (first_line l lines rest) ∙ e) in
     first.1 (subst IsBlank (sym same.0) is)
 
--- the lines behind as many blank ones
+-- the lines after as many blank ones
 pub same_blanks : (bs cs xs ys : List (List ℕ)) (a b : List ℕ) → All IsBlank bs → All IsBlank cs → All IsTextLine xs → All IsTextLine ys
     → 0 < length xs → 0 < length ys → text_of bs ++ (text_of xs ++ a) ≡ text_of cs ++ (text_of ys ++ b) → text_of xs ++ a ≡ text_of ys ++ b
 same_blanks [] [] xs ys a b p q tx ty sx sy e = e
@@ -57,7 +57,7 @@ same_blanks (c ∷ bs) (d ∷ cs) xs ys a b p q tx ty sx sy e =
     (line_once c d (text_of bs ++ (text_of xs ++ a)) (text_of cs ++ (text_of ys ++ b)) (blank_plain c (All-head IsBlank c bs p)) (blank_plain d (All-head IsBlank d cs q))
     (sym (first_line c bs (text_of xs ++ a)) ∙ e ∙ first_line d cs (text_of ys ++ b))).1
 
--- the lines of a text, up to the blank line behind them
+-- the lines of a text, up to the blank line after them
 same_lines : (xs ys : List (List ℕ)) (x y a b : List ℕ) → All IsTextLine xs → All IsTextLine ys → IsBlank x → IsBlank y
     → text_of xs ++ (x ++ 10 ∷ a) ≡ text_of ys ++ (y ++ 10 ∷ b) → (text_of xs ++ (x ++ 10 ∷ []) ≡ text_of ys ++ (y ++ 10 ∷ [])) × (a ≡ b)
 same_lines [] [] x y a b tx ty p q e =
@@ -102,7 +102,7 @@ inside (d ∷ x) (c ∷ line) a more p e =
 length_first : (line : List ℕ) (lines : List (List ℕ)) (rest : List ℕ) → length (text_of (line ∷ lines) ++ rest) ≡ length line + 1 + length (text_of lines ++ rest)
 length_first line lines rest = omega (arith, ap length (first_line line lines rest), length-append line (10 ∷ (text_of lines ++ rest)))
 
--- lines that are begun end before the blank line behind them does
+-- lines that are begun end before the blank line after them does
 begun_lines : (xs ys : List (List ℕ)) (x a line more : List ℕ) → All IsTextLine xs → IsBlank x → All IsTextLine ys → IsPlain line
     → text_of xs ++ (x ++ 10 ∷ a) ≡ text_of ys ++ (line ++ more) → length (text_of ys ++ line) ≤ length (text_of xs ++ x)
 begun_lines [] [] x a line more tx p ty q e = inside x line a more q e

@@ -110,7 +110,7 @@ lines_of start fields = start ∷ map field_line fields
 texts : (start : List ℕ) (fields : List Field) → IsTextLine start → All IsField fields → All IsTextLine (lines_of start fields)
 texts start fields text all = All-cons IsTextLine start (map field_line fields) text (field_lines_text fields all)
 
--- the end of a start line, a section, and what is behind it
+-- the end of a start line, a section, and what is after it
 section_lines : (start : List ℕ) (end : LineEnd) (fields : List Field) (last : LineEnd) (rest : List ℕ)
     → start ++ (print_end end ++ (print_section fields last ++ rest)) ≡ text_of (lines_of (start ++ before_feed end) fields) ++ (before_feed last ++ 10 ∷ rest)
 section_lines start end fields last rest =

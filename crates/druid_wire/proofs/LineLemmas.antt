@@ -21,7 +21,7 @@ not_grown old a = record { front = []; grown = sym (append-nil old); plain = All
 pub grown_long : (old new : List ℕ) (a b : Option (List ℕ)) → HasGrown old new a b → length old ≤ length new
 grown_long old new a b g = omega (arith, ap length g.grown, length-append old g.front)
 
--- what old grew by on the whole, with what is taken behind it
+-- what old grew by on the whole, with what is taken after it
 pub grown_front : (part : Part) (old mid new : List ℕ) (room : ℕ) (a b c : Option (List ℕ)) → HasGrown old mid a b → IsPart part mid new room b c
     → (front : List ℕ) × (new ≡ old ++ front) × All (λ x. x ≢ 10) front × Consumes a c (front ++ feed_of part)
 grown_front part old mid new room a b c g p = (
@@ -77,7 +77,7 @@ line_end old mid new left room a b c g p =
     whole (Some xs) (Some ys) (Some zs) end taken more =
         taken ∙ ap (λ l. g.front ++ l) (end ∙ sym (nil p.front zs (sym more ∙ end)))
 
--- ---- the same of a part that is told by an equation
+-- ---- the same of a part that is given by an equation
 
 pub part_long : (part : Part) (old mid new : List ℕ) (room : ℕ) (a b c : Option (List ℕ)) → HasGrown old mid a b → IsPart part mid new room b c → length old ≤ length new
 part_long part old mid new room a b c g p = omega (arith, grown_by old mid g.front g.grown, grown_by mid new p.front p.grown)

@@ -11,7 +11,7 @@ use Rattle.druid_message.specs.declared.fault.WireFault.TheVariants.{Cut, Read, 
 use Rattle.druid_wire.proofs.FramedLemmas.{one_head, not_cut, not_long}
 use Rattle.druid_wire.proofs.GrammarLines.{request_stays, response_stays}
 
--- texts of one length, and what is behind them
+-- texts of one length, and what is after them
 split_once : (a b r s : List ℕ) → length a ≡ length b → a ++ r ≡ b ++ s → (a ≡ b) × (r ≡ s)
 split_once a b r s same e = (
   sym (take_at a r (length b) same) ∙ ap (λ (l : List ℕ). take (length b) l) e ∙ take_at b s (length b) refl,

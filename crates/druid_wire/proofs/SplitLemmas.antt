@@ -12,7 +12,7 @@ pub parted : (bytes : List ℕ) (i d : ℕ) → i < length bytes → get_or byte
 parted bytes i d inside feed =
     sym (take-append-drop i bytes) ∙ ap (λ (l : List ℕ). take i bytes ++ l) (drop_more bytes i d inside ∙ ap (λ (b : ℕ). b ∷ drop (i + 1) bytes) feed)
 
--- blank lines were passed, and behind them, in text, lines that are not
+-- blank lines were passed, and after them, in text, lines that are not
 pub record Passes (bytes text rest : List ℕ) : Type 0 where
   pub blank : List (List ℕ)
   pub lines : List (List ℕ)
@@ -29,7 +29,7 @@ begins bytes = record { blank = []; lines = []; blanks = All-nil IsBlank; each =
 length_line : (line next rest : List ℕ) → rest ≡ line ++ 10 ∷ next → length rest ≡ length line + 1 + length next
 length_line line next rest e = omega (arith, ap length e, length-append line (10 ∷ next))
 
--- it goes behind those that were passed
+-- it goes after those that were passed
 pushed : (lines : List (List ℕ)) (line next : List ℕ) → text_of lines ++ (line ++ 10 ∷ next) ≡ text_of (lines ++ line ∷ []) ++ next
 pushed lines line next =
     ap (λ (l : List ℕ). text_of lines ++ l) (sym (append_assoc line (10 ∷ []) next)) ∙ sym (append_assoc (text_of lines) (line ++ 10 ∷ []) next)

@@ -10,7 +10,7 @@ use Rattle.druid_message.specs.declared.fault.WireFault.{WireFault}
 use Rattle.druid_message.specs.declared.fault.WireFault.TheVariants.{Write, Memory}
 use Rattle.druid_wire.specs.declared.length.TheConstants.{MAX_BODY}
 
--- the text is told by an equation
+-- the text is given by an equation
 pub front_as : (a b : Option (List ℕ)) (text whole : List ℕ) → whole ≡ text → AppendsFront a b text → AppendsFront a b whole
 front_as a b text whole e h = subst (AppendsFront a b) (sym e) h
 

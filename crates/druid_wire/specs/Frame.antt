@@ -1,4 +1,4 @@
--- Where the head of a message begins and ends, whatever stands in it: behind blank lines, and with the first empty line.
+-- Where the head of a message begins and ends, whatever stands in it: after blank lines, and with the first empty line.
 use Rattle.std.specs.Prelude.{◌≡◌, ◌≢◌, ◌+◌, ◌≤◌, ◌<◌, ◌⊎◌, ℕ, List, [], ◌∷◌, ◌++◌, All, length}
 use Rattle.std.specs.List.{flat_map}
 use Rattle.druid_wire.specs.declared.frame.TheConstants.{MAX_HEAD}
@@ -29,7 +29,7 @@ pub record IsHead (head : List ℕ) : Type 0 where
   pub is : head ≡ text_of lines ++ (last ++ 10 ∷ [])
   pub short : length head ≤ MAX_HEAD
 
--- the input is a head behind blank lines, and then the rest
+-- the input is a head after blank lines, and then the rest
 pub record IsFramed (input head rest : List ℕ) : Type 0 where
   pub blank : List (List ℕ)
   pub blanks : All IsBlank blank

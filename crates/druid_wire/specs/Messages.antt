@@ -1,4 +1,4 @@
--- What a message says of itself, and what may be wrong with it. Where several things are wrong, any of them is told.
+-- What a message says of itself, and what may be wrong with it. Where several things are wrong, any of them is reported.
 use Rattle.std.specs.Prelude.{◌≡◌, ◌<◌, ◌≤◌, ◌⊎◌, ⊤, ℕ, Bool, true, false, List, [], ◌++◌, length, map, codes, bytes_eq, if◌then◌else◌, Result, Ok, Err}
 use Rattle.httparse.specs.Grammar.{RequestHead, ReadsRequest, ResponseHead, ReadsResponse, status_code}
 use Rattle.httparse.specs.Spans.{name_and_value, RequestExceeds, ResponseExceeds}

@@ -7,7 +7,7 @@ use Rattle.druid_wire.specs.Frame.{IsFramed, EndsInHead, IsLongHead}
 use Rattle.druid_wire.specs.declared.frame.Found.{Found}
 use Rattle.druid_wire.specs.declared.frame.Found.TheVariants as found
 
--- how the line ended that old grew by: at its line feed, at the end of the input, or with as many bytes as there was room for, behind which
+-- how the line ended that old grew by: at its line feed, at the end of the input, or with as many bytes as there was room for, after which
 -- one more came
 abbrev pub EndsAs : Part → (front : List ℕ) → ℕ → Option (List ℕ) → Option (List ℕ) → Type 0
 EndsAs More front room before after = (more : List ℕ) × Consumes before after (front ++ more) × (room ≤ length front) × (room < length front + length more)

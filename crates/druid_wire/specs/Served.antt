@@ -49,7 +49,7 @@ pub record IsCutShort (old new : Option (List ℕ)) (status : ℕ) (body : List 
   pub front : AppendsFront old new (answer_text status body)
   pub told : IsWriteFault fault
 
--- the input is a request, behind which it is left, and this is an answer to it; or it has a fault, which is told
+-- the input is a request, after which it is left, and this is an answer to it; or it has a fault, which is returned
 abbrev pub Serves : (RequestValue → ℕ → List ℕ → Type 0) → List ℕ → Option (List ℕ) → ℕ → List ℕ → Type 0
 Serves Responds input after status body =
     ((request : RequestValue) × (rest : List ℕ) × (after ≡ Some rest) × IsRequest input request rest × Responds request status body)

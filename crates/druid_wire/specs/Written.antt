@@ -39,7 +39,7 @@ answer_text status body =
     if nat_le (length body) MAX_BODY then response_text status body
     else response_text 500 (codes "{\"error\":\"TooLarge\"}")
 
--- pieces, one behind another
+-- pieces, one after another
 abbrev pub joined : List (Bor (List ℕ)) → List ℕ
 joined pieces = flat_map (λ piece. piece.now) pieces
 

@@ -47,7 +47,7 @@ fn next_bytes<R: BufRead>(reader: &mut R, body: &mut Vec<u8>, room: usize) -> io
     Err(ErrorKind::Interrupted.into())
 }
 
-// Reads a body of so many bytes, and nothing behind it, with memory for what has come. False where the input ends before.
+// Reads a body of so many bytes, and nothing after it, with memory for what has come. False where the input ends before.
 pub(crate) fn read_body<R: BufRead>(
     reader: &mut R,
     body: &mut Vec<u8>,

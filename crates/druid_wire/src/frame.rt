@@ -21,7 +21,7 @@ pub(crate) enum Found {
     TooLong,
 }
 
-// Whether what stands behind a place is a blank line.
+// Whether what follows a place is a blank line.
 pub(crate) fn is_blank(head: &[u8], start: usize) -> bool
     requires { start ≤ length head.now }
     ensures { IsTrue result ↔ IsBlank (drop start head.now) }
@@ -31,7 +31,7 @@ pub(crate) fn is_blank(head: &[u8], start: usize) -> bool
 }
 
 // Appends the next line, without its line feed, but no more than one byte more than there is room for: `More` where it has
-// as many as that, and another byte comes behind them.
+// as many as that, and another byte comes after them.
 #[tactic(auto, using(crate::proofs::LineLemmas::not_grown, crate::proofs::LineLemmas::grown_long, crate::proofs::LineLemmas::part_long, crate::proofs::LineLemmas::line_full))]
 fn read_line<R: BufRead>(reader: &mut R, head: &mut Vec<u8>, room: usize) -> io::Result<Part>
     ensures { IfOk result (λ part. IsLine part head.old.items head.new.items room
@@ -58,7 +58,7 @@ fn read_line<R: BufRead>(reader: &mut R, head: &mut Vec<u8>, room: usize) -> io:
     Err(ErrorKind::TimedOut.into())
 }
 
-// Reads blank lines, which are not kept, and behind them a head, up to and with the blank line that ends it.
+// Reads blank lines, which are not kept, and after them a head, up to and with the blank line that ends it.
 pub(crate) fn find_head<R: BufRead>(reader: &mut R, head: &mut Vec<u8>) -> io::Result<Found>
     ensures { IfOk result (λ found. IfSome (R.remaining reader.old)
         (λ input. Finds found input head.new.items (R.remaining reader.new))) }

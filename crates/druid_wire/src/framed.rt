@@ -7,7 +7,7 @@ ghost use Rattle.druid_wire.specs.Told.{LacksHead};
 use crate::frame::{MAX_HEAD, is_blank};
 use druid_message::WireFault;
 
-// The first line, without its line feed, and what stands behind it; or none where no line ends.
+// The first line, without its line feed, and what follows it; or none where no line ends.
 #[tactic(auto, using(crate::proofs::SplitLemmas::parted))]
 fn split_line(bytes: &[u8]) -> Option<(&[u8], &[u8])>
     ensures some { IfSome result (λ parts. IsPlain parts.0.now × (bytes.now ≡ parts.0.now ++ 10 ∷ parts.1.now)) }
@@ -23,13 +23,13 @@ fn split_line(bytes: &[u8]) -> Option<(&[u8], &[u8])>
     None
 }
 
-// The head, behind blank lines, and what stands behind it.
+// The head, after blank lines, and what follows it.
 pub(crate) fn split_head(bytes: &[u8]) -> Result<(&[u8], &[u8]), WireFault>
     ensures ok { IfOk result (λ parts. IsFramed bytes.now parts.0.now parts.1.now) }
     ensures err { IfErr result (LacksHead bytes.now) }
     ensures never { IfErr result IsOfBytes }
 {
-    // The bytes from the head on, and those behind the lines of it that were passed.
+    // The bytes from the head on, and those after the lines of it that were passed.
     let mut text = bytes;
     let mut rest = bytes;
     while let Some((line, behind)) = split_line(rest) {

@@ -80,7 +80,7 @@ fn whole_request(
     }
 }
 
-// What a framed head says, if it is the head of a request. It takes no memory.
+// What a framed head says, if it is the head of a request. Does not allocate.
 pub(crate) fn request_told(head: &[u8]) -> Result<RequestTold, WireFault>
     ensures ok { IfOk result (TellsRequest head.now) }
     ensures err { IfErr result (λ fault. RequestSays head.now (Err fault)) }
@@ -118,7 +118,7 @@ fn whole_response(
     }
 }
 
-// What a framed head says, if it is the head of a response. It takes no memory.
+// What a framed head says, if it is the head of a response. Does not allocate.
 pub(crate) fn response_told(head: &[u8]) -> Result<ResponseTold, WireFault>
     ensures ok { IfOk result (TellsResponse head.now) }
     ensures err { IfErr result (λ fault. ResponseSays head.now (Err fault)) }

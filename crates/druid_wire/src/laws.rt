@@ -11,7 +11,7 @@ ghost use Rattle.druid_message.specs.declared.fault.WireFault.TheVariants.{Read,
 ghost use Rattle.druid_wire.specs.declared.frame.TheConstants.{MAX_HEAD};
 ghost use Rattle.druid_wire.specs.declared.length.TheConstants.{MAX_BODY};
 
-/// An input has one head, and one rest behind it. It neither ends in the head, nor is the head too long.
+/// An input has one head, and one rest after it. It neither ends in the head, nor is the head too long.
 pub fn one_head()
     ensures one { (input a b r s : List ℕ) → IsFramed input a r → IsFramed input b s → (a ≡ b) × (r ≡ s) }
     ensures whole { (input head rest : List ℕ) → IsFramed input head rest → ¬ (EndsInHead input) }
@@ -34,17 +34,17 @@ pub fn messages_are_of_the_grammar()
     ensures responses { (input : List ℕ) (status : ℕ) (body rest : List ℕ) → IsResponse input status body rest ↔ IsGrammarResponse input status body rest }
 {}
 
-/// An input is one request, with one rest behind it.
+/// An input is one request, with one rest after it.
 pub fn one_request()
     ensures { (input : List ℕ) (a b : RequestValue) (r s : List ℕ) → IsRequest input a r → IsRequest input b s → (a ≡ b) × (r ≡ s) }
 {}
 
-/// An input is one response, with one rest behind it.
+/// An input is one response, with one rest after it.
 pub fn one_response()
     ensures { (input : List ℕ) (m n : ℕ) (a b r s : List ℕ) → IsResponse input m a r → IsResponse input n b s → (m ≡ n) × (a ≡ b) × (r ≡ s) }
 {}
 
-/// Of an input that is a request only a failed reader and want of memory are told: else it is read as that request.
+/// Of an input that is a request only a failed reader or lack of memory is reported: else it is read as that request.
 pub fn requests_have_no_fault()
     ensures { (input : List ℕ) (request : RequestValue) (rest : List ℕ) (fault : WireFault) → IsRequest input request rest → HasFault RequestSays input fault
         → (fault ≡ Read) ⊎ (fault ≡ Memory) }

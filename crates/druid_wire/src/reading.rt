@@ -41,7 +41,7 @@ fn take_head<R: BufRead>(reader: &mut R, head: &mut Vec<u8>) -> Result<(), WireF
     }
 }
 
-// Reads a body of so many bytes, and nothing behind it.
+// Reads a body of so many bytes, and nothing after it.
 fn take_body<R: BufRead>(reader: &mut R, body: &mut Vec<u8>, length: usize) -> Result<(), WireFault>
     ensures ok { OnOk result (IfSome (R.remaining reader.old)
         (λ input. EndsBody true input length body.new.items (R.remaining reader.new))) }
@@ -78,8 +78,8 @@ fn request_of(
     Ok(Request::new(method, target, body))
 }
 
-/// Reads a request: a head of the grammar, behind blank lines, and exactly its body. What follows stays unread. Where it
-/// has several faults, any of them is told: `Cut` where the input ends in it, `HeadTooLong` where its head passes a limit,
+/// Reads a request: a head of the grammar, after blank lines, and exactly its body. What follows stays unread. Where it
+/// has several faults, any of them is reported: `Cut` where the input ends in it, `HeadTooLong` where its head passes a limit,
 /// `BadHead` where the head is none or names its length twice or badly, `NoLength` where its body is coded or a `POST` names
 /// no length, `BodyTooLong` where the length passes the limit. `Read` where the reader fails, `Memory` where memory is refused.
 pub fn read_request<R: BufRead>(alloc: Global, reader: &mut R) -> Result<Request, WireFault>

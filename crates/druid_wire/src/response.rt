@@ -7,10 +7,10 @@ use crate::head::response_told;
 use druid_message::WireFault;
 use http::StatusCode;
 
-/// The status and the body, which is lent, of the response that stands in these bytes; what follows the body is passed over.
-/// Where it has several faults, any of them is told: `Cut` where the bytes end in it, `HeadTooLong` where its head passes a
+/// The status and the body, which is borrowed, of the response that stands in these bytes; what follows the body is passed over.
+/// Where it has several faults, any of them is reported: `Cut` where the bytes end in it, `HeadTooLong` where its head passes a
 /// limit, `BadHead` where the head is none, names its length twice or badly, or has a status below 100, `NoLength` where its
-/// body is coded or it names no length, `BodyTooLong` where the length passes the limit. It takes no memory.
+/// body is coded or it names no length, `BodyTooLong` where the length passes the limit. Does not allocate.
 pub fn response_of(bytes: &[u8]) -> Result<(StatusCode, &[u8]), WireFault>
     ensures ok { IfOk result (λ response. (rest : List ℕ) × IsResponse bytes.now response.0 response.1.now rest) }
     ensures err { IfErr result (λ fault. HasFault ResponseSays bytes.now fault) }

@@ -1,4 +1,4 @@
-//! Messages, written to a writer, which takes no memory, and the bytes of requests.
+//! Messages, written to a writer, which does not allocate, and the bytes of requests.
 ghost use Rattle.std.specs.Prelude.{◌≡◌, ◌≤◌, ◌⊎◌, length, decimal, IfOk, IfErr, OnOk, OnErr};
 ghost use Rattle.std.specs.Io.KnownBytes.{Appends};
 ghost use Rattle.druid_stream.specs.Fronts.{AppendsFront};
@@ -19,10 +19,10 @@ const BEFORE_STATUS: &[u8] = b"HTTP/1.1 ";
 // What a head has between its first fields and the length of the body.
 const BEFORE_LENGTH: &[u8] = b"Content-Type: application/json\r\nContent-Length: ";
 
-// What it has behind the length, up to the end of the empty line.
+// What it has after the length, up to the end of the empty line.
 const BEHIND_LENGTH: &[u8] = b"\r\nConnection: close\r\n\r\n";
 
-// Writes pieces, one behind another, as one text.
+// Writes pieces, one after another, as one text.
 fn write_pieces<W: Write>(writer: &mut W, pieces: &[&[u8]]) -> io::Result<()>
     ensures ok { OnOk result (Appends (W.contents writer.old) (W.contents writer.new) (joined pieces.now)) }
     ensures err { OnErr result
@@ -45,8 +45,8 @@ fn write_fault(error: &Error) -> WireFault
     }
 }
 
-// The phrase of a status, which is empty where it has none. It is lent no longer than the status is, so that the pieces of
-// a text are lent alike.
+// The phrase of a status, which is empty where it has none. It is borrowed no longer than the status is, so that the pieces of
+// a text are borrowed alike.
 fn phrase_of(status: &StatusCode) -> &[u8]
     ensures { result.now ≡ phrase_of status.now }
 {
@@ -107,7 +107,7 @@ fn write_response_text<W: Write>(status: StatusCode, body: &[u8], writer: &mut W
     )
 }
 
-// Pieces, one behind another, in room for all of them.
+// Pieces, one after another, in room for all of them.
 fn join_pieces(alloc: Global, pieces: &[&[u8]]) -> Result<Vec<u8>, AllocError>
     ensures { IfOk result (λ bytes. bytes.items ≡ joined pieces.now) }
 {
@@ -131,8 +131,8 @@ pub fn request_bytes(alloc: Global, request: &Request) -> Result<Vec<u8>, AllocE
     join_pieces(alloc, &pieces)
 }
 
-/// Writes a request, and takes no memory. `BodyTooLong`, and nothing is written, where its body passes the limit. `Write`
-/// where the writer fails, and `Memory` where it fails for want of memory: then it has got some front of the request, and
+/// Writes a request, and does not allocate. `BodyTooLong`, and nothing is written, where its body passes the limit. `Write`
+/// where the writer fails, and `Memory` where it fails for lack of memory: then it has got some front of the request, and
 /// not the whole. Nothing is flushed.
 pub fn write_request<W: Write>(request: &Request, writer: &mut W) -> Result<(), WireFault>
     ensures ok { OnOk result (Appends (W.contents writer.old) (W.contents writer.new) (request_text request.now)) }
@@ -160,8 +160,8 @@ fn write_whole<W: Write>(status: StatusCode, body: &[u8], writer: &mut W) -> Res
     }
 }
 
-/// Writes a response, and takes no memory. In place of one whose body passes the limit, status 500 and
-/// `{"error":"TooLarge"}` are written. `Write` where the writer fails, and `Memory` where it fails for want of memory: then
+/// Writes a response, and does not allocate. In place of one whose body passes the limit, status 500 and
+/// `{"error":"TooLarge"}` are written. `Write` where the writer fails, and `Memory` where it fails for lack of memory: then
 /// it has got some front of the text, and not the whole. Nothing is flushed.
 pub fn write_response<W: Write>(
     status: StatusCode,

@@ -125,7 +125,7 @@ pub put_reached : (v s : State) (packet : Packet) (items : List Packet) (b : Boo
 put_reached v s packet items b is h next items_are =
     put_by v packet items b h (subst (λ (x : State). (event : Event) × Next x event (with_packet x packet)) (sym is) next) items_are
 
--- want of memory where the event can happen
+-- out of memory where the event can happen
 pub memory_told : (r : Result ⊤ SimFault) (s t : State) (event : Event) → Next s event t → IfErr r (λ fault. fault ≡ faults.Memory) → IfErr r (Tells s event)
 memory_told (Ok x) s t event next memory = tt
 memory_told (Err fault) s t event next memory = subst (Tells s event) (sym memory) (t, next)

@@ -82,7 +82,7 @@ changes_grow (era ∷ ended) last more behind i cs e = by_test (changes_grow end
   by_test later true f = ([], f ∙ ap (λ xs. Some xs) (sym (append-nil cs)))
   by_test later false f = later f
 
--- an incarnation's changes stay, with more behind them
+-- an incarnation's changes stay, with more after them
 pub grown : (old new : Life) (i : ℕ) (cs : List Change) → Grows old new → changes_of (eras_of old) i ≡ Some cs
     → (rest : List Change) × (changes_of (eras_of new) i ≡ Some (cs ++ rest))
 grown old new i cs g e =
@@ -131,7 +131,7 @@ slice_front : (xs ys : List Change) (a b : ℕ) → a ≤ b → b ≤ length xs 
 slice_front xs ys a b l m =
     slice-is xs a b l ∙ ap (drop a) (sym (take-append-le b xs ys m)) ∙ sym (slice-is (xs ++ ys) a b l)
 
--- the changes that come behind a count in between
+-- the changes that come after a count in between
 slice_rest : (xs : List Change) (a c b : ℕ) → a ≤ c → c ≤ b → drop (c - a) (slice_range xs a b) ≡ drop c (take b xs)
 slice_rest xs a c b l m =
     let place : a + (c - a) ≡ c = omega arith in

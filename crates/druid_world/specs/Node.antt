@@ -12,7 +12,7 @@ pub record IsFollowed (history : Kept) (changes : List Change) (kept : ℕ) : Ty
   pub stands : StandsFor history changes
   pub limit : history.limit ≡ kept
 
--- why an entry is not sent; want of memory comes only where it was synced
+-- why an entry is not sent; out of memory only where it was synced
 abbrev pub TellsEntry : List Entry → ℕ → SimFault → Type 0
 TellsEntry inventory node faults.Refused = IsUnsynced inventory node
 TellsEntry inventory node faults.Memory = (reply : Body) × IsEntryOf inventory node reply

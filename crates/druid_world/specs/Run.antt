@@ -96,7 +96,7 @@ Next s (events.Record node change) new =
 Next s (events.Restart node) new =
     (life : Life) × (slice_get s.world node ≡ Some life) × (nat_lt life.last.incarnation last_incarnation ≡ true)
     × (new ≡ with_node s node (restarted life))
--- the broker asks for the whole, or for what comes behind its mark
+-- the broker asks for the whole, or for what comes after its mark
 Next s (events.Ask broker node whole) new =
     (life : Life) × (inventory : List Entry) × (e : Entry) × (slice_get s.world node ≡ Some life)
     × (slice_get s.brokers broker ≡ Some inventory) × (slice_get inventory node ≡ Some e)
@@ -157,7 +157,7 @@ refusal s (events.Cut packet) = needs faults.NoSuchPacket (slice_get s.packets p
 refusal s (events.Fail broker node) =
     needs faults.NoSuchNode (slice_get s.world node) (λ life. needs faults.NoSuchBroker (slice_get s.brokers broker) (λ inventory. None))
 
--- the fault that tells why an event did not happen; want of memory comes only where it can happen
+-- the fault that tells why an event did not happen; out of memory only where it can happen
 abbrev pub Tells : State → Event → SimFault → Type 0
 Tells s event faults.Memory = (new : State) × Next s event new
 Tells s event fault = refusal s event ≡ Some fault

@@ -111,6 +111,6 @@ IsHonestAt world node reply = (life : Life) × (slice_get world node ≡ Some li
 abbrev pub with_more : Era → List Change → Era
 with_more era more = record { incarnation = era.incarnation; changes = era.changes ++ more }
 
--- the last incarnation goes on, or it ended and others came behind it; nothing that was is changed
+-- the last incarnation goes on, or it ended and others came after it; nothing that was is changed
 abbrev pub Grows : Life → Life → Type 0
 Grows old new = (more : List Change) × (behind : List Era) × (eras_of new ≡ old.ended ++ with_more old.last more ∷ behind)

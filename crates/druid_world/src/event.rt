@@ -40,7 +40,7 @@ pub enum Event {
     Seed {
         /// The broker that tells.
         peer: usize,
-        /// The broker that is told.
+        /// The broker that gets it.
         broker: usize,
         /// The node.
         node: NodeNo,
@@ -76,9 +76,9 @@ pub enum Packet {
         /// What it asks for.
         ask: Ask,
     },
-    /// What a broker is told of a node.
+    /// What a broker is reported of a node.
     Reply {
-        /// The broker that is told.
+        /// The broker that gets it.
         broker: usize,
         /// The node that it is about.
         node: NodeNo,

@@ -57,7 +57,7 @@ pub fn one_next()
     ensures some { (s : State) (event : Event) → IsReached s → refusal s event ≡ None → (t : State) × Next s event t }
 {}
 
-/// Nothing that a node ever did is changed by an event, and what was told truly stays true.
+/// Nothing that a node ever did is changed by an event, and what was reported truly stays true.
 pub fn worlds_grow()
     ensures grows { (s t : State) (event : Event) → Next s event t → AllZip Grows s.world t.world }
     ensures honest { (old new : Life) (reply : Body) → Grows old new → IsHonest (eras_of old) reply

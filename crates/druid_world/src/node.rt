@@ -67,7 +67,7 @@ impl Node {
         })
     }
 
-    // Whether its history takes the change. It takes no memory.
+    // Whether its history takes the change. Does not allocate.
     pub(crate) fn takes(&self, change: &Change) -> bool
         ensures { result ≡ takes self.now change.now }
     {

@@ -7,7 +7,7 @@ use Rattle.std.specs.Bool.{IsTrue}
 use Rattle.druid_members.specs.Members.{Member, HasPartition, HoldsPlace, HasMember, core_count}
 use Rattle.druid_members.proofs.members.Members.is_complete.Goals as goal
 
--- nothing is lent for a partition only where no member has it
+-- nothing is borrowed for a partition only where no member has it
 none_lent : (nodes : List ℕ) (ms : List Member) (p : ℕ) → ((n : ℕ) → Contains nodes n ↔ HoldsPlace ms p n) → length nodes ≡ 0 → HasPartition ms p → ⊥
 none_lent nodes ms p h none held =
     let there = (h held.0.node).1 (held.0, held.1, held.2, refl) in

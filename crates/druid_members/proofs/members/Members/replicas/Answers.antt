@@ -4,7 +4,7 @@ use Rattle.druid_members.specs.Members.{Member, HoldsPlace, ServedOnce}
 use Rattle.druid_members.proofs.SlotLemmas.{HoldsPlace-slot, ServedOnce-slot, ServedOnce-none}
 use Rattle.druid_members.proofs.members.Members.replicas.Goals as goal
 
--- what holds of the members in the slots holds of the value, and what the slot lends is what the map has
+-- what holds of the members in the slots holds of the value, and what the slot gives is what the map has
 lent : (members value : List Member) (nodes slot : List ℕ) (p n : ℕ) → members ≡ value → nodes ≡ slot → HoldsPlace members p n ↔ Contains slot n → Contains nodes n ↔ HoldsPlace value p n
 lent members value nodes slot p n e f h = (
   λ there. subst (λ (ms : List Member). HoldsPlace ms p n) e (h.1 (subst (λ (xs : List ℕ). Contains xs n) f there)),
