@@ -1,0 +1,108 @@
+#!/usr/bin/env python3
+"""Runs a command of the toolchain and says where its processor time went, by crate and phase, and what each must-fail edit took.
+
+gate_cost.py COMMAND..     as `bench/gate_cost.py .ci/run` at the top of the repository
+
+Phases: proof (the crate), tests (a crate of tests), edits (its must-fail edits, with the proof that they begin with), and other
+programs by their name. Processor minutes hold on a busy machine better than minutes by the clock; `from` and `to` are minutes by
+the clock since the start. What an edit took stands apart, in processor seconds: `begins` is the proof that the edits of a crate
+begin with and the last look at it, which a crate with two edits or more pays once. It reads /proc once a second.
+"""
+import collections, glob, os, re, subprocess, sys, time
+
+HZ = os.sysconf('SC_CLK_TCK')
+Work = collections.namedtuple('Work', 'crate phase edit')
+
+
+def stat(pid):
+    """The parent and the processor time of a process, in ticks; None once it is gone."""
+    try:
+        text = open(f'/proc/{pid}/stat').read()
+        rest = text[text.rindex(')') + 2:].split()
+        return None if rest[0] == 'Z' else (int(rest[1]), int(rest[11]) + int(rest[12]))
+    except (OSError, ValueError, IndexError):
+        return None
+
+
+def below(root):
+    """The processor time of each process below the root, by its number."""
+    found = {}
+    for path in glob.glob('/proc/[0-9]*'):
+        seen = stat(path[6:])
+        if seen:
+            found[int(path[6:])] = seen
+    wanted, grown = {root}, True
+    while grown:
+        more = {pid for pid, (parent, _) in found.items() if parent in wanted} - wanted
+        wanted, grown = wanted | more, bool(more)
+    return {pid: found[pid][1] for pid in wanted if pid in found}
+
+
+def edits_of(crate):
+    """The names of a crate's edits, in the order in which the gate numbers them."""
+    return sorted(os.path.basename(path)[:-len('.edit')] for path in glob.glob(f'crates/{crate}/must-fail/*.edit'))
+
+
+def work_of(pid):
+    """What a process works on."""
+    try:
+        words = open(f'/proc/{pid}/cmdline', 'rb').read().decode(errors='replace').split('\0')
+        folder = os.readlink(f'/proc/{pid}/cwd')
+    except OSError:
+        return None
+    inside = re.search(r'/crates/([A-Za-z0-9_]+)', folder)
+    crate = words[words.index('--crate-name') + 1] if '--crate-name' in words else inside[1] if inside else '-'
+    if os.path.basename(words[0]) != 'rattle':
+        return Work(crate, os.path.basename(words[0]) or '-', '')
+    if '/rt-edit-' not in folder:
+        return Work(crate, 'tests' if crate.endswith('_tests') else 'proof', '')
+    over = words[words.index('--incremental') + 1] if '--incremental' in words else ''
+    names, number = edits_of(crate), os.path.basename(over)
+    if number.isdigit() and int(number) < len(names):
+        return Work(crate, 'edits', names[int(number)])
+    return Work(crate, 'edits', names[0] if len(names) == 1 else 'begins')
+
+
+def watch(child):
+    start, last, works, spans, total = time.time(), {}, {}, {}, collections.Counter()
+    while child.poll() is None:
+        for pid, ticks in below(child.pid).items():
+            works[pid] = works.get(pid) or work_of(pid)
+            if works[pid] and ticks > last.get(pid, 0):
+                total[works[pid]] += ticks - last.get(pid, 0)
+                last[pid] = ticks
+                minutes, key = (time.time() - start) / 60, works[pid][:2]
+                spans[key] = spans.get(key, (minutes, 0))[0], minutes
+        time.sleep(1)
+    return total, spans, (time.time() - start) / 60
+
+
+def tell(total, spans, minutes):
+    by_phase, phases = collections.Counter(), collections.Counter()
+    for work, ticks in total.items():
+        by_phase[work[:2]] += ticks
+        phases[work.phase] += ticks
+    print(f"\n{'crate':<24}{'phase':<12}{'processor min':>14}{'from':>7}{'to':>7}")
+    for (crate, phase), ticks in by_phase.most_common():
+        if ticks > 5 * HZ:
+            first, end = spans[crate, phase]
+            print(f'{crate:<24}{phase:<12}{ticks / HZ / 60:14.1f}{first:7.0f}{end:7.0f}')
+    for phase, ticks in phases.most_common():
+        print(f"{'all':<24}{phase:<12}{ticks / HZ / 60:14.1f}")
+    print(f"{'all':<36}{sum(total.values()) / HZ / 60:14.1f}{0:7.0f}{minutes:7.0f}")
+    print(f"\n{'crate':<24}{'edit':<44}{'processor s':>12}")
+    for work, ticks in sorted(total.items(), key=lambda it: (it[0].crate, -it[1])):
+        if work.edit:
+            print(f'{work.crate:<24}{work.edit:<44}{ticks / HZ:12.0f}')
+
+
+def main(words):
+    if not words or words[0] in ('-h', '--help'):
+        print(__doc__)
+        return 2
+    child = subprocess.Popen(words)
+    tell(*watch(child))
+    return child.returncode
+
+
+sys.exit(main(sys.argv[1:]))
