@@ -19,6 +19,8 @@ mod inventory;
 #[cfg(test)]
 mod joining;
 #[cfg(test)]
+mod members;
+#[cfg(test)]
 mod printing;
 #[cfg(test)]
 mod rows;

@@ -1,13 +1,15 @@
 //! What no contract says of segment files, of the folders that keep them, of messages and of links: worked examples,
-//! devices and calls of the system that fail, printed texts, and that calls succeed with ample memory. `rows`, `segfile`,
-//! `store` and `stream` have the names of the crates that they test; the others are of `druid_wire`, and `store_double` of
-//! `druid_store`.
+//! devices and calls of the system that fail, printed texts, and that calls succeed with ample memory. `incarnation`, `link`,
+//! `rows`, `segfile`, `store`, `stream` and `wire` have the names of the crates that they test; `serving` is of `druid_wire`,
+//! `tcp_links` of `druid_link`, and `store_double` of `druid_store`.
 #![tactic(auto)]
 
 #[cfg(test)]
 mod devices;
 #[cfg(test)]
-mod links;
+mod incarnation;
+#[cfg(test)]
+mod link;
 #[cfg(test)]
 mod printing;
 #[cfg(test)]

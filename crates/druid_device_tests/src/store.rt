@@ -24,7 +24,7 @@ fn next_of<F: Folder>(rt: &impl Abort, alloc: Global, folder: &mut F) -> String 
 }
 
 // Whether a folder answers that, and its file then has that text.
-fn answers<F: Folder>(
+pub(crate) fn answers<F: Folder>(
     rt: &impl Abort,
     alloc: Global,
     folder: &mut F,
@@ -32,81 +32,6 @@ fn answers<F: Folder>(
     after: &str,
 ) -> bool {
     next_of(rt, alloc, folder).as_str() == answer && has(rt, alloc, folder, "incarnation", after)
-}
-
-// A folder in memory whose file has these bytes.
-fn folder_with(rt: &impl Abort, alloc: Global, bytes: &[u8]) -> MemoryFolder {
-    let mut folder = MemoryFolder::new(alloc);
-    folder.write("incarnation", bytes).expect(rt, "a write");
-    folder
-}
-
-// The text of a file, the answer, and the text afterwards.
-const NUMBERS: [(&str, &str, &str); 5] = [
-    ("7\n", "8\n", "8\n"),
-    ("99\n", "100\n", "100\n"),
-    (
-        "18446744073709551614\n",
-        "18446744073709551615\n",
-        "18446744073709551615\n",
-    ),
-    (
-        "18446744073709551615\n",
-        "O3: the last incarnation number",
-        "18446744073709551615\n",
-    ),
-    ("07\n", "O2: a bad incarnation number", "07\n"),
-];
-
-// Whether a folder in memory whose file has the first text before answers so.
-fn answers_after(rt: &impl Abort, alloc: Global, before: &str, answer: &str, after: &str) -> bool {
-    let mut folder = folder_with(rt, alloc, before.as_bytes());
-    answers(rt, alloc, &mut folder, answer, after)
-}
-
-#[test]
-fn incarnation_file(rt: HostRuntime) {
-    let alloc = rt.alloc();
-    assert!(rt; answers(&rt, alloc, &mut MemoryFolder::new(alloc), "1\n", "1\n"));
-    for (before, answer, after) in &NUMBERS {
-        assert!(rt;
-            answers_after(&rt, alloc, before, answer, after),
-            "{before:?}"
-        );
-    }
-}
-
-// Whether these bytes are no number.
-fn is_bad(rt: &impl Abort, alloc: Global, bytes: &[u8]) -> bool {
-    let mut folder = folder_with(rt, alloc, bytes);
-    next_incarnation(alloc, &mut folder) == Err(StoreFault::BadNumber)
-}
-
-const TEXTS_WITHOUT_A_NUMBER: [&str; 16] = [
-    "",
-    "\n",
-    "0\n",
-    "+7\n",
-    "-7\n",
-    " 7\n",
-    "7 \n",
-    "7\r\n",
-    "7",
-    "8\n\n",
-    "8\n8\n",
-    "0x8\n",
-    "8.0\n",
-    "18446744073709551616\n",
-    "100000000000000000000\n",
-    "\u{667}\n",
-];
-
-#[test]
-fn files_without_a_number(rt: HostRuntime) {
-    for text in &TEXTS_WITHOUT_A_NUMBER {
-        assert!(rt; is_bad(&rt, rt.alloc(), text.as_bytes()), "at {text:?}");
-    }
-    assert!(rt; is_bad(&rt, rt.alloc(), &[55, 255, 10]));
 }
 
 const TEXTS_OF_FAULTS: [(StoreFault, &str); 5] = [

@@ -1,5 +1,5 @@
 //! Links over sockets of this machine.
-use crate::links::{REQUEST, exchanged_for};
+use crate::link::{REQUEST, exchanged_for};
 use crate::printing::printed;
 use crate::table::{assert_row, assert_told, halves, is_told};
 use crate::wire::large;

@@ -1,10 +1,12 @@
 //! What no contract says of queries, of partials and of data nodes: worked examples over texts, files and messages, printed
-//! texts, and that calls succeed with ample memory. `subquery` is of `druid_query_text` and `druid_asked_text`, `answers` of
+//! texts, and that calls succeed with ample memory. `subquery` is of `druid_query_text`, `answers` of
 //! `druid_partial_text`, `node` and `queries` of `druid_node`.
 #![tactic(auto)]
 
 #[cfg(test)]
 mod answers;
+#[cfg(test)]
+mod asked_text;
 #[cfg(test)]
 mod node;
 #[cfg(test)]

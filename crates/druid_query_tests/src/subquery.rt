@@ -1,6 +1,5 @@
 //! Subqueries, read and written again.
 use crate::printing::{filled, printed};
-use druid_asked_text::{asked_value, asked_values, read_asked};
 use druid_query::SubQuery;
 use druid_query_text::{read_subquery, subquery_of, subquery_text, subquery_value};
 use std::alloc::Global;
@@ -158,29 +157,9 @@ fn are_many_told(
     is_told(rt, alloc, text.as_str(), wanted)
 }
 
-fn subquery(rt: &impl Abort, alloc: Global) -> SubQuery {
+pub(crate) fn subquery(rt: &impl Abort, alloc: Global) -> SubQuery {
     let text = asking(rt, alloc, ONE, "\"~\"", "}");
     read_subquery(alloc, text.as_bytes()).expect(rt, "a subquery")
-}
-
-// Whether each piece is written and read again.
-fn are_pieces_back(rt: &impl Abort, alloc: Global) -> bool {
-    let subquery = subquery(rt, alloc);
-    for (segment, piece) in subquery.asked() {
-        let asked = (segment.clone().expect(rt, "memory"), *piece);
-        let value = asked_value(alloc, &asked).expect(rt, "memory");
-        let read = read_asked(alloc, subquery.query().source(), &value).expect(rt, "a piece");
-        let Some((other, interval)) = read else {
-            return false;
-        };
-        if other != asked.0 || interval != asked.1 {
-            return false;
-        }
-    }
-    asked_values(alloc, subquery.asked())
-        .expect(rt, "memory")
-        .len()
-        == 1
 }
 
 // Whether a subquery that is made of its parts is written as the same text, and its JSON is read again.
@@ -208,7 +187,6 @@ fn ample_memory(rt: HostRuntime) {
 fn ample_memory_for_other_calls(rt: HostRuntime) {
     assert!(rt; is_told(&rt, rt.alloc(), "[", "Q1: not JSON"));
     assert!(rt; is_told(&rt, rt.alloc(), "[]", "Q2: no query of a known type"));
-    assert!(rt; are_pieces_back(&rt, rt.alloc()));
     assert!(rt; is_made_again(&rt, rt.alloc()));
 }
 

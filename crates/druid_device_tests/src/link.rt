@@ -68,7 +68,7 @@ impl Table for Fuses {
 }
 
 #[test]
-fn links_in_memory(rt: HostRuntime) {
+fn ample_memory(rt: HostRuntime) {
     let rows = "9 = one, two, , , 0
 4 = one, two, , , 0
 3 = one, two, , X2: the message could not be read, 1

@@ -1,0 +1,30 @@
+//! Pieces that a node is asked for, as JSON.
+use crate::subquery::subquery;
+use druid_asked_text::{asked_value, asked_values, read_asked};
+use std::alloc::Global;
+use std::process::Abort;
+
+// Whether each piece is written and read again.
+fn are_pieces_back(rt: &impl Abort, alloc: Global) -> bool {
+    let subquery = subquery(rt, alloc);
+    for (segment, piece) in subquery.asked() {
+        let asked = (segment.clone().expect(rt, "memory"), *piece);
+        let value = asked_value(alloc, &asked).expect(rt, "memory");
+        let read = read_asked(alloc, subquery.query().source(), &value).expect(rt, "a piece");
+        let Some((other, interval)) = read else {
+            return false;
+        };
+        if other != asked.0 || interval != asked.1 {
+            return false;
+        }
+    }
+    asked_values(alloc, subquery.asked())
+        .expect(rt, "memory")
+        .len()
+        == 1
+}
+
+#[test]
+fn ample_memory(rt: HostRuntime) {
+    assert!(rt; are_pieces_back(&rt, rt.alloc()));
+}
