@@ -6,11 +6,10 @@ MiB: how long each is read until it is taken or refused.
 It is built in the folder for temporary files, over copies of the crates; the first time that proves them, which takes some
 minutes.
 """
-import json, os, shutil, sqlite3, subprocess, tempfile, time
+import json, os, sqlite3, tempfile, time
+from lib import build, run
 
-TOP = os.path.dirname(os.path.dirname(os.path.abspath(__file__)))
-PLACE = os.path.join(tempfile.gettempdir(), 'druid_cluster_bench_partials')
-CRATES = ['druid_time', 'druid_segid', 'druid_shard', 'druid_filter', 'druid_rows', 'druid_query', 'druid_asked_text', 'druid_query_text', 'druid_partial', 'druid_partial_text']
+PLACE = os.path.join(tempfile.gettempdir(), 'druid_cluster_bench_partials_files')
 ROWS = 100_000
 RUNS = 5
 
@@ -46,32 +45,10 @@ QUERIES = [
 ]
 
 
-def build():
-    os.makedirs(os.path.join(PLACE, 'crates', 'partials', 'src'), exist_ok=True)
-    with open(os.path.join(TOP, 'crates.txt')) as f:
-        kept = [line for line in f if line.split(':')[0] in CRATES]
-    with open(os.path.join(PLACE, 'crates.txt'), 'w') as f:
-        f.writelines(kept)
-        f.write('partials: druid_partial_text druid_partial druid_query_text druid_asked_text druid_query druid_rows druid_shard druid_segid druid_time serde_json anyhow\n')
-    for name in CRATES:
-        shutil.copytree(os.path.join(TOP, 'crates', name), os.path.join(PLACE, 'crates', name), dirs_exist_ok=True)
-    crate = os.path.join(PLACE, 'crates', 'partials')
-    shutil.copy(os.path.join(TOP, 'bench', 'partials', 'main.rt.in'), os.path.join(crate, 'src', 'main.rt'))
-    asked = os.path.join(PLACE, 'query.json')
-    with open(asked, 'w') as f:
-        json.dump(QUERIES[0][1], f)
-    subprocess.run(['rt', 'run', '--', asked, os.path.join(PLACE, 'result.json')], cwd=crate, check=True,
-                   stdout=subprocess.DEVNULL, stderr=subprocess.DEVNULL)
-    return os.path.join(crate, 'out', 'partials')
-
-
-def run(program, *args):
+def times(program, *words):
     """The microseconds that each step took, by its name, and the peak memory in MiB."""
-    child = subprocess.Popen([program, *args], stdout=subprocess.PIPE, text=True)
-    told = [line.split() for line in child.stdout]
-    _, status, used = os.wait4(child.pid, 0)
-    assert os.waitstatus_to_exitcode(status) == 0, status
-    return {name: (int(count), int(spent)) for name, count, spent in told}, used.ru_maxrss / 1024
+    lines, peak = run(program, *words)
+    return {name: (int(count), int(spent)) for name, count, spent in map(str.split, lines)}, peak
 
 
 def table():
@@ -148,21 +125,24 @@ def hostile(program):
         for size in (4, 8, 16):
             with open(texts[kind], 'w') as f:
                 f.write(made(size << 20))
-            told, peak = run(program, 'judge', texts['subquery'], texts['answer'])
+            told, peak = times(program, 'judge', texts['subquery'], texts['answer'])
             last = list(told)[-1]
             spent.append(told[last][1] / 1000)
         print(f'{kind + ": " + name:42}' + ' '.join(f'{it:7.1f} ms' for it in spent) + f'  {last}, {peak:.0f} MiB', flush=True)
 
 
 def main():
-    program = build()
+    path, answer = os.path.join(PLACE, 'query.json'), os.path.join(PLACE, 'result.json')
+    os.makedirs(PLACE, exist_ok=True)
+    with open(path, 'w') as f:
+        json.dump(QUERIES[0][1], f)
+    program, _ = build('partials', ['druid_partial_text', 'druid_query_text', 'serde_json', 'anyhow'], words=[path, answer])
     db = table()
     print(f'{"":42}{"rows a second":>14} {"SQLite":>14}')
-    path, answer = os.path.join(PLACE, 'query.json'), os.path.join(PLACE, 'result.json')
     for name, asked, text in QUERIES:
         with open(path, 'w') as f:
             json.dump(asked, f)
-        runs = [run(program, path, answer) for _ in range(RUNS)]
+        runs = [times(program, path, answer) for _ in range(RUNS)]
         groups = runs[0][0]['groups'][0]
         spent = min(told['groups'][1] for told, _ in runs)
         rows, best = asked_of_sqlite(db, text)
@@ -171,7 +151,7 @@ def main():
         print(f'{name:42}{ROWS / spent * 1e6:14,.0f} {ROWS / best:14,.0f}  {groups} groups, {runs[0][1]:.0f} MiB', flush=True)
     with open(path, 'w') as f:
         json.dump(QUERIES[3][1], f)
-    told, peak = run(program, 'merge', path)
+    told, peak = times(program, 'merge', path)
     for name, (count, spent) in told.items():
         print(f'{name:10} {count:10,} {spent / 1000:10.1f} ms')
     print(f'{peak:.0f} MiB')

@@ -15,7 +15,7 @@ minutes, since a query that waits for a node waits until the limit of an exchang
 import argparse, contextlib, csv, http.client, json, os, re, shutil, socket, subprocess, sys, tempfile, threading, time
 
 TOP = os.path.dirname(os.path.dirname(os.path.abspath(__file__)))
-sys.path.insert(0, os.path.join(TOP, 'examples'))
+sys.path.insert(0, os.path.join(TOP, 'tools'))
 from make_segments import DAY, Segment, file_of
 
 # Clients at a time and the seconds that they ask, where requests a second are measured.

@@ -6,7 +6,7 @@
 set -eu
 cd "$(dirname "$0")"
 
-make() { python3 ../make_segments.py make "$@"; }
+make() { python3 ../../tools/make_segments.py make "$@"; }
 orders() { make --source orders --time time --dimensions country,product --metrics items,cents --rows 16 "$@"; }
 
 rm -f n0/*.seg n1/*.seg n2/*.seg

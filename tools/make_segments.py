@@ -1,9 +1,9 @@
 #!/usr/bin/env python3
 """Makes segment files for data nodes out of a CSV, and shows what segment files hold.
 
-    python3 examples/make_segments.py make --source orders --version v1 --time time --dimensions country,product \\
+    python3 tools/make_segments.py make --source orders --version v1 --time time --dimensions country,product \\
         --metrics items,cents --by day --rows 20 --out some/folder examples/cluster/first.csv
-    python3 examples/make_segments.py show some/folder/*.seg
+    python3 tools/make_segments.py show some/folder/*.seg
 
 The CSV is UTF-8, and its first line names its columns; those that no option names are left out. Rows keep the order of the CSV:
 each hour or day that has rows becomes a chunk, cut into partitions of so many rows, all of them core ones. A file states its own
