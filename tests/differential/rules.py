@@ -1,4 +1,4 @@
-"""The rules of queries, asks and visibility, read anew in Python and apart from the proved code: what bench/drawn.py compares with.
+"""The rules of queries, asks and visibility, read anew in Python and apart from the proved code: what tests/differential/drawn.py compares with.
 
 Instants are milliseconds from 1970. A segment is a dict of `source`, `start`, `end`, `version`, `part`, `core`, `dims`, `mets` and
 `rows`; a row is (time, {dimension: text or None}, {metric: number or None}). A refusal is a `Refused`, and else each function gives

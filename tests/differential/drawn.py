@@ -1,5 +1,5 @@
 #!/usr/bin/env python3
-"""Draws clusters, serves them, and compares what brokers and nodes answer with the rules as bench/drawn/rules.py reads them.
+"""Draws clusters, serves them, and compares what brokers and nodes answer with the rules as tests/differential/rules.py reads them.
 
 drawn.py [CLUSTERS] [REQUESTS]     3 clusters of three nodes, and 2,000 requests to each, unless said otherwise
 
@@ -19,9 +19,9 @@ import subprocess
 import sys
 import tempfile
 
-TOP = os.path.dirname(os.path.dirname(os.path.abspath(__file__)))
+TOP = os.path.dirname(os.path.dirname(os.path.dirname(os.path.abspath(__file__))))
 sys.dont_write_bytecode = True
-sys.path.insert(0, os.path.join(TOP, 'bench', 'drawn'))
+sys.path.insert(0, os.path.dirname(os.path.abspath(__file__)))
 import rules  # noqa: E402
 
 PROGRAM = os.environ.get('DRUID_CLUSTER') or os.path.join(TOP, 'crates', 'druid_cluster_program', 'out', 'druid_cluster_program')
