@@ -12,6 +12,7 @@ import collections, glob, os, re, subprocess, sys, time
 
 HZ = os.sysconf('SC_CLK_TCK')
 Work = collections.namedtuple('Work', 'crate phase edit')
+PHASES = ('proof', 'tests', 'edits')
 
 
 def stat(pid):
@@ -67,7 +68,9 @@ def watch(child):
     start, last, works, spans, total = time.time(), {}, {}, {}, collections.Counter()
     while child.poll() is None:
         for pid, ticks in below(child.pid).items():
-            works[pid] = works.get(pid) or work_of(pid)
+            # (a process is a copy of the one that starts it at first)
+            if works.get(pid) is None or works[pid].phase not in PHASES:
+                works[pid] = work_of(pid) or works.get(pid)
             if works[pid] and ticks > last.get(pid, 0):
                 total[works[pid]] += ticks - last.get(pid, 0)
                 last[pid] = ticks
