@@ -7,11 +7,10 @@ use Rattle.druid_shard.specs.Json.{text_at, number_at, limited_at}
 use Rattle.druid_inventory.specs.Entry.{max_nodes}
 use Rattle.druid_time.specs.Options.{◌>>=◌}
 use Rattle.druid_shard.specs.Each.{each_of}
-use Rattle.druid_cluster.specs.declared.command.TheConstants.{MAX_BROKERS}
 
 -- the most brokers of a script
 abbrev pub max_brokers : ℕ
-max_brokers = MAX_BROKERS
+max_brokers = 64
 
 -- the brokers that a script begins with: how many there are, and the names of their nodes
 pub record Opening : Type 0 where

@@ -24,7 +24,6 @@ use Rattle.druid_cluster.specs.declared.answer.Refusal.{Refusal}
 use Rattle.druid_cluster.specs.declared.answer.Refusal.TheVariants as refusals
 use Rattle.druid_cluster.specs.declared.answer.Answer.{Answer}
 use Rattle.druid_cluster.specs.declared.answer.Answer.TheVariants.{Refused, Taken, Stepped, Found, Marked, Joined, Compared}
-use Rattle.druid_cluster.specs.declared.run.TheConstants.{MAX_LINE}
 
 -- a list of nodes: each name is one, and none stands twice
 abbrev pub AreNodes : List (List ℕ) → Type 0
@@ -171,7 +170,7 @@ WantsMemory (Some brokers) d =
 
 -- the most bytes of a line
 abbrev pub max_line : ℕ
-max_line = MAX_LINE
+max_line = 16777216
 
 -- a line is answered so
 abbrev pub IsAnswered : Option (List (List Entry)) → List ℕ → Answer → Option (List (List Entry)) → Type 0

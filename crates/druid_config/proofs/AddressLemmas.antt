@@ -6,7 +6,7 @@ use Rattle.std.proofs.lemmas.List.{take-append-drop}
 use Rattle.std.proofs.lemmas.Slice.Eq.{bytes_eq-Decides}
 use Rattle.druid_segid.specs.Numbers as numbers
 use Rattle.druid_segid.proofs.NumberLemmas.{number_at-found, number_at-to}
-use Rattle.druid_config.specs.declared.config.TheConstants.{MAX_PORT}
+use Rattle.druid_config.specs.Limits.{max_port}
 use Rattle.druid_config.specs.Configs.{loopback, is_port, is_address, NamesPort}
 
 both_true : (a b : Bool) → (a && b) ≡ true → (a ≡ true) × (b ≡ true)
@@ -16,14 +16,14 @@ both_true false b h = absurd cc
 both_so : (a b : Bool) → a ≡ true → b ≡ true → (a && b) ≡ true
 both_so a b h g = ap (λ x. x && b) h ∙ g
 
-port_in : (o : Option ℕ) → is_port o ≡ true → (port : ℕ) × (o ≡ Some port) × (1 ≤ port) × (port ≤ MAX_PORT)
+port_in : (o : Option ℕ) → is_port o ≡ true → (port : ℕ) × (o ≡ Some port) × (1 ≤ port) × (port ≤ max_port)
 port_in None h = absurd cc
 port_in (Some n) h =
-    let both = both_true (nat_le 1 n) (nat_le n MAX_PORT) h in
-    (n, refl, leb-true 1 n both.0, leb-true n MAX_PORT both.1)
+    let both = both_true (nat_le 1 n) (nat_le n max_port) h in
+    (n, refl, leb-true 1 n both.0, leb-true n max_port both.1)
 
-is_port_so : (n : ℕ) → 1 ≤ n → n ≤ MAX_PORT → is_port (Some n) ≡ true
-is_port_so n some few = both_so (nat_le 1 n) (nat_le n MAX_PORT) (le-leb 1 n some) (le-leb n MAX_PORT few)
+is_port_so : (n : ℕ) → 1 ≤ n → n ≤ max_port → is_port (Some n) ≡ true
+is_port_so n some few = both_so (nat_le 1 n) (nat_le n max_port) (le-leb 1 n some) (le-leb n max_port few)
 
 pub names_port : (text : List ℕ) → IsTrue (is_address text) → NamesPort text
 names_port text h =

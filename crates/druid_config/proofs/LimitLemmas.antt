@@ -14,7 +14,7 @@ use Rattle.druid_shard.specs.Each.{each_of}
 use Rattle.druid_shard.specs.Json.{text_at, number_at}
 use Rattle.druid_shard.proofs.EachLemmas.{each_sound}
 use Rattle.druid_segid.specs.Names.{is_name}
-use Rattle.druid_config.specs.declared.config.TheConstants.{MAX_SERVERS, MAX_WORKERS, MAX_KEPT, MAX_COUNT}
+use Rattle.druid_config.specs.Limits.{max_servers, max_workers, max_kept, max_count}
 use Rattle.druid_config.specs.Configs.{IsObject, Node, Broker, Asked, Posted, Told, asked_of, is_address, some_at, count_at, list_at, node_at, broker_at, query_at, are_few, are_distinct, names_of, nodes_in, brokers_in, config_at, IsNode, IsBroker, HaveOwnNames, IsWithinLimits}
 use Rattle.druid_config.proofs.PartLemmas.{node_parts, broker_parts, query_parts, config_parts}
 
@@ -55,15 +55,15 @@ between low high n h =
 some_between : (limit : ℕ) (key : List ℕ) (d : Data) (n : ℕ) → some_at limit key d ≡ Some n → Between 1 limit n
 some_between limit key d n e = between 1 limit n (passed (λ n. nat_le 1 n && nat_le n limit) (number_at key d) n e)
 
-count_below : (key : List ℕ) (d : Data) (n : ℕ) → count_at key d ≡ Some n → n ≤ MAX_COUNT
-count_below key d n e = leb-true n MAX_COUNT (passed (λ n. nat_le n MAX_COUNT) (number_at key d) n e)
+count_below : (key : List ℕ) (d : Data) (n : ℕ) → count_at key d ≡ Some n → n ≤ max_count
+count_below key d n e = leb-true n max_count (passed (λ n. nat_le n max_count) (number_at key d) n e)
 
 -- ---- servers and queries
 
 node_is : (d : Data) (node : Node) → node_at d ≡ Some node → IsNode node
 node_is d node read =
     let parts = node_parts d node read in
-    let workers = some_between MAX_WORKERS (codes "workers") d node.workers parts.workers in
+    let workers = some_between max_workers (codes "workers") d node.workers parts.workers in
     record {
       name = passed is_name (text_at (codes "name") d) node.name parts.name;
       address = passed is_address (text_at (codes "address") d) node.address parts.address;
@@ -74,7 +74,7 @@ node_is d node read =
 broker_is : (d : Data) (broker : Broker) → broker_at d ≡ Some broker → IsBroker broker
 broker_is d broker read =
     let parts = broker_parts d broker read in
-    let workers = some_between MAX_WORKERS (codes "workers") d broker.workers parts.workers in
+    let workers = some_between max_workers (codes "workers") d broker.workers parts.workers in
     record {
       address = passed is_address (text_at (codes "address") d) broker.address parts.address;
       some_workers = workers.above;
@@ -142,7 +142,7 @@ own_names (name ∷ names) distinct (suc i) (suc j) d hi hj same =
 -- ---- lists of servers
 
 record NodeLimits (nodes : List Node) : Type 0 where
-  count : Between 1 MAX_SERVERS (length nodes)
+  count : Between 1 max_servers (length nodes)
   each : All IsNode nodes
   own : HaveOwnNames (names_of nodes)
 
@@ -156,13 +156,13 @@ nodes_fit items nodes read =
     let kept = kept_so (are_few (length step.0) && are_distinct (names_of step.0)) step.0 nodes step.2 in
     let tests = both_true (are_few (length step.0)) (are_distinct (names_of step.0)) kept.0 in
     subst NodeLimits kept.1 (record {
-      count = between 1 MAX_SERVERS (length step.0) tests.0;
+      count = between 1 max_servers (length step.0) tests.0;
       each = each_is IsNode node_at node_is items step.0 step.1;
       own = own_names (names_of step.0) tests.1;
     })
 
 record BrokerLimits (brokers : List Broker) : Type 0 where
-  count : Between 1 MAX_SERVERS (length brokers)
+  count : Between 1 max_servers (length brokers)
   each : All IsBroker brokers
 
 abbrev brokers_if : List Broker → Option (List Broker)
@@ -174,7 +174,7 @@ brokers_fit items brokers read =
     let step = stepped brokers_if (each_of broker_at items) brokers read in
     let kept = kept_so (are_few (length step.0)) step.0 brokers step.2 in
     subst BrokerLimits kept.1 (record {
-      count = between 1 MAX_SERVERS (length step.0) kept.0;
+      count = between 1 max_servers (length step.0) kept.0;
       each = each_is IsBroker broker_at broker_is items step.0 step.1;
     })
 
@@ -188,7 +188,7 @@ within d told read =
     let ranked = chained brokers_in (list_at (codes "brokers") d) told.brokers parts.brokers in
     let brokers = brokers_fit ranked.0 told.brokers ranked.2 in
     let queued = chained (each_of (query_at (length told.brokers))) (list_at (codes "queries") d) told.queries parts.queries in
-    let kept = some_between MAX_KEPT (codes "kept") d told.kept parts.kept in
+    let kept = some_between max_kept (codes "kept") d told.kept parts.kept in
     record {
       some_nodes = nodes.count.above;
       few_nodes = nodes.count.below;

@@ -4,7 +4,7 @@ use Rattle.std.proofs.lemmas.Option.{same_Some}
 use Rattle.serde_json.specs.Data.{Data}
 use Rattle.druid_time.specs.Options.{◌>>=◌}
 use Rattle.druid_shard.specs.Json.{text_at}
-use Rattle.druid_config.specs.declared.config.TheConstants.{MAX_WORKERS, MAX_KEPT}
+use Rattle.druid_config.specs.Limits.{max_workers, max_kept}
 use Rattle.druid_config.specs.Configs.{Node, Broker, Asked, Told, node_of, name_at, address_at, some_at, count_at, loads_at, place_at, object_at, node_at, broker_at, query_at, nodes_at, brokers_at, queries_at, config_at}
 
 -- what holds of each outcome of the step on the value holds of the step
@@ -30,10 +30,10 @@ pub record NodeParts (d : Data) (node : Node) : Type 0 where
   pub address : address_at d ≡ Some node.address
   pub folder : text_at (codes "folder") d ≡ Some node.folder
   pub loads : loads_at d ≡ Some node.loads
-  pub workers : some_at MAX_WORKERS (codes "workers") d ≡ Some node.workers
+  pub workers : some_at max_workers (codes "workers") d ≡ Some node.workers
 
 abbrev node_last : Data → List ℕ → List ℕ → List ℕ → List (List ℕ) → Option Node
-node_last d name address folder loads = some_at MAX_WORKERS (codes "workers") d >>= λ workers. Some (node_of name address folder loads workers)
+node_last d name address folder loads = some_at max_workers (codes "workers") d >>= λ workers. Some (node_of name address folder loads workers)
 
 abbrev node_fourth : Data → List ℕ → List ℕ → List ℕ → Option Node
 node_fourth d name address folder = loads_at d >>= node_last d name address folder
@@ -51,26 +51,26 @@ node_parts d =
     (λ name a. each_next (NodeParts d) (address_at d) (node_third d name)
     (λ address b. each_next (NodeParts d) (text_at (codes "folder") d) (node_fourth d name address)
     (λ folder h. each_next (NodeParts d) (loads_at d) (node_last d name address folder)
-    (λ loads i. each_next (NodeParts d) (some_at MAX_WORKERS (codes "workers") d) (λ workers. Some (node_of name address folder loads workers))
+    (λ loads i. each_next (NodeParts d) (some_at max_workers (codes "workers") d) (λ workers. Some (node_of name address folder loads workers))
     (λ workers j. given_so (NodeParts d) (node_of name address folder loads workers) (record { name = a; address = b; folder = h; loads = i; workers = j }))))))
 
 -- ---- brokers
 
 pub record BrokerParts (d : Data) (broker : Broker) : Type 0 where
   pub address : address_at d ≡ Some broker.address
-  pub workers : some_at MAX_WORKERS (codes "workers") d ≡ Some broker.workers
+  pub workers : some_at max_workers (codes "workers") d ≡ Some broker.workers
 
 abbrev broker_made : List ℕ → ℕ → Broker
 broker_made address workers = record { address = address; workers = workers }
 
 abbrev broker_second : Data → List ℕ → Option Broker
-broker_second d address = some_at MAX_WORKERS (codes "workers") d >>= λ workers. Some (broker_made address workers)
+broker_second d address = some_at max_workers (codes "workers") d >>= λ workers. Some (broker_made address workers)
 
 pub broker_parts : (d : Data) (broker : Broker) → broker_at d ≡ Some broker → BrokerParts d broker
 unfolding broker_at
 broker_parts d =
     each_next (BrokerParts d) (address_at d) (broker_second d)
-    (λ address a. each_next (BrokerParts d) (some_at MAX_WORKERS (codes "workers") d) (λ workers. Some (broker_made address workers))
+    (λ address a. each_next (BrokerParts d) (some_at max_workers (codes "workers") d) (λ workers. Some (broker_made address workers))
     (λ workers b. given_so (BrokerParts d) (broker_made address workers) (record { address = a; workers = b })))
 
 -- ---- queries
@@ -96,7 +96,7 @@ query_parts brokers d =
 
 pub record ConfigParts (d : Data) (told : Told) : Type 0 where
   pub connections : count_at (codes "connections") d ≡ Some told.connections
-  pub kept : some_at MAX_KEPT (codes "kept") d ≡ Some told.kept
+  pub kept : some_at max_kept (codes "kept") d ≡ Some told.kept
   pub turns : count_at (codes "turns") d ≡ Some told.turns
   pub nodes : nodes_at d ≡ Some told.nodes
   pub brokers : brokers_at d ≡ Some told.brokers
@@ -120,13 +120,13 @@ abbrev config_third : Data → ℕ → ℕ → Option Told
 config_third d connections kept = count_at (codes "turns") d >>= config_fourth d connections kept
 
 abbrev config_second : Data → ℕ → Option Told
-config_second d connections = some_at MAX_KEPT (codes "kept") d >>= config_third d connections
+config_second d connections = some_at max_kept (codes "kept") d >>= config_third d connections
 
 pub config_parts : (d : Data) (told : Told) → config_at d ≡ Some told → ConfigParts d told
 unfolding config_at
 config_parts d =
     each_next (ConfigParts d) (count_at (codes "connections") d) (config_second d)
-    (λ connections a. each_next (ConfigParts d) (some_at MAX_KEPT (codes "kept") d) (config_third d connections)
+    (λ connections a. each_next (ConfigParts d) (some_at max_kept (codes "kept") d) (config_third d connections)
     (λ kept b. each_next (ConfigParts d) (count_at (codes "turns") d) (config_fourth d connections kept)
     (λ turns h. each_next (ConfigParts d) (nodes_at d) (config_fifth d connections kept turns)
     (λ nodes i. each_next (ConfigParts d) (brokers_at d) (config_last d connections kept turns nodes)
@@ -151,7 +151,7 @@ config_reads d some = let read = some_of (config_at d) some in (read.0, config_p
 pub connections_read : (d : Data) → IsSome (config_at d) → None ≡ count_at (codes "connections") d → ⊥
 connections_read d some none = let read = config_reads d some in let no = none ∙ read.1.connections in absurd cc
 
-pub kept_read : (d : Data) → IsSome (config_at d) → None ≡ some_at MAX_KEPT (codes "kept") d → ⊥
+pub kept_read : (d : Data) → IsSome (config_at d) → None ≡ some_at max_kept (codes "kept") d → ⊥
 kept_read d some none = let read = config_reads d some in let no = none ∙ read.1.kept in absurd cc
 
 pub turns_read : (d : Data) → IsSome (config_at d) → None ≡ count_at (codes "turns") d → ⊥

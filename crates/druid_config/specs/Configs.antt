@@ -11,7 +11,7 @@ use Rattle.druid_segid.specs.Names.{is_name}
 use Rattle.druid_segid.specs.Numbers as numbers
 use Rattle.druid_shard.specs.Json.{text_at, number_at}
 use Rattle.druid_shard.specs.Each.{each_of}
-use Rattle.druid_config.specs.declared.config.TheConstants.{MAX_SERVERS, MAX_WORKERS, MAX_KEPT, MAX_COUNT, MAX_PORT}
+use Rattle.druid_config.specs.Limits.{max_servers, max_workers, max_kept, max_count, max_port}
 
 -- ---- what a config tells
 
@@ -95,7 +95,7 @@ loopback = codes "127.0.0.1:"
 -- there is a number, and it is that of a port
 abbrev pub is_port : Option ℕ → Bool
 is_port None = false
-is_port (Some n) = nat_le 1 n && nat_le n MAX_PORT
+is_port (Some n) = nat_le 1 n && nat_le n max_port
 
 -- the address of a port of this machine, the port in decimal digits
 abbrev pub is_address : List ℕ → Bool
@@ -103,7 +103,7 @@ is_address text = bytes_eq (take 10 text) loopback && is_port (numbers.number_at
 
 -- the same in words
 abbrev pub NamesPort : List ℕ → Type 0
-NamesPort text = (port : ℕ) × (1 ≤ port) × (port ≤ MAX_PORT) × (text ≡ loopback ++ decimal port)
+NamesPort text = (port : ℕ) × (1 ≤ port) × (port ≤ max_port) × (text ≡ loopback ++ decimal port)
 
 abbrev pub address_at : Data → Option (List ℕ)
 address_at d = option_and_then (λ s. if is_address s then Some s else None) (text_at (codes "address") d)
@@ -117,7 +117,7 @@ some_at limit key d = option_and_then (λ n. if nat_le 1 n && nat_le n limit the
 
 -- the number at a key, where it is at most 1,000,000
 abbrev pub count_at : List ℕ → Data → Option ℕ
-count_at key d = option_and_then (λ n. if nat_le n MAX_COUNT then Some n else None) (number_at key d)
+count_at key d = option_and_then (λ n. if nat_le n max_count then Some n else None) (number_at key d)
 
 -- the items of the list at a key
 abbrev pub list_at : List ℕ → Data → Option Items
@@ -135,13 +135,13 @@ node_at d = do
   address ← address_at d
   folder ← text_at (codes "folder") d
   loads ← loads_at d
-  workers ← some_at MAX_WORKERS (codes "workers") d
+  workers ← some_at max_workers (codes "workers") d
   Some (node_of name address folder loads workers)
 
 unfoldable pub broker_at : Data → Option Broker
 broker_at d = do
   address ← address_at d
-  workers ← some_at MAX_WORKERS (codes "workers") d
+  workers ← some_at max_workers (codes "workers") d
   Some (record { address = address; workers = workers })
 
 -- the place of one of so many brokers
@@ -161,7 +161,7 @@ query_at brokers d = do
 
 -- so many servers there may be
 abbrev pub are_few : ℕ → Bool
-are_few n = nat_le 1 n && nat_le n MAX_SERVERS
+are_few n = nat_le 1 n && nat_le n max_servers
 
 -- no name stands twice
 abbrev pub are_distinct : List (List ℕ) → Bool
@@ -196,7 +196,7 @@ queries_at brokers d = option_and_then (each_of (query_at brokers)) (list_at (co
 unfoldable pub config_at : Data → Option Told
 config_at d = do
   connections ← count_at (codes "connections") d
-  kept ← some_at MAX_KEPT (codes "kept") d
+  kept ← some_at max_kept (codes "kept") d
   turns ← count_at (codes "turns") d
   nodes ← nodes_at d
   brokers ← brokers_at d
@@ -210,13 +210,13 @@ pub record IsNode (node : Node) : Type 0 where
   pub name : IsTrue (is_name node.name)
   pub address : IsTrue (is_address node.address)
   pub some_workers : 1 ≤ node.workers
-  pub few_workers : node.workers ≤ MAX_WORKERS
+  pub few_workers : node.workers ≤ max_workers
 
 -- a broker that listens on this machine, and has 1 to 16 workers
 pub record IsBroker (broker : Broker) : Type 0 where
   pub address : IsTrue (is_address broker.address)
   pub some_workers : 1 ≤ broker.workers
-  pub few_workers : broker.workers ≤ MAX_WORKERS
+  pub few_workers : broker.workers ≤ max_workers
 
 -- no name stands at two places
 abbrev pub HaveOwnNames : List (List ℕ) → Type 0
@@ -231,15 +231,15 @@ IsObject q = IsSome (option_and_then as_object q.query)
 -- what a config tells is within its limits
 pub record IsWithinLimits (told : Told) : Type 0 where
   pub some_nodes : 1 ≤ length told.nodes
-  pub few_nodes : length told.nodes ≤ MAX_SERVERS
+  pub few_nodes : length told.nodes ≤ max_servers
   pub nodes : All IsNode told.nodes
   pub own_names : HaveOwnNames (names_of told.nodes)
   pub some_brokers : 1 ≤ length told.brokers
-  pub few_brokers : length told.brokers ≤ MAX_SERVERS
+  pub few_brokers : length told.brokers ≤ max_servers
   pub brokers : All IsBroker told.brokers
   pub asked : All (λ q. q.broker < length told.brokers) told.queries
   pub objects : All IsObject told.queries
-  pub few_connections : told.connections ≤ MAX_COUNT
+  pub few_connections : told.connections ≤ max_count
   pub some_kept : 1 ≤ told.kept
-  pub few_kept : told.kept ≤ MAX_KEPT
-  pub few_turns : told.turns ≤ MAX_COUNT
+  pub few_kept : told.kept ≤ max_kept
+  pub few_turns : told.turns ≤ max_count

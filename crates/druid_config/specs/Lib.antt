@@ -1,3 +1,4 @@
+pub mod Limits
 pub mod Configs
 pub mod Lent
 pub mod Read

@@ -9,7 +9,6 @@ use Rattle.std.specs.declared.alloc.Global.{Global}
 use Rattle.std.specs.declared.string.String.{String}
 use Rattle.druid_folder.specs.FileName.{IsFileName}
 use Rattle.druid_folder.specs.declared.fault.StoreFault.{StoreFault}
-use Rattle.druid_folder.specs.declared.folder.TheConstants.{MAX_FILE}
 use Rattle.druid_folder.specs.declared.fault.StoreFault.TheVariants.{Device, BadNumber, AtEnd, BadName, Memory}
 
 -- the bytes of the file of each name, and None where there is no such file
@@ -67,7 +66,7 @@ pub record LeavesOnly {F : Type 0} (moment : F → ℕ) (left_since : F → ℕ 
 
 -- the most bytes that a file is to have
 abbrev pub max_file : ℕ
-max_file = MAX_FILE
+max_file = 16777216
 
 -- what a read gives of a file: all of it, or one byte more than a file is to have
 unfoldable pub read_part : Option (List ℕ) → Option (List ℕ)

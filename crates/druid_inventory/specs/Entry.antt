@@ -3,14 +3,13 @@ use Rattle.std.specs.Prelude.{◌≡◌, ◌≢◌, ℕ, ◌<◌, List, [], leng
 use Rattle.druid_shard.specs.Described.{Described}
 use Rattle.druid_shard.specs.Mark.{Point, never, same_mark}
 use Rattle.druid_shard.specs.declared.change.Ask.{Ask}
-use Rattle.druid_inventory.specs.declared.inventory.TheConstants.{MAX_NODES}
 use Rattle.druid_shard.specs.declared.change.Ask.TheVariants.{Whole, Since}
 use Rattle.druid_shard.specs.declared.reply.Body.{Body}
 use Rattle.druid_shard.specs.declared.reply.Body.TheVariants.{Snapshot}
 
 -- the most nodes of a list
 abbrev pub max_nodes : ℕ
-max_nodes = MAX_NODES
+max_nodes = 64
 
 -- of one node: its name, how far its history has been followed, and what it serves at that mark
 pub record Entry : Type 0 where

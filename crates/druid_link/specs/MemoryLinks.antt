@@ -2,7 +2,7 @@
 use Rattle.std.specs.Prelude.{◌≡◌, ◌⊎◌, ℕ, List, [], length, nat_le, unwrap_or, slice_get, if◌then◌else◌, Ok, Err, IsOk}
 use Rattle.druid_link.specs.Links.{Came, one_more, faults_after}
 use Rattle.druid_message.specs.declared.fault.WireFault.TheVariants.{Read, BodyTooLong, Memory}
-use Rattle.druid_link.specs.declared.link.TheConstants.{MAX_EXCHANGE}
+use Rattle.druid_link.specs.Limits.{max_exchange}
 
 -- the replies to its first exchanges, from which exchange on it fails, how many were made (at 2^64 - 1 it stays), and how many failed
 pub record MemoryLinkValue : Type 0 where
@@ -21,7 +21,7 @@ reply_to replies number = unwrap_or (slice_get replies number) []
 
 -- more bytes than an exchange gives are none
 abbrev pub whole_reply : List ℕ → Came
-whole_reply reply = if nat_le (length reply) MAX_EXCHANGE then Ok reply else Err BodyTooLong
+whole_reply reply = if nat_le (length reply) max_exchange then Ok reply else Err BodyTooLong
 
 -- what the next exchange gives, whatever is sent
 abbrev pub next_reply : MemoryLinkValue → Came

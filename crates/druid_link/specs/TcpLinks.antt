@@ -2,8 +2,7 @@
 use Rattle.std.specs.Prelude.{◌≡◌, ◌≤◌, ℕ, List, length, IfOk, IfErr}
 use Rattle.std.specs.declared.time.Duration.{Duration}
 use Rattle.druid_link.specs.Links.{Came, IsLinkFault, faults_after}
-use Rattle.druid_link.specs.declared.link.TheConstants.{MAX_EXCHANGE}
-use Rattle.druid_link.specs.declared.tcp_link.TheConstants.{EXCHANGE_SECONDS}
+use Rattle.druid_link.specs.Limits.{max_exchange}
 
 -- the text of its address, the longest that an exchange may take, and how many exchanges failed (at 2^64 - 1 it stays)
 pub record TcpLinkValue : Type 0 where
@@ -13,7 +12,7 @@ pub record TcpLinkValue : Type 0 where
 
 -- no exchange was made
 abbrev pub fresh_tcp_link : List ℕ → TcpLinkValue
-fresh_tcp_link address = record { address = address; limit = record { secs = EXCHANGE_SECONDS; nanos = 0 }; failed = 0 }
+fresh_tcp_link address = record { address = address; limit = record { secs = 30; nanos = 0 }; failed = 0 }
 
 -- the same link with another limit
 abbrev pub limited : TcpLinkValue → Duration → TcpLinkValue
@@ -26,4 +25,4 @@ over_tcp link came = record link { failed = faults_after came link.failed }
 -- an exchange may give whatever a link may give: of sockets nothing else is claimed
 abbrev pub ExchangesOverTcp : TcpLinkValue → List ℕ → Came → TcpLinkValue → Type 0
 ExchangesOverTcp before request came after =
-    (after ≡ over_tcp before came) × IfOk came (λ bytes. length bytes ≤ MAX_EXCHANGE) × IfErr came IsLinkFault
+    (after ≡ over_tcp before came) × IfOk came (λ bytes. length bytes ≤ max_exchange) × IfErr came IsLinkFault

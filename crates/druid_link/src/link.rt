@@ -1,5 +1,6 @@
 //! Links to nodes and to other brokers.
 ghost use Rattle.std.specs.Prelude.{◌≡◌, ◌≤◌, ℕ, List, length, IfOk, IfErr};
+ghost use Rattle.druid_link.specs.Limits.{max_exchange};
 ghost use Rattle.druid_link.specs.Links.{Came, came_of, IsLinkFault, faults_after};
 
 use druid_message::WireFault;
@@ -21,7 +22,7 @@ pub trait Link {
     /// refused.
     fn exchange(&mut self, alloc: Global, request: &[u8]) -> Result<Vec<u8>, WireFault>
         ensures step { exchanges self.old request.now (came_of result) self.new }
-        ensures bound { IfOk result (λ bytes. length bytes.items ≤ MAX_EXCHANGE) }
+        ensures bound { IfOk result (λ bytes. length bytes.items ≤ max_exchange) }
         ensures counted { faults self.new ≡ faults_after (came_of result) (faults self.old) }
         ensures fault { IfErr result IsLinkFault };
 

@@ -2,6 +2,7 @@
 ghost use Rattle.std.specs.Prelude.{◌≡◌, ◌↔◌, ◌≤◌, ◌<◌, ◌⊎◌, length, take, string_bytes, IfOk, IfErr, IfSome, IsErrOf, OnOk};
 ghost use Rattle.std.specs.Io.KnownBytes.{Appends, Consumes, IsAtEnd};
 ghost use Rattle.std.specs.IoError.{error_kind};
+ghost use Rattle.druid_link.specs.Limits.{max_exchange};
 ghost use Rattle.druid_link.specs.Links.{IsLinkFault, faults_at};
 ghost use Rattle.druid_link.specs.TcpLinks.{fresh_tcp_link, limited};
 
@@ -130,7 +131,7 @@ fn ask<N: Net + Clock>(
     limit: Duration,
     request: &[u8],
 ) -> Result<Vec<u8>, WireFault>
-    ensures bound { IfOk result (λ bytes. length bytes.items ≤ MAX_EXCHANGE) }
+    ensures bound { IfOk result (λ bytes. length bytes.items ≤ max_exchange) }
     ensures fault { IfErr result IsLinkFault }
 {
     let Ok(start) = Instant::now(net) else {
@@ -265,7 +266,7 @@ fn receive_all<C: Clock, S: Read + OpenStream>(
     timer: &Timer,
     stream: &mut S,
 ) -> Result<Vec<u8>, WireFault>
-    ensures bound { IfOk result (λ bytes. length bytes.items ≤ MAX_EXCHANGE) }
+    ensures bound { IfOk result (λ bytes. length bytes.items ≤ max_exchange) }
     ensures whole { IfOk result (λ bytes. IfSome (S.remaining stream.old) (λ left. bytes.items ≡ left)) }
     ensures too_long { IsErrOf result WireFault.BodyTooLong
         → IfSome (S.remaining stream.old) (λ left. MAX_EXCHANGE < length left) }

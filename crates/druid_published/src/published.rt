@@ -7,7 +7,6 @@ ghost use Rattle.druid_inventory.specs.Step.{StepsAt, RefusedAt};
 ghost use Rattle.druid_inventory.specs.declared.fault.ApplyFault.{ApplyFault};
 ghost use Rattle.druid_published.specs.Floor.{marks_of, later_mark, later_marks, Rises};
 ghost use Rattle.druid_published.specs.Told.{publish_fault, TellsPublish, TellsRead};
-ghost use Rattle.druid_published.specs.declared.published.TheConstants.{MAX_PLACES};
 
 use crate::PublishFault;
 use druid_inventory::{ApplyFault, Inventory, Outcome};
@@ -285,7 +284,7 @@ pub fn open<N: NodeList>(
 ) -> Result<(Publisher<N>, Vec<View<N>>), PublishFault>
     requires names { names_of inventory ≡ N.names }
     requires some { 1 ≤ places }
-    requires few { places ≤ MAX_PLACES }
+    requires few { places ≤ 80 }
     ensures ok { IfOk result (λ r. r.0 ≡ inventory) }
     ensures views { IfOk result (λ r. r.1.items ≡ replicate places (replicate (length N.names) never)) }
     ensures told { IfErr result (λ fault. fault ≡ PublishFault.Memory) }

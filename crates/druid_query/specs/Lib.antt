@@ -1,3 +1,4 @@
+pub mod Limits
 pub mod Query
 pub mod Refusal
 pub mod Filters

@@ -7,7 +7,7 @@ use Rattle.druid_time.specs.declared.granularity.Granularity.{Granularity}
 use Rattle.druid_filter.specs.Filters.{Condition, has, has_among, all_of, any_of, is_not, Conditions, no_conditions, condition}
 use Rattle.druid_query.specs.declared.aggregator.AggregatorKind.{AggregatorKind}
 use Rattle.druid_query.specs.declared.query_type.QueryType.{QueryType}
-use Rattle.druid_query.specs.declared.limits.TheConstants.{MAX_LABEL, MAX_VALUE, MAX_VALUES, MAX_LEVELS, MAX_MEMBERS, MAX_DIMENSIONS, MAX_AGGREGATORS}
+use Rattle.druid_query.specs.Limits.{max_dimensions, max_aggregators, max_members, max_levels, max_values, max_label, max_value}
 
 -- a dimension that rows are grouped by, and its name in the result
 pub record Dimension : Type 0 where
@@ -45,12 +45,12 @@ query_of kind source granularity intervals filter dimensions aggregations = reco
 
 -- a name in a query: 1 to 100 bytes
 abbrev pub is_label : List ℕ → Bool
-is_label text = nat_le 1 (length text) && nat_le (length text) MAX_LABEL
+is_label text = nat_le 1 (length text) && nat_le (length text) max_label
 
 -- a value in a filter is null, or a text of 1,024 bytes at most
 abbrev pub is_short : Option (List ℕ) → Bool
 is_short None = true
-is_short (Some text) = nat_le (length text) MAX_VALUE
+is_short (Some text) = nat_le (length text) max_value
 
 -- how deep filters nest; one alone is 1 deep
 abbrev mutual
@@ -82,7 +82,7 @@ abbrev mutual
 abbrev mutual
   pub fits_texts : Condition → Bool
   fits_texts (has dimension value) = is_label dimension && is_short value
-  fits_texts (has_among dimension values) = is_label dimension && nat_le (length values) MAX_VALUES && list_all is_short values
+  fits_texts (has_among dimension values) = is_label dimension && nat_le (length values) max_values && list_all is_short values
   fits_texts (all_of cs) = fit_texts cs
   fits_texts (any_of cs) = fit_texts cs
   fits_texts (is_not c) = fits_texts c
@@ -93,13 +93,13 @@ abbrev mutual
 
 -- no limit of filters is passed
 abbrev pub fits_filter : Condition → Bool
-fits_filter c = nat_le (levels c) MAX_LEVELS && nat_le (members c) MAX_MEMBERS && fits_texts c
+fits_filter c = nat_le (levels c) max_levels && nat_le (members c) max_members && fits_texts c
 
 abbrev pub fits_dimension : Dimension → Bool
 fits_dimension d = is_label d.dimension && is_label d.output_name
 
 abbrev pub fit_dimensions : List Dimension → Bool
-fit_dimensions ds = nat_le (length ds) MAX_DIMENSIONS && list_all fits_dimension ds
+fit_dimensions ds = nat_le (length ds) max_dimensions && list_all fits_dimension ds
 
 -- a name where there is one
 abbrev pub is_label_if : Option (List ℕ) → Bool
@@ -110,7 +110,7 @@ abbrev pub fits_aggregator : Aggregator → Bool
 fits_aggregator a = is_label a.name && is_label_if a.field
 
 abbrev pub fit_aggregators : List Aggregator → Bool
-fit_aggregators all = nat_le (length all) MAX_AGGREGATORS && list_all fits_aggregator all
+fit_aggregators all = nat_le (length all) max_aggregators && list_all fits_aggregator all
 
 -- the names in the result, which have to be distinct
 abbrev pub result_names : List Dimension → List Aggregator → List (List ℕ)

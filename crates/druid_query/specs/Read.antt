@@ -15,7 +15,7 @@ use Rattle.druid_query.specs.Filters.{filter_at}
 use Rattle.druid_query.specs.Fields.{kind_at, source_text, granularity_of, interval_texts, interval_of, items_or_none, dimension_at, aggregator_at, is_off, is_empty_or_absent}
 use Rattle.druid_query.specs.declared.fault.QueryFault.{QueryFault}
 use Rattle.druid_query.specs.declared.fault.QueryFault.TheVariants as faults
-use Rattle.druid_query.specs.declared.limits.TheConstants.{MAX_INTERVALS}
+use Rattle.druid_query.specs.Limits.{max_intervals}
 use Rattle.druid_query.specs.declared.query_type.QueryType.{QueryType}
 use Rattle.druid_query.specs.declared.query_type.QueryType.TheVariants.{Timeseries, GroupBy}
 
@@ -38,7 +38,7 @@ list_of found shape f each fits = do
   when (fits all) all limit_passed
 
 abbrev pub fit_intervals : List Extent → Bool
-fit_intervals all = nat_le (length all) MAX_INTERVALS
+fit_intervals all = nat_le (length all) max_intervals
 
 unfoldable pub intervals_at : Data → Result (List Extent) Refusal
 intervals_at d = list_of (option_and_then interval_texts (get (codes "intervals") d)) (bad_field (codes "intervals")) interval_of bad_interval fit_intervals

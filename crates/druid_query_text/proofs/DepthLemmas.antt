@@ -8,7 +8,7 @@ use Rattle.druid_filter.specs.Filters.{Condition, has, has_among, all_of, any_of
 use Rattle.druid_query.specs.Query.{Query, Dimension, Aggregator, levels, most_levels, members, fits_texts}
 use Rattle.druid_query.specs.Read.{IsQuery}
 use Rattle.druid_query.specs.Written.{value_data, selector_data, among_data, fields_data, not_data, filter_data, filters_data, wanted_data, interval_data, dimension_data, counting_data, of_field_data, fielded_data, aggregator_data, aggregator_text, timeseries_data, group_by_data, intervals_data, kinded_data, query_data}
-use Rattle.druid_query.specs.declared.limits.TheConstants.{MAX_LEVELS, MAX_MEMBERS}
+use Rattle.druid_query.specs.Limits.{max_members, max_levels}
 use Rattle.druid_query.specs.Asked.{Asked, asked_data}
 use Rattle.druid_query.specs.SubQuery.{SubQuery, segments_data, sub_timeseries_data, sub_group_by_data, kinded_sub_data, subquery_data}
 use Rattle.druid_query.specs.declared.query_type.QueryType.{QueryType}
@@ -59,8 +59,8 @@ both_true false b h = absurd (cc)
 wanted_deep : (o : Option Condition) → Passes o → depth (wanted_data o) ≤ 100
 wanted_deep None h = omega arith
 wanted_deep (Some c) h =
-    let texts = both_true (nat_le (levels c) MAX_LEVELS && nat_le (members c) MAX_MEMBERS) (fits_texts c) h in
-    let limits = both_true (nat_le (levels c) MAX_LEVELS) (nat_le (members c) MAX_MEMBERS) texts.0 in
+    let texts = both_true (nat_le (levels c) max_levels && nat_le (members c) max_members) (fits_texts c) h in
+    let limits = both_true (nat_le (levels c) max_levels) (nat_le (members c) max_members) texts.0 in
     let few : levels c ≤ 50 = leb-true (levels c) 50 limits.0 in
     omega (arith, filter_deep c, few)
 

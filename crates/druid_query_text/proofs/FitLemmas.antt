@@ -7,7 +7,7 @@ use Rattle.serde_json.specs.declared.value.Value.{Value}
 use Rattle.druid_time.specs.Options.{◌>>=◌}
 use Rattle.druid_query.specs.Query.{fits_dimension, fit_dimensions, fits_aggregator, fit_aggregators}
 use Rattle.druid_query.specs.Fields.{dimension_at, aggregator_at}
-use Rattle.druid_query.specs.declared.limits.TheConstants.{MAX_DIMENSIONS, MAX_AGGREGATORS}
+use Rattle.druid_query.specs.Limits.{max_dimensions, max_aggregators}
 use Rattle.druid_shard.specs.Each.{each_of}
 use Rattle.druid_query_text.specs.Levels.{holds_in}
 use Rattle.druid_shard.proofs.EachLemmas.{each_of_length}
@@ -45,14 +45,14 @@ limited_long {A} f p most vs long = through (each_of f (items_view vs)) (λ xs e
     through None same = refl
     through (Some xs) same = ap (λ (b : Bool). b && list_all p xs) (same xs refl)
 
-pub dimensions_fit : (vs : List Value) → true ≡ nat_le (length vs) MAX_DIMENSIONS → list_all (λ v. holds_in fits_dimension (dimension_at (view v))) vs ≡ holds_in fit_dimensions (each_of dimension_at (items_view vs))
-dimensions_fit vs few = limited_fits dimension_at fits_dimension MAX_DIMENSIONS vs few
+pub dimensions_fit : (vs : List Value) → true ≡ nat_le (length vs) max_dimensions → list_all (λ v. holds_in fits_dimension (dimension_at (view v))) vs ≡ holds_in fit_dimensions (each_of dimension_at (items_view vs))
+dimensions_fit vs few = limited_fits dimension_at fits_dimension max_dimensions vs few
 
-pub dimensions_long : (vs : List Value) → false ≡ nat_le (length vs) MAX_DIMENSIONS → false ≡ holds_in fit_dimensions (each_of dimension_at (items_view vs))
-dimensions_long vs long = limited_long dimension_at fits_dimension MAX_DIMENSIONS vs long
+pub dimensions_long : (vs : List Value) → false ≡ nat_le (length vs) max_dimensions → false ≡ holds_in fit_dimensions (each_of dimension_at (items_view vs))
+dimensions_long vs long = limited_long dimension_at fits_dimension max_dimensions vs long
 
-pub aggregators_fit : (vs : List Value) → true ≡ nat_le (length vs) MAX_AGGREGATORS → list_all (λ v. holds_in fits_aggregator (aggregator_at (view v))) vs ≡ holds_in fit_aggregators (each_of aggregator_at (items_view vs))
-aggregators_fit vs few = limited_fits aggregator_at fits_aggregator MAX_AGGREGATORS vs few
+pub aggregators_fit : (vs : List Value) → true ≡ nat_le (length vs) max_aggregators → list_all (λ v. holds_in fits_aggregator (aggregator_at (view v))) vs ≡ holds_in fit_aggregators (each_of aggregator_at (items_view vs))
+aggregators_fit vs few = limited_fits aggregator_at fits_aggregator max_aggregators vs few
 
-pub aggregators_long : (vs : List Value) → false ≡ nat_le (length vs) MAX_AGGREGATORS → false ≡ holds_in fit_aggregators (each_of aggregator_at (items_view vs))
-aggregators_long vs long = limited_long aggregator_at fits_aggregator MAX_AGGREGATORS vs long
+pub aggregators_long : (vs : List Value) → false ≡ nat_le (length vs) max_aggregators → false ≡ holds_in fit_aggregators (each_of aggregator_at (items_view vs))
+aggregators_long vs long = limited_long aggregator_at fits_aggregator max_aggregators vs long

@@ -15,7 +15,7 @@ use Rattle.druid_shard.specs.Each.{each_of}
 use Rattle.druid_query_text.specs.Levels.{holds_in}
 use Rattle.druid_query.specs.Read.{list_of, fit_intervals}
 use Rattle.druid_query.specs.Fields.{interval_of}
-use Rattle.druid_query.specs.declared.limits.TheConstants.{MAX_INTERVALS}
+use Rattle.druid_query.specs.Limits.{max_intervals}
 use Rattle.druid_shard.proofs.EachLemmas.{not_all_read, all_read, each_of_length}
 
 -- ---- the answer to a list
@@ -51,21 +51,21 @@ counted f most vs good =
     let read = all_read f vs (sym good) in
     ap (λ n. nat_le n most) (sym (each_of_length f vs read.0 read.1)) ∙ ap (holds_in (λ xs. nat_le (length xs) most)) (sym read.1)
 
-pub intervals_long : (o : Option Items) (vs : List Value) → Some (items_view vs) ≡ o → true ≡ list_all (λ v. is_some (interval_of (view v))) vs → false ≡ nat_le (length vs) MAX_INTERVALS
+pub intervals_long : (o : Option Items) (vs : List Value) → Some (items_view vs) ≡ o → true ≡ list_all (λ v. is_some (interval_of (view v))) vs → false ≡ nat_le (length vs) max_intervals
     → list_of o (bad_field (codes "intervals")) interval_of bad_interval fit_intervals ≡ Err limit_passed
-intervals_long o vs h good long = unfit o vs (bad_field (codes "intervals")) bad_interval interval_of fit_intervals h good (long ∙ counted interval_of MAX_INTERVALS vs good)
+intervals_long o vs h good long = unfit o vs (bad_field (codes "intervals")) bad_interval interval_of fit_intervals h good (long ∙ counted interval_of max_intervals vs good)
 
-pub query_intervals_long : (o : Option Items) (vs : List Value) → Some (items_view vs) ≡ o → true ≡ list_all (λ v. is_some (interval_of (view v))) vs → false ≡ nat_le (length vs) MAX_INTERVALS
+pub query_intervals_long : (o : Option Items) (vs : List Value) → Some (items_view vs) ≡ o → true ≡ list_all (λ v. is_some (interval_of (view v))) vs → false ≡ nat_le (length vs) max_intervals
     → list_of o (bad_field (codes "queryIntervals")) interval_of bad_interval fit_intervals ≡ Err limit_passed
-query_intervals_long o vs h good long = unfit o vs (bad_field (codes "queryIntervals")) bad_interval interval_of fit_intervals h good (long ∙ counted interval_of MAX_INTERVALS vs good)
+query_intervals_long o vs h good long = unfit o vs (bad_field (codes "queryIntervals")) bad_interval interval_of fit_intervals h good (long ∙ counted interval_of max_intervals vs good)
 
-pub query_intervals_fit : (o : Option Items) (vs : List Value) → Some (items_view vs) ≡ o → true ≡ list_all (λ v. is_some (interval_of (view v))) vs → true ≡ nat_le (length vs) MAX_INTERVALS
+pub query_intervals_fit : (o : Option Items) (vs : List Value) → Some (items_view vs) ≡ o → true ≡ list_all (λ v. is_some (interval_of (view v))) vs → true ≡ nat_le (length vs) max_intervals
     → IsOk (list_of o (bad_field (codes "queryIntervals")) interval_of bad_interval fit_intervals)
-query_intervals_fit o vs h good few = fit o vs (bad_field (codes "queryIntervals")) bad_interval interval_of fit_intervals h (few ∙ counted interval_of MAX_INTERVALS vs good)
+query_intervals_fit o vs h good few = fit o vs (bad_field (codes "queryIntervals")) bad_interval interval_of fit_intervals h (few ∙ counted interval_of max_intervals vs good)
 
-pub intervals_fit : (o : Option Items) (vs : List Value) → Some (items_view vs) ≡ o → true ≡ list_all (λ v. is_some (interval_of (view v))) vs → true ≡ nat_le (length vs) MAX_INTERVALS
+pub intervals_fit : (o : Option Items) (vs : List Value) → Some (items_view vs) ≡ o → true ≡ list_all (λ v. is_some (interval_of (view v))) vs → true ≡ nat_le (length vs) max_intervals
     → IsOk (list_of o (bad_field (codes "intervals")) interval_of bad_interval fit_intervals)
-intervals_fit o vs h good few = fit o vs (bad_field (codes "intervals")) bad_interval interval_of fit_intervals h (few ∙ counted interval_of MAX_INTERVALS vs good)
+intervals_fit o vs h good few = fit o vs (bad_field (codes "intervals")) bad_interval interval_of fit_intervals h (few ∙ counted interval_of max_intervals vs good)
 
 -- ---- the answer to a filter
 

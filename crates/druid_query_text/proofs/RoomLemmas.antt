@@ -19,7 +19,7 @@ use Rattle.druid_filter.specs.declared.filter.Filter.{Filter, All, Any, Not, the
 use Rattle.std.specs.Box.{box_value}
 use Rattle.std.specs.Global.{Box}
 use Rattle.druid_query_text.specs.Levels.{Layer, selector, among, layer_at, layer_says, is_full, leaf, left_after, all_left, holds_in, fits_among}
-use Rattle.druid_query.specs.declared.limits.TheConstants.{MAX_VALUES, MAX_LEVELS, MAX_MEMBERS}
+use Rattle.druid_query.specs.Limits.{max_members, max_levels, max_values}
 use Rattle.druid_shard.proofs.EachLemmas.{each_of_length}
 use Rattle.druid_query_text.proofs.FilterLemmas.{of_layer}
 
@@ -39,30 +39,30 @@ each_short : (vs : List Value) → list_all (λ v. holds_in is_short (value_at (
 each_short [] = refl
 each_short (v ∷ vs) = all_short (value_at (view v)) (each_of value_at (items_view vs)) (list_all (λ w. holds_in is_short (value_at (view w))) vs) (sym (each_short vs))
 
-pub among_fits : (d : List ℕ) (vs : List Value) → is_label d ≡ true → nat_le (length vs) MAX_VALUES ≡ true → list_all (λ v. holds_in is_short (value_at (view v))) vs ≡ fits_among d (items_view vs)
-among_fits d vs label few = each_short vs ∙ through (each_of value_at (items_view vs)) (λ xs e. sym (ap (λ n. nat_le n MAX_VALUES) (each_of_length value_at vs xs e)))
+pub among_fits : (d : List ℕ) (vs : List Value) → is_label d ≡ true → nat_le (length vs) max_values ≡ true → list_all (λ v. holds_in is_short (value_at (view v))) vs ≡ fits_among d (items_view vs)
+among_fits d vs label few = each_short vs ∙ through (each_of value_at (items_view vs)) (λ xs e. sym (ap (λ n. nat_le n max_values) (each_of_length value_at vs xs e)))
   where
-    through : (o : Option (List (Option (List ℕ)))) → ((xs : List (Option (List ℕ))) → o ≡ Some xs → nat_le (length vs) MAX_VALUES ≡ nat_le (length xs) MAX_VALUES)
-        → holds_in (list_all is_short) o ≡ holds_in (λ wanted. is_label d && nat_le (length wanted) MAX_VALUES && list_all is_short wanted) o
+    through : (o : Option (List (Option (List ℕ)))) → ((xs : List (Option (List ℕ))) → o ≡ Some xs → nat_le (length vs) max_values ≡ nat_le (length xs) max_values)
+        → holds_in (list_all is_short) o ≡ holds_in (λ wanted. is_label d && nat_le (length wanted) max_values && list_all is_short wanted) o
     through None same = refl
-    through (Some xs) same = ap (λ (b : Bool). b && list_all is_short xs) (sym (ap (λ (b : Bool). b && nat_le (length xs) MAX_VALUES) label ∙ sym (same xs refl) ∙ few))
+    through (Some xs) same = ap (λ (b : Bool). b && list_all is_short xs) (sym (ap (λ (b : Bool). b && nat_le (length xs) max_values) label ∙ sym (same xs refl) ∙ few))
 
 pub among_label : (d : List ℕ) (ds : Items) → is_label d ≡ false → false ≡ fits_among d ds
 among_label d ds label = through (each_of value_at ds)
   where
-    through : (o : Option (List (Option (List ℕ)))) → false ≡ holds_in (λ wanted. is_label d && nat_le (length wanted) MAX_VALUES && list_all is_short wanted) o
+    through : (o : Option (List (Option (List ℕ)))) → false ≡ holds_in (λ wanted. is_label d && nat_le (length wanted) max_values && list_all is_short wanted) o
     through None = refl
-    through (Some xs) = sym (ap (λ (b : Bool). b && nat_le (length xs) MAX_VALUES && list_all is_short xs) label)
+    through (Some xs) = sym (ap (λ (b : Bool). b && nat_le (length xs) max_values && list_all is_short xs) label)
 
 and_false : (a : Bool) → false ≡ (a && false)
 and_false true = refl
 and_false false = refl
 
-pub among_long : (d : List ℕ) (vs : List Value) → nat_le (length vs) MAX_VALUES ≡ false → false ≡ fits_among d (items_view vs)
-among_long d vs long = through (each_of value_at (items_view vs)) (λ xs e. ap (λ n. nat_le n MAX_VALUES) (each_of_length value_at vs xs e) ∙ long)
+pub among_long : (d : List ℕ) (vs : List Value) → nat_le (length vs) max_values ≡ false → false ≡ fits_among d (items_view vs)
+among_long d vs long = through (each_of value_at (items_view vs)) (λ xs e. ap (λ n. nat_le n max_values) (each_of_length value_at vs xs e) ∙ long)
   where
-    through : (o : Option (List (Option (List ℕ)))) → ((xs : List (Option (List ℕ))) → o ≡ Some xs → nat_le (length xs) MAX_VALUES ≡ false)
-        → false ≡ holds_in (λ wanted. is_label d && nat_le (length wanted) MAX_VALUES && list_all is_short wanted) o
+    through : (o : Option (List (Option (List ℕ)))) → ((xs : List (Option (List ℕ))) → o ≡ Some xs → nat_le (length xs) max_values ≡ false)
+        → false ≡ holds_in (λ wanted. is_label d && nat_le (length wanted) max_values && list_all is_short wanted) o
     through None same = refl
     through (Some xs) same = sym (ap (λ (b : Bool). b && list_all is_short xs) (ap (λ (b : Bool). is_label d && b) (same xs refl) ∙ sym (and_false (is_label d))))
 
@@ -110,7 +110,7 @@ pub left_among : (d : List ℕ) (ds : Items) (deep room : ℕ) → (deep == 0) �
     → leaf (fits_among d ds) room ≡ left_by (option_map (has_among d) (each_of value_at ds)) deep room
 left_among d ds deep room a b = through (each_of value_at ds)
   where
-    through : (o : Option (List (Option (List ℕ)))) → leaf (holds_in (λ wanted. is_label d && nat_le (length wanted) MAX_VALUES && list_all is_short wanted) o) room ≡ left_by (option_map (has_among d) o) deep room
+    through : (o : Option (List (Option (List ℕ)))) → leaf (holds_in (λ wanted. is_label d && nat_le (length wanted) max_values && list_all is_short wanted) o) room ≡ left_by (option_map (has_among d) o) deep room
     through None = refl
     through (Some xs) = let free = not_full deep room a b in rw free refl
 
@@ -229,7 +229,7 @@ both_took deep room n left l m k p a b t u = record {
 mutual
   took : (c : Condition) (deep room left : ℕ) → left_after c deep room ≡ Some left → Took deep room left (levels c) (members c) (fits_texts c)
   took (has d v) deep room left h = one_took (is_label d && is_short v) deep room left h
-  took (has_among d vs) deep room left h = one_took (is_label d && nat_le (length vs) MAX_VALUES && list_all is_short vs) deep room left h
+  took (has_among d vs) deep room left h = one_took (is_label d && nat_le (length vs) max_values && list_all is_short vs) deep room left h
   took (all_of cs) deep room left h =
       let free = inside (is_full deep room) (all_left cs (deep - 1) (room - 1)) left h in
       deeper_took deep room left (most_levels cs) (all_members cs) (fit_texts cs) free.0 (all_took cs (deep - 1) (room - 1) left free.1)
@@ -263,7 +263,7 @@ deeper_leaves o deep room m d r h =
 mutual
   leaves : (c : Condition) (deep room : ℕ) → levels c ≤ deep → members c ≤ room → fits_texts c ≡ true → left_after c deep room ≡ Some (room - members c)
   leaves (has d v) deep room l m t = one_leaves (is_label d && is_short v) deep room l m t
-  leaves (has_among d vs) deep room l m t = one_leaves (is_label d && nat_le (length vs) MAX_VALUES && list_all is_short vs) deep room l m t
+  leaves (has_among d vs) deep room l m t = one_leaves (is_label d && nat_le (length vs) max_values && list_all is_short vs) deep room l m t
   leaves (all_of cs) deep room l m t =
       deeper_leaves (all_left cs (deep - 1) (room - 1)) deep room (all_members cs) (omega (arith, l)) (omega (arith, m)) (all_leave cs (deep - 1) (room - 1) (omega (arith, l)) (omega (arith, m)) t)
   leaves (any_of cs) deep room l m t =
@@ -280,27 +280,27 @@ mutual
       let same : room - members c - all_members cs ≡ room - (members c + all_members cs) = omega arith in
       ap (λ o. o >>= λ n. all_left cs deep n) first ∙ rest ∙ ap Some same
 
-fits_one : (c : Condition) (o : Option ℕ) (b : Bool) → left_after c MAX_LEVELS MAX_MEMBERS ≡ o → fits_filter c ≡ b → is_some o ≡ b
+fits_one : (c : Condition) (o : Option ℕ) (b : Bool) → left_after c max_levels max_members ≡ o → fits_filter c ≡ b → is_some o ≡ b
 fits_one c None false e h = refl
 fits_one c (Some n) true e h = refl
 fits_one c None true e h =
-    let texts = both_true (nat_le (levels c) MAX_LEVELS && nat_le (members c) MAX_MEMBERS) (fits_texts c) h in
-    let limits = both_true (nat_le (levels c) MAX_LEVELS) (nat_le (members c) MAX_MEMBERS) texts.0 in
-    let left = leaves c MAX_LEVELS MAX_MEMBERS (leb-true (levels c) MAX_LEVELS limits.0) (leb-true (members c) MAX_MEMBERS limits.1) texts.1 in
-    let none : None ≡ Some (MAX_MEMBERS - members c) = sym e ∙ left in
+    let texts = both_true (nat_le (levels c) max_levels && nat_le (members c) max_members) (fits_texts c) h in
+    let limits = both_true (nat_le (levels c) max_levels) (nat_le (members c) max_members) texts.0 in
+    let left = leaves c max_levels max_members (leb-true (levels c) max_levels limits.0) (leb-true (members c) max_members limits.1) texts.1 in
+    let none : None ≡ Some (max_members - members c) = sym e ∙ left in
     absurd (cc)
 fits_one c (Some n) false e h =
-    let t = took c MAX_LEVELS MAX_MEMBERS n e in
-    let l = le-leb (levels c) MAX_LEVELS t.level in
-    let m = le-leb (members c) MAX_MEMBERS (omega (arith, t.places)) in
-    let all : fits_filter c ≡ true = ap (λ x. x && nat_le (members c) MAX_MEMBERS && fits_texts c) l ∙ ap (λ x. x && fits_texts c) m ∙ t.texts in
+    let t = took c max_levels max_members n e in
+    let l = le-leb (levels c) max_levels t.level in
+    let m = le-leb (members c) max_members (omega (arith, t.places)) in
+    let all : fits_filter c ≡ true = ap (λ x. x && nat_le (members c) max_members && fits_texts c) l ∙ ap (λ x. x && fits_texts c) m ∙ t.texts in
     let no : true ≡ false = sym all ∙ h in
     absurd (cc)
 
 -- a filter fits where there is room for it
-pub fits_by_room : (o : Option Condition) → is_some (left_by o MAX_LEVELS MAX_MEMBERS) ≡ holds_in fits_filter o
+pub fits_by_room : (o : Option Condition) → is_some (left_by o max_levels max_members) ≡ holds_in fits_filter o
 fits_by_room None = refl
-fits_by_room (Some c) = fits_one c (left_after c MAX_LEVELS MAX_MEMBERS) (fits_filter c) refl refl
+fits_by_room (Some c) = fits_one c (left_after c max_levels max_members) (fits_filter c) refl refl
 
 -- ---- what filters of filters say
 

@@ -9,7 +9,7 @@ use Rattle.druid_time.specs.Options.{◌>>=◌}
 use Rattle.druid_shard.specs.Json.{text_at}
 use Rattle.druid_filter.specs.Filters.{Condition, has, has_among, all_of, any_of, is_not, Conditions, no_conditions, condition}
 use Rattle.druid_query.specs.Query.{is_label, is_short}
-use Rattle.druid_query.specs.declared.limits.TheConstants.{MAX_VALUES}
+use Rattle.druid_query.specs.Limits.{max_values}
 use Rattle.druid_shard.specs.Each.{each_of}
 use Rattle.druid_query.specs.Filters.{value_at, filter_at, each_filter}
 use Rattle.druid_query_text.specs.declared.filters.Level.{Level}
@@ -90,7 +90,7 @@ abbrev mutual
   pub left_after : Condition → ℕ → ℕ → Option ℕ
   left_after (has dimension value) deep room = if is_full deep room then None else leaf (is_label dimension && is_short value) room
   left_after (has_among dimension values) deep room =
-      if is_full deep room then None else leaf (is_label dimension && nat_le (length values) MAX_VALUES && list_all is_short values) room
+      if is_full deep room then None else leaf (is_label dimension && nat_le (length values) max_values && list_all is_short values) room
   left_after (all_of cs) deep room = if is_full deep room then None else all_left cs (deep - 1) (room - 1)
   left_after (any_of cs) deep room = if is_full deep room then None else all_left cs (deep - 1) (room - 1)
   left_after (is_not c) deep room = if is_full deep room then None else left_after c (deep - 1) (room - 1)
@@ -105,4 +105,4 @@ holds_in p None = false
 holds_in p (Some x) = p x
 
 abbrev pub fits_among : List ℕ → Items → Bool
-fits_among dimension values = holds_in (λ wanted. is_label dimension && nat_le (length wanted) MAX_VALUES && list_all is_short wanted) (each_of value_at values)
+fits_among dimension values = holds_in (λ wanted. is_label dimension && nat_le (length wanted) max_values && list_all is_short wanted) (each_of value_at values)

@@ -2,7 +2,6 @@
 use Rattle.std.specs.Prelude.{◌≡◌, ℕ, ◌<◌, ◌≤◌, Bool, ◌||◌, ◌&&◌, ◌==◌, nat_le, List, length, slice_index_or, IsTrue, All}
 use Rattle.std.specs.List.{list_all}
 use Rattle.std.specs.Char.{is_ascii_alphanumeric}
-use Rattle.druid_rows.specs.declared.schema.TheConstants.{MAX_NAME}
 
 -- a byte of a field name: `A-Z a-z 0-9 _`
 abbrev pub is_field_byte : ℕ → Bool
@@ -10,7 +9,7 @@ is_field_byte b = is_ascii_alphanumeric b || b == 95
 
 -- the most bytes of a field name
 abbrev pub max_field_name : ℕ
-max_field_name = MAX_NAME
+max_field_name = 100
 
 -- the name of a dimension or a metric: 1 to 100 such bytes
 pub record IsFieldName (text : List ℕ) : Type 0 where

@@ -4,7 +4,6 @@ use Rattle.std.specs.Global.{Global}
 use Rattle.druid_time.specs.Extent.{Extent, Has}
 pub use Rattle.druid_filter.specs.Values.{texts_by, nullable_texts_of}
 use Rattle.druid_rows.specs.Names.{IsFieldName, AreDistinct}
-use Rattle.druid_rows.specs.declared.lent.TheConstants.{MAX_VALUE}
 
 -- the names of the dimensions and of the metrics that each row has a value for, in order
 pub record Schema : Type 0 where
@@ -34,7 +33,7 @@ IsInside interval row = Has interval row.time
 
 -- the most bytes of the value of a dimension
 abbrev pub max_value : ℕ
-max_value = MAX_VALUE
+max_value = 1024
 
 -- no text is longer than the value of a dimension may be
 abbrev pub AreShort : List (Option (List ℕ)) → Type 0

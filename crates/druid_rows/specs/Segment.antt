@@ -3,7 +3,6 @@ use Rattle.std.specs.Prelude.{ℕ, ℤ, ◌+◌, ◌≤◌, List, [], ◌∷◌,
 use Rattle.std.specs.List.{sum}
 use Rattle.druid_shard.specs.Described.{Described}
 use Rattle.druid_rows.specs.Rows.{Schema, Row, IsSchema, HasShape, IsInside, HasShortValues, no_row}
-use Rattle.druid_rows.specs.declared.segment.TheConstants.{MAX_FIELDS, MAX_ROWS, MAX_TEXT}
 
 -- what is announced of it, the fields of its rows, and its rows in their order, which is free
 pub record Segment : Type 0 where
@@ -17,15 +16,15 @@ segment_of descriptor fields rows = record { descriptor = descriptor; fields = f
 
 -- the most dimensions, and the most metrics
 abbrev pub max_fields : ℕ
-max_fields = MAX_FIELDS
+max_fields = 64
 
 -- the most rows
 abbrev pub max_rows : ℕ
-max_rows = MAX_ROWS
+max_rows = 100000
 
 -- the most bytes of the text of a segment
 abbrev pub max_text : ℕ
-max_text = MAX_TEXT
+max_text = 16777216
 
 -- a mark, and the length of a text and its bytes where there is one
 abbrev pub text_value_length : Option (List ℕ) → ℕ

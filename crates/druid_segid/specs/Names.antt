@@ -2,8 +2,6 @@
 use Rattle.std.specs.Prelude.{ℕ, ◌≤◌, Bool, ◌||◌, ◌&&◌, ◌==◌, not, nat_le, List, length, IsTrue, All}
 use Rattle.std.specs.List.{list_all}
 use Rattle.std.specs.Char.{is_ascii_alphanumeric, is_ascii_graphic}
-use Rattle.druid_segid.specs.declared.name.TheConstants.{MAX_NAME}
-use Rattle.druid_segid.specs.declared.version.TheConstants.{MAX_VERSION}
 
 -- a byte of a name: `A-Z a-z 0-9 _ - .`
 abbrev pub is_name_byte : ℕ → Bool
@@ -11,7 +9,7 @@ is_name_byte b = is_ascii_alphanumeric b || b == 95 || b == 45 || b == 46
 
 -- the most bytes of a name
 abbrev pub max_name : ℕ
-max_name = MAX_NAME
+max_name = 100
 
 -- the name of a data source: 1 to 100 such bytes
 pub record IsName (text : List ℕ) : Type 0 where
@@ -29,7 +27,7 @@ is_version_byte b = is_ascii_graphic b && not (b == 95 || b == 47 || b == 34 || 
 
 -- the most bytes of a version
 abbrev pub max_version : ℕ
-max_version = MAX_VERSION
+max_version = 64
 
 -- a version: 1 to 64 such bytes
 pub record IsVersion (text : List ℕ) : Type 0 where

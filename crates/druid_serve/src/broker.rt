@@ -1,6 +1,6 @@
 //! A broker: the threads that follow the nodes, and those that answer.
 ghost use Rattle.std.specs.Prelude.{◌≡◌, ◌≤◌, ◌+◌, IfOk, OnOk, length, vec_len};
-ghost use Rattle.druid_config.specs.declared.config.TheConstants.{MAX_WORKERS};
+ghost use Rattle.druid_config.specs.Limits.{max_workers};
 ghost use Rattle.druid_inventory.specs.Entry.{max_nodes};
 ghost use Rattle.druid_inventory.specs.Join.{names_of};
 ghost use Rattle.druid_published.specs.Floor.{Rises};
@@ -326,7 +326,7 @@ pub(crate) struct Opening {
     /// How many turns each of its syncers makes.
     pub(crate) turns: u64,
     ghost some: { 1 ≤ workers },
-    ghost few: { workers ≤ MAX_WORKERS },
+    ghost few: { workers ≤ max_workers },
 }
 
 // The views of a publisher, and the publisher, which threads share.
@@ -340,7 +340,7 @@ fn opened<N: NodeList>(
 ) -> Result<Shared<N>, DeviceFailed>
     requires names { names_of inventory ≡ N.names }
     requires some { 1 ≤ workers }
-    requires few { workers ≤ MAX_WORKERS }
+    requires few { workers ≤ max_workers }
     ensures { IfOk result (λ shared. vec_len shared.1 ≡ length N.names + workers) }
 {
     let places = inventory.node_count() + workers;

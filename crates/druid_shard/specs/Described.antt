@@ -3,7 +3,6 @@ use Rattle.std.specs.Prelude.{◌<◌, ◌≤◌, ◌^◌, ℕ, Bool, ◌==◌, 
 use Rattle.std.specs.declared.cmp.Ordering.{Ordering}
 use Rattle.std.specs.Ordering.{nat_cmp, ordering_then}
 use Rattle.druid_segid.specs.Identifier.{Identifier, IsIdentifier, same_identifier, identifier_cmp}
-use Rattle.druid_shard.specs.declared.descriptor.TheConstants.{MAX_CORE}
 
 -- its identifier, the number of core partitions that it names for its chunk, and the size that its producer states
 pub record Described : Type 0 where
@@ -13,7 +12,7 @@ pub record Described : Type 0 where
 
 -- a numbered shard spec has at most this many core partitions
 abbrev pub max_core : ℕ
-max_core = MAX_CORE
+max_core = 32768
 
 -- each part is one
 pub record IsDescribed (d : Described) : Type 0 where

@@ -8,15 +8,14 @@ use Rattle.druid_segid.specs.Identifier.{identifier_text}
 use Rattle.druid_shard.specs.Described.{Described}
 use Rattle.druid_shard.specs.Mark.{Point}
 use Rattle.druid_shard.specs.declared.change.Change.{Change}
-use Rattle.druid_shard.specs.declared.reply.TheConstants.{MAX_SEGMENTS, MAX_CHANGES}
 
 -- the most segments that a node serves
 abbrev pub max_segments : ℕ
-max_segments = MAX_SEGMENTS
+max_segments = 20000
 
 -- the most changes that a delta has, and that a node keeps
 abbrev pub max_changes : ℕ
-max_changes = MAX_CHANGES
+max_changes = 1000
 
 -- a comes before b by the bytes of their identifiers' texts
 abbrev pub IsBefore : Described → Described → Type 0

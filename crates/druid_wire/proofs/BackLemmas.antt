@@ -14,8 +14,7 @@ use Rattle.druid_message.specs.Requests.{RequestValue}
 use Rattle.druid_wire.specs.Messages.{IsRequest, IsResponse, request_length, response_length, body_length, length_or}
 use Rattle.druid_wire.specs.Heads.{length_told}
 use Rattle.druid_wire.specs.Written.{fields_text, request_head, request_text, phrase_of, response_head, response_text}
-use Rattle.druid_wire.specs.declared.length.TheConstants.{MAX_BODY}
-use Rattle.druid_wire.specs.declared.frame.TheConstants.{MAX_HEAD}
+use Rattle.druid_wire.specs.Limits.{max_head, max_body}
 use Rattle.druid_wire.proofs.GrammarLines.{request_framed, response_framed}
 use Rattle.druid_wire.proofs.DecimalLemmas.{decimal_values, decimal_trimmed, decimal_digits, decimal_code, short_decimal, length_told_again}
 
@@ -57,7 +56,7 @@ shared_fields n low =
     (All-cons IsField (field (codes "Connection") (codes " close")) [] (literal_field (codes "Connection") (codes " close") (omega arith) refl refl) (All-nil IsField)))
 
 -- the length is given once, and is read back
-said : (needed : Bool) (n : ℕ) → n ≤ MAX_BODY → body_length needed (map name_and_value (shared (decimal n))) ≡ Ok n
+said : (needed : Bool) (n : ℕ) → n ≤ max_body → body_length needed (map name_and_value (shared (decimal n))) ≡ Ok n
 said needed n low = ap (λ (l : List ℕ). length_or needed (length_told l)) (decimal_trimmed n (omega arith)) ∙ ap (length_or needed) (length_told_again n low)
 
 -- ---- requests
@@ -81,7 +80,7 @@ request_printed request =
     (append-nil (print_section (shared (decimal (length request.body))) crlf) ∙ shared_text (length request.body))
 
 written_is_request : (request : RequestValue) → IsToken request.method → 0 < length request.target → AllPass is_uri_byte request.target → IsUtf8 request.target
-    → length request.body ≤ MAX_BODY → IsRequestHead (written_request request)
+    → length request.body ≤ max_body → IsRequestHead (written_request request)
 unfolding is_token_byte
 written_is_request request token some bytes text short = record {
   method = token;
@@ -92,18 +91,18 @@ written_is_request request token some bytes text short = record {
       (literal_field (codes "Host") (codes " localhost") (omega arith) refl refl) (shared_fields (length request.body) (omega (arith, short)));
 }
 
-request_said : (request : RequestValue) → length request.body ≤ MAX_BODY → request_length (written_request request) ≡ Ok (length request.body)
+request_said : (request : RequestValue) → length request.body ≤ max_body → request_length (written_request request) ≡ Ok (length request.body)
 request_said request short = said (bytes_eq request.method (codes "POST")) (length request.body) short
 
 pub request_back : (request : RequestValue) (rest : List ℕ) → IsToken request.method → 0 < length request.target → AllPass is_uri_byte request.target
-    → IsUtf8 request.target → length request.body ≤ MAX_BODY → length (request_head request) ≤ MAX_HEAD → IsRequest (request_text request ++ rest) request rest
+    → IsUtf8 request.target → length request.body ≤ max_body → length (request_head request) ≤ max_head → IsRequest (request_text request ++ rest) request rest
 request_back request rest token some bytes text short fits =
     let head = written_request request in
     let printed = request_printed request in
     let is = written_is_request request token some bytes text short in
     let reads : ReadsRequest (request_text request ++ rest) head (request.body ++ rest) =
     (is, append_assoc (request_head request) request.body rest ∙ ap (λ (l : List ℕ). l ++ (request.body ++ rest)) (sym printed)) in
-    let framed = request_framed (request_text request ++ rest) (request.body ++ rest) head reads (subst (λ (l : List ℕ). length l ≤ MAX_HEAD) (sym printed) fits) in
+    let framed = request_framed (request_text request ++ rest) (request.body ++ rest) head reads (subst (λ (l : List ℕ). length l ≤ max_head) (sym printed) fits) in
     record {
       bytes = request_head request;
       head = head;
@@ -162,7 +161,7 @@ response_printed status n = response_printed_as (decimal status) (phrase_of stat
 three_digits : (status : ℕ) → 100 ≤ status → status < 1000 → length (decimal status) ≡ 3
 three_digits status low high = ap length (decimal_code status low high)
 
-written_is_response : (status n : ℕ) → 100 ≤ status → status < 1000 → n ≤ MAX_BODY → IsResponseHead (written_response status n)
+written_is_response : (status n : ℕ) → 100 ≤ status → status < 1000 → n ≤ max_body → IsResponseHead (written_response status n)
 written_is_response status n low high short = record {
   minor = omega arith;
   digits = (three_digits status low high, decimal_digits status (omega (arith, high)));
@@ -170,7 +169,7 @@ written_is_response status n low high short = record {
   fields = shared_fields n (omega (arith, short));
 }
 
-response_short : (status n : ℕ) → 100 ≤ status → status < 1000 → n ≤ MAX_BODY → length (response_head status n) ≤ MAX_HEAD
+response_short : (status n : ℕ) → 100 ≤ status → status < 1000 → n ≤ max_body → length (response_head status n) ≤ max_head
 unfolding response_head
 response_short status n low high short =
     omega (
@@ -183,13 +182,13 @@ response_short status n low high short =
       length-append (decimal n) (codes "\r\nConnection: close\r\n\r\n"),
     )
 
-response_said : (status n : ℕ) → n ≤ MAX_BODY → response_length (written_response status n) ≡ Ok n
+response_said : (status n : ℕ) → n ≤ max_body → response_length (written_response status n) ≡ Ok n
 response_said status n short = said true n short
 
 status_again : (status : ℕ) → status < 1000 → (n : ℕ) → status_code (written_response status n) ≡ status
 status_again status high n = (decimal_is_IsNumeral status (omega (arith, high))).1
 
-pub response_back : (status : ℕ) (body rest : List ℕ) → 100 ≤ status → status < 1000 → length body ≤ MAX_BODY
+pub response_back : (status : ℕ) (body rest : List ℕ) → 100 ≤ status → status < 1000 → length body ≤ max_body
     → IsResponse (response_text status body ++ rest) status body rest
 response_back status body rest low high short =
     let head = written_response status (length body) in
@@ -199,7 +198,7 @@ response_back status body rest low high short =
     let reads : ReadsResponse (response_text status body ++ rest) head (body ++ rest) =
     (is, append_assoc (response_head status (length body)) body rest ∙ ap (λ (l : List ℕ). l ++ (body ++ rest)) (sym printed)) in
     let framed = response_framed (response_text status body ++ rest) (body ++ rest) head reads
-    (subst (λ (l : List ℕ). length l ≤ MAX_HEAD) (sym printed) (response_short status (length body) low high short)) in
+    (subst (λ (l : List ℕ). length l ≤ max_head) (sym printed) (response_short status (length body) low high short)) in
     record {
       bytes = response_head status (length body);
       head = head;

@@ -13,7 +13,7 @@ use Rattle.httparse.specs.Grammar.{AllPass, is_ows, is_value_byte, skip_ows, tri
 use Rattle.httparse.proofs.TrimLemmas.{skip_ows_no, trim_ows_space, AllPass-reverse}
 use Rattle.druid_wire.specs.Heads.{is_length, length_told}
 use Rattle.druid_wire.specs.declared.length.Length.TheVariants.{Is}
-use Rattle.druid_wire.specs.declared.length.TheConstants.{MAX_BODY, MAX_DIGITS}
+use Rattle.druid_wire.specs.Limits.{max_body, max_digits}
 
 digit_passes : (c : ℕ) → 48 ≤ c → c ≤ 57 → is_ascii_digit c ≡ true
 digit_passes c low high = grind (arith, nat_tests)
@@ -66,18 +66,18 @@ decimal_values n low = All-cons (λ b. IsTrue (is_value_byte b)) 32 (decimal n) 
 
 -- ---- lengths
 
-pub short_decimal : (n : ℕ) → n ≤ MAX_BODY → length (decimal n) ≤ 8
+pub short_decimal : (n : ℕ) → n ≤ max_body → length (decimal n) ≤ 8
 short_decimal n low = length-decimal-le 8 n (omega arith) (omega arith) (omega arith)
 
-pub length_told_again : (n : ℕ) → n ≤ MAX_BODY → length_told (decimal n) ≡ Is n
+pub length_told_again : (n : ℕ) → n ≤ max_body → length_told (decimal n) ≡ Is n
 length_told_again n low =
     let numeral = decimal_is_IsNumeral n (omega arith) in
     let short = short_decimal n low in
     let all : is_length (decimal n) ≡ true =
-    and_from (nat_le 1 (length (decimal n)) && nat_le (length (decimal n)) MAX_DIGITS) (list_all is_ascii_digit (decimal n))
-    (and_from (nat_le 1 (length (decimal n))) (nat_le (length (decimal n)) MAX_DIGITS) (le-leb 1 (length (decimal n)) (omega (arith, numeral.0.0)))
-    (le-leb (length (decimal n)) MAX_DIGITS (omega (arith, short)))) (tested is_ascii_digit (decimal n) (digits_pass (decimal n) numeral.0.1)) in
-    let fits : nat_le (digits_value 10 (decimal n)) MAX_BODY ≡ true = ap (λ (k : ℕ). nat_le k MAX_BODY) numeral.1 ∙ le-leb n MAX_BODY low in
+    and_from (nat_le 1 (length (decimal n)) && nat_le (length (decimal n)) max_digits) (list_all is_ascii_digit (decimal n))
+    (and_from (nat_le 1 (length (decimal n))) (nat_le (length (decimal n)) max_digits) (le-leb 1 (length (decimal n)) (omega (arith, numeral.0.0)))
+    (le-leb (length (decimal n)) max_digits (omega (arith, short)))) (tested is_ascii_digit (decimal n) (digits_pass (decimal n) numeral.0.1)) in
+    let fits : nat_le (digits_value 10 (decimal n)) max_body ≡ true = ap (λ (k : ℕ). nat_le k max_body) numeral.1 ∙ le-leb n max_body low in
     rw (all, fits) (ap Is numeral.1)
 
 -- ---- statuses

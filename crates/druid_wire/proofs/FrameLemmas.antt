@@ -7,7 +7,7 @@ use Rattle.std.proofs.KnownBytes.{Consumes-trans, Consumes-nil}
 use Rattle.std.specs.Io.KnownBytes.{Consumes}
 use Rattle.druid_wire.specs.Frame.{IsPlain, IsBlank, IsTextLine, text_of, IsFramed, IsBegun, EndsInHead, IsLongHead}
 use Rattle.druid_wire.specs.Parts.{IsLine}
-use Rattle.druid_wire.specs.declared.frame.TheConstants.{MAX_HEAD}
+use Rattle.druid_wire.specs.Limits.{max_head}
 use Rattle.druid_stream.specs.declared.lines.Part.{Part}
 use Rattle.druid_stream.specs.declared.lines.Part.TheVariants.{More, Feed, Ended}
 
@@ -18,7 +18,7 @@ pub record HasLines (head : List ℕ) (a b : Option (List ℕ)) : Type 0 where
   pub blanks : All IsBlank blank
   pub each : All IsTextLine lines
   pub is : head ≡ text_of lines
-  pub short : length head ≤ MAX_HEAD
+  pub short : length head ≤ max_head
   pub taken : Consumes a b (text_of blank ++ text_of lines)
 
 -- one line more
@@ -40,7 +40,7 @@ with_feed old mid front lines is e =
 with_feed_long : (old mid front : List ℕ) → mid ≡ old ++ front → length (mid ++ 10 ∷ []) ≡ length old + length front + 1
 with_feed_long old mid front e = omega (arith, length-append mid (10 ∷ []), ap length e, length-append old front)
 
-pub line_more : (old mid : List ℕ) (room : ℕ) (a b c : Option (List ℕ)) → HasLines old a b → IsLine Feed old mid room b c → room + length old ≤ MAX_HEAD
+pub line_more : (old mid : List ℕ) (room : ℕ) (a b c : Option (List ℕ)) → HasLines old a b → IsLine Feed old mid room b c → room + length old ≤ max_head
     → (IsBlank (drop (length old) mid) → ⊥) → HasLines (mid ++ 10 ∷ []) a c
 line_more old mid room a b c h w fits text = record {
   blank = h.blank;
@@ -88,7 +88,7 @@ blank_more old mid room a b c h w empty is_blank = record {
         ∙ sym (text_of-push h.blank w.front) ∙ sym (append-nil (text_of (h.blank ++ w.front ∷ [])))
 
 -- the blank line after the others
-pub head_found : (old mid : List ℕ) (room : ℕ) (a b c : Option (List ℕ)) → HasLines old a b → IsLine Feed old mid room b c → room + length old ≤ MAX_HEAD
+pub head_found : (old mid : List ℕ) (room : ℕ) (a b c : Option (List ℕ)) → HasLines old a b → IsLine Feed old mid room b c → room + length old ≤ max_head
     → 0 < length old → IsBlank (drop (length old) mid) → IfSome a (λ input. (rest : List ℕ) × (c ≡ Some rest) × IsFramed input (mid ++ 10 ∷ []) rest)
 head_found old mid room None b c h w fits some is_blank = tt
 head_found old mid room (Some input) None c h w fits some is_blank = absurd h.taken
@@ -139,7 +139,7 @@ ends_in_head old mid room (Some input) (Some more) c h w = (
       (begun old w.front (Some input) (Some more) h w.plain),
 )
 
-pub head_too_long : (old mid : List ℕ) (room : ℕ) (a b c : Option (List ℕ)) → HasLines old a b → IsLine More old mid room b c → MAX_HEAD ≤ room + length old
+pub head_too_long : (old mid : List ℕ) (room : ℕ) (a b c : Option (List ℕ)) → HasLines old a b → IsLine More old mid room b c → max_head ≤ room + length old
     → IfSome a IsLongHead
 head_too_long old mid room None b c h w fits = tt
 head_too_long old mid room (Some input) None c h w fits = absurd h.taken
@@ -159,21 +159,21 @@ head_too_long old mid room (Some input) (Some more) (Some rest) h w fits = recor
 -- ---- the same of a part that is given by an equation, of a head by what it has now
 
 pub long_at : (part : Part) (old mid : List ℕ) (room : ℕ) (a b c : Option (List ℕ)) → part ≡ More → HasLines old a b → IsLine part old mid room b c
-    → MAX_HEAD ≤ room + length old → IfSome a IsLongHead
+    → max_head ≤ room + length old → IfSome a IsLongHead
 long_at part old mid room a b c e h w fits = head_too_long old mid room a b c h (subst (λ p. IsLine p old mid room b c) e w) fits
 
 pub end_at : (part : Part) (old mid : List ℕ) (room : ℕ) (a b c : Option (List ℕ)) → part ≡ Ended → HasLines old a b → IsLine part old mid room b c → IfSome a EndsInHead
 end_at part old mid room a b c e h w = ends_in_head old mid room a b c h (subst (λ p. IsLine p old mid room b c) e w)
 
 pub found_at : (part : Part) (old mid new : List ℕ) (room : ℕ) (a b c : Option (List ℕ)) → part ≡ Feed → HasLines old a b → IsLine part old mid room b c
-    → room + length old ≤ MAX_HEAD → 0 < length old → IsBlank (drop (length old) mid) → new ≡ mid ++ 10 ∷ []
+    → room + length old ≤ max_head → 0 < length old → IsBlank (drop (length old) mid) → new ≡ mid ++ 10 ∷ []
     → IfSome a (λ input. (rest : List ℕ) × (c ≡ Some rest) × IsFramed input new rest)
 found_at part old mid new room a b c e h w fits some blank is =
     subst (λ l. IfSome a (λ input. (rest : List ℕ) × (c ≡ Some rest) × IsFramed input l rest)) (sym is)
     (head_found old mid room a b c h (subst (λ p. IsLine p old mid room b c) e w) fits some blank)
 
 pub more_at : (part : Part) (old mid new : List ℕ) (room : ℕ) (a b c : Option (List ℕ)) → part ≡ Feed → HasLines old a b → IsLine part old mid room b c
-    → room + length old ≤ MAX_HEAD → (IsBlank (drop (length old) mid) → ⊥) → new ≡ mid ++ 10 ∷ [] → HasLines new a c
+    → room + length old ≤ max_head → (IsBlank (drop (length old) mid) → ⊥) → new ≡ mid ++ 10 ∷ [] → HasLines new a c
 more_at part old mid new room a b c e h w fits text is =
     subst (λ l. HasLines l a c) (sym is) (line_more old mid room a b c h (subst (λ p. IsLine p old mid room b c) e w) fits text)
 

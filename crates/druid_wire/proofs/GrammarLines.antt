@@ -11,8 +11,7 @@ use Rattle.httparse.specs.Spans.{RequestExceeds, ResponseExceeds}
 use Rattle.httparse.proofs.GrammarLemmas.{print_request-append, print_response-append}
 use Rattle.druid_wire.specs.Frame.{IsPlain, IsBlank, IsTextLine, text_of, IsHead, IsFramed}
 use Rattle.druid_wire.specs.Grammar.{bare_request, bare_response}
-use Rattle.druid_wire.specs.declared.frame.TheConstants.{MAX_HEAD}
-use Rattle.druid_wire.specs.declared.head.TheConstants.{MAX_FIELDS}
+use Rattle.druid_wire.specs.Limits.{max_head, max_fields}
 use Rattle.druid_wire.proofs.FramedLemmas.{first_line, blank_short, text_not_blank, line_once, same_blanks, blank_plain}
 
 -- ---- line ends
@@ -125,7 +124,7 @@ section_lines start end fields last rest =
 
 -- such lines are a head
 lines_head : (head start : List ℕ) (fields : List Field) (last : LineEnd) → IsTextLine start → All IsField fields
-    → head ≡ text_of (lines_of start fields) ++ (before_feed last ++ 10 ∷ []) → length head ≤ MAX_HEAD → IsHead head
+    → head ≡ text_of (lines_of start fields) ++ (before_feed last ++ 10 ∷ []) → length head ≤ max_head → IsHead head
 lines_head head start fields last text all is short = record {
   lines = lines_of start fields;
   last = before_feed last;
@@ -208,7 +207,7 @@ request_start_text h is =
 bare_is_request : (h : RequestHead) → IsRequestHead h → IsRequestHead (bare_request h)
 bare_is_request h is = record { method = is.method; target = is.target; target_text = is.target_text; minor = is.minor; fields = is.fields }
 
-pub request_framed : (input rest : List ℕ) (h : RequestHead) → ReadsRequest input h rest → length (print_request (bare_request h)) ≤ MAX_HEAD
+pub request_framed : (input rest : List ℕ) (h : RequestHead) → ReadsRequest input h rest → length (print_request (bare_request h)) ≤ max_head
     → IsFramed input (print_request (bare_request h)) rest
 request_framed input rest h reads short = record {
   blank = map before_feed h.blank;
@@ -220,11 +219,11 @@ request_framed input rest h reads short = record {
       (sym (append-nil (print_request (bare_request h))) ∙ request_lines (bare_request h) []) short;
 }
 
-pub request_bare : (input rest : List ℕ) (h : RequestHead) → ReadsRequest input h rest → length (print_request (bare_request h)) ≤ MAX_HEAD
+pub request_bare : (input rest : List ℕ) (h : RequestHead) → ReadsRequest input h rest → length (print_request (bare_request h)) ≤ max_head
     → IsFramed input (print_request (bare_request h)) rest × ReadsRequest (print_request (bare_request h)) (bare_request h) []
 request_bare input rest h reads short = (request_framed input rest h reads short, (bare_is_request h reads.0, sym (append-nil (print_request (bare_request h)))))
 
-pub request_stays : (bytes : List ℕ) (h : RequestHead) → ReadsRequest bytes h [] → length h.fields ≤ MAX_FIELDS → ¬ (RequestExceeds MAX_FIELDS bytes)
+pub request_stays : (bytes : List ℕ) (h : RequestHead) → ReadsRequest bytes h [] → length h.fields ≤ max_fields → ¬ (RequestExceeds max_fields bytes)
 request_stays bytes h reads few over =
     let g = over.3 in
     let count = fields_within bytes over.0 over.1 (request_start g ++ before_feed g.line_end) (request_start h ++ before_feed h.line_end) g.fields h.fields g.last h.last g.blank h.blank
@@ -266,7 +265,7 @@ response_start_text h is =
 bare_is_response : (h : ResponseHead) → IsResponseHead h → IsResponseHead (bare_response h)
 bare_is_response h is = record { minor = is.minor; digits = is.digits; reason = is.reason; fields = is.fields }
 
-pub response_framed : (input rest : List ℕ) (h : ResponseHead) → ReadsResponse input h rest → length (print_response (bare_response h)) ≤ MAX_HEAD
+pub response_framed : (input rest : List ℕ) (h : ResponseHead) → ReadsResponse input h rest → length (print_response (bare_response h)) ≤ max_head
     → IsFramed input (print_response (bare_response h)) rest
 response_framed input rest h reads short = record {
   blank = map before_feed h.blank;
@@ -278,11 +277,11 @@ response_framed input rest h reads short = record {
       (sym (append-nil (print_response (bare_response h))) ∙ response_lines (bare_response h) []) short;
 }
 
-pub response_bare : (input rest : List ℕ) (h : ResponseHead) → ReadsResponse input h rest → length (print_response (bare_response h)) ≤ MAX_HEAD
+pub response_bare : (input rest : List ℕ) (h : ResponseHead) → ReadsResponse input h rest → length (print_response (bare_response h)) ≤ max_head
     → IsFramed input (print_response (bare_response h)) rest × ReadsResponse (print_response (bare_response h)) (bare_response h) []
 response_bare input rest h reads short = (response_framed input rest h reads short, (bare_is_response h reads.0, sym (append-nil (print_response (bare_response h)))))
 
-pub response_stays : (bytes : List ℕ) (h : ResponseHead) → ReadsResponse bytes h [] → length h.fields ≤ MAX_FIELDS → ¬ (ResponseExceeds MAX_FIELDS bytes)
+pub response_stays : (bytes : List ℕ) (h : ResponseHead) → ReadsResponse bytes h [] → length h.fields ≤ max_fields → ¬ (ResponseExceeds max_fields bytes)
 response_stays bytes h reads few over =
     let g = over.3 in
     let count = fields_within bytes over.0 over.1 (response_start g ++ before_feed g.line_end) (response_start h ++ before_feed h.line_end) g.fields h.fields g.last h.last g.blank h.blank

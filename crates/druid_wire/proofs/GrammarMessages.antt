@@ -6,7 +6,7 @@ use Rattle.druid_wire.specs.Frame.{IsBlank, IsTextLine, text_of, IsFramed}
 use Rattle.druid_wire.specs.Grammar.{bare_request, bare_response, IsGrammarRequest, IsGrammarResponse}
 use Rattle.druid_message.specs.Requests.{RequestValue}
 use Rattle.druid_wire.specs.Messages.{IsRequest, IsResponse}
-use Rattle.druid_wire.specs.declared.frame.TheConstants.{MAX_HEAD}
+use Rattle.druid_wire.specs.Limits.{max_head}
 use Rattle.druid_wire.proofs.FramedLemmas.{first_line, text_not_blank}
 use Rattle.druid_wire.proofs.GrammarLines.{before_feed, blank_lines, end_blank, lines_of, request_start, request_lines, request_bare, response_start, response_lines, response_bare}
 
@@ -70,7 +70,7 @@ to_grammar_request input request rest p =
     record {
       head = behind_request p.framed.blank h;
       reads = (is, input_lines input p.bytes (request.body ++ rest) start h.fields h.last p.framed bytes ∙ sym (request_lines (behind_request p.framed.blank h) (request.body ++ rest)));
-      short = subst (λ (l : List ℕ). length l ≤ MAX_HEAD) same p.framed.framed.short;
+      short = subst (λ (l : List ℕ). length l ≤ max_head) same p.framed.framed.short;
       few = p.reads.few;
       method = p.method;
       target = p.target;
@@ -111,7 +111,7 @@ to_grammar_response input status body rest p =
     record {
       head = behind_response p.framed.blank h;
       reads = (is, input_lines input p.bytes (body ++ rest) start h.fields h.last p.framed bytes ∙ sym (response_lines (behind_response p.framed.blank h) (body ++ rest)));
-      short = subst (λ (l : List ℕ). length l ≤ MAX_HEAD) same p.framed.framed.short;
+      short = subst (λ (l : List ℕ). length l ≤ max_head) same p.framed.framed.short;
       few = p.reads.few;
       high = omega (arith, p.reads.status, p.code);
       code = p.code;

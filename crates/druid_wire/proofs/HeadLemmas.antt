@@ -11,7 +11,7 @@ use Rattle.httparse.proofs.GrammarLemmas.{request_unique, response_unique}
 use Rattle.druid_wire.specs.Messages.{IsRequestHead, IsResponseHead, request_length, response_length, body_length, RequestSays, ResponseSays}
 use Rattle.druid_message.specs.declared.fault.WireFault.{WireFault}
 use Rattle.druid_message.specs.declared.fault.WireFault.TheVariants.{BadHead}
-use Rattle.druid_wire.specs.declared.head.TheConstants.{MAX_FIELDS}
+use Rattle.druid_wire.specs.Limits.{max_fields}
 
 whole : (bytes : List ℕ) (n : ℕ) → n ≤ length bytes → drop n bytes ≡ [] → n ≡ length bytes
 whole bytes n fits e = omega (arith, fits, ap length e, length-drop n bytes)
@@ -30,7 +30,7 @@ no_request bytes spans r h at fits other =
     inl (refl, λ g reads. other (whole bytes r.len fits (request_unique bytes h g (drop r.len bytes) [] at.reads reads).1))
 
 pub some_request : (bytes : List ℕ) (spans : List HeaderSpan) (r : RequestSpans) (h : RequestHead) → IsRequestAt bytes spans r h → r.headers ≤ length spans
-    → length spans ≤ MAX_FIELDS → r.len ≡ length bytes → IsRequestHead bytes h
+    → length spans ≤ max_fields → r.len ≡ length bytes → IsRequestHead bytes h
 some_request bytes spans r h at fits room end = record {
   reads = subst (ReadsRequest bytes h) (at_end bytes r.len end) at.reads;
   few = omega (arith, fits, room, few_fields (header_bytes bytes) name_and_value spans h.fields r.headers fits at.fields);
@@ -56,7 +56,7 @@ low_response bytes spans r h at low =
     inl (refl, λ g reads. subst (λ (t : ResponseHead). status_code t < 100) (response_unique bytes h g (drop r.len bytes) [] at.reads reads).0 (omega (arith, low, at.code)))
 
 pub some_response : (bytes : List ℕ) (spans : List HeaderSpan) (r : ResponseSpans) (h : ResponseHead) → IsResponseAt bytes spans r h → r.headers ≤ length spans
-    → length spans ≤ MAX_FIELDS → r.len ≡ length bytes → 100 ≤ r.code → IsResponseHead bytes h
+    → length spans ≤ max_fields → r.len ≡ length bytes → 100 ≤ r.code → IsResponseHead bytes h
 some_response bytes spans r h at fits room end high = record {
   reads = subst (ReadsResponse bytes h) (at_end bytes r.len end) at.reads;
   few = omega (arith, fits, room, few_fields (header_bytes bytes) name_and_value spans h.fields r.headers fits at.fields);

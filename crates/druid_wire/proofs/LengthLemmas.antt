@@ -17,7 +17,7 @@ use Rattle.std.proofs.lemmas.List.Elements.{filter-append}
 use Rattle.std.proofs.lemmas.List.Folds.{list_any-append, list_any_at}
 use Rattle.druid_wire.specs.Heads.{NameAndValue, is_named, values_of, is_length, length_told, length_said, length_in, is_coded}
 use Rattle.druid_wire.specs.declared.length.Length.TheVariants.{Unsaid, Unclear}
-use Rattle.druid_wire.specs.declared.length.TheConstants.{MAX_BODY, MAX_DIGITS}
+use Rattle.druid_wire.specs.Limits.{max_body, max_digits}
 
 is_digit : (b : ℕ) → is_ascii_digit b ≡ true → (48 ≤ b) × (b ≤ 57)
 is_digit b h = (grind (arith, nat_tests), grind (arith, nat_tests))
@@ -39,11 +39,11 @@ plain (b ∷ more) all e = omega (arith, e, (is_digit b (and_parts _ _ all).0).0
 pub length_numeral : (text : List ℕ) → is_length text ≡ true
     → IsNumeral 10 (without_leading_plus text) × (digits_value 10 (without_leading_plus text) < 2 ^ 128) × (without_leading_plus text ≡ text)
 length_numeral text is =
-    let outer = and_parts (nat_le 1 (length text) && nat_le (length text) MAX_DIGITS) (list_all is_ascii_digit text) is in
-    let inner = and_parts (nat_le 1 (length text)) (nat_le (length text) MAX_DIGITS) outer.0 in
+    let outer = and_parts (nat_le 1 (length text) && nat_le (length text) max_digits) (list_all is_ascii_digit text) is in
+    let inner = and_parts (nat_le 1 (length text)) (nat_le (length text) max_digits) outer.0 in
     let all = digits text outer.1 in
     let same = without_leading_plus_none text (plain text outer.1) in
-    let few : 10 ^ length text ≤ 10 ^ MAX_DIGITS = pow-le-pow_right (lit≤ tt) (leb-true (length text) MAX_DIGITS inner.1) in
+    let few : 10 ^ length text ≤ 10 ^ max_digits = pow-le-pow_right (lit≤ tt) (leb-true (length text) max_digits inner.1) in
     let low = digits_value-lt 10 text all in
     subst (λ (t : List ℕ). IsNumeral 10 t × (digits_value 10 t < 2 ^ 128) × (t ≡ text)) (sym same)
     ((leb-true 1 (length text) inner.0, all), omega (arith, few, low), refl)
@@ -51,7 +51,7 @@ length_numeral text is =
 pub length_text : (text : List ℕ) → is_length text ≡ true → IsUtf8 text
 length_text text is =
     IsUtf8-from_ascii text (IsAscii-from_digits text
-    (digits text (and_parts (nat_le 1 (length text) && nat_le (length text) MAX_DIGITS) (list_all is_ascii_digit text) is).1))
+    (digits text (and_parts (nat_le 1 (length text) && nat_le (length text) max_digits) (list_all is_ascii_digit text) is).1))
 
 -- ---- fields one by one
 
@@ -104,7 +104,7 @@ told_some : (text : List ℕ) → length_told text ≡ Unsaid → ⊥
 told_some text e =
     elim (cases_Bool (is_length text)) [
       | inl good ↦
-          elim (cases_Bool (nat_le (digits_value 10 text) MAX_BODY)) [
+          elim (cases_Bool (nat_le (digits_value 10 text) max_body)) [
             | inl low ↦ let f = rw (good, low) at e in absurd cc
             | inr high ↦ let f = rw (good, high) at e in absurd cc
           ]

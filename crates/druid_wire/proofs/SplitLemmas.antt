@@ -4,7 +4,7 @@ use Rattle.std.proofs.lemmas.List.{take-append-drop, drop_more}
 use Rattle.std.proofs.lemmas.List.Elements.{All-nil, All-push}
 use Rattle.std.proofs.Math.Seq.{take-append_seam}
 use Rattle.druid_wire.specs.Frame.{IsPlain, IsBlank, IsTextLine, text_of, IsFramed, IsBegun, EndsInHead, IsLongHead}
-use Rattle.druid_wire.specs.declared.frame.TheConstants.{MAX_HEAD}
+use Rattle.druid_wire.specs.Limits.{max_head}
 use Rattle.druid_wire.proofs.FrameLemmas.{text_of-push, some_of, none_of}
 
 -- a line feed parts the bytes
@@ -66,7 +66,7 @@ blank_line bytes text rest line next w e blank first = record {
 
 -- the line that ends the head
 pub head_ends : (bytes text rest line next : List ℕ) (end : ℕ) → Passes bytes text rest → length rest < length text → IsBlank line → rest ≡ line ++ 10 ∷ next
-    → end ≡ length text - length next → end ≤ MAX_HEAD → IsFramed bytes (take end text) next
+    → end ≡ length text - length next → end ≤ max_head → IsFramed bytes (take end text) next
 head_ends bytes text rest line next end w some blank e ends fits = record {
   blank = w.blank;
   blanks = w.blanks;
@@ -104,7 +104,7 @@ begun bytes text rest line w plain = record {
   is = refl;
 }
 
-pub head_is_long : (bytes text rest line more : List ℕ) → Passes bytes text rest → IsPlain line → rest ≡ line ++ more → MAX_HEAD + length more ≤ length text → MAX_HEAD < length text
+pub head_is_long : (bytes text rest line more : List ℕ) → Passes bytes text rest → IsPlain line → rest ≡ line ++ more → max_head + length more ≤ length text → max_head < length text
     → IsLongHead bytes
 head_is_long bytes text rest line more w plain e fits above = record {
   begun = text_of w.blank ++ (text_of w.lines ++ line);

@@ -8,13 +8,13 @@ use Rattle.druid_stream.specs.Fronts.{AppendsFront}
 use Rattle.druid_wire.specs.Written.{joined, LacksRequest, phrase_of, request_head, request_text, response_head, response_text, answer_text}
 use Rattle.druid_message.specs.declared.fault.WireFault.{WireFault}
 use Rattle.druid_message.specs.declared.fault.WireFault.TheVariants.{Write, Memory}
-use Rattle.druid_wire.specs.declared.length.TheConstants.{MAX_BODY}
+use Rattle.druid_wire.specs.Limits.{max_body}
 
 -- the text is given by an equation
 pub front_as : (a b : Option (List ℕ)) (text whole : List ℕ) → whole ≡ text → AppendsFront a b text → AppendsFront a b whole
 front_as a b text whole e h = subst (AppendsFront a b) (sym e) h
 
-pub lacks_request : (request : RequestValue) (a b : Option (List ℕ)) (f : WireFault) → length request.body ≤ MAX_BODY
+pub lacks_request : (request : RequestValue) (a b : Option (List ℕ)) (f : WireFault) → length request.body ≤ max_body
     → (f ≡ Write) ⊎ (f ≡ Memory) → AppendsFront a b (request_text request) → LacksRequest request a b f
 lacks_request request a b f short told front =
     elim told [
@@ -22,11 +22,11 @@ lacks_request request a b f short told front =
       | inr m ↦ subst (LacksRequest request a b) (sym m) (short, front)
     ]
 
-pub answer_short : (status : ℕ) (body : List ℕ) → length body ≤ MAX_BODY → answer_text status body ≡ response_text status body
-answer_short status body short = rw (le-leb (length body) MAX_BODY short) refl
+pub answer_short : (status : ℕ) (body : List ℕ) → length body ≤ max_body → answer_text status body ≡ response_text status body
+answer_short status body short = rw (le-leb (length body) max_body short) refl
 
-pub answer_long : (status : ℕ) (body : List ℕ) → MAX_BODY < length body → answer_text status body ≡ response_text 500 (codes "{\"error\":\"TooLarge\"}")
-answer_long status body long = rw (lt-leb (length body) MAX_BODY long) refl
+pub answer_long : (status : ℕ) (body : List ℕ) → max_body < length body → answer_text status body ≡ response_text 500 (codes "{\"error\":\"TooLarge\"}")
+answer_long status body long = rw (lt-leb (length body) max_body long) refl
 
 -- ---- texts out of their pieces
 

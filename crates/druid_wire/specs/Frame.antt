@@ -1,7 +1,7 @@
 -- Where the head of a message begins and ends, whatever stands in it: after blank lines, and with the first empty line.
 use Rattle.std.specs.Prelude.{◌≡◌, ◌≢◌, ◌+◌, ◌≤◌, ◌<◌, ◌⊎◌, ℕ, List, [], ◌∷◌, ◌++◌, All, length}
 use Rattle.std.specs.List.{flat_map}
-use Rattle.druid_wire.specs.declared.frame.TheConstants.{MAX_HEAD}
+use Rattle.druid_wire.specs.Limits.{max_head}
 
 -- the bytes of a line, which ends at its line feed, have none
 abbrev pub IsPlain : List ℕ → Type 0
@@ -27,7 +27,7 @@ pub record IsHead (head : List ℕ) : Type 0 where
   pub each : All IsTextLine lines
   pub empty : IsBlank last
   pub is : head ≡ text_of lines ++ (last ++ 10 ∷ [])
-  pub short : length head ≤ MAX_HEAD
+  pub short : length head ≤ max_head
 
 -- the input is a head after blank lines, and then the rest
 pub record IsFramed (input head rest : List ℕ) : Type 0 where
@@ -58,5 +58,5 @@ pub record IsLongHead (input : List ℕ) : Type 0 where
   pub rest : List ℕ
   pub is : input ≡ begun ++ rest
   pub begins : IsBegun begun front
-  pub long : MAX_HEAD ≤ length front
-  pub over : MAX_HEAD < length front + length rest
+  pub long : max_head ≤ length front
+  pub over : max_head < length front + length rest

@@ -3,8 +3,7 @@ use Rattle.std.specs.Prelude.{◌≡◌, ◌≤◌, ℕ, List, [], ◌++◌, len
 use Rattle.httparse.specs.Grammar.{RequestHead, ReadsRequest, print_request, ResponseHead, ReadsResponse, print_response, status_code}
 use Rattle.druid_message.specs.Requests.{RequestValue}
 use Rattle.druid_wire.specs.Messages.{request_length, response_length}
-use Rattle.druid_wire.specs.declared.frame.TheConstants.{MAX_HEAD}
-use Rattle.druid_wire.specs.declared.head.TheConstants.{MAX_FIELDS}
+use Rattle.druid_wire.specs.Limits.{max_head, max_fields}
 
 -- without the blank lines before it
 abbrev pub bare_request : RequestHead → RequestHead
@@ -17,8 +16,8 @@ bare_response head = record head { blank = [] }
 pub record IsGrammarRequest (input : List ℕ) (request : RequestValue) (rest : List ℕ) : Type 0 where
   pub head : RequestHead
   pub reads : ReadsRequest input head (request.body ++ rest)
-  pub short : length (print_request (bare_request head)) ≤ MAX_HEAD
-  pub few : length head.fields ≤ MAX_FIELDS
+  pub short : length (print_request (bare_request head)) ≤ max_head
+  pub few : length head.fields ≤ max_fields
   pub method : request.method ≡ head.method
   pub target : request.target ≡ head.target
   pub whole : request_length head ≡ Ok (length request.body)
@@ -26,8 +25,8 @@ pub record IsGrammarRequest (input : List ℕ) (request : RequestValue) (rest : 
 pub record IsGrammarResponse (input : List ℕ) (status : ℕ) (body rest : List ℕ) : Type 0 where
   pub head : ResponseHead
   pub reads : ReadsResponse input head (body ++ rest)
-  pub short : length (print_response (bare_response head)) ≤ MAX_HEAD
-  pub few : length head.fields ≤ MAX_FIELDS
+  pub short : length (print_response (bare_response head)) ≤ max_head
+  pub few : length head.fields ≤ max_fields
   pub high : 100 ≤ status
   pub code : status ≡ status_code head
   pub whole : response_length head ≡ Ok (length body)

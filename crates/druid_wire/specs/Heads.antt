@@ -6,7 +6,7 @@ use Rattle.std.specs.Str.{str_eq_ignore_ascii_case}
 use Rattle.std.specs.Str.Parse.{digits_value}
 use Rattle.druid_wire.specs.declared.length.Length.{Length}
 use Rattle.druid_wire.specs.declared.length.Length.TheVariants.{Unsaid, Unclear, TooLong, Is}
-use Rattle.druid_wire.specs.declared.length.TheConstants.{MAX_BODY, MAX_DIGITS}
+use Rattle.druid_wire.specs.Limits.{max_body, max_digits}
 
 -- a field: its name, and its value without the white space around it
 abbrev pub NameAndValue : Type 0
@@ -22,10 +22,10 @@ values_of name fields = map (λ field. field.1) (filter (is_named name) fields)
 
 -- a length is decimal digits, one at least and no more than it may have
 abbrev pub is_length : List ℕ → Bool
-is_length text = nat_le 1 (length text) && nat_le (length text) MAX_DIGITS && list_all is_ascii_digit text
+is_length text = nat_le 1 (length text) && nat_le (length text) max_digits && list_all is_ascii_digit text
 
 abbrev pub length_told : List ℕ → Length
-length_told text = if is_length text then (if nat_le (digits_value 10 text) MAX_BODY then Is (digits_value 10 text) else TooLong) else Unclear
+length_told text = if is_length text then (if nat_le (digits_value 10 text) max_body then Is (digits_value 10 text) else TooLong) else Unclear
 
 -- what the values of `Content-Length` say: it may stand once
 abbrev pub length_said : List (List ℕ) → Length

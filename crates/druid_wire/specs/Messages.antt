@@ -9,7 +9,7 @@ use Rattle.druid_message.specs.declared.fault.WireFault.{WireFault}
 use Rattle.druid_message.specs.declared.fault.WireFault.TheVariants.{Cut, Read, Write, BadHead, HeadTooLong, NoLength, BodyTooLong, Connect, Memory}
 use Rattle.druid_wire.specs.declared.length.Length.{Length}
 use Rattle.druid_wire.specs.declared.length.Length.TheVariants.{Unsaid, Unclear, TooLong, Is}
-use Rattle.druid_wire.specs.declared.head.TheConstants.{MAX_FIELDS}
+use Rattle.druid_wire.specs.Limits.{max_fields}
 
 abbrev pub length_or : Bool → Length → Result ℕ WireFault
 length_or true Unsaid = Err NoLength
@@ -32,11 +32,11 @@ response_length head = body_length true (map name_and_value head.fields)
 -- the bytes are that head of a request, and nothing more
 pub record IsRequestHead (bytes : List ℕ) (head : RequestHead) : Type 0 where
   pub reads : ReadsRequest bytes head []
-  pub few : length head.fields ≤ MAX_FIELDS
+  pub few : length head.fields ≤ max_fields
 
 pub record IsResponseHead (bytes : List ℕ) (head : ResponseHead) : Type 0 where
   pub reads : ReadsResponse bytes head []
-  pub few : length head.fields ≤ MAX_FIELDS
+  pub few : length head.fields ≤ max_fields
   pub status : 100 ≤ status_code head
 
 -- the bytes, from the first line to the empty one, say how long the body is, or have a fault
@@ -44,14 +44,14 @@ abbrev pub RequestSays : List ℕ → Result ℕ WireFault → Type 0
 RequestSays bytes (Ok n) = (head : RequestHead) × IsRequestHead bytes head × (request_length head ≡ Ok n)
 RequestSays bytes (Err fault) =
     ((fault ≡ BadHead) × ((head : RequestHead) → ¬ (ReadsRequest bytes head [])))
-    ⊎ ((fault ≡ HeadTooLong) × RequestExceeds MAX_FIELDS bytes)
+    ⊎ ((fault ≡ HeadTooLong) × RequestExceeds max_fields bytes)
     ⊎ ((head : RequestHead) × IsRequestHead bytes head × (request_length head ≡ Err fault))
 
 abbrev pub ResponseSays : List ℕ → Result ℕ WireFault → Type 0
 ResponseSays bytes (Ok n) = (head : ResponseHead) × IsResponseHead bytes head × (response_length head ≡ Ok n)
 ResponseSays bytes (Err fault) =
     ((fault ≡ BadHead) × ((head : ResponseHead) → ReadsResponse bytes head [] → status_code head < 100))
-    ⊎ ((fault ≡ HeadTooLong) × ResponseExceeds MAX_FIELDS bytes)
+    ⊎ ((fault ≡ HeadTooLong) × ResponseExceeds max_fields bytes)
     ⊎ ((head : ResponseHead) × IsResponseHead bytes head × (response_length head ≡ Err fault))
 
 -- the head of the input has that fault

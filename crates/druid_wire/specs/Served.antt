@@ -7,7 +7,7 @@ use Rattle.druid_wire.specs.Messages.{IsRequest, RequestSays, HasFault}
 use Rattle.druid_wire.specs.Written.{answer_text}
 use Rattle.druid_message.specs.declared.fault.WireFault.{WireFault}
 use Rattle.druid_message.specs.declared.fault.WireFault.TheVariants.{Cut, Read, Write, BadHead, HeadTooLong, NoLength, BodyTooLong, Connect, Memory}
-use Rattle.druid_wire.specs.declared.length.TheConstants.{MAX_BODY}
+use Rattle.druid_wire.specs.Limits.{max_body}
 
 -- the answer has this status and this body
 pub record Tells (wanted : ℕ) (text : List ℕ) (status : ℕ) (body : List ℕ) : Type 0 where
@@ -33,7 +33,7 @@ refusal_text Memory = None
 
 -- a body that passes the limit is written as another answer, of status 500
 abbrev pub status_sent : ℕ → List ℕ → ℕ
-status_sent status body = if nat_le (length body) MAX_BODY then status else 500
+status_sent status body = if nat_le (length body) max_body then status else 500
 
 -- the answer was written, with this status
 pub record IsSent (old new : Option (List ℕ)) (status : ℕ) (body : List ℕ) (sent : ℕ) : Type 0 where

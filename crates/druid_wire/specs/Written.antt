@@ -8,7 +8,7 @@ use Rattle.druid_stream.specs.Fronts.{AppendsFront}
 use Rattle.druid_message.specs.Requests.{RequestValue}
 use Rattle.druid_message.specs.declared.fault.WireFault.{WireFault}
 use Rattle.druid_message.specs.declared.fault.WireFault.TheVariants.{Cut, Read, Write, BadHead, HeadTooLong, NoLength, BodyTooLong, Connect, Memory}
-use Rattle.druid_wire.specs.declared.length.TheConstants.{MAX_BODY}
+use Rattle.druid_wire.specs.Limits.{max_body}
 
 -- the fields that each message has, for a body of so many bytes, and the empty line
 abbrev pub fields_text : ℕ → List ℕ
@@ -36,7 +36,7 @@ response_text status body = response_head status (length body) ++ body
 -- a body that is too long is answered by another message
 abbrev pub answer_text : ℕ → List ℕ → List ℕ
 answer_text status body =
-    if nat_le (length body) MAX_BODY then response_text status body
+    if nat_le (length body) max_body then response_text status body
     else response_text 500 (codes "{\"error\":\"TooLarge\"}")
 
 -- pieces, one after another
@@ -47,10 +47,10 @@ joined pieces = flat_map (λ piece. piece.now) pieces
 abbrev pub LacksRequest : RequestValue → Option (List ℕ) → Option (List ℕ) → WireFault → Type 0
 LacksRequest request old new Cut = ⊥
 LacksRequest request old new Read = ⊥
-LacksRequest request old new Write = (length request.body ≤ MAX_BODY) × AppendsFront old new (request_text request)
+LacksRequest request old new Write = (length request.body ≤ max_body) × AppendsFront old new (request_text request)
 LacksRequest request old new BadHead = ⊥
 LacksRequest request old new HeadTooLong = ⊥
 LacksRequest request old new NoLength = ⊥
-LacksRequest request old new BodyTooLong = (MAX_BODY < length request.body) × Keeps old new
+LacksRequest request old new BodyTooLong = (max_body < length request.body) × Keeps old new
 LacksRequest request old new Connect = ⊥
-LacksRequest request old new Memory = (length request.body ≤ MAX_BODY) × AppendsFront old new (request_text request)
+LacksRequest request old new Memory = (length request.body ≤ max_body) × AppendsFront old new (request_text request)

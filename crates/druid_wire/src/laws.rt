@@ -8,8 +8,7 @@ ghost use Rattle.druid_wire.specs.Messages.{IsRequest, IsResponse, HasFault, Req
 ghost use Rattle.druid_wire.specs.Written.{request_head, request_text, response_text};
 ghost use Rattle.druid_message.specs.declared.fault.WireFault.{WireFault};
 ghost use Rattle.druid_message.specs.declared.fault.WireFault.TheVariants.{Read, Memory};
-ghost use Rattle.druid_wire.specs.declared.frame.TheConstants.{MAX_HEAD};
-ghost use Rattle.druid_wire.specs.declared.length.TheConstants.{MAX_BODY};
+ghost use Rattle.druid_wire.specs.Limits.{max_head, max_body};
 
 /// An input has one head, and one rest after it. It neither ends in the head, nor is the head too long.
 pub fn one_head()
@@ -21,9 +20,9 @@ pub fn one_head()
 /// Each head of the grammar is a head for the reader too, where it has no more bytes than a head may have: framed, and
 /// still that head without the blank lines before it.
 pub fn heads_are_framed()
-    ensures requests { (input rest : List ℕ) (head : RequestHead) → ReadsRequest input head rest → length (print_request (bare_request head)) ≤ MAX_HEAD
+    ensures requests { (input rest : List ℕ) (head : RequestHead) → ReadsRequest input head rest → length (print_request (bare_request head)) ≤ max_head
         → IsFramed input (print_request (bare_request head)) rest × ReadsRequest (print_request (bare_request head)) (bare_request head) [] }
-    ensures responses { (input rest : List ℕ) (head : ResponseHead) → ReadsResponse input head rest → length (print_response (bare_response head)) ≤ MAX_HEAD
+    ensures responses { (input rest : List ℕ) (head : ResponseHead) → ReadsResponse input head rest → length (print_response (bare_response head)) ≤ max_head
         → IsFramed input (print_response (bare_response head)) rest × ReadsResponse (print_response (bare_response head)) (bare_response head) [] }
 {}
 
@@ -60,11 +59,11 @@ pub fn responses_have_no_fault()
 /// bytes that a target may have, and its body and its head are within their limits.
 pub fn requests_are_read_back()
     ensures { (request : RequestValue) (rest : List ℕ) → IsToken request.method → 0 < length request.target → AllPass is_uri_byte request.target → IsUtf8 request.target
-        → length request.body ≤ MAX_BODY → length (request_head request) ≤ MAX_HEAD → IsRequest (request_text request ++ rest) request rest }
+        → length request.body ≤ max_body → length (request_head request) ≤ max_head → IsRequest (request_text request ++ rest) request rest }
 {}
 
 /// A response that is written is read as the same response, whatever follows it: each status of 100 to 999, and each body
 /// within the limit.
 pub fn responses_are_read_back()
-    ensures { (status : ℕ) (body rest : List ℕ) → 100 ≤ status → status < 1000 → length body ≤ MAX_BODY → IsResponse (response_text status body ++ rest) status body rest }
+    ensures { (status : ℕ) (body rest : List ℕ) → 100 ≤ status → status < 1000 → length body ≤ max_body → IsResponse (response_text status body ++ rest) status body rest }
 {}

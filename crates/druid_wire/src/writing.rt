@@ -2,6 +2,7 @@
 ghost use Rattle.std.specs.Prelude.{◌≡◌, ◌≤◌, ◌⊎◌, length, decimal, IfOk, IfErr, OnOk, OnErr};
 ghost use Rattle.std.specs.Io.KnownBytes.{Appends};
 ghost use Rattle.druid_stream.specs.Fronts.{AppendsFront};
+ghost use Rattle.druid_wire.specs.Limits.{max_body};
 ghost use Rattle.druid_wire.specs.Written.{joined, phrase_of, request_text, response_text, answer_text, LacksRequest};
 
 use crate::length::MAX_BODY;
@@ -136,7 +137,7 @@ pub fn request_bytes(alloc: Global, request: &Request) -> Result<Vec<u8>, AllocE
 /// not the whole. Nothing is flushed.
 pub fn write_request<W: Write>(request: &Request, writer: &mut W) -> Result<(), WireFault>
     ensures ok { OnOk result (Appends (W.contents writer.old) (W.contents writer.new) (request_text request.now)) }
-    ensures short { OnOk result (length request.now.body ≤ MAX_BODY) }
+    ensures short { OnOk result (length request.now.body ≤ max_body) }
     ensures err { IfErr result (LacksRequest request.now (W.contents writer.old) (W.contents writer.new)) }
 {
     if MAX_BODY < request.body().len() {

@@ -1,0 +1,22 @@
+-- The limits of a config, as numbers.
+use Rattle.std.specs.Prelude.{ℕ}
+
+-- the most nodes, and the most brokers, of a config
+abbrev pub max_servers : ℕ
+max_servers = 64
+
+-- the most workers of a server
+abbrev pub max_workers : ℕ
+max_workers = 16
+
+-- the most changes that a node keeps
+abbrev pub max_kept : ℕ
+max_kept = 1000
+
+-- the most turns, and the most connections of a server
+abbrev pub max_count : ℕ
+max_count = 1000000
+
+-- the greatest port
+abbrev pub max_port : ℕ
+max_port = 65535
