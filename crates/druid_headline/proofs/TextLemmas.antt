@@ -31,58 +31,9 @@ use Rattle.druid_partial_text.specs.Written.{number_data, group_data, IsHeld}
 use Rattle.druid_partial_text.specs.Answers.{answer_data}
 use Rattle.druid_partial_text.specs.Missed.{IsOfSegment}
 use Rattle.druid_partial_text.specs.Tokens.{tokens_of}
-use Rattle.druid_partial_text.proofs.TextBackLemmas.{read_tokens, bucket_fits}
+use Rattle.druid_partial_text.proofs.TextBackLemmas.{bucket_fits}
+use Rattle.druid_shard.proofs.WrittenLemmas.{read_tokens, compact_tokens, outline_deep, IsBack, AreBack, items_back, any_items_back, array_back, one_more_back}
 use Rattle.druid_partial_text.proofs.AnswerTextLemmas.{answer_read}
-
--- ---- the text of any JSON
-
--- the compact text has the tokens of the value
-pub compact_tokens : (d : Data) → tree.HasNumbers (outline d) → tokens (compact_text d) ≡ tokens_of d
-compact_tokens d numbers = ap tokens (sym (print-outline d)) ∙ tokens-print (tokens_of d) (ArePrintable-json_tokens (outline d) numbers)
-
--- the outline of a value is as deep as the value
-mutual
-  pub outline_deep : (d : Data) → tree.depth (outline d) ≤ depth d
-  outline_deep null = omega arith
-  outline_deep (boolean b) = omega arith
-  outline_deep (number n) = omega arith
-  outline_deep (string s) = omega arith
-  outline_deep (array ds) = omega (arith, items_deep ds)
-  outline_deep (object ms) = omega (arith, members_deep ms)
-
-  items_deep : (ds : Items) → tree.items_depth (items_outline ds) ≤ items_depth ds
-  items_deep no_items = omega arith
-  items_deep (item d ds) = omega (arith, outline_deep d, items_deep ds)
-
-  members_deep : (ms : Members) → tree.members_depth (members_outline ms) ≤ members_depth ms
-  members_deep no_members = omega arith
-  members_deep (member k d ms) = omega (arith, outline_deep d, members_deep ms)
-
--- its numbers are numbers of JSON, and it is read as itself
-abbrev IsBack : Data → Type 0
-IsBack d = tree.HasNumbers (outline d) × (of_json (outline d) ≡ Some d)
-
-abbrev AreBack : Items → Type 0
-AreBack ds = tree.ItemsHaveNumbers (items_outline ds) × (of_items (items_outline ds) ≡ Some ds)
-
-items_back : {A : Type 0} (f : A → Data) (P : A → Type 0) → ((x : A) → P x → IsBack (f x)) → (xs : List A) → ((x : A) → Contains xs x → P x) → AreBack (items_of (map f xs))
-items_back f P one [] all = (tt, refl)
-items_back f P one (x ∷ xs) all =
-    let head = one x (all x (0, omega arith, refl)) in
-    let rest = items_back f P one xs (λ y there. all y (later y there)) in
-    ((head.0, rest.0), two (f x) (items_of (map f xs)) head.1 rest.1)
-  where
-    later : (y : _) → Contains xs y → Contains (x ∷ xs) y
-    later y (k, lt, e) = (suc k, omega arith, e)
-
-    two : (d : Data) (ds : Items) → of_json (outline d) ≡ Some d → of_items (items_outline ds) ≡ Some ds → of_items (items_outline (item d ds)) ≡ Some (item d ds)
-    two d ds first second = rw (first, second) refl
-
-any_items_back : {A : Type 0} (f : A → Data) → ((x : A) → IsBack (f x)) → (xs : List A) → AreBack (items_of (map f xs))
-any_items_back f one xs = items_back f (λ _. Unit {0}) (λ x _. one x) xs (λ x there. tt)
-
-array_back : (ds : Items) → AreBack ds → IsBack (array ds)
-array_back ds back = (back.0, ap (option_map array) back.1)
 
 -- ---- subqueries
 
@@ -105,9 +56,6 @@ fields_back kind fs back = ((back.0, (tt, tt)), rw back.1 refl)
 not_back : (d : Data) → IsBack d → IsBack (not_data d)
 unfolding not_data
 not_back d back = ((back.0, (tt, tt)), rw back.1 refl)
-
-one_more_back : (d : Data) (ds : Items) → IsBack d → AreBack ds → AreBack (item d ds)
-one_more_back d ds head rest = ((head.0, rest.0), rw (head.1, rest.1) refl)
 
 mutual
   filter_back : (c : Condition) → IsBack (filter_data c)

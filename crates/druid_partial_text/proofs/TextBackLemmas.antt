@@ -16,21 +16,13 @@ use Rattle.serde_json.specs.Written.{outline, items_outline}
 use Rattle.serde_json.specs.Read.{read, of_json, of_items, max_depth}
 use Rattle.serde_json.proofs.Numbers.{number_of-decimal, number_of-negative}
 use Rattle.druid_time.specs.Instant.{IsInstant, unix_ms}
+use Rattle.druid_shard.proofs.WrittenLemmas.{read_tokens}
 use Rattle.druid_query.specs.Written.{value_data}
 use Rattle.druid_partial.specs.Groups.{Group, AreWords}
 use Rattle.druid_partial_text.specs.Written.{number_data, bucket_data, values_data, numbers_data, group_data, partial_data, IsHeld}
 use Rattle.druid_partial_text.specs.Tokens.{tokens_of}
 
--- ---- the text of any JSON
-
--- the value that was parsed, where nothing follows it
-abbrev pub whole : Option (json.Json × List Token) → Option Data
-whole o = option_and_then of_json (option_and_then (λ p. json.if_last p.0 p.1) o)
-
--- tokens that spell a value which reads as d
-pub read_tokens : (d : Data) (text : List ℕ) → tokens text ≡ tokens_of d → of_json (outline d) ≡ Some d → tree.depth (outline d) ≤ max_depth → read text ≡ Some d
-read_tokens d text same reads shallow =
-    ap whole (ap (json.value max_depth) (same ∙ sym (append-nil (tokens_of d))) ∙ value-json_tokens (outline d) max_depth [] shallow) ∙ reads
+-- ---- lists
 
 -- each item reads as what it was written for
 pub items_read : {A : Type 0} (f : A → Data) (P : A → Type 0) → ((x : A) → P x → of_json (outline (f x)) ≡ Some (f x)) → (xs : List A) → All P xs

@@ -6,3 +6,4 @@ pub mod DescribedLemmas
 pub mod ReplayLemmas
 pub mod PlaceLemmas
 pub mod EachLemmas
+pub mod WrittenLemmas

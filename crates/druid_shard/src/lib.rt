@@ -3,9 +3,9 @@
 
 mod change;
 mod descriptor;
+mod descriptor_json;
 mod fault;
 mod items;
-mod json;
 mod laws;
 mod mark;
 mod reply;
@@ -13,11 +13,11 @@ mod sets;
 
 pub use change::{Ask, Cause, Change};
 pub use descriptor::{Descriptor, MAX_CORE, Shard};
-pub use fault::ShardFault;
-pub use items::Items;
-pub use json::{
+pub use descriptor_json::{
     check_descriptor, descriptor_value, limited_field, number_field, read_descriptor, text_field,
 };
+pub use fault::ShardFault;
+pub use items::Items;
 pub use laws::{changes_change_one_segment, descriptors_are_read_back, replays_go_on};
 pub use mark::Mark;
 pub use reply::{Body, Changes, Descriptors, MAX_CHANGES, MAX_SEGMENTS, Reply, ReplyFault};

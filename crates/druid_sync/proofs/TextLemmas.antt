@@ -1,6 +1,8 @@
 -- The text of a reply, part by part.
-use Rattle.std.proofs.Common.{◌≡◌, ℕ, ◌+◌, ◌<◌, ◌≤◌, Bool, true, false, nat_lt, List, [], ◌++◌, length, get_or, drop, map, codes, append_assoc, drop_of_length-le, Option, Some, None, arith, refl, sym, ap, ◌∙◌}
-use Rattle.std.proofs.lemmas.List.{drop_more}
+use Rattle.std.proofs.Common.{◌≡◌, ℕ, ◌+◌, ◌<◌, ◌≤◌, Bool, true, false, nat_lt, List, [], ◌++◌, length, get_or, drop, map, codes, append_assoc, drop_of_length-le, Option, Some, None, arith, refl, sym, subst, ap, ◌∙◌}
+use Rattle.std.specs.List.{AllWithin}
+use Rattle.std.proofs.lemmas.List.{drop_more, get_or_default}
+use Rattle.std.proofs.lemmas.List.Elements.{AllWithin-more}
 use Rattle.std.proofs.lemmas.Bool.Decides.{nat_tests}
 use Rattle.serde_json.proofs.OnLiterals.{serde_json_on_literals}
 use Rattle.serde_json.specs.Data.{Data}
@@ -45,6 +47,10 @@ item_next {A} f front later xs i x h is =
 pub item_last : {A : Type 0} (f : A → Data) (front : List ℕ) (later : Bool) (xs : List A) (i : ℕ) → length xs ≤ i
     → front ++ codes "]" ≡ front ++ items_text later (items_of (map f (drop i xs)))
 item_last {A} f front later xs i h = sym (ap (λ (ys : List A). front ++ items_text later (items_of (map f ys))) (drop_of_length-le xs h))
+
+-- what holds before a place and at it holds up to the next
+pub each_more : {A : Type 0} (P : A → Type 0) (xs : List A) (i : ℕ) (x : A) → i < length xs → x ≡ get_or xs i x → P x → AllWithin P xs 0 i → AllWithin P xs 0 (i + 1)
+each_more P xs i x h is holds before = AllWithin-more P xs 0 i before (λ d. subst P (is ∙ get_or_default xs i x d h) holds)
 
 -- ---- the whole
 

@@ -1,5 +1,5 @@
 -- The texts of asks.
-use Rattle.std.specs.Prelude.{ℕ, ◌++◌, List, [], ◌∷◌, map, filter, codes, nat_le, decimal, Option, Some, None, if◌then◌else◌}
+use Rattle.std.specs.Prelude.{ℕ, ◌≤◌, ⊤, ◌++◌, List, [], ◌∷◌, map, filter, codes, nat_le, decimal, Option, Some, None, if◌then◌else◌}
 use Rattle.std.specs.Str.{bytes_eq}
 use Rattle.form_urlencoded.specs.Form.{raw_pairs}
 use Rattle.druid_time.specs.Options.{◌>>=◌}
@@ -16,6 +16,16 @@ query_text m = codes "counter=" ++ (decimal m.count ++ (codes "&hash=" ++ decima
 abbrev pub ask_text : Ask → List ℕ
 ask_text Whole = codes "/druid-internal/v1/segments"
 ask_text (Since m) = codes "/druid-internal/v1/segments?" ++ query_text m
+
+-- what a server finds after the `?` of that target
+abbrev pub parameters_of : Ask → List ℕ
+parameters_of Whole = []
+parameters_of (Since m) = query_text m
+
+-- the mark, if there is one, is of an incarnation
+abbrev pub IsOfIncarnation : Ask → Type 0
+IsOfIncarnation Whole = ⊤
+IsOfIncarnation (Since m) = 1 ≤ m.incarnation
 
 -- the values of the parameters of that name, in order. Parameters stand between `&`, a name before the first `=`, and
 -- its value after it

@@ -1,5 +1,5 @@
 -- The text of a reply.
-use Rattle.std.specs.Prelude.{ℕ, List, [], ◌++◌, codes, map, Option, Some, None, is_some, Contains, ⊤}
+use Rattle.std.specs.Prelude.{◌<◌, ◌^◌, ℕ, List, [], ◌++◌, codes, map, Option, Some, None, is_some, Contains, ⊤}
 use Rattle.serde_json.specs.Data.{Data, null, boolean, object, member, no_members, array, number, unsigned, string}
 use Rattle.serde_json.specs.View.{items_of}
 use Rattle.serde_json.specs.Written.{compact_text}
@@ -96,3 +96,14 @@ abbrev pub IsOfDescriptors : Body → Type 0
 IsOfDescriptors (Delta from to changes) = (c : Change) → Contains changes c → IsDescribed (segment_of c)
 IsOfDescriptors (Snapshot at segments) = (d : Described) → Contains segments d → IsDescribed d
 IsOfDescriptors (Reset cause at) = ⊤
+
+-- both numbers of a mark fit 64 bits
+pub record IsWord (m : Point) : Type 0 where
+  pub incarnation : m.incarnation < 2 ^ 64
+  pub count : m.count < 2 ^ 64
+
+-- so do those of each mark of a reply
+abbrev pub IsOfWords : Body → Type 0
+IsOfWords (Delta from to changes) = IsWord from × IsWord to
+IsOfWords (Snapshot at segments) = IsWord at
+IsOfWords (Reset cause at) = IsWord at

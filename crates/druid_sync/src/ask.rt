@@ -1,6 +1,6 @@
 //! Asks, written and read.
-ghost use Rattle.std.specs.Prelude.{◌≡◌, ◌++◌, ◌∷◌, [], ℕ, List, IfOk, string_bytes, codes, decimal, ok_or};
-ghost use Rattle.druid_sync.specs.Asks.{ask_text, values_of, since_at, ask_of, ask_at};
+ghost use Rattle.std.specs.Prelude.{◌≡◌, ◌++◌, ◌∷◌, [], ℕ, List, IfOk, Some, string_bytes, codes, decimal, ok_or};
+ghost use Rattle.druid_sync.specs.Asks.{ask_text, parameters_of, IsOfIncarnation, values_of, since_at, ask_of, ask_at};
 ghost use Rattle.druid_sync.specs.Given.{IsGiven};
 
 use crate::AskFault;
@@ -17,9 +17,10 @@ fn since_text(alloc: Global, count: u64, incarnation: u64) -> Result<String, All
 }
 
 /// The target of an ask: `/druid-internal/v1/segments` for the whole, and with `?counter=C&hash=H` after it for what comes
-/// after the mark of count C in incarnation H.
+/// after the mark of count C in incarnation H. `read_ask` gets the ask back from what follows the `?`.
 pub fn ask_target(alloc: Global, ask: &Ask) -> Result<String, AllocError>
-    ensures { IfOk result (λ text. string_bytes text ≡ ask_text ask.now) }
+    ensures text { IfOk result (λ text. string_bytes text ≡ ask_text ask.now) }
+    ensures read_back { IfOk result (λ _. IsOfIncarnation ask.now → ask_at (parameters_of ask.now) ≡ Some ask.now) }
 {
     match ask {
         Ask::Whole => String::from_str(alloc, "/druid-internal/v1/segments"),

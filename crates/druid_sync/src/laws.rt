@@ -1,11 +1,22 @@
 //! Facts that hold of all replies.
-ghost use Rattle.std.specs.Prelude.{◌≡◌, Some};
+ghost use Rattle.std.specs.Prelude.{◌≡◌, ◌≤◌, [], Some};
+ghost use Rattle.serde_json.specs.Read.{read};
 ghost use Rattle.druid_shard.specs.ReplyBody.{IsReply};
 ghost use Rattle.druid_shard.specs.declared.reply.Body.{Body};
-ghost use Rattle.druid_sync.specs.Written.{reply_data, IsOfDescriptors};
+ghost use Rattle.druid_shard.specs.Mark.{Point};
+ghost use Rattle.druid_shard.specs.declared.change.Ask.TheVariants.{Whole, Since};
+ghost use Rattle.druid_sync.specs.Asks.{query_text, ask_at};
+ghost use Rattle.druid_sync.specs.Written.{reply_data, reply_text, IsOfDescriptors, IsWord, IsOfWords};
 ghost use Rattle.druid_sync.specs.Read.{form_at, form_of};
 
-/// The JSON of a reply has the form of that reply, so it is read back as what was written.
+/// The text of a reply is JSON, which has the form of that reply, so it is read back as what was written.
 pub fn replies_are_read_back()
-    ensures { (body : Body) → IsReply body → IsOfDescriptors body → form_at (reply_data body) ≡ Some (form_of body) }
+    ensures text { (body : Body) → IsOfDescriptors body → IsOfWords body → read (reply_text body) ≡ Some (reply_data body) }
+    ensures form { (body : Body) → IsReply body → IsOfDescriptors body → form_at (reply_data body) ≡ Some (form_of body) }
+{}
+
+/// What is written of an ask is read as that ask.
+pub fn asks_are_read_back()
+    ensures whole { ask_at [] ≡ Some Whole }
+    ensures since { (m : Point) → IsWord m → 1 ≤ m.incarnation → ask_at (query_text m) ≡ Some (Since m) }
 {}

@@ -9,6 +9,6 @@ mod writing;
 
 pub use ask::{ask_target, read_ask};
 pub use fault::{AskFault, SyncFault};
-pub use laws::replies_are_read_back;
+pub use laws::{asks_are_read_back, replies_are_read_back};
 pub use reading::{read_reply, reply_of};
 pub use writing::{mark_value, reply_text};

@@ -1,9 +1,11 @@
 //! Replies, written.
-ghost use Rattle.std.specs.Prelude.{◌≡◌, ◌++◌, false, codes, map, IfOk, OnOk, string_bytes};
+ghost use Rattle.std.specs.Prelude.{◌≡◌, ◌++◌, false, codes, map, All, Some, IfSome, IfOk, OnOk, string_bytes};
+ghost use Rattle.serde_json.specs.Read.{read};
 ghost use Rattle.serde_json.specs.View.{view, items_of};
 ghost use Rattle.serde_json.specs.Written.{compact_text, comma_if, items_text};
+ghost use Rattle.druid_shard.specs.Described.{IsDescribed};
 ghost use Rattle.druid_shard.specs.Json.{shard_data};
-ghost use Rattle.druid_sync.specs.Written.{mark_data, from_data, request_data, change_data, load_data, front_text, back_text, reply_text};
+ghost use Rattle.druid_sync.specs.Written.{mark_data, from_data, request_data, change_data, load_data, segment_of, IsWord, front_text, back_text, reply_data, reply_text};
 
 use druid_shard::{Body, Cause, Change, Descriptor, Mark, Reply};
 use serde_json::{Value, json};
@@ -12,7 +14,8 @@ use std::alloc::{AllocError, Global};
 /// The JSON of a mark: its count as `counter`, and its incarnation as `hash`.
 #[tactic(auto, unfolding(crate::specs::Written::mark_data))]
 pub fn mark_value(alloc: Global, mark: Mark) -> Result<Value, AllocError>
-    ensures { IfOk result (λ v. view v ≡ mark_data mark) }
+    ensures value { IfOk result (λ v. view v ≡ mark_data mark) }
+    ensures words { IfOk result (λ _. IsWord mark) }
 {
     json!(in alloc; {
         "counter": mark.count(),
@@ -35,7 +38,8 @@ fn shard_value(alloc: Global, descriptor: &Descriptor) -> Result<Value, AllocErr
 // The JSON of a change that does this with a segment.
 #[tactic(auto, unfolding(crate::specs::Written::request_data))]
 fn request_value(alloc: Global, action: &str, descriptor: &Descriptor) -> Result<Value, AllocError>
-    ensures { IfOk result (λ v. view v ≡ request_data action.now descriptor.now) }
+    ensures value { IfOk result (λ v. view v ≡ request_data action.now descriptor.now) }
+    ensures described { IfOk result (λ _. IsDescribed descriptor.now) }
 {
     let id = descriptor.id();
     let interval = id.interval().text(alloc)?;
@@ -61,8 +65,9 @@ fn comma(later: bool) -> &'static str
 // The text of a change that does this with a segment.
 #[tactic(auto, using(crate::proofs::TextLemmas::request_plain))]
 fn request_text(alloc: Global, action: &str, descriptor: &Descriptor) -> Result<String, AllocError>
-    ensures { IfOk result (λ text.
+    ensures text { IfOk result (λ text.
         string_bytes text ≡ compact_text (request_data action.now descriptor.now)) }
+    ensures described { IfOk result (λ _. IsDescribed descriptor.now) }
 {
     request_value(alloc, action, descriptor)?.to_string(alloc)
 }
@@ -76,8 +81,9 @@ fn push_request(
     action: &str,
     descriptor: &Descriptor,
 ) -> Result<(), AllocError>
-    ensures { OnOk result (string_bytes text.new
+    ensures text { OnOk result (string_bytes text.new
         ≡ string_bytes text.old ++ (comma_if later ++ compact_text (request_data action.now descriptor.now))) }
+    ensures described { OnOk result (IsDescribed descriptor.now) }
 {
     let request = request_text(alloc, action, descriptor)?;
     text.push_str(comma(later))?;
@@ -90,8 +96,9 @@ fn push_change(
     later: bool,
     change: &Change,
 ) -> Result<(), AllocError>
-    ensures { OnOk result (string_bytes text.new
+    ensures text { OnOk result (string_bytes text.new
         ≡ string_bytes text.old ++ (comma_if later ++ compact_text (change_data change.now))) }
+    ensures described { OnOk result (IsDescribed (segment_of change.now)) }
 {
     match change {
         Change::Load(descriptor) => push_request(alloc, text, later, "load", descriptor),
@@ -102,8 +109,9 @@ fn push_change(
 // Appends the JSON of changes, and the bracket after them.
 #[tactic(auto, using(crate::proofs::TextLemmas::item_next, crate::proofs::TextLemmas::item_last))]
 fn push_changes(alloc: Global, text: &mut String, changes: &[Change]) -> Result<(), AllocError>
-    ensures { OnOk result (string_bytes text.new
+    ensures text { OnOk result (string_bytes text.new
         ≡ string_bytes text.old ++ items_text false (items_of (map change_data changes.now))) }
+    ensures described { OnOk result (All (λ c. IsDescribed (segment_of c)) changes.now) }
 {
     for i in 0..changes.len() {
         push_change(alloc, text, 0 < i, &changes[i])?;
@@ -114,8 +122,9 @@ fn push_changes(alloc: Global, text: &mut String, changes: &[Change]) -> Result<
 // Appends the JSON of loads of these segments, and the bracket after them.
 #[tactic(auto, using(crate::proofs::TextLemmas::item_next, crate::proofs::TextLemmas::item_last))]
 fn push_loads(alloc: Global, text: &mut String, segments: &[Descriptor]) -> Result<(), AllocError>
-    ensures { OnOk result (string_bytes text.new
+    ensures text { OnOk result (string_bytes text.new
         ≡ string_bytes text.old ++ items_text false (items_of (map load_data segments.now))) }
+    ensures described { OnOk result (All IsDescribed segments.now) }
 {
     for i in 0..segments.len() {
         push_request(alloc, text, 0 < i, "load", &segments[i])?;
@@ -126,7 +135,8 @@ fn push_loads(alloc: Global, text: &mut String, segments: &[Descriptor]) -> Resu
 // The text of a mark, or of none.
 #[tactic(auto, using(crate::proofs::TextLemmas::from_plain))]
 fn from_text(alloc: Global, from: Option<Mark>) -> Result<String, AllocError>
-    ensures { IfOk result (λ text. string_bytes text ≡ compact_text (from_data from)) }
+    ensures text { IfOk result (λ text. string_bytes text ≡ compact_text (from_data from)) }
+    ensures words { IfOk result (λ _. IfSome from IsWord) }
 {
     match from {
         Some(mark) => mark_value(alloc, mark)?.to_string(alloc),
@@ -137,7 +147,8 @@ fn from_text(alloc: Global, from: Option<Mark>) -> Result<String, AllocError>
 // The text of a reply up to the bracket before its changes.
 #[tactic(auto, unfolding(crate::specs::Written::front_text))]
 fn front_of(alloc: Global, counter: Mark, from: Option<Mark>) -> Result<String, AllocError>
-    ensures { IfOk result (λ text. string_bytes text ≡ front_text counter from ++ codes "[") }
+    ensures text { IfOk result (λ text. string_bytes text ≡ front_text counter from ++ codes "[") }
+    ensures words { IfOk result (λ _. IsWord counter × IfSome from IsWord) }
 {
     let mut text = String::from_str(alloc, "{\"counter\":")?;
     text.push_str(from_text(alloc, Some(counter))?.as_str())?;
@@ -161,10 +172,11 @@ fn back_of(cause: Option<Cause>) -> &'static str
     }
 }
 
-/// The text of a reply: its JSON, compact, with the keys in the order of their bytes.
+/// The text of a reply: its JSON, compact, with the keys in the order of their bytes. A reader of JSON gets back the reply's.
 #[tactic(auto, using(crate::proofs::TextLemmas::delta_text, crate::proofs::TextLemmas::snapshot_text, crate::proofs::TextLemmas::reset_text))]
 pub fn reply_text(alloc: Global, reply: &Reply) -> Result<String, AllocError>
-    ensures { IfOk result (λ text. string_bytes text ≡ reply_text reply.now) }
+    ensures text { IfOk result (λ text. string_bytes text ≡ reply_text reply.now) }
+    ensures read_back { IfOk result (λ text. read (string_bytes text) ≡ Some (reply_data reply.now)) }
 {
     match reply.body() {
         Body::Delta { from, to, changes } => {

@@ -1,0 +1,97 @@
+-- An ask that was written is read back.
+use Rattle.std.proofs.Common.{◌≡◌, ◌≢◌, ◌⊎◌, inl, ◌<◌, ◌≤◌, ◌^◌, ℕ, arith, Bool, true, false, ◌&&◌, ◌==◌, not, List, [], ◌∷◌, ◌++◌, All, codes, length, decimal, append_assoc, length-append, Some, Result, Ok, Err, IfOk, refl, sym, subst, ap, ◌∙◌, le-leb}
+use Rattle.std.specs.List.{list_all}
+use Rattle.std.specs.Str.Parse.{AllDigits}
+use Rattle.std.proofs.lemmas.Bool.Decides.{nat_tests}
+use Rattle.std.proofs.lemmas.Fmt.{decimal_is_IsNumeral}
+use Rattle.std.proofs.lemmas.Str.Parse.{digit_from_value}
+use Rattle.std.proofs.lemmas.List.Elements.{All-nil, All-cons, All-append}
+use Rattle.form_urlencoded.specs.Form.{split_once, split_pair, raw_pairs}
+use Rattle.form_urlencoded.proofs.FormLemmas.{raw_pairs-nil, raw_pairs_first, split_once_before_at, split_once_after_at, split_once_before_none, split_once_after_none}
+use Rattle.druid_segid.specs.Numbers.{number_at}
+use Rattle.druid_segid.proofs.NumberLemmas.{number_at-found}
+use Rattle.druid_shard.specs.Mark.{Point}
+use Rattle.druid_shard.specs.declared.change.Ask.{Ask}
+use Rattle.druid_shard.specs.declared.change.Ask.TheVariants.{Whole, Since}
+use Rattle.druid_sync.specs.Asks.{query_text, parameters_of, IsOfIncarnation, since_at, ask_at, ask_of}
+use Rattle.druid_sync.specs.Written.{IsWord}
+
+-- ---- bytes that separate nothing
+
+both_hold : (x y : Bool) → (x && y) ≡ true → (x ≡ true) × (y ≡ true)
+both_hold true y both = (refl, both)
+both_hold false y both = absurd cc
+
+-- the test of it
+free_of : (s : ℕ) (bytes : List ℕ) → list_all (λ b. not (b == s)) bytes ≡ true → All (λ b. b ≢ s) bytes
+free_of s [] free = All-nil (λ b. b ≢ s)
+free_of s (b ∷ bytes) free =
+    let both = both_hold (not (b == s)) (list_all (λ x. not (x == s)) bytes) free in
+    All-cons (λ x. x ≢ s) b bytes (λ same. absurd (grind (arith, nat_tests, same, both.0))) (free_of s bytes both.1)
+
+-- digits are neither `&` nor `=`
+digits_free : (s : ℕ) (ds : List ℕ) → (s < 48) ⊎ (57 < s) → AllDigits 10 ds → All (λ b. b ≢ s) ds
+digits_free s [] out all = All-nil (λ b. b ≢ s)
+digits_free s (d ∷ ds) out all =
+    let range = digit_from_value d all.0 in
+    All-cons (λ x. x ≢ s) d ds (λ same. omega (arith, range.0, range.1, same, out)) (digits_free s ds out all.1)
+
+-- ---- the two parameters
+
+named : (name digits : List ℕ) → All (λ b. b ≢ 61) name → split_pair (name ++ 61 ∷ digits) ≡ (name, digits)
+named name digits free = rw (split_once_before_at 61 name digits free, split_once_after_at 61 name digits free) refl
+
+two_pairs : (first last one two : List ℕ) → All (λ b. b ≢ 61) first → All (λ b. b ≢ 61) last → All (λ b. b ≢ 38) (first ++ 61 ∷ one) → All (λ b. b ≢ 38) (last ++ 61 ∷ two)
+    → raw_pairs ((first ++ 61 ∷ one) ++ 38 ∷ (last ++ 61 ∷ two)) ≡ (first, one) ∷ (last, two) ∷ []
+two_pairs first last one two a b c d =
+    let before = split_once_before_at 38 (first ++ 61 ∷ one) (last ++ 61 ∷ two) c in
+    let after = split_once_after_at 38 (first ++ 61 ∷ one) (last ++ 61 ∷ two) c in
+    let rest = split_once_before_none 38 (last ++ 61 ∷ two) d in
+    let nothing = split_once_after_none 38 (last ++ 61 ∷ two) d in
+    let some : 0 < length ((split_once 38 ((first ++ 61 ∷ one) ++ 38 ∷ (last ++ 61 ∷ two))).0) = rw before (omega (arith, length-append first (61 ∷ one))) in
+    let more : 0 < length ((split_once 38 (last ++ 61 ∷ two)).0) = rw rest (omega (arith, length-append last (61 ∷ two))) in
+    raw_pairs_first ((first ++ 61 ∷ one) ++ 38 ∷ (last ++ 61 ∷ two)) some
+    ∙ rw (before, after) (ap (λ p. p ∷ raw_pairs (last ++ 61 ∷ two)) (named first one a))
+    ∙ ap (λ ps. (first, one) ∷ ps) (raw_pairs_first (last ++ 61 ∷ two) more ∙ rw (rest, nothing) (rw (raw_pairs-nil) (ap (λ p. p ∷ []) (named last two b))))
+
+asked_pairs : (m : Point) → IsWord m → raw_pairs (query_text m) ≡ (codes "counter", decimal m.count) ∷ (codes "hash", decimal m.incarnation) ∷ []
+asked_pairs m word =
+    let one = decimal m.count in
+    let two = decimal m.incarnation in
+    let ones = (decimal_is_IsNumeral m.count word.count).0.1 in
+    let twos = (decimal_is_IsNumeral m.incarnation word.incarnation).0.1 in
+    ap raw_pairs (sym (append_assoc (codes "counter=") one (codes "&hash=" ++ two)))
+    ∙ two_pairs (codes "counter") (codes "hash") one two (free_of 61 (codes "counter") refl) (free_of 61 (codes "hash") refl)
+    (All-append (λ b. b ≢ 38) (codes "counter=") one (free_of 38 (codes "counter=") refl) (digits_free 38 one (inl (omega arith)) ones))
+    (All-append (λ b. b ≢ 38) (codes "hash=") two (free_of 38 (codes "hash=") refl) (digits_free 38 two (inl (omega arith)) twos))
+
+since_back : (m : Point) → IsWord m → 1 ≤ m.incarnation → since_at (decimal m.count) (decimal m.incarnation) ≡ Some (Since m)
+unfolding since_at
+since_back m word some =
+    let count = number_at-found (decimal m.count) m.count word.count refl in
+    let incarnation = number_at-found (decimal m.incarnation) m.incarnation word.incarnation refl in
+    let first = le-leb 1 m.incarnation some in
+    rw (count, incarnation) (rw first refl)
+
+-- an ask after a mark is read as that
+pub ask_back : (m : Point) → IsWord m → 1 ≤ m.incarnation → ask_at (query_text m) ≡ Some (Since m)
+unfolding ask_of
+ask_back m word some = rw (asked_pairs m word) (since_back m word some)
+
+-- no parameters ask for the whole
+pub whole_back : ask_at [] ≡ Some Whole
+unfolding ask_of
+whole_back = rw raw_pairs-nil refl
+
+-- what holds anyway holds where a call succeeds
+any_ok : {A E : Type 0} (r : Result A E) (P : Type 0) → P → IfOk r (λ _. P)
+any_ok (Ok x) P holds = holds
+any_ok (Err e) P holds = tt
+
+pub whole_target : {A E : Type 0} (r : Result A E) (ask : Ask) → ask ≡ Whole → IfOk r (λ _. IsOfIncarnation ask → ask_at (parameters_of ask) ≡ Some ask)
+whole_target r ask is =
+    any_ok r (IsOfIncarnation ask → ask_at (parameters_of ask) ≡ Some ask) (subst (λ a. IsOfIncarnation a → ask_at (parameters_of a) ≡ Some a) (sym is) (λ _. whole_back))
+
+pub since_target : {A E : Type 0} (r : Result A E) (ask : Ask) (m : Point) → ask ≡ Since m → IsWord m → IfOk r (λ _. IsOfIncarnation ask → ask_at (parameters_of ask) ≡ Some ask)
+since_target r ask m is word =
+    any_ok r (IsOfIncarnation ask → ask_at (parameters_of ask) ≡ Some ask) (subst (λ a. IsOfIncarnation a → ask_at (parameters_of a) ≡ Some a) (sym is) (ask_back m word))

@@ -1,0 +1,114 @@
+-- The text of a reply is JSON that reads as the reply's.
+use Rattle.std.proofs.Common.{◌≡◌, ◌≤◌, ◌<◌, ◌^◌, ℕ, arith, List, [], map, codes, All, Contains, Option, Some, None, IfSome, refl, sym, subst, ap, ◌∙◌}
+use Rattle.std.proofs.lemmas.List.Elements.{All-contains}
+use Rattle.json.proofs.Printed.Decimals.{IsNumber-decimal}
+use Rattle.serde_json.specs.Data.{Data, Items, depth, items_depth}
+use Rattle.serde_json.specs.View.{items_of}
+use Rattle.serde_json.specs.Read.{read}
+use Rattle.serde_json.proofs.Numbers.{number_of-decimal}
+use Rattle.druid_shard.specs.Mark.{Point}
+use Rattle.druid_shard.specs.Described.{Described, IsDescribed}
+use Rattle.druid_shard.specs.declared.change.Change.{Change}
+use Rattle.druid_shard.specs.declared.change.Change.TheVariants.{Load, Drop}
+use Rattle.druid_shard.specs.declared.change.Cause.{Cause}
+use Rattle.druid_shard.specs.declared.reply.Body.{Body}
+use Rattle.druid_shard.specs.declared.reply.Body.TheVariants.{Delta, Snapshot, Reset}
+use Rattle.druid_shard.proofs.WrittenLemmas.{IsBack, AreBack, items_back, items_shallow, compact_read}
+use Rattle.druid_sync.specs.Written.{mark_data, from_data, request_data, change_data, load_data, segment_of, cause_data, five_fields, reply_data, reply_text, IsOfDescriptors, IsWord, IsOfWords}
+
+mark_back : (m : Point) → IsWord m → IsBack (mark_data m)
+unfolding mark_data
+mark_back m is =
+    let hash = number_of-decimal m.incarnation is.incarnation in
+    let count = number_of-decimal m.count is.count in
+    ((IsNumber-decimal m.count is.count, (IsNumber-decimal m.incarnation is.incarnation, tt)), rw (hash, count) refl)
+
+from_back : (from : Option Point) → IfSome from IsWord → IsBack (from_data from)
+from_back None is = (tt, refl)
+from_back (Some m) is = mark_back m is
+
+request_back : (action : List ℕ) (d : Described) → IsDescribed d → IsBack (request_data action d)
+unfolding request_data
+request_back action d is =
+    let low : d.id.partition < 2 ^ 64 = omega (arith, is.id.partition) in
+    let few : d.core < 2 ^ 64 = omega (arith, is.core) in
+    let part = number_of-decimal d.id.partition low in
+    let core = number_of-decimal d.core few in
+    let size = number_of-decimal d.size is.size in (
+      (tt, (tt, (tt, ((IsNumber-decimal d.id.partition low, (IsNumber-decimal d.core few, (tt, tt))), (IsNumber-decimal d.size is.size, (tt, tt)))))),
+      rw (part, core, size) refl,
+    )
+
+change_back : (c : Change) → IsDescribed (segment_of c) → IsBack (change_data c)
+change_back (Load d) is = request_back (codes "load") d is
+change_back (Drop d) is = request_back (codes "drop") d is
+
+cause_back : (cause : Option Cause) → IsBack (cause_data cause)
+cause_back None = (tt, refl)
+cause_back (Some cause) = (tt, refl)
+
+five_back : (counter : Point) (from : Option Point) (requests : List Data) (cause : Option Cause) → IsWord counter → IfSome from IsWord → AreBack (items_of requests)
+    → IsBack (five_fields counter from requests cause)
+five_back counter from requests cause word words each =
+    let at = mark_back counter word in
+    let start = from_back from words in
+    let why = cause_back cause in
+    ((at.0, (start.0, (each.0, (why.0, (tt, tt))))), rw (at.1, start.1, each.1, why.1) refl)
+
+reply_back : (body : Body) → IsOfDescriptors body → IsOfWords body → IsBack (reply_data body)
+unfolding reply_data
+reply_back (Delta from to changes) valid words =
+    five_back to (Some from) (map change_data changes) None words.1 words.0 (items_back change_data (λ c. IsDescribed (segment_of c)) change_back changes valid)
+reply_back (Snapshot at segments) valid word =
+    five_back at None (map load_data segments) None word tt (items_back load_data IsDescribed (λ d. change_back (Load d)) segments valid)
+reply_back (Reset cause at) valid word = five_back at None [] (Some cause) word tt (tt, refl)
+
+-- ---- how deep
+
+mark_shallow : (m : Point) → depth (mark_data m) ≤ 1
+unfolding mark_data
+mark_shallow m = omega arith
+
+from_shallow : (from : Option Point) → depth (from_data from) ≤ 1
+from_shallow None = omega arith
+from_shallow (Some m) = mark_shallow m
+
+change_shallow : (c : Change) → depth (change_data c) ≤ 2
+unfolding request_data
+change_shallow c = omega arith
+
+cause_shallow : (cause : Option Cause) → depth (cause_data cause) ≤ 0
+cause_shallow None = omega arith
+cause_shallow (Some cause) = omega arith
+
+five_shallow : (counter : Point) (from : Option Point) (requests : List Data) (cause : Option Cause) → items_depth (items_of requests) ≤ 2
+    → depth (five_fields counter from requests cause) ≤ 4
+five_shallow counter from requests cause each = omega (arith, each, mark_shallow counter, from_shallow from, cause_shallow cause)
+
+reply_shallow : (body : Body) → depth (reply_data body) ≤ 4
+unfolding reply_data
+reply_shallow (Delta from to changes) = five_shallow to (Some from) (map change_data changes) None (items_shallow change_data 2 change_shallow changes)
+reply_shallow (Snapshot at segments) = five_shallow at None (map load_data segments) None (items_shallow load_data 2 (λ d. change_shallow (Load d)) segments)
+reply_shallow (Reset cause at) = five_shallow at None [] (Some cause) (omega arith)
+
+-- what is written of a reply reads as its JSON
+pub reply_read : (body : Body) → IsOfDescriptors body → IsOfWords body → read (reply_text body) ≡ Some (reply_data body)
+reply_read body valid words = compact_read (reply_data body) (reply_back body valid words) (omega (arith, reply_shallow body))
+
+-- the same where it is known what the reply is
+
+pub delta_read : (body : Body) (text : List ℕ) (from to : Point) (changes : List Change) → body ≡ Delta from to changes → text ≡ reply_text body → IsWord to × IsWord from
+    → All (λ c. IsDescribed (segment_of c)) changes → read text ≡ Some (reply_data body)
+delta_read body text from to changes is written words each =
+    let back = reply_read (Delta from to changes) (λ c in_it. All-contains (λ x. IsDescribed (segment_of x)) changes c each in_it) (words.1, words.0) in
+    ap read written ∙ subst (λ b. read (reply_text b) ≡ Some (reply_data b)) (sym is) back
+
+pub snapshot_read : (body : Body) (text : List ℕ) (at : Point) (segments : List Described) → body ≡ Snapshot at segments → text ≡ reply_text body → IsWord at → All IsDescribed segments
+    → read text ≡ Some (reply_data body)
+snapshot_read body text at segments is written word each =
+    let back = reply_read (Snapshot at segments) (λ d in_it. All-contains IsDescribed segments d each in_it) word in
+    ap read written ∙ subst (λ b. read (reply_text b) ≡ Some (reply_data b)) (sym is) back
+
+pub reset_read : (body : Body) (text : List ℕ) (cause : Cause) (at : Point) → body ≡ Reset cause at → text ≡ reply_text body → IsWord at → read text ≡ Some (reply_data body)
+reset_read body text cause at is written word =
+    ap read written ∙ subst (λ b. read (reply_text b) ≡ Some (reply_data b)) (sym is) (reply_read (Reset cause at) tt word)

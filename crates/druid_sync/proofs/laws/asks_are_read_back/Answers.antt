@@ -1,0 +1,8 @@
+use Rattle.druid_sync.proofs.AskBackLemmas.{ask_back, whole_back}
+use Rattle.druid_sync.proofs.laws.asks_are_read_back.Goals as goal
+
+pub returns-clause-whole : goal.returns-clause-whole
+returns-clause-whole c = whole_back
+
+pub returns-clause-since : goal.returns-clause-since
+returns-clause-since c = ask_back

@@ -1,0 +1,16 @@
+use Rattle.std.proofs.Common.{rules, string_bytes}
+use Rattle.druid_sync.proofs.TextLemmas.{delta_text, snapshot_text, reset_text}
+use Rattle.druid_sync.proofs.WrittenLemmas.{delta_read, snapshot_read, reset_read}
+use Rattle.druid_sync.proofs.writing.reply_text.Goals as goal
+
+pub returns-in_ok-push_str-in-Delta-clause-read_back : goal.returns-in_ok-push_str-in-Delta-clause-read_back
+returns-in_ok-push_str-in-Delta-clause-read_back c =
+    delta_read c.args.reply.now (string_bytes c.push_str.new.self) c.in-Delta.from c.in-Delta.to c.in-Delta.changes (search rules) (search (rules, delta_text)) (search rules) (search rules)
+
+pub returns-in_ok-push_str-in-Snapshot-clause-read_back : goal.returns-in_ok-push_str-in-Snapshot-clause-read_back
+returns-in_ok-push_str-in-Snapshot-clause-read_back c =
+    snapshot_read c.args.reply.now (string_bytes c.push_str-in-Snapshot.new.self) c.in-Snapshot.at c.in-Snapshot.segments (search rules) (search (rules, snapshot_text)) (search rules) (search rules)
+
+pub returns-in_ok-push_str-in-Reset-2-clause-read_back : goal.returns-in_ok-push_str-in-Reset-2-clause-read_back
+returns-in_ok-push_str-in-Reset-2-clause-read_back c =
+    reset_read c.args.reply.now (string_bytes c.push_str-in-Reset-2.new.self) c.in-Reset.cause c.in-Reset.at (search rules) (search (rules, reset_text)) (search rules)
