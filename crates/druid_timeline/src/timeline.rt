@@ -1,4 +1,4 @@
-ghost use Rattle.std.specs.Prelude.{◌≡◌, ◌↔◌, ◌⊎◌, ℕ, [], All, Contains, IsTrue, IfOk, IfErr, OnOk, OnErr, IsErrOf, map, MatchOption};
+ghost use Rattle.std.specs.Prelude.{◌≡◌, ◌≤◌, ◌↔◌, ◌⊎◌, ℕ, [], All, Contains, IsTrue, IfOk, IfErr, OnOk, OnErr, IsErrOf, map, MatchOption};
 ghost use Rattle.std.specs.List.Sorted.{IsStrictlyIncreasing, IsStrictlySortedBy};
 ghost use Rattle.druid_time.specs.Extent.{AnyHas};
 ghost use Rattle.druid_segid.specs.Group.{Group};
@@ -88,6 +88,8 @@ impl Timeline {
         ensures added { OnOk result (AddsHeld self.old.held self.new.held (held_of node descriptor.now)) }
         ensures err { OnErr result (SameHeld self.old.held self.new.held) }
         ensures source { self.new.source ≡ self.old.source }
+        ensures counted { meter.old ≤ meter.new }
+        ensures uncounted { OnErr result (meter.new ≡ meter.old) }
     {
         // One comparison could be counted, and none is made.
         let _ = meter;
@@ -119,6 +121,8 @@ impl Timeline {
         ensures one { OnOk result (RemovesOneHeld self.old.held self.new.held node id.now) }
         ensures err { OnErr result (SameHeld self.old.held self.new.held) }
         ensures source { self.new.source ≡ self.old.source }
+        ensures counted { meter.old ≤ meter.new }
+        ensures uncounted { OnErr result (meter.new ≡ meter.old) }
     {
         // Comparisons could be counted, and none is made.
         let _ = meter;
