@@ -16,8 +16,8 @@ Gives (Ok config) told = told ≡ Some (told_of config)
 Gives (Err faults.Refused) told = told ≡ None
 Gives (Err faults.Memory) told = IsSome told
 
--- the same out of bytes, which may be no JSON; reading JSON may run out of memory at any byte
+-- the same out of bytes, which may be no JSON; reading JSON may run out of memory at any byte of a text
 abbrev pub IsReadOf : List ℕ → Result Cluster ConfigFault → Type 0
 IsReadOf bytes (Ok config) = (d : Data) × ReadsAs bytes d × (config_at d ≡ Some (told_of config))
 IsReadOf bytes (Err faults.Refused) = (d : Data) → ReadsAs bytes d → config_at d ≡ None
-IsReadOf bytes (Err faults.Memory) = ⊤
+IsReadOf bytes (Err faults.Memory) = IsUtf8 bytes

@@ -11,6 +11,7 @@ use crate::judging::is_config;
 use crate::{Config, ConfigFault};
 use serde_json::Value;
 use std::alloc::{AllocError, Global};
+use std::str;
 
 /// Reads a config: `Refused` where the value is none, and then `Memory`. The value nests at most 127 deep, as each that was
 /// read out of a text does. Other keys are passed over.
@@ -35,7 +36,7 @@ pub fn read_config(alloc: Global, bytes: &[u8]) -> Result<Config, ConfigFault>
     match Value::from_slice(alloc, bytes) {
         Ok(value) => config_of(alloc, &value),
         Err(error) => {
-            if error.is_memory() {
+            if error.is_memory() && str::from_utf8(bytes).is_ok() {
                 Err(ConfigFault::Memory)
             } else {
                 Err(ConfigFault::Refused)

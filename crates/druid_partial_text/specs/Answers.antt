@@ -1,5 +1,5 @@
 -- Answers of nodes: their text, and how they are read.
-use Rattle.std.specs.Prelude.{◌≡◌, ℕ, List, codes, Contains, Option, Some, Result, Ok, Err, ⊤, option_and_then}
+use Rattle.std.specs.Prelude.{IsUtf8, ◌≡◌, ℕ, List, codes, Contains, Option, Some, Result, Ok, Err, ⊤, option_and_then}
 use Rattle.serde_json.specs.Data.{Data, string, array, object, no_members, member}
 use Rattle.serde_json.specs.Find.{get, as_array}
 use Rattle.serde_json.specs.Written.{compact_text}
@@ -78,10 +78,10 @@ IsAnswer sub d (Err faults.Shape) = (missing : List Asked) (groups : List Group)
 IsAnswer sub d (Err faults.Memory) = ListsAnswer sub d
 IsAnswer sub d (Err faults.NotJson) = ⊥
 
--- the same out of bytes, which may be no JSON; reading JSON may run out of memory at any byte
+-- the same out of bytes, which may be no JSON; reading JSON may run out of memory at any byte of a text
 abbrev pub IsAnswerOf : SubQuery → List ℕ → Result NodeAnswer PartialFault → Type 0
 IsAnswerOf sub bytes (Err faults.NotJson) = (d : Data) → ReadsAs bytes d → ⊥
-IsAnswerOf sub bytes (Err faults.Memory) = ⊤
+IsAnswerOf sub bytes (Err faults.Memory) = IsUtf8 bytes
 IsAnswerOf sub bytes answer = (d : Data) × ReadsAs bytes d × IsAnswer sub d answer
 
 -- each of them is a piece of a segment of the source

@@ -16,6 +16,7 @@ use crate::{NodeAnswer, PartialFault};
 use druid_query::SubQuery;
 use serde_json::Value;
 use std::alloc::{AllocError, Global};
+use std::str;
 
 fn list_at<'a>(value: &'a Value, key: &str) -> Option<&'a [Value]>
     ensures { option_map (λ vs. items_view vs.now) result ≡ option_and_then as_array (get key.now (view value.now)) }
@@ -99,7 +100,7 @@ pub fn read_node_answer(
     match Value::from_slice(alloc, bytes) {
         Ok(value) => answer_of(alloc, sub, &value),
         Err(error) => {
-            if error.is_memory() {
+            if error.is_memory() && str::from_utf8(bytes).is_ok() {
                 Err(PartialFault::Memory)
             } else {
                 Err(PartialFault::NotJson)

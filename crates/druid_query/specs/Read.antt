@@ -113,10 +113,10 @@ IsQuery q = (d : Data) × (query_at d ≡ Ok q)
 abbrev pub ReadsAs : List ℕ → Data → Type 0
 ReadsAs bytes d = IsUtf8 bytes × (read bytes ≡ Some d)
 
--- the same out of bytes, which may be no JSON; reading JSON may run out of memory at any byte
+-- the same out of bytes, which may be no JSON; reading JSON may run out of memory at any byte of a text
 abbrev pub IsReadBy : {A : Type 0} → (Data → Result A Refusal) → List ℕ → Result A QueryFault → Type 0
 IsReadBy at bytes (Err faults.NotJson) = (d : Data) → ReadsAs bytes d → ⊥
-IsReadBy at bytes (Err faults.Memory) = ⊤
+IsReadBy at bytes (Err faults.Memory) = IsUtf8 bytes
 IsReadBy at bytes answer = (d : Data) × ReadsAs bytes d × Gives answer (at d)
 
 abbrev pub IsReadOf : List ℕ → Result Query QueryFault → Type 0

@@ -10,6 +10,7 @@ use crate::fields::kind_of;
 use druid_query::{Query, QueryFault};
 use serde_json::Value;
 use std::alloc::{AllocError, Global};
+use std::str;
 
 // The query that a value is, which was judged before.
 #[tactic(auto, using(crate::proofs::ReadLemmas::no_kind, crate::proofs::ReadLemmas::no_granularity_field, crate::proofs::ReadLemmas::source_ok, crate::proofs::ReadLemmas::intervals_ok, crate::proofs::ReadLemmas::filter_ok, crate::proofs::ReadLemmas::dimensions_ok, crate::proofs::ReadLemmas::aggregations_ok))]
@@ -66,7 +67,7 @@ pub fn read_query(alloc: Global, bytes: &[u8]) -> Result<Query, QueryFault>
     match Value::from_slice(alloc, bytes) {
         Ok(value) => query_of(alloc, &value),
         Err(error) => {
-            if error.is_memory() {
+            if error.is_memory() && str::from_utf8(bytes).is_ok() {
                 Err(QueryFault::Memory)
             } else {
                 Err(QueryFault::NotJson)

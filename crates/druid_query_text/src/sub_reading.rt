@@ -14,6 +14,7 @@ use druid_segid::Name;
 use druid_time::Interval;
 use serde_json::Value;
 use std::alloc::{AllocError, Global};
+use std::str;
 
 fn pieces_of(alloc: Global, source: &Name, value: &Value) -> Result<Vec<Asked>, AllocError>
     requires { IsOk (pieces_at source.now (view value.now)) }
@@ -91,7 +92,7 @@ pub fn read_subquery(alloc: Global, bytes: &[u8]) -> Result<SubQuery, QueryFault
     match Value::from_slice(alloc, bytes) {
         Ok(value) => subquery_of(alloc, &value),
         Err(error) => {
-            if error.is_memory() {
+            if error.is_memory() && str::from_utf8(bytes).is_ok() {
                 Err(QueryFault::Memory)
             } else {
                 Err(QueryFault::NotJson)

@@ -158,8 +158,8 @@ Answers (Some (begun_again cause at)) answer = answer ≡ Ok (Reset cause at)
 abbrev pub IsRead : Data → Result Body SyncFault → Type 0
 IsRead d answer = Answers (form_at d) answer
 
--- the same out of bytes, which may be no JSON; reading JSON may run out of memory at any byte
+-- the same out of bytes, which may be no JSON; reading JSON may run out of memory at any byte of a text
 abbrev pub IsReadOf : List ℕ → Result Body SyncFault → Type 0
 IsReadOf bytes (Err faults.NotJson) = (d : Data) → ReadsAs bytes d → ⊥
-IsReadOf bytes (Err faults.Memory) = ⊤
+IsReadOf bytes (Err faults.Memory) = IsUtf8 bytes
 IsReadOf bytes answer = (d : Data) × ReadsAs bytes d × IsRead d answer

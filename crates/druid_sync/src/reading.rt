@@ -14,6 +14,7 @@ use druid_shard::{
 };
 use serde_json::Value;
 use std::alloc::{AllocError, Global};
+use std::str;
 
 // A mark of an incarnation.
 #[tactic(auto, unfolding(crate::specs::Read::mark_at))]
@@ -283,7 +284,7 @@ pub fn read_reply(alloc: Global, bytes: &[u8]) -> Result<Reply, SyncFault>
     match Value::from_slice(alloc, bytes) {
         Ok(value) => reply_of(alloc, &value),
         Err(error) => {
-            if error.is_memory() {
+            if error.is_memory() && str::from_utf8(bytes).is_ok() {
                 Err(SyncFault::Memory)
             } else {
                 Err(SyncFault::NotJson)
