@@ -1,6 +1,6 @@
 //! Readers and writers that fail, that are interrupted, and that take a byte at a time.
 use crate::printing::{assert_rows, owned};
-use druid_cluster::{ReplayFault, obey, replay};
+use druid_cluster::{ReplayFault, replay, run_program};
 use std::alloc::Global;
 use std::fmt::Display;
 use std::io;
@@ -61,6 +61,7 @@ struct PlannedWriter<'a> {
     plan: Plan<'a>,
     flushes: Plan<'a>,
     written: Vec<u8>,
+    flushed: bool,
 }
 
 impl Write for PlannedWriter<'_> {
@@ -71,6 +72,7 @@ impl Write for PlannedWriter<'_> {
     }
 
     fn flush(&mut self) -> io::Result<()> {
+        self.flushed = true;
         self.flushes.take(0)?;
         Ok(())
     }
@@ -122,6 +124,7 @@ fn end_of(
     };
     let mut reader = BufReader::with_capacity(alloc, 16, input).expect(rt, "memory");
     let end = replay(alloc, &mut reader, writer);
+    assert!(rt; writer.flushed, "{name} {reads}");
     end_told(rt, alloc, end, &writer.written)
 }
 
@@ -134,6 +137,7 @@ fn end_over(rt: &impl Abort, alloc: Global, row: &str) -> String {
         plan: planned(writes),
         flushes: planned(flushes),
         written: Vec::new(alloc),
+        flushed: false,
     };
     end_of(rt, alloc, name, reads, &mut writer)
 }
@@ -158,53 +162,139 @@ bad a a f = line 3: device 28";
     assert_rows(&rt, rt.alloc(), rows, end_over);
 }
 
-// Whether what was written is that line, or nothing where the line is empty.
-fn is_line(written: &[u8], line: &str) -> bool {
-    if line.is_empty() {
-        return written.is_empty();
+// The words of a command line.
+fn words_of(rt: &impl Abort, alloc: Global, line: &str) -> Vec<String> {
+    let mut words = Vec::new(alloc);
+    for word in line.split_whitespace() {
+        words.push(owned(rt, alloc, word)).expect(rt, "memory");
     }
-    written.strip_suffix(b"\n") == Some(line.as_bytes())
+    words
 }
 
-fn list_of(rt: &impl Abort, alloc: Global, words: &str) -> Vec<String> {
-    let mut list = Vec::new(alloc);
-    for word in words.split_whitespace() {
-        list.push(owned(rt, alloc, word)).expect(rt, "memory");
-    }
-    list
-}
-
-// Asserts that the words over an input of one line end so: what is reported, and what is answered.
-fn assert_obeyed(
+// Asserts how the program ends with these words over an input: its status, what it prints and what it reports.
+fn assert_ended(
     rt: &impl Abort,
     alloc: Global,
     words: &str,
-    input: &str,
-    status: u8,
-    lines: (&str, &str),
+    mut input: &[u8],
+    ending: (u8, &[u8], &str),
 ) {
-    let list = list_of(rt, alloc, words);
-    let mut reader = input.as_bytes();
+    let list = words_of(rt, alloc, words);
     let mut written = Vec::new(alloc);
     let mut errors = Vec::new(alloc);
-    let ending = obey(alloc, &list, &mut reader, &mut written, &mut errors);
-    assert!(rt; ending.status == status && ending.told.is_ok(), "{words}");
+    let end = run_program(alloc, Ok(list), &mut input, &mut written, &mut errors);
+    let (status, printed, reported) = ending;
     assert!(rt;
-        is_line(&errors, lines.0) && is_line(&written, lines.1),
-        "{words}"
+        end.status == status && end.reported.is_ok(),
+        "{words} {reported}"
+    );
+    assert!(rt; written.as_slice() == printed, "{words} {reported}");
+    assert!(rt;
+        errors.as_slice() == reported.as_bytes(),
+        "{words} {reported}"
     );
 }
 
+const USAGE: &str = "usage: druid_cluster replay | druid_cluster serve CONFIG\n";
+
 #[test]
 fn words(rt: HostRuntime) {
-    assert_obeyed(&rt, rt.alloc(), "replay", "", 0, ("", ""));
-    let brokers = r#"{"count":1,"do":"brokers","nodes":["n"]}"#;
-    let answer = r#"{"brokers":1}"#;
-    assert_obeyed(&rt, rt.alloc(), "replay", brokers, 0, ("", answer));
-    let bad = "line 1: bad command";
-    assert_obeyed(&rt, rt.alloc(), "replay", "x", 1, (bad, ""));
-    let usage = "usage: druid_cluster replay | druid_cluster serve CONFIG";
     for words in ["", "serve", "replay x", "replay replay", "Replay"] {
-        assert_obeyed(&rt, rt.alloc(), words, "x", 2, (usage, ""));
+        assert_ended(&rt, rt.alloc(), words, b"x", (2, b"", USAGE));
     }
+    let bad = (1, b"".as_slice(), "line 1: bad command\n");
+    assert_ended(&rt, rt.alloc(), "replay", b"x", bad);
+    assert_ended(&rt, rt.alloc(), "replay", b"", (0, b"", ""));
+}
+
+#[test]
+fn whole_runs(rt: HostRuntime) {
+    let (good, bad) = (script("good").as_bytes(), script("bad").as_bytes());
+    let answers = ANSWERS.as_bytes();
+    assert_ended(&rt, rt.alloc(), "replay", good, (0, answers, ""));
+    let third = (1, answers, "line 3: bad command\n");
+    assert_ended(&rt, rt.alloc(), "replay", bad, third);
+}
+
+// So many bytes of one letter.
+fn repeated(rt: &impl Abort, alloc: Global, letter: u8, count: usize) -> Vec<u8> {
+    let mut bytes = Vec::new(alloc);
+    bytes.resize(count, letter).expect(rt, "memory");
+    bytes
+}
+
+#[test]
+fn long_bad_lines(rt: HostRuntime) {
+    for count in [1_000usize, 1_001, 70_000] {
+        let line = repeated(&rt, rt.alloc(), b'x', count);
+        let bad = (1, b"".as_slice(), "line 1: bad command\n");
+        assert_ended(&rt, rt.alloc(), "replay", &line, bad);
+    }
+}
+
+// A line and that many times another.
+fn line_and_more(rt: &impl Abort, alloc: Global, first: &str, more: &str, count: usize) -> Vec<u8> {
+    let mut bytes = Vec::new(alloc);
+    bytes
+        .extend_from_slice(first.as_bytes())
+        .expect(rt, "memory");
+    for _ in 0..count {
+        bytes
+            .extend_from_slice(more.as_bytes())
+            .expect(rt, "memory");
+    }
+    bytes
+}
+
+#[test]
+fn many_lines(rt: HostRuntime) {
+    let brokers = "{\"count\":1,\"do\":\"brokers\",\"nodes\":[\"n\"]}\n";
+    let marks = "{\"broker\":0,\"do\":\"marks\"}\n";
+    let marked = "{\"marks\":[{\"counter\":0,\"hash\":0}]}\n";
+    let mut input = line_and_more(&rt, rt.alloc(), brokers, marks, 100_000);
+    let answers = line_and_more(&rt, rt.alloc(), "{\"brokers\":1}\n", marked, 100_000);
+    input.push(b'x').expect(&rt, "memory");
+    let bad = (1, answers.as_slice(), "line 100002: bad command\n");
+    assert_ended(&rt, rt.alloc(), "replay", &input, bad);
+}
+
+// The program, where its arguments can't be read, its input fails in the second line, or nothing takes what it reports.
+#[test]
+fn failing_streams(rt: HostRuntime) {
+    let alloc = rt.alloc();
+    let mut written = Vec::new(alloc);
+    let mut errors = Vec::new(alloc);
+    let unread = Err(ErrorKind::Other.into());
+    let end = run_program(
+        alloc,
+        unread,
+        &mut b"".as_slice(),
+        &mut written,
+        &mut errors,
+    );
+    assert!(&rt; end.status == 3 && errors.as_slice() == b"line 1: device\n".as_slice());
+    let input = PlannedReader {
+        plan: planned("aaafa"),
+        rest: script("good").as_bytes(),
+    };
+    let mut reader = BufReader::with_capacity(alloc, 16, input).expect(&rt, "memory");
+    let replay = words_of(&rt, alloc, "replay");
+    let end = run_program(alloc, Ok(replay), &mut reader, &mut written, &mut errors);
+    assert!(&rt; end.status == 3 && written.as_slice() == b"{\"brokers\":1}\n".as_slice());
+    assert!(&rt; errors.as_slice() == b"line 1: device\nline 2: device\n".as_slice());
+    let mut nothing = PlannedWriter {
+        plan: planned("f"),
+        flushes: planned("f"),
+        written: Vec::new(alloc),
+        flushed: false,
+    };
+    let other = words_of(&rt, alloc, "other");
+    let end = run_program(
+        alloc,
+        Ok(other),
+        &mut b"".as_slice(),
+        &mut written,
+        &mut nothing,
+    );
+    assert!(&rt; end.status == 2 && end.reported.is_err());
 }

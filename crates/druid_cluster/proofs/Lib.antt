@@ -7,7 +7,6 @@ pub mod RunLemmas
 pub mod LookLemmas
 pub mod MarkLemmas
 pub mod NameLemmas
-pub mod ProgramLemmas
 pub mod OrderOnce
 pub mod HoldingOnce
 pub mod ReadOnce

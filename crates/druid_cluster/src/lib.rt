@@ -13,5 +13,5 @@ mod writing;
 
 pub use fault::ReplayFault;
 pub use laws::{each_line_is_bad_or_answered, no_answered_line_is_bad, one_node_list, one_run};
-pub use program::{Ending, obey, run_program};
+pub use program::run_program;
 pub use run::replay;

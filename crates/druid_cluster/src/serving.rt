@@ -1,5 +1,5 @@
 //! Commands, carried out.
-ghost use Rattle.std.specs.Prelude.{◌≡◌, ◌↔◌, ◌≤◌, ◌<◌, ℕ, List, All, Some, None, get_or, length, map, unwrap_or, IsTrue, IfOk, OnErr, IfSome, IfNone};
+ghost use Rattle.std.specs.Prelude.{◌≡◌, ◌↔◌, ◌≤◌, ◌<◌, ℕ, List, All, Some, None, get_or, length, map, unwrap_or, IsTrue, IsUtf8, IfOk, OnErr, IfSome, IfNone};
 ghost use Rattle.druid_segid.specs.Names.{IsName};
 ghost use Rattle.druid_inventory.specs.Entry.{HaveOwnNames, max_nodes};
 ghost use Rattle.serde_json.specs.View.{view};
@@ -17,6 +17,7 @@ use druid_time::{Interval, IntervalSet, TimeFault};
 use druid_timeline::Timeline;
 use serde_json::Value;
 use std::alloc::{AllocError, Global};
+use std::str;
 
 // Whether each text is a name. Does not allocate.
 #[tactic(auto, using(crate::proofs::NameLemmas::not_all, crate::proofs::NameLemmas::names_more))]
@@ -332,7 +333,8 @@ fn answer_opening(
     Ok(Some(take_brokers(alloc, count, nodes)?))
 }
 
-/// What a line is answered, and the brokers that stand after it; None where the line is no JSON or no command.
+/// What a line is answered, and the brokers that stand after it; None where the line is no JSON or no command. Memory may be
+/// refused only for a line in UTF-8, while its JSON is read or where no refusal that is seen without allocating holds.
 pub fn serve_line(
     alloc: Global,
     state: Option<Brokers>,
@@ -342,11 +344,12 @@ pub fn serve_line(
     ensures answered { IfOk result (λ found.
         IfSome found (λ r. IsAnswered state line.now r.0 r.1)) }
     ensures bad { IfOk result (λ found. IfNone found (IsBad state line.now)) }
+    ensures memory { OnErr result (IsUtf8 line.now) }
 {
     let value = match Value::from_slice(alloc, line) {
         Ok(value) => value,
         Err(error) => {
-            if error.is_memory() {
+            if error.is_memory() && str::from_utf8(line).is_ok() {
                 return Err(AllocError);
             }
             return Ok(None);

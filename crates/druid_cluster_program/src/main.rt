@@ -2,6 +2,9 @@
 //! serves the cluster of a config.
 #![tactic(auto)]
 
+use druid_command_line::Exit;
+use druid_serve::run;
+use std::io::{BufReader, BufWriter};
 use std::process::ExitCode;
 use std::{env, io};
 
@@ -18,13 +21,19 @@ fn words(rt: &HostRuntime) -> io::Result<Vec<String>> {
 
 fn main(rt: HostRuntime) -> ExitCode {
     let mut errors = rt.stderr();
-    let status = druid_serve::run(
+    let reader = BufReader::new(rt.alloc(), rt.reader());
+    let writer = BufWriter::new(rt.alloc(), io::writer(&rt));
+    let (Ok(mut reader), Ok(mut writer)) = (reader, writer) else {
+        return ExitCode::from(Exit::Device.status());
+    };
+    let words = words(&rt);
+    let ending = run(
         &rt,
         rt.alloc(),
-        words(&rt),
-        rt.reader(),
-        io::writer(&rt),
+        words,
+        &mut reader,
+        &mut writer,
         &mut errors,
     );
-    ExitCode::from(status)
+    ExitCode::from(ending.status)
 }

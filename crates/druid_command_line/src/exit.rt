@@ -1,6 +1,8 @@
 ghost use Rattle.std.specs.Prelude.{◌≡◌};
 ghost use Rattle.druid_command_line.specs.Exits.{status_of};
 
+use std::io;
+
 /// How the program ends.
 #[derive(Clone, Copy, Debug, PartialEq, Eq, Drop)]
 pub enum Exit {
@@ -26,4 +28,13 @@ impl Exit {
             Exit::Device => 3,
         }
     }
+}
+
+/// How a run of the program ends.
+#[derive(Drop)]
+pub struct Ending {
+    /// The exit status.
+    pub status: u8,
+    /// Whether standard error took the line that says why.
+    pub reported: io::Result<()>,
 }

@@ -4,5 +4,5 @@
 mod exit;
 mod words;
 
-pub use exit::Exit;
+pub use exit::{Ending, Exit};
 pub use words::{asks_for_replay, asks_for_serve};

@@ -1,5 +1,5 @@
 -- Why a cluster is not served.
-use Rattle.std.specs.Prelude.{ℕ}
+use Rattle.std.specs.Prelude.{ℕ, List, codes}
 use Rattle.druid_config.specs.declared.fault.ConfigFault.{ConfigFault}
 use Rattle.druid_config.specs.declared.fault.ConfigFault.TheVariants as config
 use Rattle.druid_serve_node.specs.declared.fault.ClusterFault.{ClusterFault}
@@ -22,3 +22,9 @@ abbrev pub status_of : ServeFault → ℕ
 status_of served.BadConfig = 1
 status_of served.BadFolder = 1
 status_of served.Device = 3
+
+-- what is reported of it
+abbrev pub fault_text : ServeFault → List ℕ
+fault_text served.BadConfig = codes "bad config"
+fault_text served.BadFolder = codes "bad folder"
+fault_text served.Device = codes "device"

@@ -1,8 +1,9 @@
 -- How a cluster is served.
-use Rattle.std.specs.Prelude.{◌≡◌, ℕ, List, ⊤, Some, Result, Ok, Err}
+use Rattle.std.specs.Prelude.{◌≡◌, ℕ, List, [], ◌∷◌, ◌++◌, ⊤, Some, Result, Ok, Err}
 use Rattle.serde_json.specs.Data.{Data}
 use Rattle.druid_config.specs.Configs.{Told, config_at}
 use Rattle.druid_config.specs.Read.{ReadsAs}
+use Rattle.druid_serve.specs.Faults.{status_of, fault_text}
 use Rattle.druid_serve.specs.declared.fault.ServeFault.{ServeFault}
 use Rattle.druid_serve.specs.declared.fault.ServeFault.TheVariants.{BadConfig, BadFolder, Device}
 
@@ -17,3 +18,13 @@ ServesAs bytes (Ok done) = IsConfig bytes
 ServesAs bytes (Err BadConfig) = IsConfig bytes → ⊥
 ServesAs bytes (Err BadFolder) = IsConfig bytes
 ServesAs bytes (Err Device) = ⊤
+
+-- the exit status of such an end
+abbrev pub exit_status : Result ⊤ ServeFault → ℕ
+exit_status (Ok done) = 0
+exit_status (Err fault) = status_of fault
+
+-- what it reports on the error writer: the line of its fault, if it has one
+abbrev pub fault_line : Result ⊤ ServeFault → List ℕ
+fault_line (Ok done) = []
+fault_line (Err fault) = fault_text fault ++ 10 ∷ []

@@ -1,22 +1,20 @@
-ghost use Rattle.std.specs.Prelude.{◌≡◌};
-ghost use Rattle.druid_serve.specs.Faults.{of_cluster, of_config, status_of};
+ghost use Rattle.std.specs.Prelude.{◌≡◌, Some};
+ghost use Rattle.druid_serve.specs.Faults.{of_cluster, of_config, status_of, fault_text};
 
 use druid_command_line::Exit;
 use druid_config::ConfigFault;
 use druid_serve_node::ClusterFault;
-use thiserror::Error;
+use std::error::Error;
+use std::fmt;
 
 /// Why a cluster is not served.
-#[derive(Clone, Copy, Debug, PartialEq, Eq, Drop, Error)]
+#[derive(Clone, Copy, Debug, PartialEq, Eq, Drop)]
 pub enum ServeFault {
     /// The config is refused.
-    #[error("bad config")]
     BadConfig,
     /// A segment file or an incarnation file is refused at the start.
-    #[error("bad folder")]
     BadFolder,
     /// A device failed, or memory was refused.
-    #[error("device")]
     Device,
 }
 
@@ -31,6 +29,20 @@ impl ServeFault {
         }
     }
 }
+
+impl fmt::Display for ServeFault {
+    ghost output = { λ fault. Some (fault_text fault) };
+
+    fn fmt<W: fmt::Write>(&self, f: &mut fmt::Formatter<W>) -> fmt::Result {
+        f.write_str(match self {
+            ServeFault::BadConfig => "bad config",
+            ServeFault::BadFolder => "bad folder",
+            ServeFault::Device => "device",
+        })
+    }
+}
+
+impl Error for ServeFault {}
 
 impl From<ConfigFault> for ServeFault {
     ghost from_gives = { λ fault told. told ≡ of_config fault };

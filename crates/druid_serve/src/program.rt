@@ -1,16 +1,20 @@
 //! What the program does with its words.
-ghost use Rattle.std.specs.Prelude.{◌≡◌, ◌≢◌, ⊤, ℕ, List, Option, Result, IfOk, OnErr, map, string_bytes};
+ghost use Rattle.std.specs.Prelude.{◌≡◌, ◌∷◌, ◌++◌, [], ⊤, ℕ, List, Result, IfOk, OnOk, OnErr, map, string_bytes};
+ghost use Rattle.std.specs.Io.KnownBytes.{Appends, Keeps};
 ghost use Rattle.druid_command_line.specs.Words.{AsksForReplay, AsksForServe};
-ghost use Rattle.druid_cluster.specs.Program.{Replays, exit_status};
+ghost use Rattle.druid_cluster.specs.Program.{Replays, usage_line, exit_status as replay_status, fault_line as replay_line};
+ghost use Rattle.druid_cluster.specs.Status.{fault_text as replay_fault_text};
 ghost use Rattle.druid_cluster.specs.declared.fault.ReplayFault.{ReplayFault};
+ghost use Rattle.druid_serve.specs.Program.{exit_status, fault_line};
+ghost use Rattle.druid_serve.specs.declared.fault.ServeFault.{ServeFault};
 
 use crate::ServeFault;
-use crate::serving::{serve, tell};
+use crate::serving::{report, serve};
 use druid_cluster::run_program;
-use druid_command_line::asks_for_serve;
+use druid_command_line::{Ending, asks_for_serve};
 use std::alloc::Global;
 use std::fs::File;
-use std::io::{BufWriter, Read, Write};
+use std::io::{BufRead, Read, Write};
 use std::net::{Net, TcpListener, TcpStream};
 use std::rt::Files;
 use std::sync::Wait;
@@ -40,7 +44,7 @@ fn config_at<R: Files>(rt: &R, alloc: Global, path: &str) -> Result<Vec<u8>, Ser
     Ok(bytes)
 }
 
-// Serves the cluster of the config at a path, and gives the exit status, which is never that of words that ask for nothing.
+// Serves the cluster of the config at a path: the end is that of its bytes, or a device's where they can't be read.
 fn serve_file<
     R: Files<File = File>
         + Net<Listener = TcpListener, Stream = TcpStream>
@@ -52,25 +56,22 @@ fn serve_file<
         + Send
         + Sync
         + 'static,
-    W: Write + Drop,
+    W: Write,
     E: Write,
->(rt: &R, alloc: Global, path: &str, output: W, errors: &mut E) -> u8
+>(rt: &R, alloc: Global, path: &str, writer: &mut W, errors: &mut E) -> Ending
 where
     R::Dir: Send,
-    ensures { result ≢ 2 }
+    ensures { (end : Result ⊤ ServeFault) × (result.status ≡ exit_status end)
+        × OnOk result.reported (Appends (E.contents errors.old) (E.contents errors.new) (fault_line end)) }
 {
-    let config = match config_at(rt, alloc, path) {
-        Ok(config) => config,
-        Err(fault) => return tell(errors, fault),
-    };
-    match BufWriter::new(alloc, output) {
-        Ok(mut writer) => serve(rt, alloc, &config, &mut writer, errors),
-        Err(_) => tell(errors, ServeFault::Device),
+    match config_at(rt, alloc, path) {
+        Ok(config) => serve(rt, alloc, &config, writer, errors),
+        Err(fault) => report(errors, fault),
     }
 }
 
-/// The whole program, over its handles: the arguments, standard input, standard output and standard error. It
-/// answers the exit status. `serve CONFIG` serves the cluster of the config at that path; all else is up to
+/// The whole program, over its arguments, standard input, standard output and standard error. `serve CONFIG` serves the
+/// cluster of the config at that path, and reports a fault on the error writer; all else is up to
 /// `druid_cluster::run_program`.
 pub fn run<
     R: Files<File = File>
@@ -83,24 +84,42 @@ pub fn run<
         + Send
         + Sync
         + 'static,
-    I: Read + Drop,
-    W: Write + Drop,
+    I: BufRead,
+    W: Write,
     E: Write,
->(rt: &R, alloc: Global, words: io::Result<Vec<String>>, input: I, output: W, errors: &mut E) -> u8
+>(
+    rt: &R,
+    alloc: Global,
+    words: io::Result<Vec<String>>,
+    reader: &mut I,
+    writer: &mut W,
+    errors: &mut E,
+) -> Ending
 where
     R::Dir: Send,
-    ensures unread { OnErr words (result ≡ 3) }
+    ensures unread { OnErr words ((result.status ≡ 3)
+        × Keeps (I.remaining reader.old) (I.remaining reader.new)
+        × Keeps (W.contents writer.old) (W.contents writer.new)
+        × OnOk result.reported (Appends (E.contents errors.old) (E.contents errors.new)
+        (replay_fault_text (ReplayFault.Device 1) ++ 10 ∷ []))) }
     ensures usage { IfOk words (λ list. (AsksForReplay (map string_bytes list.items) → ⊥)
-        → (AsksForServe (map string_bytes list.items) → ⊥) → result ≡ 2) }
-    ensures served { IfOk words (λ list. AsksForServe (map string_bytes list.items) → result ≢ 2) }
+        → (AsksForServe (map string_bytes list.items) → ⊥) → (result.status ≡ 2)
+        × Keeps (I.remaining reader.old) (I.remaining reader.new)
+        × Keeps (W.contents writer.old) (W.contents writer.new)
+        × OnOk result.reported (Appends (E.contents errors.old) (E.contents errors.new) usage_line)) }
+    ensures served { IfOk words (λ list. AsksForServe (map string_bytes list.items)
+        → (end : Result ⊤ ServeFault) × (result.status ≡ exit_status end)
+        × OnOk result.reported (Appends (E.contents errors.old) (E.contents errors.new) (fault_line end))) }
     ensures replayed { IfOk words (λ list. AsksForReplay (map string_bytes list.items)
-        → (written : Option (List ℕ)) × (end : Result ⊤ ReplayFault)
-        × Replays (I.remaining input) (W.contents output) written end × (result ≡ exit_status end)) }
+        → (end : Result ⊤ ReplayFault)
+        × Replays (I.remaining reader.old) (W.contents writer.old) (W.contents writer.new) end
+        × (result.status ≡ replay_status end)
+        × OnOk result.reported (Appends (E.contents errors.old) (E.contents errors.new) (replay_line end))) }
 {
     match words {
         Ok(words) if asks_for_serve(&words) => {
-            serve_file(rt, alloc, words[1].as_str(), output, errors)
+            serve_file(rt, alloc, words[1].as_str(), writer, errors)
         }
-        words => run_program(alloc, words, input, output, errors),
+        words => run_program(alloc, words, reader, writer, errors),
     }
 }

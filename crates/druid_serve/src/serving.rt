@@ -1,15 +1,17 @@
 //! A cluster, from its config to its end.
-ghost use Rattle.std.specs.Prelude.{◌≡◌, ◌≢◌, ◌<◌, ◌≤◌, All, IfOk, length};
+ghost use Rattle.std.specs.Prelude.{◌≡◌, ◌<◌, ◌≤◌, ◌∷◌, ◌++◌, [], ⊤, Result, All, IfOk, OnOk, length};
+ghost use Rattle.std.specs.Io.KnownBytes.{Appends};
 ghost use Rattle.druid_shard.specs.Reply.{max_changes};
 ghost use Rattle.druid_inventory.specs.Entry.{max_nodes};
-ghost use Rattle.druid_serve.specs.Faults.{status_of};
-ghost use Rattle.druid_serve.specs.Program.{IsConfig, ServesAs};
+ghost use Rattle.druid_serve.specs.Faults.{status_of, fault_text};
+ghost use Rattle.druid_serve.specs.Program.{IsConfig, ServesAs, exit_status, fault_line};
+ghost use Rattle.druid_serve.specs.declared.fault.ServeFault.{ServeFault};
 
 use crate::ServeFault;
 use crate::asking::ask;
 use crate::broker::{Broker, Opening, start_broker};
 use crate::gate::Gate;
-use druid_command_line::Exit;
+use druid_command_line::{Ending, Exit};
 use druid_config::{BrokerConfig, Config, NodeConfig, QueryConfig, names_in, read_config};
 use druid_inventory::Inventory;
 use druid_serve_node::{ClusterFault, DeviceFailed, listen, start_node};
@@ -237,7 +239,7 @@ where
 }
 
 /// Serves the cluster of a config, prints the answers to its queries, and ends once each broker answered the connections from
-/// outside that the config asks for. It gives the exit status: 0, or that of the fault that it tells on the error writer. The
+/// outside that the config asks for. It ends with status 0, or with that of the fault that it reports on the error writer. The
 /// threads that still wait for connections are left. Status 0 only where the bytes are a config; where they are none, nothing is
 /// printed.
 pub fn serve<
@@ -253,23 +255,31 @@ pub fn serve<
         + 'static,
     W: Write,
     E: Write,
->(rt: &R, alloc: Global, config: &[u8], out: &mut W, errors: &mut E) -> u8
+>(rt: &R, alloc: Global, config: &[u8], out: &mut W, errors: &mut E) -> Ending
 where
     R::Dir: Send,
-    ensures served { result ≡ 0 → IsConfig config.now }
-    ensures status { result ≢ 2 }
+    ensures served { (end : Result ⊤ ServeFault) × ServesAs config.now end
+        × (result.status ≡ exit_status end)
+        × OnOk result.reported (Appends (E.contents errors.old) (E.contents errors.new) (fault_line end)) }
     ensures nothing { (IsConfig config.now → ⊥) → W.contents out.new ≡ W.contents out.old }
 {
     match serve_config(rt, alloc, config, out) {
-        Ok(()) => Exit::Done.status(),
-        Err(fault) => tell(errors, fault),
+        Ok(()) => Ending {
+            status: Exit::Done.status(),
+            reported: Ok(()),
+        },
+        Err(fault) => report(errors, fault),
     }
 }
 
-/// Tells a fault, and gives its exit status.
-pub(crate) fn tell<E: Write>(errors: &mut E, fault: ServeFault) -> u8
-    ensures { result ≡ status_of fault }
+/// Ends with the status of a fault, and reports it.
+pub(crate) fn report<E: Write>(errors: &mut E, fault: ServeFault) -> Ending
+    ensures status { result.status ≡ status_of fault }
+    ensures reported { OnOk result.reported
+        (Appends (E.contents errors.old) (E.contents errors.new) (fault_text fault ++ 10 ∷ [])) }
 {
-    drop(writeln!(errors, "{fault}"));
-    fault.status()
+    Ending {
+        status: fault.status(),
+        reported: writeln!(errors, "{fault}"),
+    }
 }
