@@ -4,6 +4,7 @@ use druid_link::{Link, TcpLink};
 use druid_serve::serve;
 use std::alloc::Global;
 use std::fs::File;
+use std::io::{ErrorKind, Write};
 use std::net::{Net, TcpListener, TcpStream};
 use std::process::Abort;
 use std::rt::{Env, Files};
@@ -11,14 +12,15 @@ use std::sync::Wait;
 use std::sync::atomic::{AtomicBool, Ordering};
 use std::thread::{Threads, join};
 use std::time::{Clock, Duration};
-use std::{fs, str, thread};
+use std::{fs, io, str, thread};
 
-// Where the two nodes and the broker of a test are, and over which folders the nodes stand.
+// Where the two nodes and the two brokers of a test are, and over which folders the nodes stand.
 #[derive(Drop)]
 struct Place {
     first: String,
     second: String,
     broker: String,
+    other: String,
     older: String,
     newer: String,
 }
@@ -67,6 +69,7 @@ fn place_of<
         first: free_address(rt, alloc),
         second: free_address(rt, alloc),
         broker: free_address(rt, alloc),
+        other: free_address(rt, alloc),
         older,
         newer,
     }
@@ -76,12 +79,13 @@ fn place_of<
 const QUERY: &str =
     "{\"aggregations\":[{\"name\":\"n\",\"type\":\"count\"}],\"dataSource\":\"wiki\",\"granularity\":\"all\",\"intervals\":\"2024-01-01/2024-01-02\",\"queryType\":\"timeseries\"}";
 
-// A config of two nodes and one broker, to which the query is posted.
+// A config of two nodes and two brokers: the query is posted to the second, and no query to the first.
 fn config(rt: &impl Abort, alloc: Global, place: &Place, connections: u64) -> String {
-    let (first, second, broker) = (&place.first, &place.second, &place.broker);
+    let (first, second) = (&place.first, &place.second);
+    let (broker, other) = (&place.broker, &place.other);
     let (older, newer) = (&place.older, &place.newer);
     format!(in alloc;
-        "{{\"brokers\":[{{\"address\":\"{broker}\",\"workers\":2}}],\"connections\":{connections},\"kept\":10,\"nodes\":[{{\"address\":\"{first}\",\"folder\":\"{older}\",\"loads\":[],\"name\":\"n0\",\"workers\":2}},{{\"address\":\"{second}\",\"folder\":\"{newer}\",\"loads\":[\"none.seg\",\"{NEWER_FILE}\",\"other\"],\"name\":\"n1\",\"workers\":2}}],\"queries\":[{{\"broker\":0,\"query\":{QUERY}}}],\"turns\":1}}"
+        "{{\"brokers\":[{{\"address\":\"{broker}\",\"workers\":2}},{{\"address\":\"{other}\",\"workers\":1}}],\"connections\":{connections},\"kept\":10,\"nodes\":[{{\"address\":\"{first}\",\"folder\":\"{older}\",\"loads\":[],\"name\":\"n0\",\"workers\":2}},{{\"address\":\"{second}\",\"folder\":\"{newer}\",\"loads\":[\"none.seg\",\"{NEWER_FILE}\",\"other\"],\"name\":\"n1\",\"workers\":2}}],\"queries\":[{{\"broker\":1,\"query\":{QUERY}}},{{\"broker\":0,\"query\":{{}}}}],\"turns\":1}}"
     ).expect(rt, "memory")
 }
 
@@ -104,7 +108,9 @@ where
 {
     let mut out = Vec::new(alloc);
     let mut errors = Vec::new(alloc);
-    let status = serve(rt, alloc, config.as_bytes(), &mut out, &mut errors);
+    let ending = serve(rt, alloc, config.as_bytes(), &mut out, &mut errors);
+    assert!(rt; ending.reported.is_ok());
+    let status = ending.status;
     let printed = str::from_utf8(&out).expect(rt, "a text");
     let told = str::from_utf8(&errors).expect(rt, "a text");
     format!(in alloc; "{status}\n{printed}{told}").expect(rt, "memory")
@@ -166,9 +172,20 @@ fn incarnations<R: Files<File = File> + AllocGlobal + Abort>(
     format!(in alloc; "{older}{newer}").expect(rt, "memory")
 }
 
-// What is reported of a config that is served: the answer to its query is printed.
+// What is reported of a config that is served: the answers to its queries are printed. Five rows are visible: of the older
+// segment the two outside the newer one, and the three of that.
 const SERVED: &str =
-    "0\n200\n[{\"result\":{\"n\":4},\"timestamp\":\"2024-01-01T00:00:00.000Z\"}]\n";
+    "0\n200\n[{\"result\":{\"n\":5},\"timestamp\":\"2024-01-01T00:00:00.000Z\"}]\n400\n{\"error\":\"Q2\"}\n";
+
+// What a node answers to an ask for all that it serves.
+fn snapshot_of<R: Net + Clock + Copy + Abort>(rt: &R, alloc: Global, address: &str) -> String {
+    let address = String::from_str(alloc, address).expect(rt, "memory");
+    let mut link = TcpLink::new(*rt, address);
+    let request = b"GET /druid-internal/v1/segments HTTP/1.1\r\n\r\n";
+    let answer = link.exchange(alloc, request).expect(rt, "an answer");
+    let text = str::from_utf8(&answer).expect(rt, "a text");
+    String::from_str(alloc, text).expect(rt, "memory")
+}
 
 #[test]
 fn served_cluster(rt: HostRuntime) {
@@ -176,6 +193,36 @@ fn served_cluster(rt: HostRuntime) {
     put(&rt, rt.alloc(), place.newer.as_str(), "incarnation", b"7\n");
     assert_told(&rt, served_at(&rt, rt.alloc(), &place), SERVED);
     assert_told(&rt, incarnations(&rt, rt.alloc(), &place), "1\n8\n");
+    let answer = snapshot_of(&rt, rt.alloc(), place.second.as_str());
+    assert!(rt;
+        answer
+            .as_str()
+            .contains("\"counter\":{\"counter\":1,\"hash\":8}"),
+        "{answer}"
+    );
+    clear(&rt, &place);
+}
+
+// A writer that takes nothing.
+struct Full;
+
+impl Write for Full {
+    fn write(&mut self, _buf: &[u8]) -> io::Result<usize> {
+        Err(ErrorKind::StorageFull.into())
+    }
+
+    fn flush(&mut self) -> io::Result<()> {
+        Ok(())
+    }
+}
+
+#[test]
+fn full_output(rt: HostRuntime) {
+    let place = place_of(&rt, rt.alloc(), "full");
+    let config = config(&rt, rt.alloc(), &place, 0);
+    let mut errors = Vec::new(rt.alloc());
+    let ending = serve(&rt, rt.alloc(), config.as_bytes(), &mut Full, &mut errors);
+    assert!(rt; ending.status == 3 && errors.as_slice() == b"device\n".as_slice());
     clear(&rt, &place);
 }
 
@@ -286,11 +333,11 @@ fn failing_devices(rt: HostRuntime) {
     assert_told(&rt, served_at(&rt, alloc, &place), "3\ndevice\n");
 }
 
-// Asks a broker whether it is there, until the other thread is done, and gives how often it was answered.
+// Asks brokers whether they are there, until the other thread is done, and gives how often one of them answered.
 fn keep_asking<L: Link, C: Clock>(
     clock: &C,
     alloc: Global,
-    link: &mut L,
+    links: &mut [L],
     done: &AtomicBool,
 ) -> u64 {
     let mut answered = 0u64;
@@ -298,19 +345,20 @@ fn keep_asking<L: Link, C: Clock>(
         if done.load(Ordering::SeqCst) {
             return answered;
         }
-        if link
-            .exchange(alloc, b"GET /status/health HTTP/1.1\r\n\r\n")
-            .is_ok()
-        {
-            answered = answered.saturating_add(1);
+        for link in links.iter_mut() {
+            if link
+                .exchange(alloc, b"GET /status/health HTTP/1.1\r\n\r\n")
+                .is_ok()
+            {
+                answered = answered.saturating_add(1);
+            }
         }
         thread::sleep(clock, Duration::from_millis(2));
     }
     answered
 }
 
-// Serves a cluster of which this many connections from outside are waited for, and gives what it printed and how many were
-// answered.
+// Serves a cluster whose brokers wait for connections from outside, and gives what it printed and how many were answered.
 fn served_to_others<
     R: Files<File = File>
         + Net<Listener = TcpListener, Stream = TcpStream>
@@ -323,13 +371,16 @@ fn served_to_others<
         + Send
         + Sync
         + 'static,
->(rt: &R, alloc: Global, config: &str, address: &str) -> (String, u64)
+>(rt: &R, alloc: Global, config: &str, place: &Place) -> (String, u64)
 where
     R::Dir: Send,
 {
     let done = AtomicBool::new(false);
-    let address = String::from_str(alloc, address).expect(rt, "memory");
-    let mut link = TcpLink::new(*rt, address);
+    let mut links = Vec::new(alloc);
+    for address in [&place.broker, &place.other] {
+        let address = String::from_str(alloc, address.as_str()).expect(rt, "memory");
+        links.push(TcpLink::new(*rt, address)).expect(rt, "memory");
+    }
     join(
         rt,
         || {
@@ -337,7 +388,7 @@ where
             done.store(true, Ordering::SeqCst);
             told
         },
-        || keep_asking(rt, alloc, &mut link, &done),
+        || keep_asking(rt, alloc, &mut links, &done),
     )
 }
 
@@ -345,8 +396,8 @@ where
 fn connections_from_outside(rt: HostRuntime) {
     let place = place_of(&rt, rt.alloc(), "outside");
     let text = config(&rt, rt.alloc(), &place, 5);
-    let (told, answered) = served_to_others(&rt, rt.alloc(), text.as_str(), place.broker.as_str());
+    let (told, answered) = served_to_others(&rt, rt.alloc(), text.as_str(), &place);
     assert_served(&rt, told);
-    assert!(rt; answered >= 5, "{answered}");
+    assert!(rt; answered >= 10, "{answered}");
     clear(&rt, &place);
 }
