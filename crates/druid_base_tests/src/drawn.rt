@@ -5,7 +5,7 @@ ghost use Rattle.std.specs.Prelude.{◌<◌};
 use crate::rows::descriptor;
 use druid_inventory::Inventory;
 use druid_shard::{Change, Mark, NodeNo};
-use druid_world::{Event, Sim};
+use druid_world::{Event, Sim, SimFault};
 use std::alloc::Global;
 use std::process::Abort;
 
@@ -279,8 +279,9 @@ fn agree(rt: &impl Abort, plain: &Plain, first: &Inventory, second: &Inventory) 
 fn run(rt: &impl Abort, alloc: Global, draws: &mut Draws, sim: &mut Sim, plain: &mut Plain) {
     for _event in 0..EVENTS {
         let drawn = draw(draws, plain.packets);
-        if sim.step(event(rt, alloc, drawn)).is_ok() {
-            keep(rt, plain, drawn);
+        match sim.step(event(rt, alloc, drawn)) {
+            Ok(()) => keep(rt, plain, drawn),
+            Err(fault) => assert!(rt; fault != SimFault::Memory),
         }
     }
 }

@@ -31,6 +31,8 @@ mod segid;
 #[cfg(test)]
 mod shard;
 #[cfg(test)]
+mod sizes;
+#[cfg(test)]
 mod sync;
 #[cfg(test)]
 mod time;
