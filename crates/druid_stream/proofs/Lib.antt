@@ -1,3 +1,4 @@
+pub mod TakenLemmas
 pub mod PartLemmas
 pub mod LineLemmas
 pub mod WriteLemmas

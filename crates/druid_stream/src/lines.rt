@@ -1,5 +1,6 @@
 //! Lines, read one by one.
-ghost use Rattle.std.specs.Prelude.{◌≡◌, ◌≢◌, ◌≤◌, ◌<◌, ◌+◌, ◌++◌, length, take, All, Ok, IfOk, IfSome};
+ghost use Rattle.std.specs.Prelude.{◌≡◌, ◌≢◌, ◌≤◌, ◌<◌, ◌+◌, ◌++◌, length, take, All, Ok, IfOk, IfSome, OnErr};
+ghost use Rattle.std.specs.Io.KnownBytes.{Keeps};
 ghost use Rattle.druid_stream.specs.Parts.{feed_of, IsPart};
 ghost use Rattle.druid_stream.specs.Lines.{Finds};
 
@@ -55,8 +56,9 @@ fn scan(bytes: &[u8], room: usize) -> (usize, Part)
 
 // Appends what the reader has at hand of a line, but no more bytes than there is room for, and takes the line feed.
 fn append_part<R: BufRead>(reader: &mut R, line: &mut Vec<u8>, room: usize) -> io::Result<Part>
-    ensures { IfOk result (λ part. IsPart part line.old.items line.new.items room
+    ensures part { IfOk result (λ part. IsPart part line.old.items line.new.items room
         (R.remaining reader.old) (R.remaining reader.new)) }
+    ensures err { OnErr result (Keeps (R.remaining reader.old) (R.remaining reader.new)) }
 {
     let available = match reader.fill_buf() {
         Ok(available) => available,
@@ -75,13 +77,14 @@ fn append_part<R: BufRead>(reader: &mut R, line: &mut Vec<u8>, room: usize) -> i
 }
 
 /// Appends what the reader has at hand of a line, but no more bytes than there is room for, and takes the line feed after
-/// them. An interrupted read is retried, 1,000 times in a row at most.
+/// them. An interrupted read is retried, 1,000 times in a row at most. Where it fails, nothing is taken.
 #[tactic(auto, using(crate::proofs::PartLemmas::resumed, crate::proofs::PartLemmas::still))]
 pub fn next_part<R: BufRead>(reader: &mut R, line: &mut Vec<u8>, room: usize) -> io::Result<Part>
     ensures part { IfOk result (λ part. IsPart part line.old.items line.new.items room
         (R.remaining reader.old) (R.remaining reader.new)) }
     ensures progress { IfOk result
         (λ part. part ≡ Part.More → length line.old.items < length line.new.items) }
+    ensures err { OnErr result (Keeps (R.remaining reader.old) (R.remaining reader.new)) }
 {
     for _ in 0..MAX_TRIES {
         let before = line.len();

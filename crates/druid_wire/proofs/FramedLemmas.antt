@@ -119,25 +119,20 @@ begun_lines (l ∷ xs) (m ∷ ys) x a line more tx p ty q e =
 -- text that is begun where blank lines are to come is part of the first of them
 begun_in_blank : (c : List ℕ) (bs xs ys : List (List ℕ)) (x a line more : List ℕ) → IsBlank c → All IsTextLine xs → 0 < length xs → All IsTextLine ys → IsPlain line
     → text_of (c ∷ bs) ++ (text_of xs ++ (x ++ 10 ∷ a)) ≡ text_of ys ++ (line ++ more)
-    → (length (text_of ys ++ line) ≤ length (text_of xs ++ x)) × (length (text_of ys ++ line) ≤ length (text_of (c ∷ bs) ++ (text_of xs ++ x)))
+    → length (text_of ys ++ line) ≤ length (text_of (c ∷ bs) ++ (text_of xs ++ x))
 begun_in_blank c bs [] ys x a line more p tx some ty q e = absurd (omega arith)
 begun_in_blank c bs (l ∷ xs) [] x a line more p tx some ty q e =
     let fits = inside c line (text_of bs ++ (text_of (l ∷ xs) ++ (x ++ 10 ∷ a))) more q (sym (first_line c bs (text_of (l ∷ xs) ++ (x ++ 10 ∷ a))) ∙ e) in
-    let short = blank_short c p in (
-      omega (arith, fits, short, length_first l xs x),
-      omega (arith, fits, length_first c bs (text_of (l ∷ xs) ++ x)),
-    )
+    omega (arith, fits, length_first c bs (text_of (l ∷ xs) ++ x))
 begun_in_blank c bs (l ∷ xs) (m ∷ ys) x a line more p tx some ty q e =
     absurd (text_not_blank (m ∷ ys) c (text_of bs ++ (text_of (l ∷ xs) ++ (x ++ 10 ∷ a))) (line ++ more) ty (omega arith) p
     (sym e ∙ first_line c bs (text_of (l ∷ xs) ++ (x ++ 10 ∷ a))))
 
--- what is begun ends before the head does, with the blank lines and without
+-- what is begun ends before the head does
 begun_within : (bs cs xs ys : List (List ℕ)) (x a line more : List ℕ) → All IsBlank bs → All IsTextLine xs → 0 < length xs → IsBlank x → All IsBlank cs → All IsTextLine ys → IsPlain line
     → text_of bs ++ (text_of xs ++ (x ++ 10 ∷ a)) ≡ text_of cs ++ (text_of ys ++ (line ++ more))
-    → (length (text_of ys ++ line) ≤ length (text_of xs ++ x)) × (length (text_of cs ++ (text_of ys ++ line)) ≤ length (text_of bs ++ (text_of xs ++ x)))
-begun_within [] [] xs ys x a line more p tx some q r ty s e =
-    let fits = begun_lines xs ys x a line more tx q ty s e in
-    (fits, fits)
+    → length (text_of cs ++ (text_of ys ++ line)) ≤ length (text_of bs ++ (text_of xs ++ x))
+begun_within [] [] xs ys x a line more p tx some q r ty s e = begun_lines xs ys x a line more tx q ty s e
 begun_within [] (d ∷ cs) xs ys x a line more p tx some q r ty s e =
     absurd (text_not_blank xs d (text_of cs ++ (text_of ys ++ (line ++ more))) (x ++ 10 ∷ a) tx some (All-head IsBlank d cs r) (e ∙ first_line d cs (text_of ys ++ (line ++ more))))
 begun_within (c ∷ bs) [] xs ys x a line more p tx some q r ty s e = begun_in_blank c bs xs ys x a line more (All-head IsBlank c bs p) tx some ty s e
@@ -145,7 +140,7 @@ begun_within (c ∷ bs) (d ∷ cs) xs ys x a line more p tx some q r ty s e =
     let first = line_once c d (text_of bs ++ (text_of xs ++ (x ++ 10 ∷ a))) (text_of cs ++ (text_of ys ++ (line ++ more))) (blank_plain c (All-head IsBlank c bs p))
     (blank_plain d (All-head IsBlank d cs r)) (sym (first_line c bs (text_of xs ++ (x ++ 10 ∷ a))) ∙ e ∙ first_line d cs (text_of ys ++ (line ++ more))) in
     let later = begun_within bs cs xs ys x a line more (All-tail IsBlank c bs p) tx some q (All-tail IsBlank d cs r) ty s first.1 in
-    (later.0, omega (arith, later.1, length_first c bs (text_of xs ++ x), length_first d cs (text_of ys ++ line), ap length first.0))
+    omega (arith, later, length_first c bs (text_of xs ++ x), length_first d cs (text_of ys ++ line), ap length first.0)
 
 begun_is : (input begun front rest : List ℕ) (b : IsBegun begun front) → input ≡ begun ++ rest → input ≡ text_of b.blank ++ (text_of b.lines ++ (b.line ++ rest))
 begun_is input begun front rest b e =
@@ -156,24 +151,21 @@ begun_is input begun front rest b e =
 one_more : (a b : List ℕ) → length (a ++ (b ++ 10 ∷ [])) ≡ length (a ++ b) + 1
 one_more a b = omega (arith, length-append a (b ++ 10 ∷ []), length-append b (10 ∷ []), length-append a b)
 
-pub begun_is_short : (input head rest begun front more : List ℕ) → IsFramed input head rest → input ≡ begun ++ more → IsBegun begun front
-    → (length front < length head) × (length begun < length input)
+pub begun_is_short : (input head rest begun front more : List ℕ) (f : IsFramed input head rest) → input ≡ begun ++ more → IsBegun begun front
+    → (length begun < length (text_of f.blank) + length head) × (length begun < length input)
 begun_is_short input head rest begun front more f e b =
     let fits = begun_within f.blank b.blank f.framed.lines b.lines f.framed.last rest b.line more f.blanks f.framed.each f.framed.some f.framed.empty b.blanks b.each b.plain
     (sym (lines_in input head rest f) ∙ begun_is input begun front more b e) in
-    let long = ap length f.framed.is ∙ one_more (text_of f.framed.lines) f.framed.last in (
-      omega (arith, fits.0, long, ap length b.front_is),
-      omega (
-        arith,
-        fits.1,
-        long,
-        ap length (b.is ∙ ap (λ (l : List ℕ). text_of b.blank ++ l) b.front_is),
-        ap length f.is,
-        length-append (text_of f.blank) (head ++ rest),
-        length-append head rest,
-        length-append (text_of f.blank) (text_of f.framed.lines ++ f.framed.last),
-      ),
-    )
+    let long = ap length f.framed.is ∙ one_more (text_of f.framed.lines) f.framed.last in
+    let within : length begun < length (text_of f.blank) + length head =
+    omega (
+      arith,
+      fits,
+      long,
+      ap length (b.is ∙ ap (λ (l : List ℕ). text_of b.blank ++ l) b.front_is),
+      length-append (text_of f.blank) (text_of f.framed.lines ++ f.framed.last),
+    ) in
+    (within, omega (arith, within, ap length f.is, length-append (text_of f.blank) (head ++ rest), length-append head rest))
 
 pub not_cut : (input head rest : List ℕ) → IsFramed input head rest → ¬ (EndsInHead input)
 not_cut input head rest f ends =
@@ -183,4 +175,4 @@ not_cut input head rest f ends =
 pub not_long : (input head rest : List ℕ) → IsFramed input head rest → ¬ (IsLongHead input)
 not_long input head rest f l =
     let short = begun_is_short input head rest l.begun l.front l.rest f l.is l.begins in
-    omega (arith, short.0, l.long, f.framed.short)
+    omega (arith, short.0, l.long, f.short)

@@ -124,15 +124,14 @@ section_lines start end fields last rest =
 
 -- such lines are a head
 lines_head : (head start : List ℕ) (fields : List Field) (last : LineEnd) → IsTextLine start → All IsField fields
-    → head ≡ text_of (lines_of start fields) ++ (before_feed last ++ 10 ∷ []) → length head ≤ max_head → IsHead head
-lines_head head start fields last text all is short = record {
+    → head ≡ text_of (lines_of start fields) ++ (before_feed last ++ 10 ∷ []) → IsHead head
+lines_head head start fields last text all is = record {
   lines = lines_of start fields;
   last = before_feed last;
   some = omega arith;
   each = texts start fields text all;
   empty = end_blank last;
   is = is;
-  short = short;
 }
 
 -- ---- lines that stand in a head are no more than its lines
@@ -207,7 +206,13 @@ request_start_text h is =
 bare_is_request : (h : RequestHead) → IsRequestHead h → IsRequestHead (bare_request h)
 bare_is_request h is = record { method = is.method; target = is.target; target_text = is.target_text; minor = is.minor; fields = is.fields }
 
-pub request_framed : (input rest : List ℕ) (h : RequestHead) → ReadsRequest input h rest → length (print_request (bare_request h)) ≤ max_head
+-- the blank lines before it, and the head
+pub request_whole : (h : RequestHead) → print_request h ≡ print_blank h.blank ++ print_request (bare_request h)
+request_whole h =
+    sym (append-nil (print_request h)) ∙ request_lines h []
+    ∙ ap (λ (l : List ℕ). print_blank h.blank ++ l) (sym (request_lines (bare_request h) []) ∙ append-nil (print_request (bare_request h)))
+
+pub request_framed : (input rest : List ℕ) (h : RequestHead) → ReadsRequest input h rest → length (print_request h) ≤ max_head
     → IsFramed input (print_request (bare_request h)) rest
 request_framed input rest h reads short = record {
   blank = map before_feed h.blank;
@@ -216,10 +221,11 @@ request_framed input rest h reads short = record {
       ∙ ap (λ (l : List ℕ). l ++ (text_of (lines_of (request_start h ++ before_feed h.line_end) h.fields) ++ (before_feed h.last ++ 10 ∷ rest))) (blank_lines h.blank)
       ∙ ap (λ (l : List ℕ). text_of (map before_feed h.blank) ++ l) (sym (request_lines (bare_request h) rest));
   framed = lines_head (print_request (bare_request h)) (request_start h ++ before_feed h.line_end) h.fields h.last (request_start_text h reads.0) reads.0.fields
-      (sym (append-nil (print_request (bare_request h))) ∙ request_lines (bare_request h) []) short;
+      (sym (append-nil (print_request (bare_request h))) ∙ request_lines (bare_request h) []);
+  short = omega (arith, short, ap length (request_whole h), length-append (print_blank h.blank) (print_request (bare_request h)), ap length (blank_lines h.blank));
 }
 
-pub request_bare : (input rest : List ℕ) (h : RequestHead) → ReadsRequest input h rest → length (print_request (bare_request h)) ≤ max_head
+pub request_bare : (input rest : List ℕ) (h : RequestHead) → ReadsRequest input h rest → length (print_request h) ≤ max_head
     → IsFramed input (print_request (bare_request h)) rest × ReadsRequest (print_request (bare_request h)) (bare_request h) []
 request_bare input rest h reads short = (request_framed input rest h reads short, (bare_is_request h reads.0, sym (append-nil (print_request (bare_request h)))))
 
@@ -265,7 +271,12 @@ response_start_text h is =
 bare_is_response : (h : ResponseHead) → IsResponseHead h → IsResponseHead (bare_response h)
 bare_is_response h is = record { minor = is.minor; digits = is.digits; reason = is.reason; fields = is.fields }
 
-pub response_framed : (input rest : List ℕ) (h : ResponseHead) → ReadsResponse input h rest → length (print_response (bare_response h)) ≤ max_head
+pub response_whole : (h : ResponseHead) → print_response h ≡ print_blank h.blank ++ print_response (bare_response h)
+response_whole h =
+    sym (append-nil (print_response h)) ∙ response_lines h []
+    ∙ ap (λ (l : List ℕ). print_blank h.blank ++ l) (sym (response_lines (bare_response h) []) ∙ append-nil (print_response (bare_response h)))
+
+pub response_framed : (input rest : List ℕ) (h : ResponseHead) → ReadsResponse input h rest → length (print_response h) ≤ max_head
     → IsFramed input (print_response (bare_response h)) rest
 response_framed input rest h reads short = record {
   blank = map before_feed h.blank;
@@ -274,10 +285,11 @@ response_framed input rest h reads short = record {
       ∙ ap (λ (l : List ℕ). l ++ (text_of (lines_of (response_start h ++ before_feed h.line_end) h.fields) ++ (before_feed h.last ++ 10 ∷ rest))) (blank_lines h.blank)
       ∙ ap (λ (l : List ℕ). text_of (map before_feed h.blank) ++ l) (sym (response_lines (bare_response h) rest));
   framed = lines_head (print_response (bare_response h)) (response_start h ++ before_feed h.line_end) h.fields h.last (response_start_text h reads.0) reads.0.fields
-      (sym (append-nil (print_response (bare_response h))) ∙ response_lines (bare_response h) []) short;
+      (sym (append-nil (print_response (bare_response h))) ∙ response_lines (bare_response h) []);
+  short = omega (arith, short, ap length (response_whole h), length-append (print_blank h.blank) (print_response (bare_response h)), ap length (blank_lines h.blank));
 }
 
-pub response_bare : (input rest : List ℕ) (h : ResponseHead) → ReadsResponse input h rest → length (print_response (bare_response h)) ≤ max_head
+pub response_bare : (input rest : List ℕ) (h : ResponseHead) → ReadsResponse input h rest → length (print_response h) ≤ max_head
     → IsFramed input (print_response (bare_response h)) rest × ReadsResponse (print_response (bare_response h)) (bare_response h) []
 response_bare input rest h reads short = (response_framed input rest h reads short, (bare_is_response h reads.0, sym (append-nil (print_response (bare_response h)))))
 

@@ -1,14 +1,13 @@
 -- A message that is read is one of the grammar, and the other way round.
-use Rattle.std.proofs.Common.{◌≡◌, ◌↔◌, ℕ, ◌<◌, ◌≤◌, List, [], ◌∷◌, ◌++◌, All, map, length, append_assoc, append-nil, refl, sym, ap, subst, ◌∙◌, arith, inl, inr}
+use Rattle.std.proofs.Common.{◌≡◌, ◌↔◌, ℕ, ◌<◌, List, [], ◌∷◌, ◌++◌, All, map, length, length-append, append_assoc, append-nil, refl, sym, ap, subst, ◌∙◌, arith, inl, inr}
 use Rattle.std.proofs.lemmas.List.Elements.{All-head, All-tail}
 use Rattle.httparse.specs.Grammar.{LineEnd, crlf, lf, print_end, print_blank, Field, RequestHead, print_request, IsRequestHead, ResponseHead, print_response, IsResponseHead}
 use Rattle.druid_wire.specs.Frame.{IsBlank, IsTextLine, text_of, IsFramed}
 use Rattle.druid_wire.specs.Grammar.{bare_request, bare_response, IsGrammarRequest, IsGrammarResponse}
 use Rattle.druid_message.specs.Requests.{RequestValue}
 use Rattle.druid_wire.specs.Messages.{IsRequest, IsResponse}
-use Rattle.druid_wire.specs.Limits.{max_head}
 use Rattle.druid_wire.proofs.FramedLemmas.{first_line, text_not_blank}
-use Rattle.druid_wire.proofs.GrammarLines.{before_feed, blank_lines, end_blank, lines_of, request_start, request_lines, request_bare, response_start, response_lines, response_bare}
+use Rattle.druid_wire.proofs.GrammarLines.{before_feed, blank_lines, end_blank, lines_of, request_start, request_lines, request_whole, request_bare, response_start, response_lines, response_whole, response_bare}
 
 -- ---- blank lines
 
@@ -65,12 +64,14 @@ to_grammar_request input request rest p =
     let valid = p.reads.reads.0 in
     let bytes = bytes_lines input p.bytes (request.body ++ rest) start h.fields h.last h.blank p.framed (p.reads.reads.1 ∙ request_lines h []) in
     let same = bytes ∙ sym (request_lines (bare_request h) []) ∙ append-nil (print_request (bare_request h)) in
+    let whole : print_request (behind_request p.framed.blank h) ≡ print_blank (map end_of p.framed.blank) ++ print_request (bare_request h) =
+    request_whole (behind_request p.framed.blank h) in
     let is : IsRequestHead (behind_request p.framed.blank h) =
     record { method = valid.method; target = valid.target; target_text = valid.target_text; minor = valid.minor; fields = valid.fields } in
     record {
       head = behind_request p.framed.blank h;
       reads = (is, input_lines input p.bytes (request.body ++ rest) start h.fields h.last p.framed bytes ∙ sym (request_lines (behind_request p.framed.blank h) (request.body ++ rest)));
-      short = subst (λ (l : List ℕ). length l ≤ max_head) same p.framed.framed.short;
+      short = omega (arith, p.framed.short, ap length same, ap length (blank_ends p.framed.blank p.framed.blanks), ap length whole, length-append (print_blank (map end_of p.framed.blank)) (print_request (bare_request h)));
       few = p.reads.few;
       method = p.method;
       target = p.target;
@@ -106,12 +107,14 @@ to_grammar_response input status body rest p =
     let valid = p.reads.reads.0 in
     let bytes = bytes_lines input p.bytes (body ++ rest) start h.fields h.last h.blank p.framed (p.reads.reads.1 ∙ response_lines h []) in
     let same = bytes ∙ sym (response_lines (bare_response h) []) ∙ append-nil (print_response (bare_response h)) in
+    let whole : print_response (behind_response p.framed.blank h) ≡ print_blank (map end_of p.framed.blank) ++ print_response (bare_response h) =
+    response_whole (behind_response p.framed.blank h) in
     let is : IsResponseHead (behind_response p.framed.blank h) =
     record { minor = valid.minor; digits = valid.digits; reason = valid.reason; fields = valid.fields } in
     record {
       head = behind_response p.framed.blank h;
       reads = (is, input_lines input p.bytes (body ++ rest) start h.fields h.last p.framed bytes ∙ sym (response_lines (behind_response p.framed.blank h) (body ++ rest)));
-      short = subst (λ (l : List ℕ). length l ≤ max_head) same p.framed.framed.short;
+      short = omega (arith, p.framed.short, ap length same, ap length (blank_ends p.framed.blank p.framed.blanks), ap length whole, length-append (print_blank (map end_of p.framed.blank)) (print_response (bare_response h)));
       few = p.reads.few;
       high = omega (arith, p.reads.status, p.code);
       code = p.code;

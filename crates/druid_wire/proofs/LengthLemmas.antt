@@ -1,5 +1,5 @@
 -- The length of a body, out of the fields of a head.
-use Rattle.std.proofs.Common.{◌≡◌, ◌≢◌, ◌↔◌, ℕ, ◌+◌, ◌<◌, ◌≤◌, ◌^◌, Bool, true, false, ◌&&◌, ◌||◌, IsTrue, nat_le, List, [], ◌∷◌, ◌++◌, length, take, drop, map, filter, get_or, append-nil, codes, refl, sym, ap, subst, ◌∙◌, lit≤, arith, inl, inr}
+use Rattle.std.proofs.Common.{◌≡◌, ◌≢◌, ◌↔◌, ℕ, ◌+◌, ◌<◌, ◌≤◌, ◌^◌, Bool, true, false, ◌&&◌, ◌||◌, IsTrue, nat_le, List, [], ◌∷◌, ◌++◌, length, take, drop, map, filter, get_or, append-nil, codes, refl, sym, ap, subst, ◌∙◌, lit≤, arith, inl, inr, Result, Ok, Err}
 use Rattle.std.specs.List.{list_all, list_any}
 use Rattle.std.specs.Str.{IsUtf8, str_eq_ignore_ascii_case}
 use Rattle.std.specs.Char.{is_ascii_digit, digit_value, to_ascii_lowercase}
@@ -16,7 +16,11 @@ use Rattle.std.proofs.lemmas.List.{take_more, get_or-map, map-append, take-appen
 use Rattle.std.proofs.lemmas.List.Elements.{filter-append}
 use Rattle.std.proofs.lemmas.List.Folds.{list_any-append, list_any_at}
 use Rattle.druid_wire.specs.Heads.{NameAndValue, is_named, values_of, is_length, length_told, length_said, length_in, is_coded}
-use Rattle.druid_wire.specs.declared.length.Length.TheVariants.{Unsaid, Unclear}
+use Rattle.druid_wire.specs.declared.length.Length.{Length}
+use Rattle.druid_wire.specs.declared.length.Length.TheVariants.{Unsaid, Unclear, TooLong, Is}
+use Rattle.druid_message.specs.declared.fault.WireFault.{WireFault}
+use Rattle.druid_message.specs.declared.fault.WireFault.TheVariants.{NoLength}
+use Rattle.druid_wire.specs.Messages.{length_or, body_length}
 use Rattle.druid_wire.specs.Limits.{max_body, max_digits}
 
 is_digit : (b : ℕ) → is_ascii_digit b ≡ true → (48 ≤ b) × (b ≤ 57)
@@ -140,3 +144,42 @@ length_again {X} h xs i d lt here before =
     ap length_said (all_lengths h xs (i + 1)
     ∙ ap (λ l. l ++ lengths (map h (drop (i + 1) xs))) (more_lengths h xs i d lt ∙ ap (λ l. lengths (map h (take i xs)) ++ l) (lengths_one (h (get_or xs i d)) here)))
     ∙ said_twice (lengths (map h (take i xs))) ((h (get_or xs i d)).1) (lengths (map h (drop (i + 1) xs))) before
+
+-- ---- a body is within its limit
+
+told_within : (text : List ℕ) (n : ℕ) → length_told text ≡ Is n → n ≤ max_body
+told_within text n e = told (is_length text) (nat_le (digits_value 10 text) max_body) refl refl
+  where
+    told : (a b : Bool) → is_length text ≡ a → nat_le (digits_value 10 text) max_body ≡ b → n ≤ max_body
+    told true true p q =
+        let same : ◌≡◌ {A = Length} (Is (digits_value 10 text)) (Is n) = sym (rw p (rw q refl)) ∙ e in
+        let value : digits_value 10 text ≡ n = cc in
+        subst (λ (m : ℕ). m ≤ max_body) value (leb-true (digits_value 10 text) max_body q)
+    told true false p q =
+        let same : ◌≡◌ {A = Length} TooLong (Is n) = sym (rw p (rw q refl)) ∙ e in
+        absurd cc
+    told false b p q =
+        let same : ◌≡◌ {A = Length} Unclear (Is n) = sym (rw p refl) ∙ e in
+        absurd cc
+
+said_within : (texts : List (List ℕ)) (n : ℕ) → length_said texts ≡ Is n → n ≤ max_body
+said_within [] n e = absurd cc
+said_within (text ∷ []) n e = told_within text n e
+said_within (text ∷ other ∷ more) n e = absurd cc
+
+length_within : (needed : Bool) (told : Length) (n : ℕ) → ((m : ℕ) → told ≡ Is m → m ≤ max_body) → length_or needed told ≡ Ok n → n ≤ max_body
+length_within true Unsaid n low e = absurd cc
+length_within false Unsaid n low e = let value : 0 ≡ n = cc in omega (arith, value)
+length_within needed Unclear n low e = absurd cc
+length_within needed TooLong n low e = absurd cc
+length_within needed (Is m) n low e = let value : m ≡ n = cc in low n (ap Is value)
+
+pub body_within : (needed : Bool) (fields : List NameAndValue) (n : ℕ) → body_length needed fields ≡ Ok n → n ≤ max_body
+body_within needed fields n e = coded (is_coded fields) refl
+  where
+    coded : (b : Bool) → is_coded fields ≡ b → n ≤ max_body
+    coded true c =
+        let none : ◌≡◌ {A = Result ℕ WireFault} (Err NoLength) (Ok n) = sym (rw c refl) ∙ e in
+        absurd cc
+    coded false c =
+        length_within needed (length_in fields) n (said_within (values_of (codes "content-length") fields)) (sym (rw c refl) ∙ e)

@@ -3,6 +3,7 @@ pub mod FrameLemmas
 pub mod SplitLemmas
 pub mod BodyLemmas
 pub mod LengthLemmas
+pub mod TakenLemmas
 pub mod HeadLemmas
 pub mod MessageLemmas
 pub mod WriteLemmas

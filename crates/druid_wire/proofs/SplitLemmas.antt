@@ -20,10 +20,10 @@ pub record Passes (bytes text rest : List ℕ) : Type 0 where
   pub each : All IsTextLine lines
   pub is : bytes ≡ text_of blank ++ text
   pub goes : text ≡ text_of lines ++ rest
-  pub within : length rest ≤ length text
+  pub within : (length rest ≤ length text) × (length text ≤ length bytes)
 
 pub begins : (bytes : List ℕ) → Passes bytes bytes bytes
-begins bytes = record { blank = []; lines = []; blanks = All-nil IsBlank; each = All-nil IsTextLine; is = refl; goes = refl; within = omega arith }
+begins bytes = record { blank = []; lines = []; blanks = All-nil IsBlank; each = All-nil IsTextLine; is = refl; goes = refl; within = (omega arith, omega arith) }
 
 -- a line in front of the rest
 length_line : (line next rest : List ℕ) → rest ≡ line ++ 10 ∷ next → length rest ≡ length line + 1 + length next
@@ -43,7 +43,7 @@ text_line bytes text rest line next w plain e some = record {
   each = All-push IsTextLine w.lines line w.each (plain, some);
   is = w.is;
   goes = w.goes ∙ ap (λ (l : List ℕ). text_of w.lines ++ l) e ∙ pushed w.lines line next;
-  within = omega (arith, w.within, length_line line next rest e);
+  within = (omega (arith, w.within.0, length_line line next rest e), w.within.1);
 }
 
 -- how many bytes were passed
@@ -58,7 +58,7 @@ blank_line bytes text rest line next w e blank first = record {
   each = All-nil IsTextLine;
   is = w.is ∙ ap (λ (l : List ℕ). text_of w.blank ++ l) (w.goes ∙ ap (λ (l : List ℕ). l ++ rest) none ∙ e) ∙ pushed w.blank line next;
   goes = refl;
-  within = omega arith;
+  within = (omega arith, omega (arith, w.within.0, w.within.1, length_line line next rest e));
 }
   where
     none : text_of w.lines ≡ []
@@ -66,7 +66,7 @@ blank_line bytes text rest line next w e blank first = record {
 
 -- the line that ends the head
 pub head_ends : (bytes text rest line next : List ℕ) (end : ℕ) → Passes bytes text rest → length rest < length text → IsBlank line → rest ≡ line ++ 10 ∷ next
-    → end ≡ length text - length next → end ≤ max_head → IsFramed bytes (take end text) next
+    → end ≡ length text - length next → length bytes ≤ max_head + length next → IsFramed bytes (take end text) next
 head_ends bytes text rest line next end w some blank e ends fits = record {
   blank = w.blank;
   blanks = w.blanks;
@@ -78,8 +78,16 @@ head_ends bytes text rest line next end w some blank e ends fits = record {
     each = w.each;
     empty = blank;
     is = front;
-    short = omega (arith, fits, long, ap length front);
   };
+  short = omega (
+    arith,
+    fits,
+    ap length w.is,
+    length-append (text_of w.blank) text,
+    ap length whole,
+    ap length front,
+    length-append (text_of w.lines ++ (line ++ 10 ∷ [])) next,
+  );
 }
   where
     whole : text ≡ (text_of w.lines ++ (line ++ 10 ∷ [])) ++ next
@@ -104,8 +112,23 @@ begun bytes text rest line w plain = record {
   is = refl;
 }
 
-pub head_is_long : (bytes text rest line more : List ℕ) → Passes bytes text rest → IsPlain line → rest ≡ line ++ more → max_head + length more ≤ length text → max_head < length text
-    → IsLongHead bytes
+-- what was begun, and the bytes after it
+begun_length : (bytes text rest line more : List ℕ) (w : Passes bytes text rest) → rest ≡ line ++ more
+    → length bytes ≡ length (text_of w.blank ++ (text_of w.lines ++ line)) + length more
+begun_length bytes text rest line more w e =
+    omega (
+      arith,
+      ap length w.is,
+      length-append (text_of w.blank) text,
+      passed_length bytes text rest w,
+      ap length e,
+      length-append line more,
+      length-append (text_of w.lines) line,
+      length-append (text_of w.blank) (text_of w.lines ++ line),
+    )
+
+pub head_is_long : (bytes text rest line more : List ℕ) → Passes bytes text rest → IsPlain line → rest ≡ line ++ more → max_head + length more ≤ length bytes
+    → max_head < length bytes → IsLongHead bytes
 head_is_long bytes text rest line more w plain e fits above = record {
   begun = text_of w.blank ++ (text_of w.lines ++ line);
   front = text_of w.lines ++ line;
@@ -113,12 +136,13 @@ head_is_long bytes text rest line more w plain e fits above = record {
   is = w.is ∙ ap (λ (l : List ℕ). text_of w.blank ++ l) (w.goes ∙ ap (λ (l : List ℕ). text_of w.lines ++ l) e ∙ sym (append_assoc (text_of w.lines) line more))
       ∙ sym (append_assoc (text_of w.blank) (text_of w.lines ++ line) more);
   begins = begun bytes text rest line w plain;
-  long = omega (arith, fits, passed_length bytes text rest w, ap length e, length-append line more, length-append (text_of w.lines) line);
-  over = omega (arith, above, passed_length bytes text rest w, ap length e, length-append line more, length-append (text_of w.lines) line);
+  long = omega (arith, fits, begun_length bytes text rest line more w e);
+  over = above;
 }
 
-pub head_is_cut : (bytes text rest : List ℕ) → Passes bytes text rest → IsPlain rest → EndsInHead bytes
-head_is_cut bytes text rest w plain = (
+pub head_is_cut : (bytes text rest : List ℕ) → Passes bytes text rest → IsPlain rest → length bytes ≤ max_head → EndsInHead bytes
+head_is_cut bytes text rest w plain fits = (
   text_of w.lines ++ rest,
   subst (λ (l : List ℕ). IsBegun l (text_of w.lines ++ rest)) (sym (w.is ∙ ap (λ (l : List ℕ). text_of w.blank ++ l) w.goes)) (begun bytes text rest rest w plain),
+  fits,
 )

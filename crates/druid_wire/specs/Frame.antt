@@ -27,14 +27,14 @@ pub record IsHead (head : List ℕ) : Type 0 where
   pub each : All IsTextLine lines
   pub empty : IsBlank last
   pub is : head ≡ text_of lines ++ (last ++ 10 ∷ [])
-  pub short : length head ≤ max_head
 
--- the input is a head after blank lines, and then the rest
+-- the input is a head after blank lines, and then the rest; the limit counts the blank lines too
 pub record IsFramed (input head rest : List ℕ) : Type 0 where
   pub blank : List (List ℕ)
   pub blanks : All IsBlank blank
   pub is : input ≡ text_of blank ++ (head ++ rest)
   pub framed : IsHead head
+  pub short : length (text_of blank) + length head ≤ max_head
 
 -- blank lines, lines that are not, and a last one that has no line feed
 pub record IsBegun (input front : List ℕ) : Type 0 where
@@ -47,16 +47,16 @@ pub record IsBegun (input front : List ℕ) : Type 0 where
   pub front_is : front ≡ text_of lines ++ line
   pub is : input ≡ text_of blank ++ front
 
--- the input ends before the head does
+-- the input ends before the head does, and within the limit
 abbrev pub EndsInHead : List ℕ → Type 0
-EndsInHead input = (front : List ℕ) × IsBegun input front
+EndsInHead input = (front : List ℕ) × IsBegun input front × (length input ≤ max_head)
 
--- as many bytes as a head may have, whose last line has no line feed yet, and one byte more at least
+-- as many bytes as the limit has, blank lines and a head whose last line has no line feed yet, and one byte more at least
 pub record IsLongHead (input : List ℕ) : Type 0 where
   pub begun : List ℕ
   pub front : List ℕ
   pub rest : List ℕ
   pub is : input ≡ begun ++ rest
   pub begins : IsBegun begun front
-  pub long : max_head ≤ length front
-  pub over : max_head < length front + length rest
+  pub long : max_head ≤ length begun
+  pub over : max_head < length input

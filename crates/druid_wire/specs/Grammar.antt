@@ -5,18 +5,19 @@ use Rattle.druid_message.specs.Requests.{RequestValue}
 use Rattle.druid_wire.specs.Messages.{request_length, response_length}
 use Rattle.druid_wire.specs.Limits.{max_head, max_fields}
 
--- without the blank lines before it
+-- the head without the blank lines before it
 abbrev pub bare_request : RequestHead → RequestHead
 bare_request head = record head { blank = [] }
 
 abbrev pub bare_response : ResponseHead → ResponseHead
 bare_response head = record head { blank = [] }
 
--- the input is a head of the grammar, a body as long as it says, and then the rest; and the head is within its limits
+-- the input is a head of the grammar, a body as long as it says, and then the rest; and the head, with the blank lines before it,
+-- is within its limits
 pub record IsGrammarRequest (input : List ℕ) (request : RequestValue) (rest : List ℕ) : Type 0 where
   pub head : RequestHead
   pub reads : ReadsRequest input head (request.body ++ rest)
-  pub short : length (print_request (bare_request head)) ≤ max_head
+  pub short : length (print_request head) ≤ max_head
   pub few : length head.fields ≤ max_fields
   pub method : request.method ≡ head.method
   pub target : request.target ≡ head.target
@@ -25,7 +26,7 @@ pub record IsGrammarRequest (input : List ℕ) (request : RequestValue) (rest : 
 pub record IsGrammarResponse (input : List ℕ) (status : ℕ) (body rest : List ℕ) : Type 0 where
   pub head : ResponseHead
   pub reads : ReadsResponse input head (body ++ rest)
-  pub short : length (print_response (bare_response head)) ≤ max_head
+  pub short : length (print_response head) ≤ max_head
   pub few : length head.fields ≤ max_fields
   pub high : 100 ≤ status
   pub code : status ≡ status_code head

@@ -8,11 +8,11 @@ use Rattle.druid_wire.specs.declared.frame.Found.{Found}
 use Rattle.druid_wire.specs.declared.frame.Found.TheVariants as found
 
 -- how the line ended that old grew by: at its line feed, at the end of the input, or with as many bytes as there was room for, after which
--- one more came
+-- one more came; the first two where there was room
 abbrev pub EndsAs : Part → (front : List ℕ) → ℕ → Option (List ℕ) → Option (List ℕ) → Type 0
 EndsAs More front room before after = (more : List ℕ) × Consumes before after (front ++ more) × (room ≤ length front) × (room < length front + length more)
 EndsAs Feed front room before after = Consumes before after (front ++ 10 ∷ []) × (length front < room)
-EndsAs Ended front room before after = IfSome before (λ xs. xs ≡ front)
+EndsAs Ended front room before after = IfSome before (λ xs. (xs ≡ front) × (length front ≤ room))
 
 pub record IsLine (part : Part) (old new : List ℕ) (room : ℕ) (before after : Option (List ℕ)) : Type 0 where
   pub front : List ℕ

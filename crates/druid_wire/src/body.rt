@@ -1,5 +1,7 @@
 //! The body of a message, read as it comes.
-ghost use Rattle.std.specs.Prelude.{◌≡◌, IfOk, IfSome};
+ghost use Rattle.std.specs.Prelude.{◌≡◌, IfOk, IfSome, OnErr};
+ghost use Rattle.std.specs.Io.KnownBytes.{Keeps};
+ghost use Rattle.druid_stream.specs.Taken.{TakesAtMost};
 ghost use Rattle.druid_wire.specs.Bodies.{IsTaken, EndsBody};
 
 use druid_stream::{MAX_TRIES, is_interrupted};
@@ -8,8 +10,9 @@ use std::io::{BufRead, ErrorKind};
 
 // Appends what the reader has at hand, but no more bytes than there is room for. False at the end of the input.
 fn append_bytes<R: BufRead>(reader: &mut R, body: &mut Vec<u8>, room: usize) -> io::Result<bool>
-    ensures { IfOk result (λ more. IsTaken more body.old.items body.new.items room
+    ensures more { IfOk result (λ more. IsTaken more body.old.items body.new.items room
         (R.remaining reader.old) (R.remaining reader.new)) }
+    ensures err { OnErr result (Keeps (R.remaining reader.old) (R.remaining reader.new)) }
 {
     let available = match reader.fill_buf() {
         Ok(available) => available,
@@ -31,8 +34,9 @@ fn append_bytes<R: BufRead>(reader: &mut R, body: &mut Vec<u8>, room: usize) -> 
 // The same, with another try where the reader is interrupted and nothing was at hand.
 #[tactic(auto, using(crate::proofs::BodyLemmas::taken_again, crate::proofs::BodyLemmas::nothing_taken))]
 fn next_bytes<R: BufRead>(reader: &mut R, body: &mut Vec<u8>, room: usize) -> io::Result<bool>
-    ensures { IfOk result (λ more. IsTaken more body.old.items body.new.items room
+    ensures more { IfOk result (λ more. IsTaken more body.old.items body.new.items room
         (R.remaining reader.old) (R.remaining reader.new)) }
+    ensures err { OnErr result (Keeps (R.remaining reader.old) (R.remaining reader.new)) }
 {
     for _ in 0..MAX_TRIES {
         let before = body.len();
@@ -53,8 +57,9 @@ pub(crate) fn read_body<R: BufRead>(
     body: &mut Vec<u8>,
     length: usize,
 ) -> io::Result<bool>
-    ensures { IfOk result (λ whole. IfSome (R.remaining reader.old)
+    ensures whole { IfOk result (λ whole. IfSome (R.remaining reader.old)
         (λ input. EndsBody whole input length body.new.items (R.remaining reader.new))) }
+    ensures taken { TakesAtMost length (R.remaining reader.old) (R.remaining reader.new) }
 {
     body.clear();
     for _ in 0..u64::MAX {

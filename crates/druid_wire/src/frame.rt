@@ -1,13 +1,15 @@
 //! Where the head of a message ends.
-ghost use Rattle.std.specs.Prelude.{◌≡◌, ◌↔◌, ◌≤◌, ◌==◌, length, drop, IsTrue, IfOk, IfSome};
+ghost use Rattle.std.specs.Prelude.{◌≡◌, ◌↔◌, ◌+◌, ◌≤◌, ◌==◌, length, drop, IsTrue, IfOk, IfSome};
+ghost use Rattle.druid_stream.specs.Taken.{TakesAtMost};
 ghost use Rattle.druid_wire.specs.Frame.{IsBlank};
+ghost use Rattle.druid_wire.specs.Limits.{max_head};
 ghost use Rattle.druid_wire.specs.Parts.{IsLine, Finds};
 
 use druid_stream::{Part, next_part};
 use std::io;
 use std::io::{BufRead, ErrorKind};
 
-/// The most bytes of a head, from its first line to the end of the empty one.
+/// The most bytes of a head, from the first byte that is read to the end of the empty line: blank lines before it count too.
 pub const MAX_HEAD: usize = 16_384;
 
 /// What reading a head finds.
@@ -31,11 +33,12 @@ pub(crate) fn is_blank(head: &[u8], start: usize) -> bool
 }
 
 // Appends the next line, without its line feed, but no more than one byte more than there is room for: `More` where it has
-// as many as that, and another byte comes after them.
+// as many as that, and another byte comes after them. A line feed may be taken after that byte.
 #[tactic(auto, using(crate::proofs::LineLemmas::not_grown, crate::proofs::LineLemmas::grown_long, crate::proofs::LineLemmas::part_long, crate::proofs::LineLemmas::line_full))]
 fn read_line<R: BufRead>(reader: &mut R, head: &mut Vec<u8>, room: usize) -> io::Result<Part>
-    ensures { IfOk result (λ part. IsLine part head.old.items head.new.items room
+    ensures part { IfOk result (λ part. IsLine part head.old.items head.new.items room
         (R.remaining reader.old) (R.remaining reader.new)) }
+    ensures taken { TakesAtMost (room + 2) (R.remaining reader.old) (R.remaining reader.new) }
 {
     let start = head.len();
     for _ in 0..u64::MAX {
@@ -58,15 +61,19 @@ fn read_line<R: BufRead>(reader: &mut R, head: &mut Vec<u8>, room: usize) -> io:
     Err(ErrorKind::TimedOut.into())
 }
 
-// Reads blank lines, which are not kept, and after them a head, up to and with the blank line that ends it.
+// Reads blank lines, which are not kept but count, and after them a head, up to and with the blank line that ends it. No more
+// than the limit and two bytes are taken.
 pub(crate) fn find_head<R: BufRead>(reader: &mut R, head: &mut Vec<u8>) -> io::Result<Found>
-    ensures { IfOk result (λ found. IfSome (R.remaining reader.old)
+    ensures found { IfOk result (λ found. IfSome (R.remaining reader.old)
         (λ input. Finds found input head.new.items (R.remaining reader.new))) }
+    ensures taken { TakesAtMost (max_head + 2) (R.remaining reader.old) (R.remaining reader.new) }
 {
     head.clear();
+    // The bytes of the blank lines before the head.
+    let mut passed = 0;
     for _ in 0..u64::MAX {
         let start = head.len();
-        let part = read_line(reader, head, MAX_HEAD - start)?;
+        let part = read_line(reader, head, MAX_HEAD - passed - start)?;
         match part {
             Part::More => return Ok(Found::TooLong),
             Part::Ended => return Ok(Found::Ended),
@@ -78,6 +85,7 @@ pub(crate) fn find_head<R: BufRead>(reader: &mut R, head: &mut Vec<u8>) -> io::R
             if start > 0 {
                 return Ok(Found::Head);
             }
+            passed += head.len();
             head.clear();
         }
     }

@@ -29,27 +29,25 @@ pub(crate) fn split_head(bytes: &[u8]) -> Result<(&[u8], &[u8]), WireFault>
     ensures err { IfErr result (LacksHead bytes.now) }
     ensures never { IfErr result IsOfBytes }
 {
-    // The bytes from the head on, and those after the lines of it that were passed.
+    // The bytes from the head on, and those after the lines of it that were passed. The limit counts the blank lines before it.
     let mut text = bytes;
     let mut rest = bytes;
     while let Some((line, behind)) = split_line(rest) {
-        let taken = text.len() - rest.len();
-        let end = text.len() - behind.len();
-        if MAX_HEAD < end {
+        if MAX_HEAD < bytes.len() - behind.len() {
             return Err(WireFault::HeadTooLong);
         }
         if !is_blank(line, 0) {
             rest = behind;
             continue;
         }
-        if taken > 0 {
-            let (head, _) = text.split_at(end);
+        if rest.len() < text.len() {
+            let (head, _) = text.split_at(text.len() - behind.len());
             return Ok((head, behind));
         }
         text = behind;
         rest = behind;
     }
-    if text.len() <= MAX_HEAD {
+    if bytes.len() <= MAX_HEAD {
         return Err(WireFault::Cut);
     }
     Err(WireFault::HeadTooLong)

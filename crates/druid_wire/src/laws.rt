@@ -17,17 +17,17 @@ pub fn one_head()
     ensures short { (input head rest : List ℕ) → IsFramed input head rest → ¬ (IsLongHead input) }
 {}
 
-/// Each head of the grammar is a head for the reader too, where it has no more bytes than a head may have: framed, and
-/// still that head without the blank lines before it.
+/// Each head of the grammar is a head for the reader too, where it has no more bytes than a head may have, the blank lines
+/// before it counted: framed, and still that head without them.
 pub fn heads_are_framed()
-    ensures requests { (input rest : List ℕ) (head : RequestHead) → ReadsRequest input head rest → length (print_request (bare_request head)) ≤ max_head
+    ensures requests { (input rest : List ℕ) (head : RequestHead) → ReadsRequest input head rest → length (print_request head) ≤ max_head
         → IsFramed input (print_request (bare_request head)) rest × ReadsRequest (print_request (bare_request head)) (bare_request head) [] }
-    ensures responses { (input rest : List ℕ) (head : ResponseHead) → ReadsResponse input head rest → length (print_response (bare_response head)) ≤ max_head
+    ensures responses { (input rest : List ℕ) (head : ResponseHead) → ReadsResponse input head rest → length (print_response head) ≤ max_head
         → IsFramed input (print_response (bare_response head)) rest × ReadsResponse (print_response (bare_response head)) (bare_response head) [] }
 {}
 
-/// An input is a request just where it is one of the grammar: blank lines, a head within the limits that says how long the
-/// body is, a body of that length, and then the rest. The same of responses.
+/// An input is a request just where it is one of the grammar: blank lines and a head, together within the limits, that says
+/// how long the body is, a body of that length, and then the rest. The same of responses.
 pub fn messages_are_of_the_grammar()
     ensures requests { (input : List ℕ) (request : RequestValue) (rest : List ℕ) → IsRequest input request rest ↔ IsGrammarRequest input request rest }
     ensures responses { (input : List ℕ) (status : ℕ) (body rest : List ℕ) → IsResponse input status body rest ↔ IsGrammarResponse input status body rest }

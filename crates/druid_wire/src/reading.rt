@@ -1,7 +1,9 @@
 //! Messages, read.
-ghost use Rattle.std.specs.Prelude.{◌≡◌, ◌⊎◌, ℕ, List, true, Some, OnOk, IfOk, IfErr, IfSome};
+ghost use Rattle.std.specs.Prelude.{◌≡◌, ◌⊎◌, ◌+◌, ℕ, List, true, Some, OnOk, IfOk, IfErr, IfSome};
 ghost use Rattle.httparse.specs.Spans.{span_bytes};
+ghost use Rattle.druid_stream.specs.Taken.{TakesAtMost};
 ghost use Rattle.druid_wire.specs.Frame.{IsFramed};
+ghost use Rattle.druid_wire.specs.Limits.{max_head, max_body, most_taken};
 ghost use Rattle.druid_wire.specs.Bodies.{EndsBody};
 ghost use Rattle.druid_wire.specs.Told.{TellsRequest, LacksHead, LacksBody};
 ghost use Rattle.druid_wire.specs.Messages.{IsRequest, IsResponse, HasFault, RequestSays, ResponseSays};
@@ -27,11 +29,12 @@ fn read_fault(error: &Error) -> WireFault
     }
 }
 
-// Reads a head, and the blank lines before it, which are not kept.
+// Reads a head, and the blank lines before it, which are not kept but count.
 fn take_head<R: BufRead>(reader: &mut R, head: &mut Vec<u8>) -> Result<(), WireFault>
     ensures ok { OnOk result (IfSome (R.remaining reader.old)
         (λ input. (rest : List ℕ) × (R.remaining reader.new ≡ Some rest) × IsFramed input head.new.items rest)) }
     ensures err { IfErr result (λ fault. IfSome (R.remaining reader.old) (λ input. LacksHead input fault)) }
+    ensures taken { TakesAtMost (max_head + 2) (R.remaining reader.old) (R.remaining reader.new) }
 {
     match find_head(reader, head) {
         Ok(Found::Head) => Ok(()),
@@ -46,6 +49,7 @@ fn take_body<R: BufRead>(reader: &mut R, body: &mut Vec<u8>, length: usize) -> R
     ensures ok { OnOk result (IfSome (R.remaining reader.old)
         (λ input. EndsBody true input length body.new.items (R.remaining reader.new))) }
     ensures err { IfErr result (λ fault. IfSome (R.remaining reader.old) (λ input. LacksBody input length fault)) }
+    ensures taken { TakesAtMost length (R.remaining reader.old) (R.remaining reader.new) }
 {
     match read_body(reader, body, length) {
         Ok(true) => Ok(()),
@@ -78,14 +82,18 @@ fn request_of(
     Ok(Request::new(method, target, body))
 }
 
-/// Reads a request: a head of the grammar, after blank lines, and exactly its body. What follows stays unread. Where it
-/// has several faults, any of them is reported: `Cut` where the input ends in it, `HeadTooLong` where its head passes a limit,
+/// Reads a request: a head of the grammar, after blank lines, and exactly its body. What follows stays unread. The limit of
+/// a head counts the blank lines before it, and no more than a head and a body may have is taken of the reader; where the head
+/// is refused, no more than the head may have and two bytes. Where it has several faults, any of them is reported: `Cut` where
+/// the input ends in it, `HeadTooLong` where its head passes a limit,
 /// `BadHead` where the head is none or names its length twice or badly, `NoLength` where its body is coded or a `POST` names
 /// no length, `BodyTooLong` where the length passes the limit. `Read` where the reader fails, `Memory` where memory is refused.
 pub fn read_request<R: BufRead>(alloc: Global, reader: &mut R) -> Result<Request, WireFault>
     ensures ok { IfOk result (λ request. IfSome (R.remaining reader.old)
         (λ input. (rest : List ℕ) × (R.remaining reader.new ≡ Some rest) × IsRequest input request rest)) }
     ensures err { IfErr result (λ fault. IfSome (R.remaining reader.old) (λ input. HasFault RequestSays input fault)) }
+    ensures taken { TakesAtMost (max_head + max_body) (R.remaining reader.old) (R.remaining reader.new) }
+    ensures refused { IfErr result (λ fault. TakesAtMost (most_taken fault) (R.remaining reader.old) (R.remaining reader.new)) }
 {
     let mut head = Vec::new(alloc);
     match take_head(reader, &mut head) {
@@ -112,6 +120,8 @@ pub fn read_response<R: BufRead>(
     ensures ok { IfOk result (λ response. IfSome (R.remaining reader.old)
         (λ input. (rest : List ℕ) × (R.remaining reader.new ≡ Some rest) × IsResponse input response.0 response.1.items rest)) }
     ensures err { IfErr result (λ fault. IfSome (R.remaining reader.old) (λ input. HasFault ResponseSays input fault)) }
+    ensures taken { TakesAtMost (max_head + max_body) (R.remaining reader.old) (R.remaining reader.new) }
+    ensures refused { IfErr result (λ fault. TakesAtMost (most_taken fault) (R.remaining reader.old) (R.remaining reader.new)) }
 {
     let mut head = Vec::new(alloc);
     match take_head(reader, &mut head) {

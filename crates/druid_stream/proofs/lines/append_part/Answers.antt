@@ -8,8 +8,8 @@ use Rattle.druid_stream.specs.Parts.{feed_of}
 use Rattle.druid_stream.proofs.PartLemmas.{shown_end}
 use Rattle.druid_stream.proofs.lines.append_part.Goals as goal
 
-pub returns-then-is_interrupted : goal.returns-then-is_interrupted
-returns-then-is_interrupted g c =
+pub returns-then-is_interrupted-clause-part : goal.returns-then-is_interrupted-clause-part
+returns-then-is_interrupted-clause-part g c =
     record {
       front = [];
       grown = sym (append-nil c.args.line.now.items);
@@ -19,8 +19,8 @@ returns-then-is_interrupted g c =
       ended = λ e. absurd cc;
     }
 
-pub returns : goal.returns
-returns g c =
+pub returns-clause-part : goal.returns-clause-part
+returns-clause-part g c =
     let rested = c.fill_buf.follows.lender-at-none in
     let filled = subst (FillKeeps _ (g.R.Read.remaining rested) (g.R.BufRead.consumable_len rested)) c.in-Ok.is c.fill_buf.follows.holds-at-none in
     let found = c.scan-end.ensures in

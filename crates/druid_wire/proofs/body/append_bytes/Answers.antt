@@ -6,8 +6,8 @@ use Rattle.std.proofs.BufReadLemmas.{Consumes_shown}
 use Rattle.druid_stream.proofs.PartLemmas.{shown_end}
 use Rattle.druid_wire.proofs.body.append_bytes.Goals as goal
 
-pub returns-then-is_interrupted : goal.returns-then-is_interrupted
-returns-then-is_interrupted g c =
+pub returns-then-is_interrupted-clause-more : goal.returns-then-is_interrupted-clause-more
+returns-then-is_interrupted-clause-more g c =
     record {
       front = [];
       grown = sym (append-nil c.args.body.now.items);
@@ -16,8 +16,8 @@ returns-then-is_interrupted g c =
       ended = λ e. absurd cc;
     }
 
-pub returns : goal.returns
-returns g c =
+pub returns-clause-more : goal.returns-clause-more
+returns-clause-more g c =
     let rested = c.fill_buf.follows.lender-at-none in
     let filled = subst (FillKeeps _ (g.R.Read.remaining rested) (g.R.BufRead.consumable_len rested)) c.in-Ok.is c.fill_buf.follows.holds-at-none in
     let moved = Consumes_shown _ _ _ _ c.in-Ok.available.now c.min-taken.result (omega (arith, c.min-taken.ensures)) c.in-Ok.ensures.front c.in-Ok.ensures.end filled.0 filled.1 c.consume.ensures.bytes in

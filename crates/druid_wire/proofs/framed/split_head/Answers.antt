@@ -6,16 +6,16 @@ use Rattle.druid_wire.proofs.framed.split_head.Goals as goal
 pub loop-line-init : goal.loop-line-init
 loop-line-init c = begins c.args.bytes.now
 
-pub returns-then-end-gt-MAX_HEAD-clause-err : goal.returns-then-end-gt-MAX_HEAD-clause-err
-returns-then-end-gt-MAX_HEAD-clause-err c =
+pub returns-then-bytes-behind-gt-MAX_HEAD-clause-err : goal.returns-then-bytes-behind-gt-MAX_HEAD-clause-err
+returns-then-bytes-behind-gt-MAX_HEAD-clause-err c =
     head_is_long _ _ _ c.in-Some.line.now (10 ∷ c.in-Some.behind.now) c.loop-line.invariant c.in-Some.ensures.some.0 c.in-Some.ensures.some.1 (omega arith) (omega arith)
 
 pub loop-line-preserved-then-not-is_blank : goal.loop-line-preserved-then-not-is_blank
 loop-line-preserved-then-not-is_blank c =
     text_line _ _ _ c.in-Some.line.now _ c.loop-line.invariant c.in-Some.ensures.some.0 c.in-Some.ensures.some.1 (λ blank. false≢true (sym c.if-not-is_blank.true ∙ c.is_blank.ensures.1 blank))
 
-pub returns-then-taken-gt0-clause-ok : goal.returns-then-taken-gt0-clause-ok
-returns-then-taken-gt0-clause-ok c =
+pub returns-then-rest-text-clause-ok : goal.returns-then-rest-text-clause-ok
+returns-then-rest-text-clause-ok c =
     rw c.split_at.ensures.front
     (head_ends _ _ _ c.in-Some.line.now _ _ c.loop-line.invariant (omega arith) (c.is_blank.ensures.0 c.if-not-is_blank.false) c.in-Some.ensures.some.1 refl (omega arith))
 
