@@ -1,3 +1,4 @@
+pub mod TakenLemmas
 pub mod TextLemmas
 pub mod MomentLemmas
 pub mod PartLemmas

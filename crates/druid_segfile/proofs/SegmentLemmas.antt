@@ -1,5 +1,5 @@
 -- A segment, read and written.
-use Rattle.std.proofs.Common.{◌≡◌, ℕ, ◌+◌, ◌-◌, ◌<◌, ◌≤◌, true, false, ◌&&◌, cond, eqb, ltb, leb, List, [], ◌++◌, length, take, Option, Some, None, Result, Ok, Err, refl, sym, ap, subst, ◌∙◌, append_assoc, option_map, arith, min, inl, inr, rules}
+use Rattle.std.proofs.Common.{◌≡◌, ℕ, ◌+◌, ◌-◌, ◌<◌, ◌≤◌, true, false, ◌&&◌, cond, eqb, ltb, leb, List, [], ◌++◌, length, take, Option, Some, None, Result, Ok, Err, refl, sym, ap, subst, ◌∙◌, append_assoc, arith, min, inl, inr, rules}
 use Rattle.std.specs.Prelude.{IfOk, IfSome}
 use Rattle.std.specs.Str.{IsUtf8}
 use Rattle.std.proofs.lemmas.Bool.{and_parts, and_left, and_right, and_from, cond-true, cond-false, cases_lt, eqb-true, leb-true, le-leb, lt-leb, lt-ltb, le-ltb, ne_eqb}
@@ -310,11 +310,6 @@ within_trails limit s more h fits some =
 
 pub segment_trails : (s : Segment) (more : List ℕ) → IsSegment s → Fits s → 0 < length more → segment_at (spelling s ++ more) ≡ Err Trailing
 segment_trails s more h fits some = within_trails max_text s more (segment_content s h fits) (omega (arith, length_spelling s, h.within.text)) some
-
--- what was read to the end of a reader of which so many bytes are taken
-pub front_known : (known : Option (List ℕ)) (limit n : ℕ) (old new : List ℕ) → limit ≡ n → old ≡ [] → IfSome (option_map (take limit) known) (λ bytes. new ≡ old ++ bytes) → IfSome known (λ bytes. new ≡ take n bytes)
-front_known None limit n old new l o h = tt
-front_known (Some bytes) limit n old new l o h = h ∙ ap (λ (t : List ℕ). t ++ take limit bytes) o ∙ ap (λ k. take k bytes) l
 
 pub is_spelling : (bytes : List ℕ) (s : Segment) → IsBytes bytes → segment_at bytes ≡ Ok s → bytes ≡ spelling s
 is_spelling bytes s fits e = (segment_takes bytes s fits e).0

@@ -1,4 +1,7 @@
-ghost use Rattle.std.specs.Prelude.{◌≡◌, ◌≢◌, ◌⊎◌, ◌+◌, ◌≤◌, ℕ, List, [], length, take, Some, Ok, Err, IsOk, IfOk, IfErr, IfSome};
+ghost use Rattle.std.specs.Prelude.{◌≡◌, ◌≢◌, ◌↔◌, ◌⊎◌, ◌+◌, ◌≤◌, ◌<◌, ℕ, List, [], length, take, Some, Ok, Err, IsOk, IfOk, IfErr, IfSome, OnErr};
+ghost use Rattle.std.specs.Io.KnownBytes.{Consumes, IsAtEnd, Keeps};
+ghost use Rattle.std.specs.IoError.{error_kind};
+ghost use Rattle.druid_stream.specs.Taken.{TakesAtMost};
 ghost use Rattle.druid_rows.specs.Segment.{Segment, IsSegment, segment_of, max_text};
 ghost use Rattle.druid_segfile.specs.Spelling.{spelling, Fits};
 ghost use Rattle.druid_segfile.specs.Reading.{Gives, GivesInMemory, GivesOfReader, TakesAs, each_at, values_at, shape_of, magic_at, content_at, short_of, segment_at};
@@ -11,20 +14,69 @@ use crate::head::Announced;
 use crate::rows::{Shape, want_of_memory, with_rows};
 use crate::spelling::MAGIC;
 use druid_rows::{MAX_ROWS, MAX_TEXT, Segment, SegmentBuilder};
+use druid_stream::{MAX_TRIES, is_interrupted};
 use std::alloc::{AllocError, Global};
-use std::io::{ErrorKind, Read};
+use std::io;
+use std::io::{Error, ErrorKind, Read};
+
+// How many bytes are read at once.
+const PART: usize = 16_384;
+
+// The fault of a failed read: `Memory` where it failed for lack of memory, and `Read` where it failed for anything else.
+fn read_fault(error: &Error) -> FileFault
+    ensures memory { (result ≡ FileFault.Memory) ↔ (error_kind error.now ≡ ErrorKind.OutOfMemory) }
+    ensures fault { (result ≡ FileFault.Read) ⊎ (result ≡ FileFault.Memory) }
+{
+    match error.kind() {
+        ErrorKind::OutOfMemory => FileFault::Memory,
+        _ => FileFault::Read,
+    }
+}
+
+// Reads what comes next, and no bytes at the end of the input. An interrupted read is retried, 1,000 times in a row at most.
+#[tactic(auto, using(crate::proofs::TakenLemmas::kept_reads, crate::proofs::TakenLemmas::kept_twice))]
+fn read_some<R: Read>(reader: &mut R, part: &mut [u8]) -> io::Result<usize>
+    ensures bound { IfOk result (λ n. n ≤ length part.new) }
+    ensures room { length part.new ≡ length part.old }
+    ensures taken { IfOk result
+        (λ n. Consumes (R.remaining reader.old) (R.remaining reader.new) (take n part.new)) }
+    ensures end { IfOk result (λ n. n ≡ 0 → 0 < length part.old → IsAtEnd (R.remaining reader.new)) }
+    ensures err { OnErr result (Keeps (R.remaining reader.old) (R.remaining reader.new)) }
+{
+    for _ in 0..MAX_TRIES {
+        match reader.read(part) {
+            Ok(count) => return Ok(count),
+            Err(error) => {
+                if !is_interrupted(&error) {
+                    return Err(error);
+                }
+            }
+        }
+    }
+    Err(ErrorKind::Interrupted.into())
+}
 
 // The front of what a reader has, by which it is known whether there is more than a segment may have.
 fn first_bytes<R: Read>(alloc: Global, reader: &mut R) -> Result<Vec<u8>, FileFault>
     ensures front { IfOk result (λ front. IfSome (R.remaining reader.old) (λ bytes. front.items ≡ take (max_text + 1) bytes)) }
+    ensures taken { TakesAtMost (max_text + 1) (R.remaining reader.old) (R.remaining reader.new) }
     ensures faults { IfErr result (λ fault. (fault ≡ FileFault.Read) ⊎ (fault ≡ FileFault.Memory)) }
 {
     let mut bytes = Vec::new(alloc);
-    match reader.take(MAX_TEXT as u64 + 1).read_to_end(&mut bytes) {
-        Ok(_) => Ok(bytes),
-        Err(error) if error.kind() == ErrorKind::OutOfMemory => Err(FileFault::Memory),
-        Err(_) => Err(FileFault::Read),
+    let mut part = [0u8; PART];
+    while bytes.len() <= MAX_TEXT {
+        let room = PART.min(MAX_TEXT + 1 - bytes.len());
+        let space = &mut part[..room];
+        let count = match read_some(reader, space) {
+            Ok(count) => count,
+            Err(error) => return Err(read_fault(&error)),
+        };
+        if count == 0 {
+            return Ok(bytes);
+        }
+        bytes.extend_from_slice(&space[..count])?;
     }
+    Ok(bytes)
 }
 
 // A segment whose bytes were judged. What stands before the rows is read, and the rows are not.
@@ -153,6 +205,7 @@ pub fn read_segment<R: Read>(alloc: Global, reader: &mut R) -> Result<Segment, F
     ensures valid { IfOk result IsSegment }
     // What is spelled so is read, unless the reader fails or memory is refused.
     ensures only { (s : Segment) → IsSegment s → Fits s → R.remaining reader.old ≡ Some (spelling s) → GivesOfReader result (Ok s) }
+    ensures taken { TakesAtMost (max_text + 1) (R.remaining reader.old) (R.remaining reader.new) }
     // Which fault it is.
     ensures exact { IfSome (R.remaining reader.old) (λ bytes. GivesOfReader result (segment_at bytes)) }
     ensures no_write { result ≢ Err FileFault.Write }

@@ -1,5 +1,6 @@
-ghost use Rattle.std.specs.Prelude.{◌≡◌, ◌≢◌, ◌⊎◌, ◌<◌, length, Err, OnOk, OnErr, IfErr};
+ghost use Rattle.std.specs.Prelude.{◌≡◌, ◌≢◌, ◌↔◌, ◌⊎◌, ◌<◌, length, Err, OnOk, OnErr, IfErr};
 ghost use Rattle.std.specs.Io.KnownBytes.{Appends};
+ghost use Rattle.std.specs.IoError.{error_kind};
 ghost use Rattle.druid_stream.specs.Fronts.{AppendsFront};
 ghost use Rattle.druid_segfile.specs.Spelling.{spelling};
 ghost use Rattle.druid_segfile.specs.Written.{AppendsUpTo};
@@ -10,10 +11,21 @@ use crate::spelling::{append_row, heading};
 use druid_rows::Segment;
 use druid_stream::write_text;
 use std::alloc::Global;
-use std::io::{ErrorKind, Write};
+use std::io::{Error, ErrorKind, Write};
 
 // So many bytes are gathered before they are written out.
 const GATHERED: usize = 65_536;
+
+// The fault of a failed write: `Memory` where it failed for lack of memory, and `Write` where it failed for anything else.
+fn write_fault(error: &Error) -> FileFault
+    ensures memory { (result ≡ FileFault.Memory) ↔ (error_kind error.now ≡ ErrorKind.OutOfMemory) }
+    ensures fault { (result ≡ FileFault.Write) ⊎ (result ≡ FileFault.Memory) }
+{
+    match error.kind() {
+        ErrorKind::OutOfMemory => FileFault::Memory,
+        _ => FileFault::Write,
+    }
+}
 
 // Writes all of the bytes.
 fn write_out<W: Write>(writer: &mut W, bytes: &[u8]) -> Result<(), FileFault>
@@ -23,8 +35,7 @@ fn write_out<W: Write>(writer: &mut W, bytes: &[u8]) -> Result<(), FileFault>
 {
     match write_text(writer, bytes) {
         Ok(()) => Ok(()),
-        Err(error) if error.kind() == ErrorKind::OutOfMemory => Err(FileFault::Memory),
-        Err(_) => Err(FileFault::Write),
+        Err(error) => Err(write_fault(&error)),
     }
 }
 
@@ -45,7 +56,7 @@ fn write_gathered<W: Write>(writer: &mut W, gathered: &mut Vec<u8>) -> Result<()
 
 /// Writes the spelling of a segment. `Write` where the writer fails and `Memory` where memory is refused, also to the
 /// writer: then it has got some front of the spelling, and not the whole. An interrupted write is retried, 1,000 times in a row at
-/// ever. Nothing is flushed.
+/// most. Nothing is flushed.
 pub fn write_segment<W: Write>(
     alloc: Global,
     segment: &Segment,

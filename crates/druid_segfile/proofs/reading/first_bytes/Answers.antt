@@ -1,9 +1,16 @@
-use Rattle.std.proofs.Common.{◌≡◌, take, subst}
-use Rattle.std.specs.Prelude.{IfSome}
-use Rattle.druid_segfile.proofs.SegmentLemmas.{front_known}
+use Rattle.std.proofs.Common.{arith}
+use Rattle.std.proofs.lemmas.List.{length-take}
+use Rattle.druid_segfile.proofs.TakenLemmas.{part_takes, full_front, whole_front}
 use Rattle.druid_segfile.proofs.reading.first_bytes.Goals as goal
 
-pub returns-in-Ok-clause-front : goal.returns-in-Ok-clause-front
-returns-in-Ok-clause-front g c =
-    subst (λ inner. IfSome (g.R.Read.remaining inner.now) (λ bytes. c.read_to_end.new.buf.items ≡ take 16777217 bytes)) c.take.ensures.inner
-    (front_known (g.R.Read.remaining c.take.result.inner.now) c.take.result.limit 16777217 c.new-bytes.result.items c.read_to_end.new.buf.items c.take.ensures.limit c.new-bytes.ensures.items c.in-Ok.ensures.bytes)
+pub returns-then-count-eq0-clause-front : goal.returns-then-count-eq0-clause-front
+returns-then-count-eq0-clause-front g c =
+    whole_front c.in-Ok.count c.loop-part.bytes.items _ _ _ _ c.loop-part.invariant c.in-Ok.ensures.taken (omega arith)
+    (c.in-Ok.ensures.end (omega arith) (omega (arith, c.min-room.ensures, c.min-room.array_long, length-take c.min-room.result c.loop-part.part)))
+
+pub returns-in_err-extend_from_slice-clause-taken : goal.returns-in_err-extend_from_slice-clause-taken
+returns-in_err-extend_from_slice-clause-taken g c =
+    part_takes c.in-Ok.count c.min-room.result c.loop-part.bytes.items _ _ _ _ c.loop-part.invariant c.in-Ok.ensures.taken (omega (arith, c.in-Ok.ensures.bound)) (omega (arith, c.in-Ok.ensures.room, c.min-room.ensures, c.min-room.array_long, length-take c.min-room.result c.loop-part.part)) (omega (arith, c.min-room.ensures))
+
+pub returns-clause-front : goal.returns-clause-front
+returns-clause-front g c = full_front c.loop-part.bytes.items _ _ c.loop-part.invariant (omega arith)
