@@ -1,5 +1,6 @@
 //! Messages, read.
-ghost use Rattle.std.specs.Prelude.{◌≡◌, ◌⊎◌, ◌+◌, ℕ, List, true, Some, OnOk, IfOk, IfErr, IfSome};
+ghost use Rattle.std.specs.Prelude.{◌≡◌, ◌↔◌, ◌⊎◌, ◌+◌, ℕ, List, true, Some, OnOk, IfOk, IfErr, IfSome};
+ghost use Rattle.std.specs.IoError.{error_kind};
 ghost use Rattle.httparse.specs.Spans.{span_bytes};
 ghost use Rattle.druid_stream.specs.Taken.{TakesAtMost};
 ghost use Rattle.druid_wire.specs.Frame.{IsFramed};
@@ -18,14 +19,14 @@ use std::alloc::Global;
 use std::io::{BufRead, Error, ErrorKind};
 use std::str;
 
-// What a failed read tells.
+// The fault of a failed read: `Memory` where it failed for lack of memory, and `Read` where it failed for anything else.
 fn read_fault(error: &Error) -> WireFault
-    ensures { (result ≡ WireFault.Read) ⊎ (result ≡ WireFault.Memory) }
+    ensures memory { (result ≡ WireFault.Memory) ↔ (error_kind error.now ≡ ErrorKind.OutOfMemory) }
+    ensures fault { (result ≡ WireFault.Read) ⊎ (result ≡ WireFault.Memory) }
 {
-    if error.kind() == ErrorKind::OutOfMemory {
-        WireFault::Memory
-    } else {
-        WireFault::Read
+    match error.kind() {
+        ErrorKind::OutOfMemory => WireFault::Memory,
+        _ => WireFault::Read,
     }
 }
 

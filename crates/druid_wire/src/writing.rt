@@ -1,6 +1,7 @@
 //! Messages, written to a writer, which does not allocate, and the bytes of requests.
-ghost use Rattle.std.specs.Prelude.{◌≡◌, ◌≤◌, ◌⊎◌, length, decimal, IfOk, IfErr, OnOk, OnErr};
+ghost use Rattle.std.specs.Prelude.{◌≡◌, ◌↔◌, ◌≤◌, ◌⊎◌, length, decimal, IfOk, IfErr, OnOk, OnErr};
 ghost use Rattle.std.specs.Io.KnownBytes.{Appends};
+ghost use Rattle.std.specs.IoError.{error_kind};
 ghost use Rattle.druid_stream.specs.Fronts.{AppendsFront};
 ghost use Rattle.druid_wire.specs.Limits.{max_body};
 ghost use Rattle.druid_wire.specs.Written.{joined, phrase_of, request_text, response_text, answer_text, LacksRequest};
@@ -35,14 +36,14 @@ fn write_pieces<W: Write>(writer: &mut W, pieces: &[&[u8]]) -> io::Result<()>
     Ok(())
 }
 
-// What a failed write tells.
+// The fault of a failed write: `Memory` where it failed for lack of memory, and `Write` where it failed for anything else.
 fn write_fault(error: &Error) -> WireFault
-    ensures { (result ≡ WireFault.Write) ⊎ (result ≡ WireFault.Memory) }
+    ensures memory { (result ≡ WireFault.Memory) ↔ (error_kind error.now ≡ ErrorKind.OutOfMemory) }
+    ensures fault { (result ≡ WireFault.Write) ⊎ (result ≡ WireFault.Memory) }
 {
-    if error.kind() == ErrorKind::OutOfMemory {
-        WireFault::Memory
-    } else {
-        WireFault::Write
+    match error.kind() {
+        ErrorKind::OutOfMemory => WireFault::Memory,
+        _ => WireFault::Write,
     }
 }
 
