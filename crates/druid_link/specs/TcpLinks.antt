@@ -1,5 +1,6 @@
 -- A link over sockets, and what comes back over it.
-use Rattle.std.specs.Prelude.{◌≡◌, ◌≤◌, ℕ, List, length, IfOk, IfErr}
+use Rattle.std.specs.Prelude.{◌≡◌, ◌≤◌, ℕ, List, length, Option, IfOk, IfErr, IfSome}
+use Rattle.std.specs.Io.KnownBytes.{Appends}
 use Rattle.std.specs.declared.time.Duration.{Duration}
 use Rattle.druid_link.specs.Links.{Came, IsLinkFault, faults_after}
 use Rattle.druid_link.specs.Limits.{max_exchange}
@@ -21,6 +22,13 @@ limited link limit = record link { limit = limit }
 -- the link after an exchange which gave this
 abbrev pub over_tcp : TcpLinkValue → Came → TcpLinkValue
 over_tcp link came = record link { failed = faults_after came link.failed }
+
+-- an exchange over a stream, where its bytes are known: the request was appended whole, and what the stream had left once it was sent
+-- is the answer
+pub record IsExchanged {S : Type 0} (contents remaining : S → Option (List ℕ)) (before : S) (request answer : List ℕ) : Type 0 where
+  pub sent : S
+  pub written : Appends (contents before) (contents sent) request
+  pub whole : IfSome (remaining sent) (λ left. answer ≡ left)
 
 -- an exchange may give whatever a link may give: of sockets nothing else is claimed
 abbrev pub ExchangesOverTcp : TcpLinkValue → List ℕ → Came → TcpLinkValue → Type 0

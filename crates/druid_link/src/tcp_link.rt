@@ -4,7 +4,7 @@ ghost use Rattle.std.specs.Io.KnownBytes.{Appends, Consumes, IsAtEnd};
 ghost use Rattle.std.specs.IoError.{error_kind};
 ghost use Rattle.druid_link.specs.Limits.{max_exchange};
 ghost use Rattle.druid_link.specs.Links.{IsLinkFault, faults_at};
-ghost use Rattle.druid_link.specs.TcpLinks.{fresh_tcp_link, limited};
+ghost use Rattle.druid_link.specs.TcpLinks.{IsExchanged, fresh_tcp_link, limited};
 
 use crate::{Link, MAX_EXCHANGE};
 use druid_message::WireFault;
@@ -141,11 +141,7 @@ fn ask<N: Net + Clock>(
     let Some(mut stream) = connected(net, &timer, address) else {
         return Err(WireFault::Connect);
     };
-    match send_all(net, &timer, &mut stream, request) {
-        Ok(()) => {}
-        Err(fault) => return Err(fault),
-    }
-    receive_all(alloc, net, &timer, &mut stream)
+    exchanged(alloc, net, &timer, &mut stream, request)
 }
 
 // A connection to the server at an address, made within the time.
@@ -155,6 +151,26 @@ fn connected<N: Net + Clock>(net: &N, timer: &Timer, address: &str) -> Option<N:
     };
     let left = timer.left(net)?;
     TcpStream::connect_timeout(net, &address, left).ok()
+}
+
+// One exchange over a stream, within the time: the request is sent whole, and then the answer is all that the stream has left.
+fn exchanged<C: Clock, S: Read + Write + OpenStream>(
+    alloc: Global,
+    clock: &C,
+    timer: &Timer,
+    stream: &mut S,
+    request: &[u8],
+) -> Result<Vec<u8>, WireFault>
+    ensures bound { IfOk result (λ bytes. length bytes.items ≤ max_exchange) }
+    ensures whole { IfOk result
+        (λ bytes. IsExchanged S.contents S.remaining stream.old request.now bytes.items) }
+    ensures fault { IfErr result IsLinkFault }
+{
+    match send_all(clock, timer, stream, request) {
+        Ok(()) => {}
+        Err(fault) => return Err(fault),
+    }
+    receive_all(alloc, clock, timer, stream)
 }
 
 // What a failed write tells: `Read` where it waited until its timeout was over, since the exchange took too long then, and
