@@ -1,5 +1,10 @@
-ghost use Rattle.std.specs.Prelude.{◌≡◌, ◌+◌, ◌≤◌, length, false, None, Ok, IfOk, IfErr, IfSome, All};
+ghost use Rattle.std.specs.Prelude.{◌≡◌, ◌∷◌, ◌+◌, ◌≤◌, [], length, codes, bytes_eq, if◌then◌else◌, false, None, Ok, IfOk, IfErr, IfSome, MatchResult, All};
+ghost use Rattle.std.specs.Result.{is_ok};
+ghost use Rattle.druid_store.specs.Disk.{calls_made, disk_failures};
+ghost use Rattle.druid_store.specs.Event.{did_list, did_read, did_write, did_sync, did_rename, did_remove};
+ghost use Rattle.druid_store.specs.Noted.{names_answered, file_answered};
 ghost use Rattle.druid_store.specs.System.{TellsFile, TellsRemoved, TellsEntry, TellsFault};
+ghost use Rattle.druid_folder.specs.declared.fault.StoreFault.TheVariants.{Memory};
 ghost use Rattle.druid_folder.specs.FileName.{is_file_name, IsFileName};
 ghost use Rattle.druid_folder.specs.Folder.{AreInOrder, max_file, names_of, faults_after, IsOwnFault};
 
@@ -47,6 +52,85 @@ impl<R: Files + AllocGlobal + Clone + Drop, D: Device> DiskFolder<R, D> {
     }
 }
 
+// The calls, each with the note of what it was given and of what it answers.
+impl<R: Files + AllocGlobal + Clone + Drop, D: Device> DiskFolder<R, D> {
+    fn files_listed(&mut self, alloc: Global) -> Result<Vec<String>, StoreFault>
+        ensures noted { calls_made self.new ≡ did_list (names_answered result) ∷ calls_made self.old }
+        ensures file_names { IfOk result (λ names. All IsFileName (names_of names.items)) }
+        ensures order { IfOk result (λ names. AreInOrder (names_of names.items)) }
+        ensures counted { disk_failures self.new ≡ faults_after result (disk_failures self.old) }
+        ensures fault { IfErr result IsOwnFault }
+    {
+        let found = files_in(&self.rt, alloc, folder_path(&self.path));
+        let answer = counted(&mut self.faults, found);
+        self.log = self.log.then(&Note::List(&answer));
+        answer
+    }
+
+    fn file_read(&mut self, alloc: Global, name: &str) -> Result<Option<Vec<u8>>, StoreFault>
+        ensures noted { calls_made self.new
+            ≡ did_read name.now (file_answered result) ∷ calls_made self.old }
+        ensures no_name { is_file_name name.now ≡ false
+            → MatchResult result (λ found. found ≡ None) (λ e. e ≡ Memory) }
+        ensures bound { IfOk result (λ found.
+            IfSome found (λ bytes. length bytes.items ≤ max_file + 1)) }
+        ensures counted { disk_failures self.new ≡ faults_after result (disk_failures self.old) }
+        ensures fault { IfErr result IsOwnFault }
+    {
+        let found = read_named(&self.rt, alloc, &self.path, name);
+        let answer = counted(&mut self.faults, found);
+        self.log = self.log.then(&Note::Read(name, &answer));
+        answer
+    }
+
+    fn file_written(&mut self, name: &str, bytes: &[u8]) -> Result<(), StoreFault>
+        ensures noted { calls_made self.new
+            ≡ did_write name.now bytes.now (is_ok result) ∷ calls_made self.old }
+        ensures counted { disk_failures self.new ≡ faults_after result (disk_failures self.old) }
+        ensures fault { IfErr result IsOwnFault }
+    {
+        let done = write_named(&self.rt, &self.path, name, bytes);
+        let answer = counted(&mut self.faults, done);
+        self.log = self.log.then(&Note::Write(name, bytes, answer.is_ok()));
+        answer
+    }
+
+    fn files_synced(&mut self) -> Result<(), StoreFault>
+        ensures noted { calls_made self.new ≡ did_sync (is_ok result) ∷ calls_made self.old }
+        ensures counted { disk_failures self.new ≡ faults_after result (disk_failures self.old) }
+        ensures fault { IfErr result IsOwnFault }
+    {
+        let done = sync_folder(&self.rt, folder_path(&self.path));
+        let answer = counted(&mut self.faults, done);
+        self.log = self.log.then(&Note::Sync(answer.is_ok()));
+        answer
+    }
+
+    fn file_renamed(&mut self, from: &str, to: &str) -> Result<(), StoreFault>
+        ensures noted { calls_made self.new
+            ≡ did_rename from.now to.now (is_ok result) ∷ calls_made self.old }
+        ensures counted { disk_failures self.new ≡ faults_after result (disk_failures self.old) }
+        ensures fault { IfErr result IsOwnFault }
+    {
+        let done = rename_named(&self.rt, &self.path, from, to);
+        let answer = counted(&mut self.faults, done);
+        self.log = self.log.then(&Note::Rename(from, to, answer.is_ok()));
+        answer
+    }
+
+    fn file_removed(&mut self, name: &str) -> Result<(), StoreFault>
+        ensures noted { calls_made self.new
+            ≡ did_remove name.now (is_ok result) ∷ calls_made self.old }
+        ensures counted { disk_failures self.new ≡ faults_after result (disk_failures self.old) }
+        ensures fault { IfErr result IsOwnFault }
+    {
+        let done = remove_named(&self.rt, &self.path, name);
+        let answer = counted(&mut self.faults, done);
+        self.log = self.log.then(&Note::Remove(name, answer.is_ok()));
+        answer
+    }
+}
+
 impl<R: Files + AllocGlobal + Clone + Drop, D: Device> Folder for DiskFolder<R, D> {
     ghost use Rattle.std.specs.Prelude.{length};
     ghost use Rattle.druid_store.specs.Disk.{calls_made, disk_failures};
@@ -74,54 +158,36 @@ impl<R: Files + AllocGlobal + Clone + Drop, D: Device> Folder for DiskFolder<R, 
         left_alone D.left D.during (length (calls_made d)) c left };
 
     fn list(&mut self, alloc: Global) -> Result<Vec<String>, StoreFault> {
-        let found = files_in(&self.rt, alloc, folder_path(&self.path));
-        let answer = counted(&mut self.faults, found);
-        self.log = self.log.then(&Note::List(&answer));
-        answer
+        self.files_listed(alloc)
     }
 
     fn read(&mut self, alloc: Global, name: &str) -> Result<Option<Vec<u8>>, StoreFault> {
-        let found = read_named(&self.rt, alloc, &self.path, name);
-        let answer = counted(&mut self.faults, found);
-        self.log = self.log.then(&Note::Read(name, &answer));
-        answer
+        self.file_read(alloc, name)
     }
 
     fn write(&mut self, name: &str, bytes: &[u8]) -> Result<(), StoreFault> {
         if !is_file_name(name) {
             return Err(StoreFault::BadName);
         }
-        let done = write_named(&self.rt, &self.path, name, bytes);
-        let answer = counted(&mut self.faults, done);
-        self.log = self.log.then(&Note::Write(name, bytes, answer.is_ok()));
-        answer
+        self.file_written(name, bytes)
     }
 
     fn sync(&mut self) -> Result<(), StoreFault> {
-        let done = sync_folder(&self.rt, folder_path(&self.path));
-        let answer = counted(&mut self.faults, done);
-        self.log = self.log.then(&Note::Sync(answer.is_ok()));
-        answer
+        self.files_synced()
     }
 
     fn rename(&mut self, from: &str, to: &str) -> Result<(), StoreFault> {
         if !is_file_name(from) || !is_file_name(to) {
             return Err(StoreFault::BadName);
         }
-        let done = rename_named(&self.rt, &self.path, from, to);
-        let answer = counted(&mut self.faults, done);
-        self.log = self.log.then(&Note::Rename(from, to, answer.is_ok()));
-        answer
+        self.file_renamed(from, to)
     }
 
     fn remove(&mut self, name: &str) -> Result<(), StoreFault> {
         if !is_file_name(name) {
             return Err(StoreFault::BadName);
         }
-        let done = remove_named(&self.rt, &self.path, name);
-        let answer = counted(&mut self.faults, done);
-        self.log = self.log.then(&Note::Remove(name, answer.is_ok()));
-        answer
+        self.file_removed(name)
     }
 
     fn faults(&self) -> u64 {
@@ -177,7 +243,10 @@ fn tells_entry<T>(entry: io::Result<T>) -> io::Result<Option<T>>
     }
 }
 
-fn folder_path(path: &str) -> &str {
+// The path of a folder: an empty one is the working folder.
+fn folder_path(path: &str) -> &str
+    ensures { result.now ≡ (if bytes_eq path.now [] then codes "." else path.now) }
+{
     if path.is_empty() { "." } else { path }
 }
 
