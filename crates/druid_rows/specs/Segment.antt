@@ -2,7 +2,7 @@
 use Rattle.std.specs.Prelude.{ℕ, ℤ, ◌+◌, ◌≤◌, List, [], ◌∷◌, ◌++◌, length, map, All, Option, None, Some, slice_index_or}
 use Rattle.std.specs.List.{sum}
 use Rattle.druid_shard.specs.Described.{Described}
-use Rattle.druid_rows.specs.Rows.{Schema, Row, IsSchema, HasShape, IsInside, HasShortValues, no_row}
+use Rattle.druid_rows.specs.Rows.{Schema, Row, IsSchema, HasShape, IsInside, HasShortValues, HasWords, no_row}
 
 -- what is announced of it, the fields of its rows, and its rows in their order, which is free
 pub record Segment : Type 0 where
@@ -70,6 +70,10 @@ HaveShape content = All (HasShape content.fields) content.rows
 -- each row lies in the interval of the segment
 abbrev pub AreInside : Segment → Type 0
 AreInside content = All (IsInside content.descriptor.id.interval) content.rows
+
+-- the numbers of its rows are of 64 bits, as those of each row of its type
+abbrev pub HaveWords : Segment → Type 0
+HaveWords content = All HasWords content.rows
 
 pub record IsSegment (content : Segment) : Type 0 where
   pub schema : IsSchema content.fields

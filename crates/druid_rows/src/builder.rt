@@ -1,6 +1,6 @@
 ghost use Rattle.std.specs.Prelude.{◌≡◌, ◌↔◌, [], IfOk, OnOk, OnErr, IsErrOf, IsOkUnless};
 ghost use Rattle.druid_rows.specs.Rows.{texts_by, row_of, IsSchema, HasShape, IsInside};
-ghost use Rattle.druid_rows.specs.Segment.{Segment, IsWithinLimits, IsSegment, segment_of, with_row};
+ghost use Rattle.druid_rows.specs.Segment.{Segment, IsWithinLimits, HaveWords, IsSegment, segment_of, with_row};
 
 use crate::lent::LentRow;
 use crate::{Row, RowFault, Schema, Segment};
@@ -112,6 +112,7 @@ impl SegmentBuilder {
     pub fn finish(self) -> Segment
         ensures value { result ≡ self }
         ensures valid { IsSegment result }
+        ensures words { HaveWords result }
     {
         let SegmentBuilder { mut segment } = self;
         segment.shrink();

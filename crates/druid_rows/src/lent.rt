@@ -1,6 +1,7 @@
-ghost use Rattle.std.specs.Prelude.{◌≡◌, ◌↔◌, ◌-◌, ◌≤◌, length, map, sum, IsTrue, IfSome, SomeIff};
+ghost use Rattle.std.specs.Prelude.{◌≡◌, ◌↔◌, ◌-◌, ◌≤◌, length, map, sum, IsTrue, IfSome, OnSome, SomeIff, FitsSigned};
+ghost use Rattle.std.specs.Int.{w64};
 ghost use Rattle.std.specs.Option.{option_map};
-ghost use Rattle.druid_rows.specs.Rows.{texts_by, max_value, AreShort, HasShortValues};
+ghost use Rattle.druid_rows.specs.Rows.{texts_by, max_value, AreShort, HasShortValues, AreWords, HasWords};
 ghost use Rattle.druid_rows.specs.Segment.{text_value_length, number_value_length, row_length};
 
 use druid_time::Instant;
@@ -76,7 +77,8 @@ impl<'a, T: AsStr> LentRow<'a, T> {
 
     // The room that it leaves of this room in the text of a segment. None where it is longer.
     pub(crate) fn room_after(&self, room: usize) -> Option<usize>
-        ensures { SomeIff result (row_length self.now ≤ room) (room - row_length self.now) }
+        ensures value { SomeIff result (row_length self.now ≤ room) (room - row_length self.now) }
+        ensures words { OnSome result (HasWords self.now) }
     {
         let room = room.checked_sub(8)?;
         let room = room_after_texts(self.dimensions, room)?;
@@ -126,13 +128,24 @@ fn room_after_texts<T: AsStr>(values: &[Option<T>], mut room: usize) -> Option<u
     Some(room)
 }
 
+fn number_length(value: Option<i64>) -> usize
+    ensures value { result ≡ number_value_length value }
+    ensures word { IfSome value (FitsSigned w64) }
+{
+    match value {
+        Some(_) => 9,
+        None => 1,
+    }
+}
+
 #[tactic(auto, using(crate::proofs::LengthLemmas::sum_numbers, std::proofs::lemmas::List::Sums::sum_by_more_le, std::proofs::lemmas::Grind::common_steps))]
 fn room_after_numbers(values: &[Option<i64>], mut room: usize) -> Option<usize>
-    ensures { SomeIff result (sum (map number_value_length values.now) ≤ room)
+    ensures value { SomeIff result (sum (map number_value_length values.now) ≤ room)
         (room - sum (map number_value_length values.now)) }
+    ensures words { OnSome result (AreWords values.now) }
 {
     for value in values {
-        room = room.checked_sub(if value.is_some() { 9 } else { 1 })?;
+        room = room.checked_sub(number_length(*value))?;
     }
     Some(room)
 }

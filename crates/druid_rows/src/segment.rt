@@ -1,7 +1,7 @@
-ghost use Rattle.std.specs.Prelude.{◌≡◌, ◌↔◌, ◌-◌, ◌<◌, ◌≤◌, ◌==◌, length, map, sum, slice_index_or, None, All, IsTrue, SomeIff, IfOk, OnOk, OnErr, IsOk, IsErrOf, IsOkUnless};
+ghost use Rattle.std.specs.Prelude.{◌≡◌, ◌↔◌, ◌-◌, ◌<◌, ◌≤◌, ◌==◌, length, map, sum, slice_index_or, None, All, IsTrue, SomeIff, IfOk, OnSome, OnOk, OnErr, IsOk, IsErrOf, IsOkUnless};
 ghost use Rattle.std.specs.Option.{option_map};
-ghost use Rattle.druid_rows.specs.Rows.{IsSchema, HasShape, IsInside, HasShortValues};
-ghost use Rattle.druid_rows.specs.Segment.{Segment, IsWithinLimits, HaveShape, AreInside, IsSegment, row_at, segment_of, with_row, row_length, head_length, text_length, max_text};
+ghost use Rattle.druid_rows.specs.Rows.{IsSchema, HasShape, IsInside, HasShortValues, HasWords};
+ghost use Rattle.druid_rows.specs.Segment.{Segment, IsWithinLimits, HaveShape, AreInside, HaveWords, IsSegment, row_at, segment_of, with_row, row_length, head_length, text_length, max_text};
 
 use crate::lent::LentRow;
 use crate::table::Table;
@@ -36,13 +36,14 @@ pub struct Segment {
 
 impl Model for Segment {
     ghost use Rattle.std.specs.Prelude.{◌≡◌, ◌-◌, length};
-    ghost use Rattle.druid_rows.specs.Segment.{Segment, IsSegment, segment_of, text_length, max_text};
+    ghost use Rattle.druid_rows.specs.Segment.{Segment, IsSegment, HaveWords, segment_of, text_length, max_text};
 
     ghost Value = { Segment };
 
     ghost view = { λ a. segment_of a.descriptor a.schema a.table.rows };
 
     ghost invariant = { λ a. IsSegment (segment_of a.descriptor a.schema a.table.rows)
+        × HaveWords (segment_of a.descriptor a.schema a.table.rows)
         × (a.room ≡ max_text - text_length (segment_of a.descriptor a.schema a.table.rows))
         × (a.table.dimensions ≡ length a.schema.dimensions)
         × (a.table.metrics ≡ length a.schema.metrics)
@@ -62,7 +63,8 @@ fn room_after_head(descriptor: &Descriptor, schema: &Schema) -> Option<usize>
 // The room that rows leave of this room. None where they are longer.
 #[tactic(auto, using(crate::proofs::LengthLemmas::sum_rows, std::proofs::lemmas::List::Sums::sum_by_more_le, std::proofs::lemmas::Grind::common_steps))]
 fn room_after_rows(rows: &[Row], mut room: usize) -> Option<usize>
-    ensures { SomeIff result (sum (map row_length rows.now) ≤ room) (room - sum (map row_length rows.now)) }
+    ensures value { SomeIff result (sum (map row_length rows.now) ≤ room) (room - sum (map row_length rows.now)) }
+    ensures words { OnSome result (All HasWords rows.now) }
 {
     for row in rows {
         room = row.lend().room_after(room)?;
@@ -78,8 +80,9 @@ fn have_short_values(rows: &[Row]) -> bool
 
 // The room that is left in the text of a segment. None where a limit is passed.
 fn room_left(descriptor: &Descriptor, schema: &Schema, rows: &[Row]) -> Option<usize>
-    ensures { SomeIff result (IsWithinLimits (segment_of descriptor.now schema.now rows.now))
+    ensures value { SomeIff result (IsWithinLimits (segment_of descriptor.now schema.now rows.now))
         (max_text - text_length (segment_of descriptor.now schema.now rows.now)) }
+    ensures words { OnSome result (HaveWords (segment_of descriptor.now schema.now rows.now)) }
 {
     if schema.dimensions().len() > MAX_FIELDS || schema.metrics().len() > MAX_FIELDS {
         return None;
@@ -105,6 +108,7 @@ fn are_inside(interval: Interval, rows: &[Row]) -> bool
 // The room that is left in the text of a segment of these rows, or why they make none. Does not allocate.
 fn judge(descriptor: &Descriptor, schema: &Schema, rows: &[Row]) -> Result<usize, RowFault>
     ensures valid { OnOk result (IsSegment (segment_of descriptor.now schema.now rows.now)) }
+    ensures words { OnOk result (HaveWords (segment_of descriptor.now schema.now rows.now)) }
     ensures room { IfOk result (λ room. room ≡ max_text - text_length (segment_of descriptor.now schema.now rows.now)) }
     ensures accepts { IsSegment (segment_of descriptor.now schema.now rows.now) → IsOk result }
     ensures bad_schema { IsErrOf result RowFault.BadSchema ↔ (¬ IsSchema schema.now) }
@@ -150,6 +154,7 @@ impl Segment {
     ) -> Result<Segment, RowFault>
         ensures value { IfOk result (λ segment. segment ≡ segment_of descriptor schema rows.items) }
         ensures valid { IfOk result IsSegment }
+        ensures words { IfOk result HaveWords }
         ensures accepts { IsSegment (segment_of descriptor schema rows.items)
             → IsOkUnless result RowFault.Memory }
         ensures bad_schema { IsErrOf result RowFault.BadSchema ↔ (¬ IsSchema schema) }
@@ -181,6 +186,7 @@ impl Segment {
         room: usize,
     ) -> Result<Segment, AllocError>
         requires valid { IsSegment (segment_of descriptor schema rows.items) }
+        requires words { HaveWords (segment_of descriptor schema rows.items) }
         requires room { room ≡ max_text - text_length (segment_of descriptor schema rows.items) }
         ensures value { IfOk result (λ segment. segment ≡ segment_of descriptor schema rows.items) }
     {
@@ -198,8 +204,9 @@ impl Segment {
 
     // The room that is left after one more row. None where a limit would be passed.
     pub(crate) fn room_behind<T: AsStr>(&self, row: &LentRow<'_, T>) -> Option<usize>
-        ensures { SomeIff result (IsWithinLimits (with_row self.now row.now))
+        ensures value { SomeIff result (IsWithinLimits (with_row self.now row.now))
             (max_text - text_length (with_row self.now row.now)) }
+        ensures words { OnSome result (HasWords row.now) }
     {
         if self.len == MAX_ROWS {
             return None;
@@ -222,6 +229,7 @@ impl Segment {
     pub fn descriptor(&self) -> &Descriptor
         ensures value { result.now ≡ self.now.descriptor }
         ensures valid { IsSegment self.now }
+        ensures words { HaveWords self.now }
     {
         &self.descriptor
     }
@@ -230,6 +238,7 @@ impl Segment {
     pub fn schema(&self) -> &Schema
         ensures value { result.now ≡ self.now.fields }
         ensures valid { IsSegment self.now }
+        ensures words { HaveWords self.now }
     {
         &self.schema
     }
@@ -238,6 +247,7 @@ impl Segment {
     pub fn len(&self) -> usize
         ensures value { result ≡ length self.now.rows }
         ensures valid { IsSegment self.now }
+        ensures words { HaveWords self.now }
     {
         self.len
     }

@@ -4,8 +4,8 @@ use Rattle.std.proofs.lemmas.List.{get_or_push, length_push}
 use Rattle.druid_rows.specs.Rows.{HasShortValues}
 use Rattle.druid_rows.proofs.segment.Segment.room_behind.Goals as goal
 
-pub returns-then-not-has_short_values : goal.returns-then-not-has_short_values
-returns-then-not-has_short_values g c = λ fine.
+pub returns-then-not-has_short_values-clause-value : goal.returns-then-not-has_short_values-clause-value
+returns-then-not-has_short_values-clause-value g c = λ fine.
     let rows = c.args.self.now.rows in
     let row = c.args.row.now in
     let short = subst HasShortValues (get_or_push rows row row (length rows) refl) (fine.values (length rows) row (omega (arith, length_push rows row))) in
