@@ -1,6 +1,6 @@
 -- What a query tells of rows: one group for each bucket and values of its dimensions that occur, with the aggregates over
 -- all rows of the group at once. A row by itself tells a group too, and a group stands for all its rows in a merge.
-use Rattle.std.specs.Prelude.{◌≡◌, ℕ, ℤ, pos, ◌+ℤ◌, ◌≤ℤ◌, List, [], ◌∷◌, ◌++◌, length, map, filter, slice_get, slice_index_or, All, Contains, Option, Some, None, IfSome, FitsSigned}
+use Rattle.std.specs.Prelude.{◌≡◌, ℕ, ℤ, pos, ◌+ℤ◌, ◌≤ℤ◌, List, [], ◌∷◌, ◌++◌, length, map, filter, slice_get, slice_index_or, All, Contains, Option, Some, None}
 use Rattle.std.specs.Int.{int_wrap}
 use Rattle.std.specs.Int.{w64}
 use Rattle.std.specs.List.Sorted.{IsStrictlySortedBy}
@@ -8,6 +8,7 @@ use Rattle.std.specs.Option.{option_cmp}
 use Rattle.std.specs.declared.cmp.Ordering.{Ordering}
 use Rattle.std.specs.Ordering.{nat_cmp, then_cmp, is_eq}
 use Rattle.std.specs.Cmp.Lexicographic.{slice_cmp}
+pub use Rattle.druid_rows.specs.Rows.{AreWords}
 use Rattle.druid_query.specs.declared.aggregator.AggregatorKind.{AggregatorKind}
 use Rattle.druid_query.specs.declared.aggregator.AggregatorKind.TheVariants.{Count, LongSum, LongMin, LongMax}
 
@@ -21,10 +22,6 @@ pub record Key : Type 0 where
 pub record Group : Type 0 where
   pub key : Key
   pub numbers : List (Option ℤ)
-
--- numbers of 64 bits, or null
-abbrev pub AreWords : List (Option ℤ) → Type 0
-AreWords numbers = All (λ number. IfSome number (FitsSigned w64)) numbers
 
 -- ---- the order of a result
 
