@@ -145,7 +145,9 @@ fn minutes_served(rt: &impl Abort, alloc: Global, count: u16) -> Timeline {
 fn every_other_minute(rt: &impl Abort, alloc: Global, count: u16) -> IntervalSet {
     let mut intervals = Vec::new(alloc);
     for number in 0..count {
-        intervals.push(minute(rt, 2 * number)).expect(rt, "memory");
+        intervals
+            .push(minute(rt, number.saturating_mul(2)))
+            .expect(rt, "memory");
     }
     IntervalSet::of(alloc, &intervals).expect(rt, "memory")
 }

@@ -22,4 +22,6 @@ mod query;
 #[cfg(test)]
 mod query_text;
 #[cfg(test)]
+mod sizes;
+#[cfg(test)]
 mod subquery;

@@ -44,7 +44,8 @@ fn typed(rt: &impl Abort, alloc: Global, kind: &str, rest: &str) -> String {
     format!(in alloc; "{COMMON}\"{kind}\"{rest}").expect(rt, "memory")
 }
 
-fn query(rt: &impl Abort, alloc: Global, text: &str) -> Query {
+/// A query, as a row has it.
+pub(crate) fn query(rt: &impl Abort, alloc: Global, text: &str) -> Query {
     let text = match text.strip_prefix("@") {
         Some(rest) => typed(rt, alloc, "timeseries", rest),
         None => typed(
@@ -148,8 +149,14 @@ fn both(rt: &impl Abort, alloc: Global, query: &Query, first: Partial, second: P
     merge(alloc, first, second).expect(rt, "memory")
 }
 
-// What the segments tell, each put after those before it or in front of them.
-fn told(rt: &impl Abort, alloc: Global, query: &Query, segments: &str, in_front: bool) -> Partial
+/// What the segments tell, each put after those before it or in front of them.
+pub(crate) fn told(
+    rt: &impl Abort,
+    alloc: Global,
+    query: &Query,
+    segments: &str,
+    in_front: bool,
+) -> Partial
     ensures { IsPartialFor query.now result }
 {
     let mut whole = Partial::empty(alloc, query).expect(rt, "memory");

@@ -1,5 +1,5 @@
 //! A broker: the threads that follow the nodes, and those that answer.
-ghost use Rattle.std.specs.Prelude.{◌≡◌, ◌≤◌, ◌+◌, IfOk, OnOk, length, vec_len};
+ghost use Rattle.std.specs.Prelude.{◌≡◌, ◌≤◌, ◌+◌, ◌-◌, ◌^◌, min, if◌then◌else◌, IfOk, OnOk, length, vec_len};
 ghost use Rattle.druid_config.specs.Limits.{max_workers};
 ghost use Rattle.druid_inventory.specs.Entry.{max_nodes};
 ghost use Rattle.druid_inventory.specs.Join.{names_of};
@@ -218,7 +218,7 @@ fn answer<
     respond(rt, alloc, desk, &mut reader, &mut writer) && writer.flush().is_ok()
 }
 
-// Answers a connection, and counts it once it is closed.
+// Answers a connection, counts it once it is closed, and tells whether it was answered: then the next has the next turn.
 fn take<
     R: Net<Listener = TcpListener, Stream = TcpStream>
         + Wait
@@ -228,18 +228,22 @@ fn take<
         + Send
         + Sync,
     N: NodeList,
->(rt: &R, alloc: Global, desk: &mut Desk<R, N>, gate: &Gate, stream: TcpStream)
-    ensures { Rises desk.old.view desk.new.view }
+>(rt: &R, alloc: Global, desk: &mut Desk<R, N>, gate: &Gate, stream: TcpStream) -> bool
+    ensures view { Rises desk.old.view desk.new.view }
+    ensures turn { desk.new.turn ≡ (if result then min (desk.old.turn + 1) (2 ^ 64 - 1) else desk.old.turn) }
 {
     let counts = gate.is_open(rt);
-    if answer(rt, alloc, desk, &stream) {
-        desk.turn = desk.turn.saturating_add(1);
-        drop(stream);
-        if counts {
-            gate.add(rt);
-        }
+    if !answer(rt, alloc, desk, &stream) {
+        return false;
     }
+    desk.turn = desk.turn.saturating_add(1);
+    drop(stream);
+    if counts {
+        gate.add(rt);
+    }
+    true
 }
+
 
 // Answers connections.
 fn work<
@@ -256,7 +260,9 @@ fn work<
 {
     for stream in listener.incoming() {
         match stream {
-            Ok(stream) => take(rt, alloc, desk, gate, stream),
+            Ok(stream) => {
+                take(rt, alloc, desk, gate, stream);
+            }
             Err(_) => thread::sleep(rt, Duration::from_millis(REST_MILLISECONDS)),
         }
     }
