@@ -1,4 +1,5 @@
 //! Readers and writers that fail, that are interrupted, and that take a byte at a time.
+use crate::kinds::KINDS;
 use crate::printing::{beside, printed};
 use crate::table::{Table, assert_row, assert_rows, assert_told, is_told};
 use crate::wire::{spelled, told_of};
@@ -10,16 +11,25 @@ use std::io;
 use std::io::{BufRead, BufReader, ErrorKind, Read, Write};
 use std::process::Abort;
 
-// What the calls of a device do: a letter for each, of which the last is for all calls after it too.
+// What the calls of a device do: a letter for each, of which the last is for all calls after it too. Each call is interrupted so
+// many times before.
 #[derive(Drop)]
 struct Plan<'a> {
     letters: &'a [u8],
+    kind: ErrorKind,
+    interrupts: u32,
+    interrupted: u32,
 }
 
 impl Plan<'_> {
     // How many bytes the next call takes: `a` all that it can, `1` one, and `0` none; `i` is interrupted, `m` fails
-    // for lack of memory, and `f` fails.
+    // for lack of memory, `k` fails in the way of the plan, and `f` fails.
     fn take(&mut self, most: usize) -> io::Result<usize> {
+        if self.interrupted < self.interrupts {
+            self.interrupted = self.interrupted.saturating_add(1);
+            return Err(ErrorKind::Interrupted.into());
+        }
+        self.interrupted = 0;
         let Some((letter, rest)) = self.letters.split_first() else {
             return Ok(most);
         };
@@ -33,6 +43,7 @@ impl Plan<'_> {
             b'0' => Ok(0),
             b'i' => Err(ErrorKind::Interrupted.into()),
             b'm' => Err(ErrorKind::OutOfMemory.into()),
+            b'k' => Err(self.kind.into()),
             _ => Err(ErrorKind::Other.into()),
         }
     }
@@ -73,17 +84,42 @@ impl Write for PlannedWriter<'_> {
     }
 }
 
+// The letters of a plan, how its `k` fails, and how often each of its calls is interrupted.
+#[derive(Clone, Copy)]
+struct Way<'a> {
+    letters: &'a str,
+    kind: ErrorKind,
+    interrupts: u32,
+}
+
+impl<'a> Way<'a> {
+    fn of(letters: &'a str) -> Way<'a> {
+        Way {
+            letters,
+            kind: ErrorKind::Other,
+            interrupts: 0,
+        }
+    }
+
+    fn plan(self) -> Plan<'a> {
+        Plan {
+            letters: self.letters.as_bytes(),
+            kind: self.kind,
+            interrupts: self.interrupts,
+            interrupted: 0,
+        }
+    }
+}
+
 // A reader of this text over a device with that plan.
 fn reader_over<'a>(
     rt: &impl Abort,
     alloc: Global,
-    plan: &'a str,
+    way: Way<'a>,
     text: &'a [u8],
 ) -> BufReader<PlannedReader<'a>> {
     let input = PlannedReader {
-        plan: Plan {
-            letters: plan.as_bytes(),
-        },
+        plan: way.plan(),
         rest: text,
     };
     BufReader::with_capacity(alloc, 16, input).expect(rt, "memory")
@@ -106,20 +142,20 @@ fn response_from<R: BufRead>(rt: &impl Abort, alloc: Global, reader: &mut R) -> 
 }
 
 // The same over a device with that plan.
-fn request_over(rt: &impl Abort, alloc: Global, plan: &str) -> String {
+fn request_over(rt: &impl Abort, alloc: Global, way: Way<'_>) -> String {
     let text = spelled(rt, alloc, "|POST /q HTTP/1.1|Content-Length: 3||abc");
-    request_from(rt, alloc, &mut reader_over(rt, alloc, plan, &text))
+    request_from(rt, alloc, &mut reader_over(rt, alloc, way, &text))
 }
 
-fn response_over(rt: &impl Abort, alloc: Global, plan: &str) -> String {
+fn response_over(rt: &impl Abort, alloc: Global, way: Way<'_>) -> String {
     let text = spelled(rt, alloc, "HTTP/1.1 200 OK|Content-Length: 4||true");
-    response_from(rt, alloc, &mut reader_over(rt, alloc, plan, &text))
+    response_from(rt, alloc, &mut reader_over(rt, alloc, way, &text))
 }
 
 // What reading a request and a response over devices with that plan tells.
-fn both_over(rt: &impl Abort, alloc: Global, plan: &str) -> String {
-    let request = request_over(rt, alloc, plan);
-    let response = response_over(rt, alloc, plan);
+fn both_over(rt: &impl Abort, alloc: Global, way: Way<'_>) -> String {
+    let request = request_over(rt, alloc, way);
+    let response = response_over(rt, alloc, way);
     format!(in alloc; "{request}={response}").expect(rt, "memory")
 }
 
@@ -128,7 +164,7 @@ struct ReaderPlans;
 
 impl Table for ReaderPlans {
     fn holds(&self, rt: &impl Abort, alloc: Global, what: &str, wanted: &str) -> bool {
-        is_told(both_over(rt, alloc, what), wanted)
+        is_told(both_over(rt, alloc, Way::of(what)), wanted)
     }
 }
 
@@ -159,11 +195,9 @@ fn written_of(rt: &impl Abort, alloc: Global, written: &[u8]) -> usize {
 }
 
 // What writing a response over a device with that plan tells, and how much of it was written.
-fn written_over(rt: &impl Abort, alloc: Global, plan: &str) -> String {
+fn written_over(rt: &impl Abort, alloc: Global, way: Way<'_>) -> String {
     let mut writer = PlannedWriter {
-        plan: Plan {
-            letters: plan.as_bytes(),
-        },
+        plan: way.plan(),
         written: Vec::new(alloc),
     };
     let end = write_response(StatusCode::OK, b"true", &mut writer);
@@ -175,7 +209,7 @@ struct WriterPlans;
 
 impl Table for WriterPlans {
     fn holds(&self, rt: &impl Abort, alloc: Global, what: &str, wanted: &str) -> bool {
-        is_told(written_over(rt, alloc, what), wanted)
+        is_told(written_over(rt, alloc, Way::of(what)), wanted)
     }
 }
 
@@ -195,6 +229,53 @@ af=X3: the message could not be written 9
 aaaaaaaaf=X3: the message could not be written 89
 aaaaaaaa1i=X3: the message could not be written 90";
     assert_rows(&rt, rt.alloc(), &WriterPlans, rows, "=");
+}
+
+// How often each call is interrupted, and what reading and writing a byte at a time tell.
+const INTERRUPTS: [(u32, &str, &str); 4] = [
+    (1, "/q 3=200 4", "ok 93"),
+    (5, "/q 3=200 4", "ok 93"),
+    (999, "/q 3=200 4", "ok 93"),
+    (
+        1_000,
+        "X2: the message could not be read=X2: the message could not be read",
+        "X3: the message could not be written 0",
+    ),
+];
+
+#[test]
+fn interrupted_calls(rt: HostRuntime) {
+    for (interrupts, read, written) in &INTERRUPTS {
+        let mut way = Way::of("1");
+        way.interrupts = *interrupts;
+        assert_told(&rt, both_over(&rt, rt.alloc(), way), read);
+        assert_told(&rt, written_over(&rt, rt.alloc(), way), written);
+    }
+}
+
+// What a failed read and a failed write tell: want of memory, or that the device failed.
+fn wanted_of(kind: ErrorKind) -> (&'static str, &'static str) {
+    match kind {
+        ErrorKind::OutOfMemory => ("X9: out of memory=X9: out of memory", "X9: out of memory 2"),
+        _ => (
+            "X2: the message could not be read=X2: the message could not be read",
+            "X3: the message could not be written 2",
+        ),
+    }
+}
+
+#[test]
+fn devices_fail_in_each_way(rt: HostRuntime) {
+    for kind in &KINDS {
+        let (of_read, of_write) = wanted_of(*kind);
+        let mut way = Way::of("11k");
+        way.kind = *kind;
+        assert_told(&rt, both_over(&rt, rt.alloc(), way), of_read);
+        assert_told(&rt, written_over(&rt, rt.alloc(), way), of_write);
+        // In the body too.
+        way.letters = "aak";
+        assert_told(&rt, both_over(&rt, rt.alloc(), way), of_read);
+    }
 }
 
 #[test]

@@ -14,9 +14,16 @@ fn folder_with(rt: &impl Abort, alloc: Global, bytes: &[u8]) -> MemoryFolder {
 }
 
 // The text of a file, the answer, and the text afterwards.
-const NUMBERS: [(&str, &str, &str); 5] = [
+const NUMBERS: [(&str, &str, &str); 8] = [
     ("7\n", "8\n", "8\n"),
     ("99\n", "100\n", "100\n"),
+    ("999\n", "1000\n", "1000\n"),
+    ("9876\n", "9877\n", "9877\n"),
+    (
+        "1234567890123456789\n",
+        "1234567890123456790\n",
+        "1234567890123456790\n",
+    ),
     (
         "18446744073709551614\n",
         "18446744073709551615\n",
@@ -45,6 +52,15 @@ fn ample_memory(rt: HostRuntime) {
             answers_after(&rt, alloc, before, answer, after),
             "{before:?}"
         );
+    }
+}
+
+// Each start has the number after that of the one before, however many there were.
+#[test]
+fn many_starts(rt: HostRuntime) {
+    let mut folder = MemoryFolder::new(rt.alloc());
+    for number in 1..=1_100 {
+        assert_eq!(rt; next_incarnation(rt.alloc(), &mut folder), Ok(number));
     }
 }
 

@@ -1,15 +1,21 @@
 //! What no contract says of segment files, of the folders that keep them, of messages and of links: worked examples,
-//! devices and calls of the system that fail, printed texts, and that calls succeed with ample memory. `incarnation`, `link`,
-//! `rows`, `segfile`, `store`, `stream` and `wire` have the names of the crates that they test; `serving` is of `druid_wire`,
-//! `tcp_links` of `druid_link`, and `store_double` of `druid_store`.
+//! devices and calls of the system that fail, printed texts, and that calls succeed with ample memory. `folder`,
+//! `incarnation`, `link`, `message`, `rows`, `segfile`, `store`, `stream` and `wire` have the names of the crates that they
+//! test; `serving` is of `druid_wire`, `tcp_links` and `tcp_double` of `druid_link`, and `store_double` of `druid_store`.
 #![tactic(auto)]
 
 #[cfg(test)]
 mod devices;
 #[cfg(test)]
+mod folder;
+#[cfg(test)]
 mod incarnation;
 #[cfg(test)]
+mod kinds;
+#[cfg(test)]
 mod link;
+#[cfg(test)]
+mod message;
 #[cfg(test)]
 mod printing;
 #[cfg(test)]
@@ -26,6 +32,8 @@ mod store_double;
 mod stream;
 #[cfg(test)]
 mod table;
+#[cfg(test)]
+mod tcp_double;
 #[cfg(test)]
 mod tcp_links;
 #[cfg(test)]

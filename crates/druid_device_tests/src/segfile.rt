@@ -1,3 +1,4 @@
+use crate::kinds::KINDS;
 use crate::printing::assert_prints;
 use druid_rows::Segment;
 use druid_segfile::{FileFault, read_segment, write_segment};
@@ -454,6 +455,25 @@ fn writers_fail(rt: HostRuntime) {
     for (room, fault, wanted) in &WRITES {
         let told = told_of_narrow(&rt, rt.alloc(), *room, *fault);
         assert!(rt; told == *wanted, "{room} {fault:?}: {told}");
+    }
+}
+
+// What is reported of a failed read and of a failed write: want of memory, or that the device failed.
+fn wanted_of(kind: ErrorKind) -> (&'static str, &'static str) {
+    match kind {
+        ErrorKind::OutOfMemory => ("F9", "F9"),
+        _ => ("F7", "F8"),
+    }
+}
+
+#[test]
+fn devices_fail_in_each_way(rt: HostRuntime) {
+    for kind in &KINDS {
+        let (of_read, of_write) = wanted_of(*kind);
+        let told = told_of_broken(&rt, rt.alloc(), 66, Some(*kind));
+        assert!(rt; told == of_read, "{kind:?}: {told}");
+        let told = told_of_narrow(&rt, rt.alloc(), 30, Some(*kind));
+        assert!(rt; told == of_write, "{kind:?}: {told}");
     }
 }
 

@@ -1,5 +1,6 @@
 use crate::printing::{assert_prints, printed};
-use druid_folder::{Folder, MAX_FILE, StoreFault, is_file_name};
+use crate::wire::patterned;
+use druid_folder::{Folder, StoreFault, is_file_name};
 use druid_incarnation::next_incarnation;
 use druid_store::{DiskFolder, MemoryFolder};
 use std::alloc::Global;
@@ -162,18 +163,68 @@ fn ample_memory_on_disk(rt: HostRuntime) {
     fs::remove_dir_all(&rt, path.as_str()).expect(&rt, "a removal");
 }
 
-// How much is read of a file that has two bytes more than 16 MiB.
-fn read_of_long<F: Folder>(rt: &impl Abort, alloc: Global, folder: &mut F) -> usize {
-    let bytes = vec![in alloc; 7; MAX_FILE + 2].expect(rt, "memory");
-    folder.write("b", &bytes).expect(rt, "a write");
+// How many bytes a file has, and how many of them a read gives.
+const SIZES: [(usize, usize); 4] = [
+    (1_048_576, 1_048_576),
+    (16_777_216, 16_777_216),
+    (16_777_217, 16_777_217),
+    (16_777_218, 16_777_217),
+];
+
+// Whether a read of a file of these bytes gives so many of them, from the first on.
+fn gives<F: Folder>(
+    rt: &impl Abort,
+    alloc: Global,
+    folder: &mut F,
+    bytes: &[u8],
+    read: usize,
+) -> bool {
+    folder.write("b", bytes).expect(rt, "a write");
     let found = folder.read(alloc, "b").expect(rt, "a read");
-    found.expect(rt, "a file").len()
+    let found = found.expect(rt, "a file");
+    found.len() == read && found.as_slice() == &bytes[..read.min(bytes.len())]
 }
 
 #[test]
-fn long_file(rt: HostRuntime) {
+fn long_files(rt: HostRuntime) {
     let path = path_for(&rt, "long").expect(&rt, "a path");
     let mut folder = fresh_folder(&rt, &path).expect(&rt, "a folder");
-    assert_eq!(rt; read_of_long(&rt, rt.alloc(), &mut folder), MAX_FILE + 1);
+    let bytes = patterned(&rt, rt.alloc(), 16_777_218);
+    for (size, read) in &SIZES {
+        let bytes = &bytes[..bytes.len().min(*size)];
+        assert!(rt; gives(&rt, rt.alloc(), &mut folder, bytes, *read), "{size}");
+    }
     fs::remove_dir_all(&rt, path.as_str()).expect(&rt, "a removal");
+}
+
+// How many files a folder of many files has.
+const MANY: u32 = 300;
+
+// Writes many files, with the last name in order first, and gives the names as they are to be listed.
+fn write_many<F: Folder>(rt: &impl Abort, alloc: Global, folder: &mut F) -> String {
+    let mut names = String::new(alloc);
+    for number in 0..MANY {
+        let last = 9_999 - number;
+        let name = format!(in alloc; "f{last}.seg").expect(rt, "memory");
+        write(rt, folder, name.as_str(), "x");
+        let first = 10_000 - MANY + number;
+        let listed = format!(in alloc; "f{first}.seg ").expect(rt, "memory");
+        names.push_str(listed.as_str()).expect(rt, "memory");
+    }
+    names
+}
+
+// Whether a folder of many files lists each of them.
+fn lists_many<F: Folder>(rt: &impl Abort, alloc: Global, folder: &mut F) -> bool {
+    let names = write_many(rt, alloc, folder);
+    lists(rt, alloc, folder, names.as_str())
+}
+
+#[test]
+fn many_files(rt: HostRuntime) {
+    let path = path_for(&rt, "many").expect(&rt, "a path");
+    let mut folder = fresh_folder(&rt, &path).expect(&rt, "a folder");
+    assert!(rt; lists_many(&rt, rt.alloc(), &mut folder));
+    fs::remove_dir_all(&rt, path.as_str()).expect(&rt, "a removal");
+    assert!(rt; lists_many(&rt, rt.alloc(), &mut MemoryFolder::new(rt.alloc())));
 }

@@ -186,9 +186,10 @@ impl OpenFile for Opened {
 }
 
 // A folder over a double of which that call, counted from 1, fails in that way. None does for 0.
-fn folder_of(
+fn folder_at(
     rt: &impl Abort,
     alloc: Global,
+    path: &str,
     failing: u64,
     kind: ErrorKind,
 ) -> (DiskFolder<Double>, Rc<Tape>) {
@@ -202,8 +203,18 @@ fn folder_of(
         alloc,
         tape: tape.clone().expect(rt, "memory"),
     };
-    let path = String::from_str(alloc, "d").expect(rt, "memory");
+    let path = String::from_str(alloc, path).expect(rt, "memory");
     (DiskFolder::new(double, path), tape)
+}
+
+// The same at one path.
+fn folder_of(
+    rt: &impl Abort,
+    alloc: Global,
+    failing: u64,
+    kind: ErrorKind,
+) -> (DiskFolder<Double>, Rc<Tape>) {
+    folder_at(rt, alloc, "d", failing, kind)
 }
 
 // What a call on a folder answers, as a text: names and bytes as they are, and a fault as it is printed.
@@ -267,11 +278,13 @@ fn made_on(rt: &impl Abort, alloc: Global, tape: &Tape) -> String {
     owned(rt, alloc, made.as_str())
 }
 
-// Whether a call answers that, with those calls of the system. The file takes a byte at a time.
-fn makes(rt: &impl Abort, alloc: Global, call: &str, answer: &str, calls: &str) -> bool {
-    let (mut folder, tape) = folder_of(rt, alloc, 0, ErrorKind::Other);
-    answer_of(rt, alloc, &mut folder, call).as_str() == answer
-        && made_on(rt, alloc, &tape).as_str() == calls
+// Asserts that a call on the folder at that path answers that, with those calls of the system. The file takes a byte at a time.
+fn assert_makes(rt: &impl Abort, alloc: Global, path: &str, call: &str, answer: &str, calls: &str) {
+    let (mut folder, tape) = folder_at(rt, alloc, path, 0, ErrorKind::Other);
+    let given = answer_of(rt, alloc, &mut folder, call);
+    assert!(rt; given.as_str() == answer, "{call}: {given}");
+    let made = made_on(rt, alloc, &tape);
+    assert!(rt; made.as_str() == calls, "{call}: {made}");
 }
 
 // What a call answers where one call of the system fails in that way.
@@ -303,7 +316,28 @@ const CALLS_MADE: [(&str, &str, &str); 6] = [
 #[test]
 fn calls_of_the_system(rt: HostRuntime) {
     for (call, answer, calls) in &CALLS_MADE {
-        assert!(rt; makes(&rt, rt.alloc(), call, answer, calls), "{call}");
+        assert_makes(&rt, rt.alloc(), "d", call, answer, calls);
+    }
+}
+
+// The same of a folder whose path is empty: it is the working folder, and not the root.
+const CALLS_WITHOUT_A_PATH: [(&str, &str, &str); 6] = [
+    (
+        "list",
+        "abcde",
+        "folder:./ read status:./e status:./c status:./a status:./d status:./b read ",
+    ),
+    ("read", "xxx", "status:a open:a read read read read "),
+    ("write", "done", "create:a write write sync "),
+    ("sync", "done", "open:. sync "),
+    ("rename", "done", "from:a to:b "),
+    ("remove", "done", "remove:a "),
+];
+
+#[test]
+fn working_folder(rt: HostRuntime) {
+    for (call, answer, calls) in &CALLS_WITHOUT_A_PATH {
+        assert_makes(&rt, rt.alloc(), "", call, answer, calls);
     }
 }
 

@@ -2,8 +2,9 @@
 use crate::link::{REQUEST, exchanged_for};
 use crate::printing::printed;
 use crate::table::{assert_row, assert_told, halves, is_told};
-use crate::wire::large;
+use crate::wire::{large, patterned};
 use druid_link::{Link, MAX_EXCHANGE, TcpLink};
+use druid_message::WireFault;
 use std::alloc::Global;
 use std::io::{Read, Write};
 use std::net::{Net, TcpListener, TcpStream};
@@ -145,4 +146,83 @@ fn an_address_that_is_none(rt: HostRuntime) {
     let address = printed(&rt, rt.alloc(), &"nowhere");
     let told = told(&rt, rt.alloc(), &mut TcpLink::new(&rt, address), REQUEST);
     assert_told(&rt, told, "X8: no connection, 1");
+}
+
+fn read_in_pieces(socket: &mut TcpStream, bytes: &mut [u8], piece: usize) -> io::Result<()> {
+    for part in bytes.chunks_mut(piece.max(1)) {
+        socket.read_exact(part)?;
+    }
+    Ok(())
+}
+
+fn write_in_pieces(socket: &mut TcpStream, bytes: &[u8], piece: usize) -> io::Result<()> {
+    for part in bytes.chunks(piece.max(1)) {
+        socket.write_all(part)?;
+    }
+    Ok(())
+}
+
+// Reads a request of as many bytes as this has, and answers it, in pieces of so many bytes: whether that is what was sent.
+fn serve_in_pieces(
+    listener: &TcpListener,
+    received: &mut [u8],
+    answer: &[u8],
+    piece: usize,
+) -> io::Result<()> {
+    let (mut socket, _) = listener.accept()?;
+    read_in_pieces(&mut socket, received, piece)?;
+    write_in_pieces(&mut socket, answer, piece)
+}
+
+// What came: the answer, other bytes, or a fault.
+fn came_of(
+    rt: &impl Abort,
+    alloc: Global,
+    came: Result<Vec<u8>, WireFault>,
+    answer: &[u8],
+) -> String {
+    match came {
+        Ok(bytes) if bytes.as_slice() == answer => printed(rt, alloc, &"the answer"),
+        Ok(bytes) => printed(rt, alloc, &bytes.len()),
+        Err(fault) => printed(rt, alloc, &fault),
+    }
+}
+
+// What an exchange tells of a request and an answer of so many bytes, in pieces of so many.
+fn told_of_sizes<
+    R: Net<Listener = TcpListener, Stream = TcpStream> + Clock + Threads + Abort + Sync,
+>(rt: &R, alloc: Global, sizes: (usize, usize, usize)) -> String {
+    let listener = listening(rt);
+    let mut link = linked(rt, address_of(rt, alloc, &listener), "answers");
+    let (request, answer) = (patterned(rt, alloc, sizes.0), patterned(rt, alloc, sizes.1));
+    let mut received = large(rt, alloc, sizes.0);
+    let (_served, came) = join(
+        rt,
+        || serve_in_pieces(&listener, &mut received, &answer, sizes.2).is_ok(),
+        || link.exchange(alloc, &request),
+    );
+    assert_row(
+        rt,
+        "another request",
+        received.as_slice() == request.as_slice(),
+    );
+    came_of(rt, alloc, came, &answer)
+}
+
+// The bytes of a request, those of its answer, those of each piece, and what comes.
+const SIZES: [((usize, usize, usize), &str); 7] = [
+    ((1, 1, 1), "the answer"),
+    ((7, 0, 7), "the answer"),
+    ((16_384, 16_385, 1), "the answer"),
+    ((16_385, 65_537, 7), "the answer"),
+    ((1_000_000, 16_384, 65_537), "the answer"),
+    ((16_793_600, 16_793_600, 65_537), "the answer"),
+    ((1, 16_793_601, 65_537), "X7: the body is too long"),
+];
+
+#[test]
+fn requests_and_answers_are_whole(rt: HostRuntime) {
+    for (sizes, wanted) in &SIZES {
+        assert_told(&rt, told_of_sizes(&rt, rt.alloc(), *sizes), wanted);
+    }
 }

@@ -320,7 +320,9 @@ struct LargeResponses;
 impl Table for LargeResponses {
     fn holds(&self, rt: &impl Abort, alloc: Global, what: &str, wanted: &str) -> bool {
         let text = large_head(rt, alloc, RESPONSE_LINES, what);
-        is_told(found_in(rt, alloc, &text), wanted)
+        // What is left after a response that is read is reported too.
+        let read = response_in(rt, alloc, &text);
+        is_told(found_in(rt, alloc, &text), wanted) && read.as_str().starts_with(wanted)
     }
 }
 
@@ -339,6 +341,57 @@ impl Table for CutHeads {
     }
 }
 
+// The fault where there is one, and how many bytes of a text were read.
+fn fault_beside(
+    rt: &impl Abort,
+    alloc: Global,
+    fault: Option<WireFault>,
+    text: &[u8],
+    rest: &[u8],
+) -> String {
+    let read = text.len().saturating_sub(rest.len());
+    match fault {
+        Some(fault) => beside(rt, alloc, &fault, &read),
+        None => beside(rt, alloc, &"no fault", &read),
+    }
+}
+
+fn request_fault(rt: &impl Abort, alloc: Global, text: &[u8]) -> String {
+    let mut rest = text;
+    let fault = read_request(alloc, &mut rest).err();
+    fault_beside(rt, alloc, fault, text, rest)
+}
+
+fn response_fault(rt: &impl Abort, alloc: Global, text: &[u8]) -> String {
+    let mut rest = text;
+    let fault = read_response(alloc, &mut rest).err();
+    fault_beside(rt, alloc, fault, text, rest)
+}
+
+// So many line feeds and nothing else: the fault, and how many of them are read, as a request and as a response.
+struct LineFeeds;
+
+impl Table for LineFeeds {
+    fn holds(&self, rt: &impl Abort, alloc: Global, what: &str, wanted: &str) -> bool {
+        let text = vec![in alloc; b'\n'; number(rt, what)].expect(rt, "memory");
+        let found = found_in(rt, alloc, &text);
+        is_told(request_fault(rt, alloc, &text), wanted)
+            && is_told(response_fault(rt, alloc, &text), wanted)
+            && wanted.starts_with(found.as_str())
+    }
+}
+
+// Blank lines count, and a client that sends nothing else is not read for ever.
+#[test]
+fn blank_lines(rt: HostRuntime) {
+    let rows = "0 = X1: the message is cut off 0
+1 = X1: the message is cut off 1
+16384 = X1: the message is cut off 16384
+16385 = X5: the head is too long 16385
+20000 = X5: the head is too long 16385";
+    assert_rows(&rt, rt.alloc(), &LineFeeds, rows, " = ");
+}
+
 #[test]
 fn cut_heads(rt: HostRuntime) {
     let rows = "16383 = X1: the message is cut off
@@ -352,7 +405,11 @@ fn cut_heads(rt: HostRuntime) {
 fn limits(rt: HostRuntime) {
     let requests = "bytes 16383 0 = GET / [] []
 bytes 16384 0 = GET / [] []
-bytes 16384 9000 = GET / [] []
+bytes 16382 1 = GET / [] []
+bytes 16383 1 = X5: the head is too long
+bytes 16384 9000 = X5: the head is too long
+bytes 100 8142 = GET / [] []
+bytes 100 8143 = X5: the head is too long
 bytes 16385 0 = X5: the head is too long
 bytes 16386 0 = X5: the head is too long
 bytes 50000 1 = X5: the head is too long
@@ -361,7 +418,11 @@ fields 65 0 = X5: the head is too long
 fields 200 0 = X5: the head is too long";
     assert_rows(&rt, rt.alloc(), &LargeRequests, requests, " = ");
     let responses = "bytes 16384 0 = 200 []
-bytes 16384 9000 = 200 []
+bytes 16382 1 = 200 []
+bytes 16383 1 = X5: the head is too long
+bytes 16384 9000 = X5: the head is too long
+bytes 100 8142 = 200 []
+bytes 100 8143 = X5: the head is too long
 bytes 16385 0 = X5: the head is too long
 bytes 16386 0 = X5: the head is too long
 bytes 50000 1 = X5: the head is too long
@@ -464,6 +525,22 @@ POST /q abcdefghijkl = POST /q HTTP/1.1|Host: localhost|Content-Type: applicatio
 // A body of so many bytes.
 pub(crate) fn large(rt: &impl Abort, alloc: Global, length: usize) -> Vec<u8> {
     vec![in alloc; b'x'; length].expect(rt, "memory")
+}
+
+/// So many bytes, of which neighbours differ.
+pub(crate) fn patterned(rt: &impl Abort, alloc: Global, length: usize) -> Vec<u8> {
+    let mut pattern = [0u8; 251];
+    let mut next: u8 = 0;
+    for byte in pattern.iter_mut() {
+        *byte = next;
+        next = next.wrapping_add(1);
+    }
+    let mut bytes = large(rt, alloc, length);
+    for part in bytes.chunks_mut(251) {
+        let count = part.len().min(251);
+        part[..count].copy_from_slice(&pattern[..count]);
+    }
+    bytes
 }
 
 fn is_text(written: &[u8], head: &[u8], count: usize) -> bool {
