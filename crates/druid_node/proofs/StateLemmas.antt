@@ -16,7 +16,7 @@ use Rattle.druid_changes.specs.Kept.{Kept, StandsFor, IsKept, last_count, refusa
 use Rattle.druid_changes.specs.declared.fault.HistoryFault.{HistoryFault}
 use Rattle.druid_changes.specs.declared.fault.HistoryFault.TheVariants.{Served, NotServed, Full, CountAtEnd, Memory}
 use Rattle.druid_changes.proofs.HistoryLemmas.{no_refusal, stands-more}
-use Rattle.druid_rows.specs.Segment.{Segment, IsSegment}
+use Rattle.druid_rows.specs.Segment.{Segment, IsSegment, HaveWords}
 use Rattle.druid_node.specs.State.{State, IsState, descriptor_of, descriptors_of, HoldsMore, HoldsLess, Records, Takes, Leaves, RefusesToDrop}
 use Rattle.druid_partial.specs.Once.{segment_named}
 use Rattle.druid_node.specs.Held.{IsWhole, IsHeld, with_held, without_held}
@@ -141,6 +141,7 @@ loaded-state state now s new held ready whole is recorded =
     record {
       serves = ap descriptors_of is ∙ with_held-descriptors state.held s whole.described ready.set.each none ∙ ap (with_segment s.descriptor) ready.valid.serves ∙ sym set;
       each = subst (All IsSegment) (sym is) (All-with_held IsSegment s state.held whole.valid ready.valid.each);
+      words = subst (All HaveWords) (sym is) (All-with_held HaveWords s state.held whole.words ready.valid.words);
     }
 
 records : (state now : State) (c : Change) (new : Kept) → IsReady state now c → IsRecorded state.history new c → Records now.history new c
@@ -226,6 +227,7 @@ dropped-state state now id s new held ready found is recorded =
     record {
       serves = ap descriptors_of is ∙ without_held-descriptors state.held id s ready.set whole.described same (sym found) ∙ ap (without_segment s.descriptor) ready.valid.serves ∙ sym set;
       each = subst (All IsSegment) (sym is) (All-without_held IsSegment id state.held ready.valid.each);
+      words = subst (All HaveWords) (sym is) (All-without_held HaveWords id state.held ready.valid.words);
     }
 
 pub dropped-leaves : (state now : State) (id : Identifier) (s : Segment) (new : Kept) (held : List Segment) → IsReady state now (Drop s.descriptor) → Some s ≡ segment_named id state.held → held ≡ without_held id state.held

@@ -5,13 +5,14 @@ use Rattle.std.specs.Ordering.{match_ordering}
 use Rattle.druid_segid.specs.Identifier.{Identifier, same_identifier, identifier_cmp}
 use Rattle.druid_shard.specs.Described.{IsDescribed}
 use Rattle.druid_shard.specs.Replay.{IsSegmentSet}
-use Rattle.druid_rows.specs.Segment.{Segment, IsSegment}
+use Rattle.druid_rows.specs.Segment.{Segment, IsSegment, HaveWords}
 use Rattle.druid_node.specs.State.{descriptors_of}
 
 -- what a segment that is held keeps
 pub record IsWhole (s : Segment) : Type 0 where
   pub described : IsDescribed s.descriptor
   pub valid : IsSegment s
+  pub words : HaveWords s
 
 -- segments of a set that a node may serve, in its order
 pub record IsHeld (held : List Segment) : Type 0 where

@@ -4,7 +4,7 @@ use Rattle.druid_segid.specs.Identifier.{Identifier}
 use Rattle.druid_shard.specs.Described.{Described}
 use Rattle.druid_shard.specs.declared.change.Change.{Change}
 use Rattle.druid_shard.specs.declared.change.Change.TheVariants.{Load, Drop}
-use Rattle.druid_rows.specs.Segment.{Segment, IsSegment}
+use Rattle.druid_rows.specs.Segment.{Segment, IsSegment, HaveWords}
 use Rattle.druid_partial.specs.Once.{segment_named}
 use Rattle.druid_changes.specs.Kept.{Kept, StandsFor, refusal}
 use Rattle.druid_changes.specs.declared.fault.HistoryFault.TheVariants.{NotServed}
@@ -27,6 +27,7 @@ descriptors_of held = map descriptor_of held
 pub record IsState (state : State) : Type 0 where
   pub serves : descriptors_of state.held ≡ state.history.set
   pub each : All IsSegment state.held
+  pub words : All HaveWords state.held
 
 -- the new ones are the old ones and the segment, whose identifier none of them has
 pub record HoldsMore (old new : List Segment) (segment : Segment) : Type 0 where

@@ -19,7 +19,7 @@ pub invariant_of-self-in-Ok : goal.invariant_of-self-in-Ok
 invariant_of-self-in-Ok c =
     let ready : IsReady _ c.args.self.now (Load c.args.segment.descriptor) = record { view = c.self.view_is; valid = c.self.invariant; set = c.len-held.ensures.valid; kept = c.mark-mark.ensures.kept; taken = c.requires } in
     let same : c.in_ok-descriptor.descriptor ≡ c.args.segment.descriptor = c.in_ok-descriptor.ensures.cases ∙ c.descriptor.ensures.value in
-    let whole : IsWhole c.args.segment = record { described = subst IsDescribed same c.id.ensures.valid; valid = c.descriptor.ensures.valid } in
+    let whole : IsWhole c.args.segment = record { described = subst IsDescribed same c.id.ensures.valid; valid = c.descriptor.ensures.valid; words = c.descriptor.ensures.words } in
     let recorded = recorded_as c.self.inside.history c.record.new.self c.in_ok-descriptor.descriptor c.args.segment.descriptor same c.in-Ok.ensures.place c.in-Ok.ensures.stands in
     loaded-state _ c.args.self.now c.args.segment c.record.new.self c.insert.new.self ready whole c.in_ok-insert.ensures.inserted recorded
 
@@ -27,7 +27,7 @@ pub returns-in-Ok-clause-ok : goal.returns-in-Ok-clause-ok
 returns-in-Ok-clause-ok c =
     let ready : IsReady _ c.args.self.now (Load c.args.segment.descriptor) = record { view = c.self.view_is; valid = c.self.invariant; set = c.len-held.ensures.valid; kept = c.mark-mark.ensures.kept; taken = c.requires } in
     let same : c.in_ok-descriptor.descriptor ≡ c.args.segment.descriptor = c.in_ok-descriptor.ensures.cases ∙ c.descriptor.ensures.value in
-    let whole : IsWhole c.args.segment = record { described = subst IsDescribed same c.id.ensures.valid; valid = c.descriptor.ensures.valid } in
+    let whole : IsWhole c.args.segment = record { described = subst IsDescribed same c.id.ensures.valid; valid = c.descriptor.ensures.valid; words = c.descriptor.ensures.words } in
     let recorded = recorded_as c.self.inside.history c.record.new.self c.in_ok-descriptor.descriptor c.args.segment.descriptor same c.in-Ok.ensures.place c.in-Ok.ensures.stands in
     loaded-takes _ c.args.self.now c.args.segment c.record.new.self c.insert.new.self ready whole c.in_ok-insert.ensures.inserted recorded
 
@@ -35,7 +35,7 @@ pub remove-requires : goal.remove-requires
 remove-requires c =
     let ready : IsReady _ c.args.self.now (Load c.args.segment.descriptor) = record { view = c.self.view_is; valid = c.self.invariant; set = c.len-held.ensures.valid; kept = c.mark-mark.ensures.kept; taken = c.requires } in
     let same : c.in_ok-descriptor.descriptor ≡ c.args.segment.descriptor = c.in_ok-descriptor.ensures.cases ∙ c.descriptor.ensures.value in
-    let whole : IsWhole c.args.segment = record { described = subst IsDescribed same c.id.ensures.valid; valid = c.descriptor.ensures.valid } in
+    let whole : IsWhole c.args.segment = record { described = subst IsDescribed same c.id.ensures.valid; valid = c.descriptor.ensures.valid; words = c.descriptor.ensures.words } in
     let id = c.in_ok-id.ensures.cases ∙ c.id.ensures.value ∙ ap (λ (d : Described). d.id) same in
     loaded-there _ c.args.self.now c.args.segment c.in_ok-id.id c.insert.new.self ready whole c.in_ok-insert.ensures.inserted id
 
@@ -43,7 +43,7 @@ pub invariant_of-self-in-Err : goal.invariant_of-self-in-Err
 invariant_of-self-in-Err c =
     let ready : IsReady _ c.args.self.now (Load c.args.segment.descriptor) = record { view = c.self.view_is; valid = c.self.invariant; set = c.len-held.ensures.valid; kept = c.mark-mark.ensures.kept; taken = c.requires } in
     let same : c.in_ok-descriptor.descriptor ≡ c.args.segment.descriptor = c.in_ok-descriptor.ensures.cases ∙ c.descriptor.ensures.value in
-    let whole : IsWhole c.args.segment = record { described = subst IsDescribed same c.id.ensures.valid; valid = c.descriptor.ensures.valid } in
+    let whole : IsWhole c.args.segment = record { described = subst IsDescribed same c.id.ensures.valid; valid = c.descriptor.ensures.valid; words = c.descriptor.ensures.words } in
     let id = c.in_ok-id.ensures.cases ∙ c.id.ensures.value ∙ ap (λ (d : Described). d.id) same in
     state_stays _ c.record.new.self c.remove.new.self c.self.invariant c.in-Err.ensures.unchanged
     (loaded-undone _ c.args.self.now c.args.segment c.in_ok-id.id c.insert.new.self c.remove.new.self ready whole c.in_ok-insert.ensures.inserted id c.remove.ensures.removed)
@@ -52,7 +52,7 @@ pub returns-clause-unchanged : goal.returns-clause-unchanged
 returns-clause-unchanged c =
     let ready : IsReady _ c.args.self.now (Load c.args.segment.descriptor) = record { view = c.self.view_is; valid = c.self.invariant; set = c.len-held.ensures.valid; kept = c.mark-mark.ensures.kept; taken = c.requires } in
     let same : c.in_ok-descriptor.descriptor ≡ c.args.segment.descriptor = c.in_ok-descriptor.ensures.cases ∙ c.descriptor.ensures.value in
-    let whole : IsWhole c.args.segment = record { described = subst IsDescribed same c.id.ensures.valid; valid = c.descriptor.ensures.valid } in
+    let whole : IsWhole c.args.segment = record { described = subst IsDescribed same c.id.ensures.valid; valid = c.descriptor.ensures.valid; words = c.descriptor.ensures.words } in
     let id = c.in_ok-id.ensures.cases ∙ c.id.ensures.value ∙ ap (λ (d : Described). d.id) same in
     same_state _ c.args.self.now c.record.new.self c.remove.new.self c.self.view_is c.in-Err.ensures.unchanged
     (loaded-undone _ c.args.self.now c.args.segment c.in_ok-id.id c.insert.new.self c.remove.new.self ready whole c.in_ok-insert.ensures.inserted id c.remove.ensures.removed)
