@@ -8,7 +8,7 @@ use Rattle.serde_json.specs.Data.{Data}
 use Rattle.serde_json.specs.Read.{read}
 use Rattle.druid_shard.proofs.MemberLemmas.{Contains-later}
 use Rattle.druid_timeline.proofs.HoldingLemmas.{from_filter, in_filter}
-use Rattle.druid_rows.specs.Segment.{Segment}
+use Rattle.druid_rows.specs.Segment.{Segment, HaveWords}
 use Rattle.druid_query.specs.Query.{Query}
 use Rattle.druid_query.specs.Read.{IsQuery}
 use Rattle.druid_query.specs.Asked.{Asked}
@@ -35,7 +35,7 @@ use Rattle.druid_node.specs.Routes.{Responds, RespondsInTurn, AnswersQuery}
 use Rattle.druid_scatter.specs.Gathered.{sub_of, request_for}
 use Rattle.druid_scatter.specs.Exact.{without, IsHonest}
 use Rattle.druid_scatter.proofs.ExactLemmas.{any_found, any_told}
-use Rattle.druid_headline.specs.Headline.{HasWords, AreAmong}
+use Rattle.druid_headline.specs.Headline.{AreAmong}
 use Rattle.druid_headline.proofs.TextLemmas.{subquery_read, answer_text_read}
 use Rattle.druid_headline.proofs.WordLemmas.{groups_held, all_of_each}
 
@@ -87,7 +87,7 @@ status_fits held bytes status body (inr t) = let is = t.3.status_is in (omega (a
 
 -- what an answer tells is what was written of it
 told_is : (sub : SubQuery) (held : List Segment) (a : NodeAnswer) (json : Data) (missed : List Asked) (groups : List Group)
-    → IsQuery sub.query → IsAsked sub.query.source sub.asked → All HasWords held → IsAnswerOf held sub a
+    → IsQuery sub.query → IsAsked sub.query.source sub.asked → All HaveWords held → IsAnswerOf held sub a
     → read (answer_text a) ≡ Some json → TellsAnswer sub json missed groups → (a.missing ≡ missed) × (a.partial.groups ≡ groups)
 told_is sub held a json missed groups is asked words answer reads tells =
     let was_asked : WereAsked sub a.missing = λ x there.
@@ -146,7 +146,7 @@ pieces_told query held segments asked among =
 -- ---- the whole
 
 pub honest : (state : State) (query : Query) (asked : List Asked) (node status : ℕ) (body : List ℕ) (segments : List Segment)
-    → IsQuery query → IsAsked query.source asked → All HasWords state.held → Responds state (request_for query asked) status body
+    → IsQuery query → IsAsked query.source asked → All HaveWords state.held → Responds state (request_for query asked) status body
     → AreAmong asked state.held segments
     → IsHonest query segments (record { node = node; asked = asked; came = Ok (wire.answer_text status body) })
 honest state query asked node status body segments is pieces words responds among missed groups told_so =
@@ -174,7 +174,7 @@ other_status query asked node status body segments low high other missed groups 
 
 -- and so is one that may tell out of memory in the place of the answer
 pub honest_in_turn : (state : State) (query : Query) (asked : List Asked) (node status : ℕ) (body : List ℕ) (segments : List Segment)
-    → IsQuery query → IsAsked query.source asked → All HasWords state.held → RespondsInTurn state (request_for query asked) status body
+    → IsQuery query → IsAsked query.source asked → All HaveWords state.held → RespondsInTurn state (request_for query asked) status body
     → AreAmong asked state.held segments
     → IsHonest query segments (record { node = node; asked = asked; came = Ok (wire.answer_text status body) })
 honest_in_turn state query asked node status body segments is pieces words (inl responds) among = honest state query asked node status body segments is pieces words responds among

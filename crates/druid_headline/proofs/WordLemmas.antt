@@ -15,9 +15,9 @@ use Rattle.druid_time.specs.declared.granularity.Granularity.{Granularity}
 use Rattle.druid_time.specs.declared.granularity.Granularity.TheVariants as granularity
 use Rattle.druid_shard.proofs.MemberLemmas.{Contains-nil, Contains-later, Contains-map, Contains-flat_map}
 use Rattle.druid_timeline.proofs.HoldingLemmas.{from_filter}
-use Rattle.druid_rows.specs.Rows.{Schema, Row}
+use Rattle.druid_rows.specs.Rows.{Schema, Row, HasWords}
 use Rattle.druid_filter.specs.Filters.{value_in}
-use Rattle.druid_rows.specs.Segment.{Segment}
+use Rattle.druid_rows.specs.Segment.{Segment, HaveWords}
 use Rattle.druid_query.specs.Query.{Query, Aggregator}
 use Rattle.druid_query.specs.Read.{IsQuery}
 use Rattle.druid_query.specs.Asked.{Asked}
@@ -29,7 +29,6 @@ use Rattle.druid_partial.specs.Rows.{number_in, earliest, one_or, taken, tells, 
 use Rattle.druid_partial.specs.Once.{segment_named, told_in, told_of, told}
 use Rattle.druid_partial_text.specs.Written.{IsHeld}
 use Rattle.druid_node.proofs.HeldLemmas.{found_each}
-use Rattle.druid_headline.specs.Headline.{HasWords}
 
 abbrev IsWord : Option ℤ → Type 0
 IsWord x = IfSome x (FitsSigned w64)
@@ -85,17 +84,17 @@ asked_instant query piece fields row valid asked =
     let before : row.time < piece.end = ltb-true row.time piece.end (and_parts (nat_le piece.start row.time) (nat_lt row.time piece.end) within).1 in
     omega (arith, before, valid.1)
 
-row_held : (query : Query) (piece : Extent) (s : Segment) (row : Row) → IsQuery query → IsExtent piece → HasWords s → Contains s.rows row → is_asked query piece s.fields row ≡ true
+row_held : (query : Query) (piece : Extent) (s : Segment) (row : Row) → IsQuery query → IsExtent piece → HaveWords s → Contains s.rows row → is_asked query piece s.fields row ≡ true
     → IsHeld (tells query s.fields row)
 row_held query piece s row is valid words there asked = record {
   bucket = bucket_instant query.granularity row.time (earliest query.intervals) (asked_instant query piece s.fields row valid asked)
       (earliest_instant query.intervals (query_sound query is).times.each);
-  words = taken_words s.fields row query.aggregations (All-contains (λ (r : Row). AreWords r.metrics) s.rows row words there);
+  words = taken_words s.fields row query.aggregations (All-contains HasWords s.rows row words there);
 }
 
 -- ---- what all pieces tell
 
-told_held : (query : Query) (held : List Segment) (asked : List Asked) → IsQuery query → ((a : Asked) → Contains asked a → IsExtent a.1) → All HasWords held
+told_held : (query : Query) (held : List Segment) (asked : List Asked) → IsQuery query → ((a : Asked) → Contains asked a → IsExtent a.1) → All HaveWords held
     → (row : Group) → Contains (told query held asked) row → IsHeld row
 told_held query held asked is valid words row there =
     let piece = Contains-flat_map (told_of query held) asked row there in
@@ -106,7 +105,7 @@ told_held query held asked is valid words row there =
     of_found a (Some s) e piece there =
         let told_row = Contains-map (tells query s.fields) _ row there in
         let passed = from_filter (is_asked query a.1 s.fields) s.rows told_row.0 told_row.1 in
-        subst IsHeld told_row.2 (row_held query a.1 s told_row.0 is piece (found_each HasWords held a.0 s words e) passed.0 passed.1)
+        subst IsHeld told_row.2 (row_held query a.1 s told_row.0 is piece (found_each HaveWords held a.0 s words e) passed.0 passed.1)
 
 -- ---- aggregates
 
@@ -160,7 +159,7 @@ result_held kinds rows groups held result =
       words = group_words kinds rows g held of_rows;
     })
 
-pub groups_held : (query : Query) (held : List Segment) (asked : List Asked) (groups : List Group) → IsQuery query → ((a : Asked) → Contains asked a → IsExtent a.1) → All HasWords held
+pub groups_held : (query : Query) (held : List Segment) (asked : List Asked) (groups : List Group) → IsQuery query → ((a : Asked) → Contains asked a → IsExtent a.1) → All HaveWords held
     → IsResult (kinds_of query) (told query held asked) groups → All IsHeld groups
 groups_held query held asked groups is valid words result =
     result_held (kinds_of query) (told query held asked) groups

@@ -1,13 +1,11 @@
 -- What a user of a broker relies on: what nodes serve in a world at the marks at which the broker stands, and the rows that are
 -- visible there.
-use Rattle.std.specs.Prelude.{◌≡◌, ℕ, List, slice_get, Some, All, Contains, ◌↔◌}
+use Rattle.std.specs.Prelude.{◌≡◌, ℕ, List, slice_get, Some, Contains, ◌↔◌}
 use Rattle.druid_shard.specs.Described.{Described}
 use Rattle.druid_shard.specs.Mark.{Point}
 use Rattle.druid_timeline.specs.Holding.{Held, held_of}
-use Rattle.druid_rows.specs.Rows.{Row}
 use Rattle.druid_rows.specs.Segment.{Segment}
 use Rattle.druid_query.specs.Asked.{Asked}
-use Rattle.druid_partial.specs.Groups.{AreWords}
 use Rattle.druid_partial.specs.Once.{HaveOwnSegments, segment_named}
 use Rattle.druid_world.specs.World.{Life, eras_of, set_at}
 
@@ -30,10 +28,6 @@ pub record AreServedAt (world : List Life) (marks : List Point) (source : List �
       → (node : ℕ) × (d : Described) × ServesAt world marks node d × (d.id ≡ s.descriptor.id) × (s.descriptor.id.source ≡ source)
   pub all : (node : ℕ) (d : Described) → ServesAt world marks node d → d.id.source ≡ source
       → (s : Segment) × Contains segments s × (s.descriptor.id ≡ d.id)
-
--- the numbers of its rows are of 64 bits
-abbrev pub HasWords : Segment → Type 0
-HasWords s = All (λ (row : Row). AreWords row.metrics) s.rows
 
 -- of the pieces that are asked for, those of a segment that is held are of a segment of the list: what a node holds besides does
 -- not matter

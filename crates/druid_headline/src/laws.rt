@@ -12,13 +12,13 @@ ghost use Rattle.druid_partial.specs.Groups.{Group, IsResult};
 ghost use Rattle.druid_partial.specs.Rows.{kinds_of};
 ghost use Rattle.druid_partial_text.specs.Written.{result_text};
 ghost use Rattle.druid_wire.specs.Written.{answer_text};
-ghost use Rattle.druid_node.specs.State.{State};
+ghost use Rattle.druid_node.specs.State.{State, IsState};
 ghost use Rattle.druid_node.specs.Routes.{RespondsInTurn};
 ghost use Rattle.druid_scatter.specs.Gathered.{Exchange, request_for};
 ghost use Rattle.druid_scatter.specs.Exact.{IsHonest, Sees, told_visible};
 ghost use Rattle.druid_broker.specs.Queries.{AnswersRows};
 ghost use Rattle.druid_world.specs.World.{Life, IsInventoryOf, marks_of};
-ghost use Rattle.druid_headline.specs.Headline.{IsHeldAt, AreServedAt, HasWords, AreAmong};
+ghost use Rattle.druid_headline.specs.Headline.{IsHeldAt, AreServedAt, AreAmong};
 
 use druid_link::Link;
 
@@ -45,10 +45,10 @@ pub fn queries_are_exact<L: Link>()
 
 /// What a data node of ours answers to a request for pieces is honest, out of memory included, over any list of segments in
 /// which each segment that it holds and is asked for stands under its identifier: so a node that went on since the broker learned
-/// of it, and holds more, is honest too. The numbers of the rows that it holds are of 64 bits, as those of each segment are.
+/// of it, and holds more, is honest too.
 pub fn nodes_are_honest()
     ensures { (state : State) (query : Query) (asked : List Asked) (node : ℕ) (status : ℕ) (body : List ℕ) (segments : List Segment)
-        → All HasWords state.held → IsQuery query → IsAsked query.source asked
+        → IsState state → IsQuery query → IsAsked query.source asked
         → RespondsInTurn state (request_for query asked) status body
         → AreAmong asked state.held segments
         → IsHonest query segments (record { node = node; asked = asked; came = Ok (answer_text status body) }) }
