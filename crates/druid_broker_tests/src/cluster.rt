@@ -6,7 +6,7 @@ use druid_broker::{Routes, serve_one, sync_turn};
 use druid_inventory::{Inventory, MAX_NODES};
 use druid_link::{Link, MAX_EXCHANGE};
 use druid_message::WireFault;
-use druid_node::{DataNode, NodeState};
+use druid_node::{DataNode, Incarnation, NodeState};
 use druid_published::{NodeList, Publisher, View, open};
 use druid_rows::{Row, Schema, Segment};
 use druid_scatter::Rotate;
@@ -27,11 +27,18 @@ pub(crate) trait Handle: Abort + Wait + Threads + Copy + Send + Sync {}
 
 impl<R: Abort + Wait + Threads + Copy + Send + Sync> Handle for R {}
 
+/// The incarnation of the nodes here.
+pub(crate) struct First;
+
+impl Incarnation for First {
+    ghost number = { 1 };
+}
+
 /// What follows a link.
 #[derive(Drop)]
 pub(crate) enum Behind {
     /// A data node.
-    Node(DataNode),
+    Node(DataNode<First>),
     /// A data node that fails.
     Nothing,
     /// A server that answers these bytes to each request.
@@ -53,7 +60,7 @@ pub(crate) struct TestLink<R: Handle> {
 fn answer_of(
     rt: &impl Wait,
     alloc: Global,
-    node: &DataNode,
+    node: &DataNode<First>,
     request: &[u8],
     seen: &mut Mark,
 ) -> Result<Vec<u8>, WireFault>
@@ -258,12 +265,14 @@ fn segment(rt: &impl Abort, alloc: Global, text: &str) -> Segment {
 }
 
 // Loads a segment.
-fn load(rt: &impl Abort, alloc: Global, state: &mut NodeState, text: &str) {
+fn load(rt: &impl Abort, alloc: Global, state: &mut NodeState, text: &str)
+    ensures { state.new.history.incarnation ≡ state.old.history.incarnation }
+{
     state.load(segment(rt, alloc, text)).expect(rt, "a load");
 }
 
 // A data node with segments, between which `+` stands; `.` is none.
-fn node(rt: &impl Abort, alloc: Global, text: &str) -> DataNode {
+fn node(rt: &impl Abort, alloc: Global, text: &str) -> DataNode<First> {
     let mut state = NodeState::new(alloc, 1, 1000).expect(rt, "a node");
     for one in text.split(" + ") {
         if one != "." {

@@ -40,15 +40,15 @@ is_read bytes s e = subst IsOk (sym e) refl
 
 -- ---- what loading tells
 
-bytes_refuse : (name bytes : List ℕ) (given : Option (List ℕ)) (seen : Point) (fault : NodeFault) → Some bytes ≡ given → RefusesBytes name bytes fault → RefusesFile (file_at name given) seen fault
-bytes_refuse name bytes given seen faults.Device is h = absurd h
-bytes_refuse name bytes given seen (faults.File fault) is h = ap (file_at name) (sym is) ∙ ap (named name) h
-bytes_refuse name bytes given seen faults.NameDiffers is h = ap (file_at name) (sym is) ∙ h
-bytes_refuse name bytes given seen (faults.History fault) is h = absurd h
-bytes_refuse name bytes given seen (faults.Wire fault) is h = absurd h
-bytes_refuse name bytes given seen faults.NoFile is h = absurd h
-bytes_refuse name bytes given seen (faults.Behind found) is h = absurd h
-bytes_refuse name bytes given seen faults.Memory is h = tt
+bytes_refuse : (incarnation : ℕ) (name bytes : List ℕ) (given : Option (List ℕ)) (seen : Point) (fault : NodeFault) → Some bytes ≡ given → RefusesBytes name bytes fault → RefusesFile incarnation (file_at name given) seen fault
+bytes_refuse incarnation name bytes given seen faults.Device is h = absurd h
+bytes_refuse incarnation name bytes given seen (faults.File fault) is h = ap (file_at name) (sym is) ∙ ap (named name) h
+bytes_refuse incarnation name bytes given seen faults.NameDiffers is h = ap (file_at name) (sym is) ∙ h
+bytes_refuse incarnation name bytes given seen (faults.History fault) is h = absurd h
+bytes_refuse incarnation name bytes given seen (faults.Wire fault) is h = absurd h
+bytes_refuse incarnation name bytes given seen faults.NoFile is h = absurd h
+bytes_refuse incarnation name bytes given seen (faults.Behind found) is h = absurd h
+bytes_refuse incarnation name bytes given seen faults.Memory is h = tt
 
 bytes_own : (name bytes : List ℕ) (fault : NodeFault) → RefusesBytes name bytes fault → IsOfFile fault
 bytes_own name bytes faults.Device h = tt
@@ -68,34 +68,34 @@ bytes_own name bytes faults.NoFile h = absurd h
 bytes_own name bytes (faults.Behind found) h = absurd h
 bytes_own name bytes faults.Memory h = tt
 
-pub found_refuse : (name : List ℕ) (found given : Option (List ℕ)) (seen : Point) (fault : NodeFault) → found ≡ given → RefusesFound name found fault → RefusesFile (file_at name given) seen fault
-found_refuse name None given seen fault is h =
-    subst (λ (f : NodeFault). RefusesFile (file_at name given) seen f) (sym h) (ap (file_at name) (sym is))
-found_refuse name (Some bytes) given seen fault is h = bytes_refuse name bytes given seen fault is h
+pub found_refuse : (incarnation : ℕ) (name : List ℕ) (found given : Option (List ℕ)) (seen : Point) (fault : NodeFault) → found ≡ given → RefusesFound name found fault → RefusesFile incarnation (file_at name given) seen fault
+found_refuse incarnation name None given seen fault is h =
+    subst (λ (f : NodeFault). RefusesFile incarnation (file_at name given) seen f) (sym h) (ap (file_at name) (sym is))
+found_refuse incarnation name (Some bytes) given seen fault is h = bytes_refuse incarnation name bytes given seen fault is h
 
 pub found_own : (name : List ℕ) (found : Option (List ℕ)) (fault : NodeFault) → RefusesFound name found fault → IsOfFile fault
 found_own name None fault h = subst IsOfFile (sym h) tt
 found_own name (Some bytes) fault h = bytes_own name bytes fault h
 
-pub load_refuses : (given : Result Segment NodeFault) (seen : Point) (s : Segment) (fault : NodeFault) → given ≡ Ok s → RefusesLoad seen fault → RefusesFile given seen fault
-load_refuses given seen s faults.Device is h = absurd h
-load_refuses given seen s (faults.File fault) is h = absurd h
-load_refuses given seen s faults.NameDiffers is h = absurd h
-load_refuses given seen s (faults.History fault) is h = (s, is, h)
-load_refuses given seen s (faults.Wire fault) is h = absurd h
-load_refuses given seen s faults.NoFile is h = absurd h
-load_refuses given seen s (faults.Behind found) is h = (s, is, h)
-load_refuses given seen s faults.Memory is h = tt
+pub load_refuses : (incarnation : ℕ) (given : Result Segment NodeFault) (seen : Point) (s : Segment) (fault : NodeFault) → given ≡ Ok s → RefusesLoad incarnation seen fault → RefusesFile incarnation given seen fault
+load_refuses incarnation given seen s faults.Device is h = absurd h
+load_refuses incarnation given seen s (faults.File fault) is h = absurd h
+load_refuses incarnation given seen s faults.NameDiffers is h = absurd h
+load_refuses incarnation given seen s (faults.History fault) is h = (s, is, h)
+load_refuses incarnation given seen s (faults.Wire fault) is h = absurd h
+load_refuses incarnation given seen s faults.NoFile is h = absurd h
+load_refuses incarnation given seen s (faults.Behind found) is h = (s, is, h)
+load_refuses incarnation given seen s faults.Memory is h = tt
 
-pub load_own : (seen : Point) (fault : NodeFault) → RefusesLoad seen fault → IsOfFile fault
-load_own seen faults.Device h = absurd h
-load_own seen (faults.File fault) h = absurd h
-load_own seen faults.NameDiffers h = absurd h
-load_own seen (faults.History fault) h = tt
-load_own seen (faults.Wire fault) h = absurd h
-load_own seen faults.NoFile h = absurd h
-load_own seen (faults.Behind found) h = tt
-load_own seen faults.Memory h = tt
+pub load_own : (incarnation : ℕ) (seen : Point) (fault : NodeFault) → RefusesLoad incarnation seen fault → IsOfFile fault
+load_own incarnation seen faults.Device h = absurd h
+load_own incarnation seen (faults.File fault) h = absurd h
+load_own incarnation seen faults.NameDiffers h = absurd h
+load_own incarnation seen (faults.History fault) h = tt
+load_own incarnation seen (faults.Wire fault) h = absurd h
+load_own incarnation seen faults.NoFile h = absurd h
+load_own incarnation seen (faults.Behind found) h = tt
+load_own incarnation seen faults.Memory h = tt
 
 -- what holds anyhow holds where a load was done
 pub always : {A : Type 0} (r : Result ⊤ NodeFault) → A → OnOk r A
@@ -121,24 +121,24 @@ pub found_uncounted : (name : List ℕ) (found : Option (List ℕ)) (fault : Nod
 found_uncounted name None fault n h = ap (λ (f : NodeFault). faults_after_load (load_told f) n) h
 found_uncounted name (Some bytes) fault n h = bytes_uncounted name bytes fault n h
 
-pub load_uncounted : (seen : Point) (r : Result ⊤ NodeFault) (n : ℕ) → IfErr r (RefusesLoad seen) → faults_after_load r n ≡ n
-load_uncounted seen (Ok x) n h = refl
-load_uncounted seen (Err faults.Device) n h = absurd h
-load_uncounted seen (Err (faults.File fault)) n h = refl
-load_uncounted seen (Err faults.NameDiffers) n h = refl
-load_uncounted seen (Err (faults.History fault)) n h = refl
-load_uncounted seen (Err (faults.Wire fault)) n h = refl
-load_uncounted seen (Err faults.NoFile) n h = refl
-load_uncounted seen (Err (faults.Behind found)) n h = refl
-load_uncounted seen (Err faults.Memory) n h = refl
+pub load_uncounted : (incarnation : ℕ) (seen : Point) (r : Result ⊤ NodeFault) (n : ℕ) → IfErr r (RefusesLoad incarnation seen) → faults_after_load r n ≡ n
+load_uncounted incarnation seen (Ok x) n h = refl
+load_uncounted incarnation seen (Err faults.Device) n h = absurd h
+load_uncounted incarnation seen (Err (faults.File fault)) n h = refl
+load_uncounted incarnation seen (Err faults.NameDiffers) n h = refl
+load_uncounted incarnation seen (Err (faults.History fault)) n h = refl
+load_uncounted incarnation seen (Err (faults.Wire fault)) n h = refl
+load_uncounted incarnation seen (Err faults.NoFile) n h = refl
+load_uncounted incarnation seen (Err (faults.Behind found)) n h = refl
+load_uncounted incarnation seen (Err faults.Memory) n h = refl
 
 -- the read of the folder failed
 abbrev pub ReadTold : StoreFault → NodeFault → Type 0
 ReadTold fault told = ((fault ≡ store.Device) × (told ≡ faults.Device)) ⊎ ((fault ≡ store.Memory) × (told ≡ faults.Memory))
 
-pub read_refuses : (given : Result Segment NodeFault) (seen : Point) (fault : StoreFault) (told : NodeFault) → ReadTold fault told → RefusesFile given seen told
-read_refuses given seen fault told (inl (e, f)) = subst (RefusesFile given seen) (sym f) tt
-read_refuses given seen fault told (inr (e, f)) = subst (RefusesFile given seen) (sym f) tt
+pub read_refuses : (incarnation : ℕ) (given : Result Segment NodeFault) (seen : Point) (fault : StoreFault) (told : NodeFault) → ReadTold fault told → RefusesFile incarnation given seen told
+read_refuses incarnation given seen fault told (inl (e, f)) = subst (RefusesFile incarnation given seen) (sym f) tt
+read_refuses incarnation given seen fault told (inr (e, f)) = subst (RefusesFile incarnation given seen) (sym f) tt
 
 pub read_own : (fault : StoreFault) (told : NodeFault) → ReadTold fault told → IsOfFile told
 read_own fault told (inl (e, f)) = subst IsOfFile (sym f) tt

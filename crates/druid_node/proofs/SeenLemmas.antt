@@ -78,19 +78,19 @@ load_refusal kept d f h = elim (set_load (is_strict kept.set (Load d)) (has_room
   | inr some ↦ subst IsLoadRefusal (same_Some some.0 f (sym some.1 ∙ h)) some.2
 ]
 
-load_told : (kept : Kept) (d : Described) (seen : Point) (fault : NodeFault) → Refuses kept (Load d) fault → RefusesLoad seen fault
-load_told kept d seen faults.Device h = absurd h
-load_told kept d seen (faults.File fault) h = absurd h
-load_told kept d seen faults.NameDiffers h = absurd h
-load_told kept d seen (faults.History fault) h = load_refusal kept d fault h
-load_told kept d seen (faults.Wire fault) h = absurd h
-load_told kept d seen faults.NoFile h = absurd h
-load_told kept d seen (faults.Behind found) h = absurd h
-load_told kept d seen faults.Memory h = tt
+load_told : (kept : Kept) (d : Described) (incarnation : ℕ) (seen : Point) (fault : NodeFault) → Refuses kept (Load d) fault → RefusesLoad incarnation seen fault
+load_told kept d incarnation seen faults.Device h = absurd h
+load_told kept d incarnation seen (faults.File fault) h = absurd h
+load_told kept d incarnation seen faults.NameDiffers h = absurd h
+load_told kept d incarnation seen (faults.History fault) h = load_refusal kept d fault h
+load_told kept d incarnation seen (faults.Wire fault) h = absurd h
+load_told kept d incarnation seen faults.NoFile h = absurd h
+load_told kept d incarnation seen (faults.Behind found) h = absurd h
+load_told kept d incarnation seen faults.Memory h = tt
 
-pub load_as : (kept : Kept) (d : Described) (found seen : Point) (fault : NodeFault) → RefusesAsSeen (Refuses kept (Load d)) found seen fault → RefusesLoad seen fault
-load_as kept d found seen fault (inl (behind, told)) = subst (RefusesLoad seen) (sym told) behind
-load_as kept d found seen fault (inr (at, why)) = load_told kept d seen fault why
+pub load_as : (kept : Kept) (d : Described) (incarnation : ℕ) (found seen : Point) (fault : NodeFault) → RefusesAsSeen incarnation (Refuses kept (Load d)) found seen fault → RefusesLoad incarnation seen fault
+load_as kept d incarnation found seen fault (inl (behind, told)) = subst (RefusesLoad incarnation seen) (sym told) behind
+load_as kept d incarnation found seen fault (inr (at, why)) = load_told kept d incarnation seen fault why
 
 set_drop : (strict end : Bool) (room : Bool) → room ≡ true → option_or (if not strict then Some NotServed else (if not room then Some Full else None)) (if end then Some CountAtEnd else None) ≡ None
     ⊎ ((f : HistoryFault) × (option_or (if not strict then Some NotServed else (if not room then Some Full else None)) (if end then Some CountAtEnd else None) ≡ Some f) × ((f ≡ NotServed) ⊎ (f ≡ CountAtEnd)))
@@ -106,53 +106,53 @@ drop_refusal kept d f h = elim (set_drop (is_strict kept.set (Drop d)) (nat_le l
   | inr some ↦ subst (λ (g : HistoryFault). (g ≡ NotServed) ⊎ (g ≡ CountAtEnd)) (same_Some some.0 f (sym some.1 ∙ h)) some.2
 ]
 
-drop_found : (kept : Kept) (d : Described) (seen : Point) (fault : NodeFault) → Refuses kept (Drop d) fault → RefusesDrop seen fault
-drop_found kept d seen faults.Device h = absurd h
-drop_found kept d seen (faults.File fault) h = absurd h
-drop_found kept d seen faults.NameDiffers h = absurd h
-drop_found kept d seen (faults.History fault) h = drop_refusal kept d fault h
-drop_found kept d seen (faults.Wire fault) h = absurd h
-drop_found kept d seen faults.NoFile h = absurd h
-drop_found kept d seen (faults.Behind found) h = absurd h
-drop_found kept d seen faults.Memory h = tt
+drop_found : (kept : Kept) (d : Described) (incarnation : ℕ) (seen : Point) (fault : NodeFault) → Refuses kept (Drop d) fault → RefusesDrop incarnation seen fault
+drop_found kept d incarnation seen faults.Device h = absurd h
+drop_found kept d incarnation seen (faults.File fault) h = absurd h
+drop_found kept d incarnation seen faults.NameDiffers h = absurd h
+drop_found kept d incarnation seen (faults.History fault) h = drop_refusal kept d fault h
+drop_found kept d incarnation seen (faults.Wire fault) h = absurd h
+drop_found kept d incarnation seen faults.NoFile h = absurd h
+drop_found kept d incarnation seen (faults.Behind found) h = absurd h
+drop_found kept d incarnation seen faults.Memory h = tt
 
-drop_told : (kept : Kept) (o : Option Segment) (seen : Point) (fault : NodeFault) → RefusesToDrop kept o fault → RefusesDrop seen fault
-drop_told kept None seen fault h = subst (RefusesDrop seen) (sym h) (inl refl)
-drop_told kept (Some s) seen fault h = drop_found kept s.descriptor seen fault h
+drop_told : (kept : Kept) (o : Option Segment) (incarnation : ℕ) (seen : Point) (fault : NodeFault) → RefusesToDrop kept o fault → RefusesDrop incarnation seen fault
+drop_told kept None incarnation seen fault h = subst (RefusesDrop incarnation seen) (sym h) (inl refl)
+drop_told kept (Some s) incarnation seen fault h = drop_found kept s.descriptor incarnation seen fault h
 
-pub drop_as : (kept : Kept) (o : Option Segment) (found seen : Point) (fault : NodeFault) → RefusesAsSeen (RefusesToDrop kept o) found seen fault → RefusesDrop seen fault
-drop_as kept o found seen fault (inl (behind, told)) = subst (RefusesDrop seen) (sym told) behind
-drop_as kept o found seen fault (inr (at, why)) = drop_told kept o seen fault why
+pub drop_as : (kept : Kept) (o : Option Segment) (incarnation : ℕ) (found seen : Point) (fault : NodeFault) → RefusesAsSeen incarnation (RefusesToDrop kept o) found seen fault → RefusesDrop incarnation seen fault
+drop_as kept o incarnation found seen fault (inl (behind, told)) = subst (RefusesDrop incarnation seen) (sym told) behind
+drop_as kept o incarnation found seen fault (inr (at, why)) = drop_told kept o incarnation seen fault why
 
 -- ---- what was served
 
-pub served_as_seen : (seen now : Point) (request : RequestValue) (before after old new : Option (List ℕ)) (sent : ℕ) → WasRead before after request
-    → (status : ℕ) × (body : List ℕ) × AnswersFrom seen now request status body × IsSent old new status body sent → IsServedAsSeen seen now before after old new sent
-served_as_seen seen now request before after old new sent read (status, body, answer, is) =
+pub served_as_seen : (incarnation : ℕ) (seen now : Point) (request : RequestValue) (before after old new : Option (List ℕ)) (sent : ℕ) → WasRead before after request
+    → (status : ℕ) × (body : List ℕ) × AnswersFrom incarnation seen now request status body × IsSent old new status body sent → IsServedAsSeen incarnation seen now before after old new sent
+served_as_seen incarnation seen now request before after old new sent read (status, body, answer, is) =
     record { status = status; body = body; served = inl (record { request = request; read = read; answer = answer }); is_sent = is }
 
-pub refused_as_seen : (seen : Point) (before after old new : Option (List ℕ)) (fault : WireFault) (sent : ℕ) → IfSome before (λ input. HasFault RequestSays input fault)
-    → (text : List ℕ) × (refusal_text fault ≡ Some text) × IsSent old new 400 text sent → IsServedAsSeen seen seen before after old new sent
-refused_as_seen seen before after old new fault sent has (text, e, is) =
+pub refused_as_seen : (incarnation : ℕ) (seen : Point) (before after old new : Option (List ℕ)) (fault : WireFault) (sent : ℕ) → IfSome before (λ input. HasFault RequestSays input fault)
+    → (text : List ℕ) × (refusal_text fault ≡ Some text) × IsSent old new 400 text sent → IsServedAsSeen incarnation seen seen before after old new sent
+refused_as_seen incarnation seen before after old new fault sent has (text, e, is) =
     record { status = 400; body = text; served = inr (record { fault = fault; has = has; tells = e; status_is = refl; unseen = refl }); is_sent = is }
 
 -- ---- what was not served
 
-abbrev pub ServeTold : Point → RequestValue → Option (List ℕ) → Option (List ℕ) → NodeFault → Type 0
-ServeTold seen request old new given =
-    ((found : Point) × IsBehind found seen × (given ≡ faults.Behind found) × (new ≡ old))
-    ⊎ ((told : WireFault) × (given ≡ faults.Wire told) × (status : ℕ) × (body : List ℕ) × AnswersSince seen request status body × IsCutShort old new status body told)
+abbrev pub ServeTold : ℕ → Point → RequestValue → Option (List ℕ) → Option (List ℕ) → NodeFault → Type 0
+ServeTold incarnation seen request old new given =
+    ((found : Point) × IsBehind incarnation found seen × (given ≡ faults.Behind found) × (new ≡ old))
+    ⊎ ((told : WireFault) × (given ≡ faults.Wire told) × (status : ℕ) × (body : List ℕ) × AnswersSince incarnation seen request status body × IsCutShort old new status body told)
 
 read_some : (before after : Option (List ℕ)) (request : RequestValue) → WasRead before after request
     → IfSome before (λ input. (r : RequestValue) × (rest : List ℕ) × (after ≡ Some rest) × IsRequest input r rest)
 read_some None after request read = tt
 read_some (Some input) after request read = (request, read.0, read.1, read.2)
 
-pub serve_told : (seen : Point) (request : RequestValue) (before after old new : Option (List ℕ)) (given : NodeFault) → WasRead before after request → ServeTold seen request old new given
-    → IsPassedBy seen before after old new given ⊎ IsUnserved seen before after old new given
-serve_told seen request before after old new given read (inl (found, behind, told, same)) =
+pub serve_told : (incarnation : ℕ) (seen : Point) (request : RequestValue) (before after old new : Option (List ℕ)) (given : NodeFault) → WasRead before after request → ServeTold incarnation seen request old new given
+    → IsPassedBy incarnation seen before after old new given ⊎ IsUnserved incarnation seen before after old new given
+serve_told incarnation seen request before after old new given read (inl (found, behind, told, same)) =
     inl (record { found = found; behind = behind; told = told; read = read_some before after request read; unwritten = same })
-serve_told seen request before after old new given read (inr (cause, told, status, body, answer, cut)) =
+serve_told incarnation seen request before after old new given read (inr (cause, told, status, body, answer, cut)) =
     inr (record { cause = cause; told = told; fails = inr (record { now = answer.0; status = status; body = body; served = inl (record { request = request; read = read; answer = answer.1 }); cut = cut }) })
 
 abbrev pub UnreadTold : WireFault → Option (List ℕ) → Option (List ℕ) → NodeFault → Type 0
@@ -160,14 +160,14 @@ UnreadTold fault old new given =
     (told : WireFault) × (given ≡ faults.Wire told)
     × (((told ≡ fault) × (refusal_text fault ≡ None) × Keeps old new) ⊎ ((text : List ℕ) × (refusal_text fault ≡ Some text) × IsCutShort old new 400 text told))
 
-unanswered : (seen : Point) (before after old new : Option (List ℕ)) (fault told : WireFault) → IfSome before (λ input. HasFault RequestSays input fault)
+unanswered : (incarnation : ℕ) (seen : Point) (before after old new : Option (List ℕ)) (fault told : WireFault) → IfSome before (λ input. HasFault RequestSays input fault)
     → ((told ≡ fault) × (refusal_text fault ≡ None) × Keeps old new) ⊎ ((text : List ℕ) × (refusal_text fault ≡ Some text) × IsCutShort old new 400 text told)
-    → IsUnread before old new told ⊎ IsBegun seen before after old new told
-unanswered seen before after old new fault told has (inl (e, none, kept)) = inl (rw e (record { unanswered = none; has = has; kept = kept }))
-unanswered seen before after old new fault told has (inr (text, e, cut)) =
+    → IsUnread before old new told ⊎ IsBegun incarnation seen before after old new told
+unanswered incarnation seen before after old new fault told has (inl (e, none, kept)) = inl (rw e (record { unanswered = none; has = has; kept = kept }))
+unanswered incarnation seen before after old new fault told has (inr (text, e, cut)) =
     inr (record { now = seen; status = 400; body = text; served = inr (record { fault = fault; has = has; tells = e; status_is = refl; unseen = refl }); cut = cut })
 
-pub unread_told : (seen : Point) (before after old new : Option (List ℕ)) (fault : WireFault) (given : NodeFault) → IfSome before (λ input. HasFault RequestSays input fault) → UnreadTold fault old new given
-    → IsPassedBy seen before after old new given ⊎ IsUnserved seen before after old new given
-unread_told seen before after old new fault given has (cause, told, why) =
-    inr (record { cause = cause; told = told; fails = unanswered seen before after old new fault cause has why })
+pub unread_told : (incarnation : ℕ) (seen : Point) (before after old new : Option (List ℕ)) (fault : WireFault) (given : NodeFault) → IfSome before (λ input. HasFault RequestSays input fault) → UnreadTold fault old new given
+    → IsPassedBy incarnation seen before after old new given ⊎ IsUnserved incarnation seen before after old new given
+unread_told incarnation seen before after old new fault given has (cause, told, why) =
+    inr (record { cause = cause; told = told; fails = unanswered incarnation seen before after old new fault cause has why })

@@ -26,17 +26,17 @@ abbrev pub file_at : List ℕ → Option (List ℕ) → Result Segment NodeFault
 file_at name None = Err faults.NoFile
 file_at name (Some bytes) = named name (segment_at bytes)
 
--- why a file was not loaded into a node of which that mark was seen: what it gives, or why the node does not take its segment;
+-- why a file was not loaded into a node of that incarnation, of which that mark was seen: what it gives, or why the node does not take its segment;
 -- the device and memory are no matter of the file
-abbrev pub RefusesFile : Result Segment NodeFault → Point → NodeFault → Type 0
-RefusesFile given seen faults.Device = ⊤
-RefusesFile given seen (faults.File fault) = given ≡ Err (faults.File fault)
-RefusesFile given seen faults.NameDiffers = given ≡ Err faults.NameDiffers
-RefusesFile given seen (faults.History fault) = (s : Segment) × (given ≡ Ok s) × IsLoadRefusal fault
-RefusesFile given seen (faults.Wire fault) = ⊥
-RefusesFile given seen faults.NoFile = given ≡ Err faults.NoFile
-RefusesFile given seen (faults.Behind found) = (s : Segment) × (given ≡ Ok s) × IsBehind found seen
-RefusesFile given seen faults.Memory = ⊤
+abbrev pub RefusesFile : ℕ → Result Segment NodeFault → Point → NodeFault → Type 0
+RefusesFile incarnation given seen faults.Device = ⊤
+RefusesFile incarnation given seen (faults.File fault) = given ≡ Err (faults.File fault)
+RefusesFile incarnation given seen faults.NameDiffers = given ≡ Err faults.NameDiffers
+RefusesFile incarnation given seen (faults.History fault) = (s : Segment) × (given ≡ Ok s) × IsLoadRefusal fault
+RefusesFile incarnation given seen (faults.Wire fault) = ⊥
+RefusesFile incarnation given seen faults.NoFile = given ≡ Err faults.NoFile
+RefusesFile incarnation given seen (faults.Behind found) = (s : Segment) × (given ≡ Ok s) × IsBehind incarnation found seen
+RefusesFile incarnation given seen faults.Memory = ⊤
 
 -- a fault that loading a file tells: of a file's own faults those that its bytes decide
 abbrev pub IsOfFile : NodeFault → Type 0

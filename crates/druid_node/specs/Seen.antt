@@ -20,18 +20,18 @@ use Rattle.druid_node.specs.declared.fault.NodeFault.TheVariants as faults
 abbrev pub mark_of : State → Point
 mark_of state = record { incarnation = state.history.incarnation; count = state.history.count }
 
--- the mark that was found is below the one that was seen
-abbrev pub IsBehind : Point → Point → Type 0
-IsBehind found seen = mark_cmp found seen ≡ Less
+-- the mark that was found is of that incarnation, and below the one that was seen
+abbrev pub IsBehind : ℕ → Point → Point → Type 0
+IsBehind incarnation found seen = (found.incarnation ≡ incarnation) × (mark_cmp found seen ≡ Less)
 
 -- the state is not older than what was seen
 abbrev pub IsAtLeast : Point → Point → Type 0
 IsAtLeast found seen = mark_cmp found seen ≢ Less
 
 -- N8, exactly where the state is older than what was seen, and else why the state refuses
-abbrev pub RefusesAsSeen : (NodeFault → Type 0) → Point → Point → NodeFault → Type 0
-RefusesAsSeen Why found seen fault =
-    (IsBehind found seen × (fault ≡ faults.Behind found)) ⊎ (IsAtLeast found seen × Why fault)
+abbrev pub RefusesAsSeen : ℕ → (NodeFault → Type 0) → Point → Point → NodeFault → Type 0
+RefusesAsSeen incarnation Why found seen fault =
+    (IsBehind incarnation found seen × (fault ≡ faults.Behind found)) ⊎ (IsAtLeast found seen × Why fault)
 
 -- a load is refused for the segments that are held, or for the count
 abbrev pub IsLoadRefusal : HistoryFault → Type 0
@@ -41,32 +41,32 @@ IsLoadRefusal Full = ⊤
 IsLoadRefusal CountAtEnd = ⊤
 IsLoadRefusal history.Memory = ⊥
 
--- why a segment was not loaded into a node of which that mark was seen
-abbrev pub RefusesLoad : Point → NodeFault → Type 0
-RefusesLoad seen faults.Device = ⊥
-RefusesLoad seen (faults.File fault) = ⊥
-RefusesLoad seen faults.NameDiffers = ⊥
-RefusesLoad seen (faults.History fault) = IsLoadRefusal fault
-RefusesLoad seen (faults.Wire fault) = ⊥
-RefusesLoad seen faults.NoFile = ⊥
-RefusesLoad seen (faults.Behind found) = IsBehind found seen
-RefusesLoad seen faults.Memory = ⊤
+-- why a segment was not loaded into a node of that incarnation, of which that mark was seen
+abbrev pub RefusesLoad : ℕ → Point → NodeFault → Type 0
+RefusesLoad incarnation seen faults.Device = ⊥
+RefusesLoad incarnation seen (faults.File fault) = ⊥
+RefusesLoad incarnation seen faults.NameDiffers = ⊥
+RefusesLoad incarnation seen (faults.History fault) = IsLoadRefusal fault
+RefusesLoad incarnation seen (faults.Wire fault) = ⊥
+RefusesLoad incarnation seen faults.NoFile = ⊥
+RefusesLoad incarnation seen (faults.Behind found) = IsBehind incarnation found seen
+RefusesLoad incarnation seen faults.Memory = ⊤
 
--- why nothing was dropped from a node of which that mark was seen
-abbrev pub RefusesDrop : Point → NodeFault → Type 0
-RefusesDrop seen faults.Device = ⊥
-RefusesDrop seen (faults.File fault) = ⊥
-RefusesDrop seen faults.NameDiffers = ⊥
-RefusesDrop seen (faults.History fault) = (fault ≡ NotServed) ⊎ (fault ≡ CountAtEnd)
-RefusesDrop seen (faults.Wire fault) = ⊥
-RefusesDrop seen faults.NoFile = ⊥
-RefusesDrop seen (faults.Behind found) = IsBehind found seen
-RefusesDrop seen faults.Memory = ⊤
+-- why nothing was dropped from a node of that incarnation, of which that mark was seen
+abbrev pub RefusesDrop : ℕ → Point → NodeFault → Type 0
+RefusesDrop incarnation seen faults.Device = ⊥
+RefusesDrop incarnation seen (faults.File fault) = ⊥
+RefusesDrop incarnation seen faults.NameDiffers = ⊥
+RefusesDrop incarnation seen (faults.History fault) = (fault ≡ NotServed) ⊎ (fault ≡ CountAtEnd)
+RefusesDrop incarnation seen (faults.Wire fault) = ⊥
+RefusesDrop incarnation seen faults.NoFile = ⊥
+RefusesDrop incarnation seen (faults.Behind found) = IsBehind incarnation found seen
+RefusesDrop incarnation seen faults.Memory = ⊤
 
--- a state of the node, whose mark is the second and not below the first, answers so
-abbrev pub AnswersFrom : Point → Point → RequestValue → ℕ → List ℕ → Type 0
-AnswersFrom before after request status body =
-    (state : State) × IsState state × IsKept state.history × (mark_of state ≡ after) × (mark_cmp before after ≢ Greater)
+-- a state of that incarnation, whose mark is the second and not below the first, answers so
+abbrev pub AnswersFrom : ℕ → Point → Point → RequestValue → ℕ → List ℕ → Type 0
+AnswersFrom incarnation before after request status body =
+    (state : State) × IsState state × IsKept state.history × (state.history.incarnation ≡ incarnation) × (mark_of state ≡ after) × (mark_cmp before after ≢ Greater)
     × RespondsInTurn state request status body
 
 -- the body of an answer, where out of memory may stand in its place
@@ -74,16 +74,16 @@ abbrev pub text_of : Option (Vec ℕ Global) → List ℕ
 text_of None = codes "{\"error\":\"Memory\"}"
 text_of (Some body) = body.items
 
--- a state that is not older than what was seen answers so
-abbrev pub AnswersSince : Point → RequestValue → ℕ → List ℕ → Type 0
-AnswersSince before request status body = (after : Point) × AnswersFrom before after request status body
+-- a state of that incarnation that is not older than what was seen answers so
+abbrev pub AnswersSince : ℕ → Point → RequestValue → ℕ → List ℕ → Type 0
+AnswersSince incarnation before request status body = (after : Point) × AnswersFrom incarnation before after request status body
 
--- a request was read, which the bytes of the input are where they are known; a state of the node, whose mark is the second and
--- not below the first, answers it so
-pub record IsAnswered (seen now : Point) (before after : Option (List ℕ)) (status : ℕ) (body : List ℕ) : Type 0 where
+-- a request was read, which the bytes of the input are where they are known; a state of that incarnation, whose mark is the
+-- second and not below the first, answers it so
+pub record IsAnswered (incarnation : ℕ) (seen now : Point) (before after : Option (List ℕ)) (status : ℕ) (body : List ℕ) : Type 0 where
   pub request : RequestValue
   pub read : IfSome before (λ input. (rest : List ℕ) × (after ≡ Some rest) × IsRequest input request rest)
-  pub answer : AnswersFrom seen now request status body
+  pub answer : AnswersFrom incarnation seen now request status body
 
 -- no request was read, for a fault which the bytes of the input have where they are known; it is answered, and nothing is seen
 pub record IsRefused (seen now : Point) (before : Option (List ℕ)) (status : ℕ) (body : List ℕ) : Type 0 where
@@ -95,30 +95,30 @@ pub record IsRefused (seen now : Point) (before : Option (List ℕ)) (status : �
 
 -- an answer was written, and what is seen then is the mark of the state that gave it, or what was seen where no state did; this
 -- is known of any reader and any writer
-pub record IsServedAsSeen (seen now : Point) (before after old new : Option (List ℕ)) (sent : ℕ) : Type 0 where
+pub record IsServedAsSeen (incarnation : ℕ) (seen now : Point) (before after old new : Option (List ℕ)) (sent : ℕ) : Type 0 where
   pub status : ℕ
   pub body : List ℕ
-  pub served : IsAnswered seen now before after status body ⊎ IsRefused seen now before status body
+  pub served : IsAnswered incarnation seen now before after status body ⊎ IsRefused seen now before status body
   pub is_sent : IsSent old new status body sent
 
 -- N8: a request was read, and the state is older than what was seen; nothing was written
-pub record IsPassedBy (seen : Point) (before after old new : Option (List ℕ)) (fault : NodeFault) : Type 0 where
+pub record IsPassedBy (incarnation : ℕ) (seen : Point) (before after old new : Option (List ℕ)) (fault : NodeFault) : Type 0 where
   pub found : Point
-  pub behind : IsBehind found seen
+  pub behind : IsBehind incarnation found seen
   pub told : fault ≡ faults.Behind found
   pub read : IfSome before (λ input. (request : RequestValue) × (rest : List ℕ) × (after ≡ Some rest) × IsRequest input request rest)
   pub unwritten : new ≡ old
 
 -- an answer was begun, of a state that is not older than what was seen, or of none
-pub record IsBegun (seen : Point) (before after old new : Option (List ℕ)) (cause : WireFault) : Type 0 where
+pub record IsBegun (incarnation : ℕ) (seen : Point) (before after old new : Option (List ℕ)) (cause : WireFault) : Type 0 where
   pub now : Point
   pub status : ℕ
   pub body : List ℕ
-  pub served : IsAnswered seen now before after status body ⊎ IsRefused seen now before status body
+  pub served : IsAnswered incarnation seen now before after status body ⊎ IsRefused seen now before status body
   pub cut : IsCutShort old new status body cause
 
 -- N5: no request was read, or no whole answer was written
-pub record IsUnserved (seen : Point) (before after old new : Option (List ℕ)) (fault : NodeFault) : Type 0 where
+pub record IsUnserved (incarnation : ℕ) (seen : Point) (before after old new : Option (List ℕ)) (fault : NodeFault) : Type 0 where
   pub cause : WireFault
   pub told : fault ≡ faults.Wire cause
-  pub fails : IsUnread before old new cause ⊎ IsBegun seen before after old new cause
+  pub fails : IsUnread before old new cause ⊎ IsBegun incarnation seen before after old new cause

@@ -7,8 +7,8 @@ ghost use Rattle.druid_segfile.specs.Reading.{segment_at};
 ghost use Rattle.druid_node.specs.Files.{file_name, named, file_at, told_as, RefusesFile, IsOfFile, RefusesBytes, RefusesFound, faults_after_load};
 ghost use Rattle.druid_node.specs.Seen.{IsBehind, RefusesLoad, RefusesDrop, AnswersFrom, text_of};
 
-use crate::seen::{Answered, drop_as_seen, load_as_seen, respond_as_seen};
-use crate::{NodeFault, NodeState};
+use crate::seen::{Answered, StateIn};
+use crate::{Incarnation, NodeFault, NodeState};
 use druid_folder::{Folder, StoreFault};
 use druid_message::Request;
 use druid_rows::Segment;
@@ -22,11 +22,11 @@ use std::sync::{Mutex, Wait};
 ///
 /// A caller of it has a mark of its own, `seen`, which is (0, 0) at first: that of the last state that did what it asked for.
 /// A call that is given `seen` never answers Ok from a state whose mark is below it: no later Ok with that `seen` answers from
-/// a state before the change.
+/// a state before the change. Each mark that a call of it gives is of the incarnation `I`: that of the state that it was made of.
 #[derive(Drop)]
-pub struct DataNode {
+pub struct DataNode<I: Incarnation> {
     alloc: Global,
-    state: Mutex<NodeState>,
+    state: Mutex<StateIn<I>>,
 }
 
 // What a failed read of a folder tells.
@@ -96,12 +96,14 @@ fn found_segment(alloc: Global, name: &str, found: Option<Vec<u8>>) -> Result<Se
     }
 }
 
-impl DataNode {
+impl<I: Incarnation> DataNode<I> {
     /// The data node of that state.
-    pub fn new(state: NodeState) -> DataNode {
+    pub fn new(state: NodeState) -> DataNode<I>
+        requires { state.history.incarnation ≡ I.number }
+    {
         DataNode {
             alloc: state.alloc(),
-            state: Mutex::new(state),
+            state: Mutex::new(StateIn::new(state)),
         }
     }
 
@@ -117,21 +119,20 @@ impl DataNode {
         request: &Request,
         seen: Mark,
     ) -> Result<Answered, NodeFault>
-        ensures ok { IfOk result (λ a. AnswersFrom seen a.mark request.now a.status (text_of a.body)) }
-        ensures err { IfErr result (λ fault. (found : Point) × IsBehind found seen × (fault ≡ NodeFault.Behind found)) }
+        ensures ok { IfOk result (λ a. AnswersFrom I.number seen a.mark request.now a.status (text_of a.body)) }
+        ensures err { IfErr result (λ fault. (found : Point) × IsBehind I.number found seen × (fault ≡ NodeFault.Behind found)) }
     {
-        let state = self.state.lock(rt);
-        respond_as_seen(&state, request, seen)
+        self.state.lock(rt).respond(request, seen)
     }
 
     // Loads a segment.
     fn load(&self, rt: &impl Wait, segment: Segment, seen: &mut Mark) -> Result<(), NodeFault>
         ensures raised { OnOk result (mark_cmp seen.old seen.new ≡ Less) }
-        ensures err { IfErr result (RefusesLoad seen.old) }
+        ensures own { OnOk result (seen.new.incarnation ≡ I.number) }
+        ensures err { IfErr result (RefusesLoad I.number seen.old) }
         ensures unseen { OnErr result (seen.new ≡ seen.old) }
     {
-        let mut state = self.state.lock(rt);
-        load_as_seen(&mut state, segment, seen)
+        self.state.lock(rt).load(segment, seen)
     }
 
     /// Loads the segment of the file of that name, of which a folder gives no more than 16 MiB and a byte, and sees the mark
@@ -149,8 +150,9 @@ impl DataNode {
         ensures ok { F.is_honest folder.new
             → OnOk result ((s : Segment) × (file_at name.now (read_part (F.content folder.old name.now)) ≡ Ok s)) }
         ensures raised { OnOk result (mark_cmp seen.old seen.new ≡ Less) }
+        ensures own { OnOk result (seen.new.incarnation ≡ I.number) }
         ensures err { F.is_honest folder.new
-            → IfErr result (RefusesFile (file_at name.now (read_part (F.content folder.old name.now))) seen.old) }
+            → IfErr result (RefusesFile I.number (file_at name.now (read_part (F.content folder.old name.now))) seen.old) }
         ensures never { IfErr result IsOfFile }
         ensures unseen { OnErr result (seen.new ≡ seen.old) }
 
@@ -177,10 +179,10 @@ impl DataNode {
         seen: &mut Mark,
     ) -> Result<(), NodeFault>
         ensures raised { OnOk result (mark_cmp seen.old seen.new ≡ Less) }
-        ensures err { IfErr result (RefusesDrop seen.old) }
+        ensures own { OnOk result (seen.new.incarnation ≡ I.number) }
+        ensures err { IfErr result (RefusesDrop I.number seen.old) }
         ensures unseen { OnErr result (seen.new ≡ seen.old) }
     {
-        let mut state = self.state.lock(rt);
-        drop_as_seen(&mut state, id, seen)
+        self.state.lock(rt).drop_segment(id, seen)
     }
 }

@@ -5,6 +5,7 @@ mod answering;
 mod data_node;
 mod fault;
 mod held;
+mod incarnation;
 mod laws;
 mod responding;
 mod routes;
@@ -14,5 +15,6 @@ mod state;
 
 pub use data_node::DataNode;
 pub use fault::NodeFault;
+pub use incarnation::Incarnation;
 pub use laws::rows_are_told_once;
 pub use state::NodeState;

@@ -8,7 +8,7 @@ ghost use Rattle.druid_wire.specs.Served.{refusal_text, IsSent, IsCutShort};
 ghost use Rattle.druid_node.specs.Seen.{IsBehind, AnswersFrom, AnswersSince, IsServedAsSeen, IsPassedBy, IsUnserved, text_of};
 
 use crate::seen::Answered;
-use crate::{DataNode, NodeFault};
+use crate::{DataNode, Incarnation, NodeFault};
 use druid_message::{Request, WireFault};
 use druid_shard::Mark;
 use druid_wire::{read_request, refuse_request, send_response};
@@ -41,7 +41,7 @@ fn refuse_unread<W: Write>(fault: WireFault, writer: &mut W) -> Result<u16, Node
     }
 }
 
-impl DataNode {
+impl<I: Incarnation> DataNode<I> {
     // Answers a request.
     fn serve<W: Write>(
         &self,
@@ -50,12 +50,12 @@ impl DataNode {
         writer: &mut W,
         seen: &mut Mark,
     ) -> Result<u16, NodeFault>
-        ensures ok { IfOk result (λ sent. (status : ℕ) × (body : List ℕ) × AnswersFrom seen.old seen.new request.now status body
+        ensures ok { IfOk result (λ sent. (status : ℕ) × (body : List ℕ) × AnswersFrom I.number seen.old seen.new request.now status body
             × IsSent (W.contents writer.old) (W.contents writer.new) status body sent) }
         ensures risen { OnOk result (mark_cmp seen.old seen.new ≢ Greater) }
         ensures err { IfErr result (λ given.
-            ((found : Point) × IsBehind found seen.old × (given ≡ NodeFault.Behind found) × (W.contents writer.new ≡ W.contents writer.old))
-            ⊎ ((told : WireFault) × (given ≡ NodeFault.Wire told) × (status : ℕ) × (body : List ℕ) × AnswersSince seen.old request.now status body
+            ((found : Point) × IsBehind I.number found seen.old × (given ≡ NodeFault.Behind found) × (W.contents writer.new ≡ W.contents writer.old))
+            ⊎ ((told : WireFault) × (given ≡ NodeFault.Wire told) × (status : ℕ) × (body : List ℕ) × AnswersSince I.number seen.old request.now status body
             × IsCutShort (W.contents writer.old) (W.contents writer.new) status body told)) }
         ensures unseen { OnErr result (seen.new ≡ seen.old) }
     {
@@ -86,11 +86,11 @@ impl DataNode {
         writer: &mut W,
         seen: &mut Mark,
     ) -> Result<u16, NodeFault>
-        ensures ok { IfOk result (IsServedAsSeen seen.old seen.new (R.remaining reader.old) (R.remaining reader.new) (W.contents writer.old) (W.contents writer.new)) }
+        ensures ok { IfOk result (IsServedAsSeen I.number seen.old seen.new (R.remaining reader.old) (R.remaining reader.new) (W.contents writer.old) (W.contents writer.new)) }
         ensures risen { OnOk result (mark_cmp seen.old seen.new ≢ Greater) }
         ensures err { IfErr result (λ fault.
-            IsPassedBy seen.old (R.remaining reader.old) (R.remaining reader.new) (W.contents writer.old) (W.contents writer.new) fault
-            ⊎ IsUnserved seen.old (R.remaining reader.old) (R.remaining reader.new) (W.contents writer.old) (W.contents writer.new) fault) }
+            IsPassedBy I.number seen.old (R.remaining reader.old) (R.remaining reader.new) (W.contents writer.old) (W.contents writer.new) fault
+            ⊎ IsUnserved I.number seen.old (R.remaining reader.old) (R.remaining reader.new) (W.contents writer.old) (W.contents writer.new) fault) }
         ensures unseen { OnErr result (seen.new ≡ seen.old) }
     {
         match read_request(self.alloc(), reader) {

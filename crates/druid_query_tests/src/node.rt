@@ -1,7 +1,7 @@
 //! Data nodes over folders in memory, and what they answer to messages.
 use crate::printing::{assert_prints, filled, printed};
 use druid_folder::Folder;
-use druid_node::{DataNode, NodeFault, NodeState};
+use druid_node::{DataNode, Incarnation, NodeFault, NodeState};
 use druid_rows::Segment;
 use druid_segfile::{read_segment, write_segment};
 use druid_segid::{Name, SegmentId};
@@ -73,13 +73,20 @@ fn folder(rt: &impl Abort, alloc: Global) -> MemoryFolder {
     folder
 }
 
+/// The incarnation of the nodes here.
+pub(crate) struct First;
+
+impl Incarnation for First {
+    ghost number = { 1 };
+}
+
 /// A node of incarnation 1 without segments, which keeps two changes.
-pub(crate) fn empty_node(rt: &impl Abort, alloc: Global) -> DataNode {
+pub(crate) fn empty_node(rt: &impl Abort, alloc: Global) -> DataNode<First> {
     DataNode::new(NodeState::new(alloc, 1, 2).expect(rt, "memory"))
 }
 
 /// The same node, with the segment of `w`.
-pub(crate) fn node<R: Abort + Wait>(rt: &R, alloc: Global) -> DataNode {
+pub(crate) fn node<R: Abort + Wait>(rt: &R, alloc: Global) -> DataNode<First> {
     let node = empty_node(rt, alloc);
     load(rt, alloc, &node, VECTOR_FILE, &mut Mark::never()).expect(rt, "a segment");
     node
@@ -89,7 +96,7 @@ pub(crate) fn node<R: Abort + Wait>(rt: &R, alloc: Global) -> DataNode {
 fn load<R: Abort + Wait>(
     rt: &R,
     alloc: Global,
-    node: &DataNode,
+    node: &DataNode<First>,
     name: &str,
     seen: &mut Mark,
 ) -> Result<(), NodeFault> {
@@ -100,7 +107,7 @@ fn load<R: Abort + Wait>(
 fn drop_named<R: Abort + Wait>(
     rt: &R,
     alloc: Global,
-    node: &DataNode,
+    node: &DataNode<First>,
     id: &str,
     seen: &mut Mark,
 ) -> Result<(), NodeFault> {
@@ -157,7 +164,7 @@ fn is_response(rt: &impl Abort, alloc: Global, status: u16, bytes: &[u8], wanted
 pub(crate) fn answers<R: Abort + Wait>(
     rt: &R,
     alloc: Global,
-    node: &DataNode,
+    node: &DataNode<First>,
     mut message: &[u8],
     wanted: &str,
     seen: &mut Mark,
@@ -172,7 +179,7 @@ pub(crate) fn answers<R: Abort + Wait>(
 fn is_answered<R: Abort + Wait>(
     rt: &R,
     alloc: Global,
-    node: &DataNode,
+    node: &DataNode<First>,
     row: &str,
     seen: &mut Mark,
 ) -> bool {
@@ -294,7 +301,7 @@ fn head(rt: &impl Abort, alloc: Global, kind: &str, size: usize) -> String {
     format!(in alloc; "GET /status/health HTTP/1.1\r\n{fields}\r\n").expect(rt, "memory")
 }
 
-fn is_head_answered<R: Abort + Wait>(rt: &R, alloc: Global, node: &DataNode, row: &str) -> bool {
+fn is_head_answered<R: Abort + Wait>(rt: &R, alloc: Global, node: &DataNode<First>, row: &str) -> bool {
     let (what, wanted) = row.split_once(" = ").expect(rt, "a row");
     let (kind, size) = what.split_once(" ").expect(rt, "a size");
     let head = head(rt, alloc, kind, size.parse().expect(rt, "a size"));
@@ -330,7 +337,7 @@ fn with_changes(rt: &impl Abort, alloc: Global, text: &str) -> String {
 fn is_told<R: Abort + Wait>(
     rt: &R,
     alloc: Global,
-    node: &DataNode,
+    node: &DataNode<First>,
     row: &str,
     seen: &mut Mark,
 ) -> bool {
@@ -345,7 +352,7 @@ fn is_told<R: Abort + Wait>(
 fn assert_told<R: Abort + Wait>(
     rt: &R,
     alloc: Global,
-    node: &DataNode,
+    node: &DataNode<First>,
     rows: &str,
     seen: &mut Mark,
 ) {
@@ -385,7 +392,7 @@ const AFTER_MORE: &str =
 fn done<R: Abort + Wait>(
     rt: &R,
     alloc: Global,
-    node: &DataNode,
+    node: &DataNode<First>,
     step: &str,
     seen: &mut Mark,
 ) -> Result<(), NodeFault> {
@@ -400,7 +407,7 @@ fn done<R: Abort + Wait>(
 fn is_done<R: Abort + Wait>(
     rt: &R,
     alloc: Global,
-    node: &DataNode,
+    node: &DataNode<First>,
     row: &str,
     seen: &mut Mark,
 ) -> bool {
@@ -431,7 +438,7 @@ load wiki_2024-01-01T00:00:00.000Z_2024-01-02T00:00:00.000Z_v1_3.seg = ok";
 fn assert_goes_on<R: Abort + Wait>(
     rt: &R,
     alloc: Global,
-    node: &DataNode,
+    node: &DataNode<First>,
     (steps, told): &(&str, &str),
     seen: &mut Mark,
 ) {

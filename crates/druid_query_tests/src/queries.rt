@@ -1,5 +1,5 @@
 //! Queries to a data node.
-use crate::node::{answers, node};
+use crate::node::{First, answers, node};
 use crate::printing::filled;
 use druid_node::DataNode;
 use druid_shard::Mark;
@@ -40,7 +40,7 @@ fn pieces(rt: &impl Abort, alloc: Global, text: &str) -> String {
 fn is_answered<R: Abort + Wait>(
     rt: &R,
     alloc: Global,
-    node: &DataNode,
+    node: &DataNode<First>,
     body: &str,
     wanted: &str,
 ) -> bool {
@@ -76,7 +76,7 @@ fn told(rt: &impl Abort, alloc: Global, missing: &str, rows: &str) -> String {
     format!(in alloc; "200 {{\"missing\":[{missing}],\"rows\":{rows}}}").expect(rt, "memory")
 }
 
-fn is_asked<R: Abort + Wait>(rt: &R, alloc: Global, node: &DataNode, row: &str) -> bool {
+fn is_asked<R: Abort + Wait>(rt: &R, alloc: Global, node: &DataNode<First>, row: &str) -> bool {
     let mut columns = row.split(';');
     let source = columns.next().expect(rt, "a source");
     let asked = columns.next().expect(rt, "pieces");
@@ -107,7 +107,7 @@ w;;0 00:00:01 1970-01-01T00:00:01;400 {\"error\":\"Q4\"}
 w;;0 00:00:00 1970-01-02T00:00:00,0 00:00:00 1970-01-02T00:00:00;400 {\"error\":\"Q4\"}
 w;;0 00:00:00 1970-01-01T00:00:02,1 00:00:00 1970-01-02T00:00:00,0 00:00:01 1970-01-02T00:00:00;400 {\"error\":\"Q4\"}";
 
-fn is_refused<R: Abort + Wait>(rt: &R, alloc: Global, node: &DataNode, row: &str) -> bool {
+fn is_refused<R: Abort + Wait>(rt: &R, alloc: Global, node: &DataNode<First>, row: &str) -> bool {
     let mut columns = row.split(';');
     let source = columns.next().expect(rt, "a source");
     let more = columns.next().expect(rt, "what else it has");
@@ -134,7 +134,7 @@ const OTHERS: &str =
 const COMMON: &str =
     "\"dataSource\":\"w\",\"granularity\":\"all\",\"intervals\":{\"type\":\"segments\",\"segments\":[{\"chunk\":\"1970-01-01/1970-01-02\",\"itvl\":\"1970-01-01/1970-01-02\",\"part\":0,\"ver\":\"v\"}]},\"queryIntervals\":[\"1970-01-01/1970-01-02\"]";
 
-fn is_told<R: Abort + Wait>(rt: &R, alloc: Global, node: &DataNode, row: &str) -> bool {
+fn is_told<R: Abort + Wait>(rt: &R, alloc: Global, node: &DataNode<First>, row: &str) -> bool {
     let (text, wanted) = row.split_once(" = ").expect(rt, "a row");
     let text = filled(rt, alloc, text, '@', COMMON);
     let body = format!(in alloc; "{{\"queryType\":{text}").expect(rt, "memory");

@@ -7,7 +7,7 @@ use Rattle.druid_node.proofs.data_node.DataNode.load_file.Goals as goal
 
 pub returns-in-Err-clause-err : goal.returns-in-Err-clause-err
 returns-in-Err-clause-err g c honest =
-    read_refuses (file_at c.args.name.now (read_part (g.F.Folder.content c.args.folder.now c.args.name.now))) c.args.seen.now c.in-Err.fault c.read_fault.result c.read_fault.ensures
+    read_refuses g.I.Incarnation.number (file_at c.args.name.now (read_part (g.F.Folder.content c.args.folder.now c.args.name.now))) c.args.seen.now c.in-Err.fault c.read_fault.result c.read_fault.ensures
 
 pub returns-in-Err-clause-never : goal.returns-in-Err-clause-never
 returns-in-Err-clause-never g c = read_own c.in-Err.fault c.read_fault.result c.read_fault.ensures
@@ -18,7 +18,7 @@ returns-in-Err-clause-counted g c =
 
 pub returns-in-Err-found_segment-clause-err : goal.returns-in-Err-found_segment-clause-err
 returns-in-Err-found_segment-clause-err g c honest =
-    found_refuse c.args.name.now (bytes_read c.in-Ok.found) (read_part (g.F.Folder.content c.args.folder.now c.args.name.now)) c.args.seen.now c.in-Err-found_segment.fault (c.in-Ok.ensures.found honest) c.in-Err-found_segment.ensures.err
+    found_refuse g.I.Incarnation.number c.args.name.now (bytes_read c.in-Ok.found) (read_part (g.F.Folder.content c.args.folder.now c.args.name.now)) c.args.seen.now c.in-Err-found_segment.fault (c.in-Ok.ensures.found honest) c.in-Err-found_segment.ensures.err
 
 pub returns-in-Err-found_segment-clause-never : goal.returns-in-Err-found_segment-clause-never
 returns-in-Err-found_segment-clause-never g c = found_own c.args.name.now (bytes_read c.in-Ok.found) c.in-Err-found_segment.fault c.in-Err-found_segment.ensures.err
@@ -36,12 +36,12 @@ pub returns-in-Ok-found_segment-clause-err : goal.returns-in-Ok-found_segment-cl
 returns-in-Ok-found_segment-clause-err g c honest =
     let s = c.in-Ok-found_segment.segment in
     let given = ap (file_at c.args.name.now) (sym (c.in-Ok.ensures.found honest)) ∙ c.in-Ok-found_segment.ensures.ok in
-    IfErr-weaker c.load.result _ _ (λ fault h. load_refuses (file_at c.args.name.now (read_part (g.F.Folder.content c.args.folder.now c.args.name.now))) c.args.seen.now s fault given h) c.load.ensures.err
+    IfErr-weaker c.load.result _ _ (λ fault h. load_refuses g.I.Incarnation.number (file_at c.args.name.now (read_part (g.F.Folder.content c.args.folder.now c.args.name.now))) c.args.seen.now s fault given h) c.load.ensures.err
 
 pub returns-in-Ok-found_segment-clause-never : goal.returns-in-Ok-found_segment-clause-never
 returns-in-Ok-found_segment-clause-never g c =
-    IfErr-weaker c.load.result _ _ (λ fault h. load_own c.args.seen.now fault h) c.load.ensures.err
+    IfErr-weaker c.load.result _ _ (λ fault h. load_own g.I.Incarnation.number c.args.seen.now fault h) c.load.ensures.err
 
 pub returns-in-Ok-found_segment-clause-counted : goal.returns-in-Ok-found_segment-clause-counted
 returns-in-Ok-found_segment-clause-counted g c =
-    c.in-Ok.ensures.counted ∙ sym (load_uncounted c.args.seen.now c.load.result (g.F.Folder.faults c.args.folder.now) c.load.ensures.err)
+    c.in-Ok.ensures.counted ∙ sym (load_uncounted g.I.Incarnation.number c.args.seen.now c.load.result (g.F.Folder.faults c.args.folder.now) c.load.ensures.err)
