@@ -1,22 +1,25 @@
 //! A data node: its folder, its sockets and its threads.
-ghost use Rattle.std.specs.Prelude.{◌≡◌, ◌≢◌, ◌≤◌, All, IfOk, OnOk, map, string_bytes};
+ghost use Rattle.std.specs.Prelude.{◌≡◌, ◌≢◌, ◌≤◌, [], All, Some, IfOk, OnOk, map, string_bytes};
 ghost use Rattle.std.specs.declared.cmp.Ordering.TheVariants.{Greater};
 ghost use Rattle.druid_shard.specs.Mark.{mark_cmp};
 ghost use Rattle.druid_shard.specs.Reply.{max_changes};
+ghost use Rattle.druid_changes.specs.Kept.{StandsFor};
 ghost use Rattle.druid_folder.specs.Folder.{names_of};
-ghost use Rattle.druid_serve_node.specs.Files.{is_segment_file, IsTaken, HoldsSegments};
+ghost use Rattle.druid_incarnation.specs.Incarnation.{number_file, number_text};
+ghost use Rattle.druid_serve_node.specs.Files.{is_segment_file, IsTaken, HoldsSegments, IsStarted};
 
 use crate::fault::{ClusterFault, DeviceFailed};
 use crate::outside::{REST_MILLISECONDS, limit, listen};
 use druid_config::NodeConfig;
 use druid_folder::Folder;
 use druid_incarnation::next_incarnation;
-use druid_node::{DataNode, NodeState};
+use druid_node::{DataNode, Incarnation, NodeState};
 use druid_shard::Mark;
 use druid_store::DiskFolder;
 use std::alloc::{AllocError, Global};
 use std::fs::File;
 use std::io::{BufReader, BufWriter, Write};
+use std::marker::Brand;
 use std::net::{Net, TcpListener, TcpStream};
 use std::rt::Files;
 use std::sync::{Arc, Wait};
@@ -46,9 +49,9 @@ fn is_segment_file(name: &str) -> bool
 }
 
 // Loads the segment files among these.
-fn load_named<R: Wait, F: Folder>(
+fn load_named<R: Wait, F: Folder, I: Incarnation>(
     rt: &R,
-    node: &DataNode,
+    node: &DataNode<I>,
     folder: &mut F,
     names: &[String],
     seen: &mut Mark,
@@ -66,10 +69,10 @@ fn load_named<R: Wait, F: Folder>(
 }
 
 // Loads the segment files of a folder, in the order of their names.
-fn load_files<R: Wait, F: Folder>(
+fn load_files<R: Wait, F: Folder, I: Incarnation>(
     rt: &R,
     alloc: Global,
-    node: &DataNode,
+    node: &DataNode<I>,
     folder: &mut F,
 ) -> Result<(), ClusterFault>
     ensures { F.is_honest folder.new → OnOk result (HoldsSegments (F.content folder.new)) }
@@ -78,31 +81,46 @@ fn load_files<R: Wait, F: Folder>(
     load_named(rt, node, folder, &names, &mut Mark::never())
 }
 
-// A node of a folder: its incarnation is raised before a segment is read.
-fn loaded<R: Wait, F: Folder>(
-    rt: &R,
+// The state in which a node of a folder starts: it raises the incarnation, and reads no segment.
+fn first_state<F: Folder>(
     alloc: Global,
     folder: &mut F,
     kept: usize,
-) -> Result<DataNode, ClusterFault>
+) -> Result<NodeState, ClusterFault>
     requires some { 1 ≤ kept }
     requires few { kept ≤ max_changes }
-    ensures { F.is_honest folder.new → OnOk result (HoldsSegments (F.content folder.new)) }
+    ensures next { F.is_honest folder.new
+        → IfOk result (λ state. IsStarted (F.content folder.old number_file) (F.content folder.new number_file) state.history.incarnation) }
+    ensures kept { IfOk result (λ state. state.history.limit ≡ kept) }
+    ensures nothing { IfOk result (λ state. StandsFor state.history [] × (state.held ≡ [])) }
 {
     let incarnation = next_incarnation(alloc, folder)?;
     // A device that lies may give anything.
     if incarnation < 1 {
         return Err(ClusterFault::Device);
     }
-    let node = DataNode::new(NodeState::new(alloc, incarnation, kept)?);
+    Ok(NodeState::new(alloc, incarnation, kept)?)
+}
+
+// A node that goes on from that state, with the segments of a folder.
+fn loaded<R: Wait, F: Folder, I: Incarnation>(
+    rt: &R,
+    alloc: Global,
+    folder: &mut F,
+    state: NodeState,
+) -> Result<DataNode<I>, ClusterFault>
+    requires { state.history.incarnation ≡ I.number }
+    ensures { F.is_honest folder.new → OnOk result (HoldsSegments (F.content folder.new)) }
+{
+    let node = DataNode::new(state);
     load_files(rt, alloc, &node, folder)?;
     Ok(node)
 }
 
 // Loads files of a folder; one that is refused is passed over.
-fn load_later<R: Wait, F: Folder>(
+fn load_later<R: Wait, F: Folder, I: Incarnation>(
     rt: &R,
-    node: &DataNode,
+    node: &DataNode<I>,
     folder: &mut F,
     names: &[String],
     seen: &mut Mark,
@@ -115,9 +133,9 @@ fn load_later<R: Wait, F: Folder>(
 }
 
 // What the thread does that loads files later.
-fn load_from<R: Files<File = File> + AllocGlobal + Wait + Copy>(
+fn load_from<R: Files<File = File> + AllocGlobal + Wait + Copy, I: Incarnation>(
     rt: &R,
-    node: &DataNode,
+    node: &DataNode<I>,
     path: String,
     names: &[String],
 ) {
@@ -128,9 +146,10 @@ fn load_from<R: Files<File = File> + AllocGlobal + Wait + Copy>(
 // Starts the thread that loads files once the node stands.
 fn start_loader<
     R: Files<File = File> + AllocGlobal + Wait + Threads + Copy + Send + Sync + 'static,
+    I: Incarnation + Send + Sync + 'static,
 >(
     rt: &R,
-    node: &Arc<DataNode, Global>,
+    node: &Arc<DataNode<I>, Global>,
     path: String,
     names: Vec<String>,
 ) -> Result<JoinHandle<()>, DeviceFailed>
@@ -147,7 +166,13 @@ where
 }
 
 // Answers one connection.
-fn answer<R: Wait>(rt: &R, alloc: Global, node: &DataNode, stream: &TcpStream, seen: &mut Mark)
+fn answer<R: Wait, I: Incarnation>(
+    rt: &R,
+    alloc: Global,
+    node: &DataNode<I>,
+    stream: &TcpStream,
+    seen: &mut Mark,
+)
     ensures { mark_cmp seen.old seen.new ≢ Greater }
 {
     if !limit(stream) {
@@ -165,10 +190,10 @@ fn answer<R: Wait>(rt: &R, alloc: Global, node: &DataNode, stream: &TcpStream, s
 }
 
 // Answers connections.
-fn work<R: Wait + Clock>(
+fn work<R: Wait + Clock, I: Incarnation>(
     rt: &R,
     alloc: Global,
-    node: &DataNode,
+    node: &DataNode<I>,
     listener: &TcpListener,
     seen: &mut Mark,
 )
@@ -183,10 +208,13 @@ fn work<R: Wait + Clock>(
 }
 
 // Starts a thread that answers connections.
-fn start_worker<R: Wait + Threads + Clock + Copy + Send + Sync + 'static>(
+fn start_worker<
+    R: Wait + Threads + Clock + Copy + Send + Sync + 'static,
+    I: Incarnation + Send + Sync + 'static,
+>(
     rt: &R,
     alloc: Global,
-    node: &Arc<DataNode, Global>,
+    node: &Arc<DataNode<I>, Global>,
     listener: &Arc<TcpListener, Global>,
 ) -> Result<(), DeviceFailed> {
     let rt = *rt;
@@ -200,6 +228,44 @@ fn start_worker<R: Wait + Threads + Clock + Copy + Send + Sync + 'static>(
         }
         Err(_) => Err(DeviceFailed),
     }
+}
+
+// Starts a node that goes on from that state, whose incarnation its folder has: loads the segment files of the folder, listens,
+// and starts its threads.
+fn start_from<
+    R: Files<File = File>
+        + Net<Listener = TcpListener, Stream = TcpStream>
+        + AllocGlobal
+        + Wait
+        + Threads
+        + Clock
+        + Copy
+        + Send
+        + Sync
+        + 'static,
+    F: Folder,
+    I: Incarnation + Send + Sync + 'static,
+>(
+    rt: &R,
+    alloc: Global,
+    config: &NodeConfig,
+    folder: &mut F,
+    state: NodeState,
+) -> Result<JoinHandle<()>, ClusterFault>
+where
+    R::Dir: Send,
+    requires own { state.history.incarnation ≡ I.number }
+    requires has { F.is_honest folder.old → F.content folder.old number_file ≡ Some (number_text state.history.incarnation) }
+{
+    let node: Arc<DataNode<I>, Global> = Arc::new(alloc, loaded(rt, alloc, folder, state)?)?;
+    let listener = Arc::new(alloc, listen(rt, config.address())?)?;
+    let path = String::from_str(alloc, config.folder())?;
+    let loads = copies_of(alloc, config.loads())?;
+    let loader = start_loader(rt, &node, path, loads)?;
+    for _ in 0..config.workers() {
+        start_worker(rt, alloc, &node, &listener)?;
+    }
+    Ok(loader)
 }
 
 /// Starts a data node: raises its incarnation, loads the segment files of its folder, listens, and starts its threads. It
@@ -221,14 +287,7 @@ where
     requires some { 1 ≤ kept }
     requires few { kept ≤ max_changes }
 {
-    let path = String::from_str(alloc, config.folder())?;
-    let mut folder: DiskFolder<R> = DiskFolder::new(*rt, String::from_str(alloc, path.as_str())?);
-    let node = Arc::new(alloc, loaded(rt, alloc, &mut folder, kept)?)?;
-    let listener = Arc::new(alloc, listen(rt, config.address())?)?;
-    let loads = copies_of(alloc, config.loads())?;
-    let loader = start_loader(rt, &node, path, loads)?;
-    for _ in 0..config.workers() {
-        start_worker(rt, alloc, &node, &listener)?;
-    }
-    Ok(loader)
+    let mut folder: DiskFolder<R> = DiskFolder::new(*rt, String::from_str(alloc, config.folder())?);
+    let state = first_state(alloc, &mut folder, kept)?;
+    start_from::<R, DiskFolder<R>, Brand>(rt, alloc, config, &mut folder, state)
 }
