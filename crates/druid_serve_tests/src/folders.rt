@@ -10,12 +10,18 @@ use std::process::Abort;
 use std::rt::{Env, Files};
 use std::{env, fs};
 
-// The descriptor of a segment of the source `wiki`.
-fn descriptor(rt: &impl Abort, alloc: Global, version: &str, interval: &str) -> Descriptor {
+// The descriptor of a segment of the source `wiki`, the part of that number of its interval.
+fn descriptor(
+    rt: &impl Abort,
+    alloc: Global,
+    version: &str,
+    interval: &str,
+    part: u16,
+) -> Descriptor {
     let name = Name::new(alloc, "wiki").expect(rt, "a name");
     let interval = Interval::parse(interval).expect(rt, "an interval");
     let version = Version::new(alloc, version).expect(rt, "a version");
-    let id = SegmentId::new(name, interval, version, 0);
+    let id = SegmentId::new(name, interval, version, part);
     Descriptor::new(id, 1, 0).expect(rt, "a descriptor")
 }
 
@@ -32,7 +38,7 @@ fn segment(
     interval: &str,
     instants: &str,
 ) -> Segment {
-    let descriptor = descriptor(rt, alloc, version, interval);
+    let descriptor = descriptor(rt, alloc, version, interval, 0);
     let schema = Schema::new(Vec::new(alloc), Vec::new(alloc));
     let mut rows = Vec::new(alloc);
     for instant in instants.split(' ') {
@@ -104,4 +110,23 @@ pub(crate) fn fresh_folder<R: Files + Env + AllocGlobal + Abort>(
         }
     }
     panic!(rt; "no folder")
+}
+
+// A segment without rows, the part of that number of its day.
+fn part(rt: &impl Abort, alloc: Global, number: u16) -> Segment {
+    let descriptor = descriptor(rt, alloc, "v1", "2024-01-01/2024-01-02", number);
+    let schema = Schema::new(Vec::new(alloc), Vec::new(alloc));
+    Segment::new(alloc, descriptor, schema, Vec::new(alloc)).expect(rt, "a segment")
+}
+
+/// Puts the files of so many parts of a day into a folder.
+pub(crate) fn put_parts<R: Files + Abort>(rt: &R, alloc: Global, folder: &str, count: u16) {
+    for number in 0..count {
+        let segment = part(rt, alloc, number);
+        let mut bytes = Vec::new(alloc);
+        write_segment(alloc, &segment, &mut bytes).expect(rt, "a file");
+        let id = segment.descriptor().id().text(alloc).expect(rt, "memory");
+        let name = format!(in alloc; "{id}.seg").expect(rt, "memory");
+        put(rt, alloc, folder, name.as_str(), &bytes);
+    }
 }

@@ -1,0 +1,173 @@
+//! Nodes that are started over folders of many files, and from incarnations of each length.
+ghost use Rattle.std.specs.Prelude.{◌≤◌};
+
+use crate::folders::{fresh_folder, put, put_parts};
+use druid_config::{Config, read_config};
+use druid_link::{Link, TcpLink};
+use druid_serve_node::start_node;
+use std::alloc::Global;
+use std::fs::File;
+use std::net::{Net, TcpListener, TcpStream};
+use std::process::Abort;
+use std::rt::{Env, Files};
+use std::sync::Wait;
+use std::thread::Threads;
+use std::time::Clock;
+use std::{fs, str};
+
+// An address of this machine where nobody listens.
+fn free_address<R: Net<Listener = TcpListener, Stream = TcpStream> + Abort>(
+    rt: &R,
+    alloc: Global,
+) -> String {
+    let listener = TcpListener::bind(rt, "127.0.0.1:0").expect(rt, "a listener");
+    let address = listener.local_addr().expect(rt, "an address");
+    format!(in alloc; "{address}").expect(rt, "memory")
+}
+
+// The names of so many files that are not there, as JSON.
+fn absent_files(rt: &impl Abort, alloc: Global, count: usize) -> String {
+    let mut names = String::new(alloc);
+    for number in 0..count {
+        let comma = if number == 0 { "" } else { "," };
+        let name = format!(in alloc; "{comma}\"none_{number}.seg\"").expect(rt, "memory");
+        names.push_str(name.as_str()).expect(rt, "memory");
+    }
+    names
+}
+
+// A config of one node of a folder, which loads so many files later, with so many workers.
+fn config(
+    rt: &impl Abort,
+    alloc: Global,
+    (address, folder): (&str, &str),
+    loads: usize,
+    workers: u8,
+) -> Config {
+    let names = absent_files(rt, alloc, loads);
+    let text = format!(in alloc;
+        "{{\"brokers\":[{{\"address\":\"127.0.0.1:1\",\"workers\":1}}],\"connections\":0,\"kept\":1,\"nodes\":[{{\"address\":\"{address}\",\"folder\":\"{folder}\",\"loads\":[{names}],\"name\":\"n0\",\"workers\":{workers}}}],\"queries\":[],\"turns\":1}}"
+    ).expect(rt, "memory");
+    read_config(alloc, text.as_bytes()).expect(rt, "a config")
+}
+
+// What a node that is started over a folder tells of its segments, once it has tried the files that it loads later.
+fn told_over<
+    R: Files<File = File>
+        + Env
+        + AllocGlobal
+        + Net<Listener = TcpListener, Stream = TcpStream>
+        + Wait
+        + Threads
+        + Clock
+        + Abort
+        + Copy
+        + Send
+        + Sync
+        + 'static,
+>(rt: &R, alloc: Global, folder: &str, loads: usize, workers: u8, kept: usize) -> String
+where
+    R::Dir: Send,
+    requires some { 1 ≤ kept }
+    requires few { kept ≤ 1000 }
+{
+    let address = free_address(rt, alloc);
+    let config = config(rt, alloc, (address.as_str(), folder), loads, workers);
+    let node = config.nodes().first().expect(rt, "a node");
+    let loader = start_node(rt, alloc, node, kept).expect(rt, "a node that starts");
+    loader.join(rt);
+    let mut link = TcpLink::new(*rt, address);
+    let answer = link
+        .exchange(alloc, b"GET /druid-internal/v1/segments HTTP/1.1\r\n\r\n")
+        .expect(rt, "an answer");
+    String::from_str(alloc, str::from_utf8(&answer).expect(rt, "a text")).expect(rt, "memory")
+}
+
+// Whether a node is at that mark, and serves as many segments.
+fn is_at(rt: &impl Abort, alloc: Global, told: &str, count: usize, incarnation: &str) -> bool {
+    let mark = format!(in alloc;
+        "\r\n\r\n{{\"counter\":{{\"counter\":{count},\"hash\":{incarnation}}},"
+    ).expect(rt, "memory");
+    told.contains(mark.as_str())
+        && told.split("\"action\":\"load\"").count() == count.saturating_add(1)
+}
+
+// Asserts that a node starts over a folder of so many segments, and serves them.
+fn assert_starts<
+    R: Files<File = File>
+        + Env
+        + AllocGlobal
+        + Net<Listener = TcpListener, Stream = TcpStream>
+        + Wait
+        + Threads
+        + Clock
+        + Abort
+        + Copy
+        + Send
+        + Sync
+        + 'static,
+>(rt: &R, alloc: Global, count: u16, workers: u8, kept: usize)
+where
+    R::Dir: Send,
+    requires some { 1 ≤ kept }
+    requires few { kept ≤ 1000 }
+{
+    let folder = fresh_folder(rt, alloc, "druid_serve_node");
+    put_parts(rt, alloc, folder.as_str(), count);
+    let told = told_over(rt, alloc, folder.as_str(), count as usize, workers, kept);
+    assert!(rt;
+        is_at(rt, alloc, told.as_str(), count as usize, "1"),
+        "{count}: {told}"
+    );
+    fs::remove_dir_all(rt, folder.as_str()).expect(rt, "a folder");
+}
+
+#[test]
+fn ample_memory(rt: HostRuntime) {
+    for count in [0u16, 1, 2, 3, 5, 17, 65] {
+        assert_starts(&rt, rt.alloc(), count, 1, 1000);
+    }
+    assert_starts(&rt, rt.alloc(), 3, 16, 1);
+}
+
+// Asserts that a node starts with the second of two incarnations, where its folder had the first.
+fn assert_raised<
+    R: Files<File = File>
+        + Env
+        + AllocGlobal
+        + Net<Listener = TcpListener, Stream = TcpStream>
+        + Wait
+        + Threads
+        + Clock
+        + Abort
+        + Copy
+        + Send
+        + Sync
+        + 'static,
+>(rt: &R, alloc: Global, row: &str)
+where
+    R::Dir: Send,
+{
+    let (before, after) = row.split_once(" = ").expect(rt, "no row");
+    let folder = fresh_folder(rt, alloc, "druid_serve_incarnation");
+    let text = format!(in alloc; "{before}\n").expect(rt, "memory");
+    put(rt, alloc, folder.as_str(), "incarnation", text.as_bytes());
+    let told = told_over(rt, alloc, folder.as_str(), 0, 1, 10);
+    assert!(rt; is_at(rt, alloc, told.as_str(), 0, after), "{row}: {told}");
+    fs::remove_dir_all(rt, folder.as_str()).expect(rt, "a folder");
+}
+
+#[test]
+fn many_starts(rt: HostRuntime) {
+    let rows = "1 = 2
+9 = 10
+998 = 999
+999 = 1000
+1000 = 1001
+9999 = 10000
+1000000000000000000 = 1000000000000000001
+18446744073709551614 = 18446744073709551615";
+    for row in rows.lines() {
+        assert_raised(&rt, rt.alloc(), row);
+    }
+}
