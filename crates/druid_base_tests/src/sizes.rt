@@ -50,6 +50,7 @@ fn loads(rt: &impl Abort, alloc: Global, count: u16) -> Vec<Change> {
 
 fn snapshot(rt: &impl Abort, alloc: Global, mark: Mark, count: u16) -> Reply {
     let segments = partitions(rt, alloc, count);
+    assert!(rt; 1 <= mark.incarnation());
     Reply::snapshot(mark, segments).expect(rt, "a snapshot")
 }
 
@@ -65,8 +66,11 @@ fn nodes(rt: &impl Abort, alloc: Global, count: u16) -> Vec<Name> {
     names
 }
 
-fn one_node(rt: &impl Abort, alloc: Global) -> Inventory {
-    Inventory::new(alloc, nodes(rt, alloc, 1)).expect(rt, "an inventory")
+// What a broker of so many nodes knows first.
+fn fresh(rt: &impl Abort, alloc: Global, count: u16) -> Inventory {
+    let names = nodes(rt, alloc, count);
+    assert!(rt; !names.is_empty() && names.len() <= 64);
+    Inventory::new(alloc, names).expect(rt, "an inventory")
 }
 
 // Whether a reply is written, and read back as it was.
@@ -78,7 +82,7 @@ fn is_read_back(rt: &impl Abort, alloc: Global, reply: &Reply) -> bool {
 
 // Whether a broker takes the snapshots of three incarnations, the last two with so many segments.
 fn follows_restarts(rt: &impl Abort, alloc: Global, count: u16) -> bool {
-    let mut inventory = one_node(rt, alloc);
+    let mut inventory = fresh(rt, alloc, 1);
     for (incarnation, held) in [(1, 2), (2, count), (3, count)] {
         let reply = snapshot(rt, alloc, Mark::new(incarnation, 4), held);
         let (next, outcome) = inventory.apply(0, &reply).expect(rt, "a refused snapshot");
@@ -91,7 +95,7 @@ fn follows_restarts(rt: &impl Abort, alloc: Global, count: u16) -> bool {
 // Whether a broker takes a delta of so many loads.
 fn takes_delta(rt: &impl Abort, alloc: Global, count: u16) -> bool {
     let (from, to) = (Mark::new(1, 7), Mark::new(1, 7 + count as u64));
-    let (inventory, _) = one_node(rt, alloc)
+    let (inventory, _) = fresh(rt, alloc, 1)
         .apply(0, &snapshot(rt, alloc, from, 0))
         .expect(rt, "a refused snapshot");
     let delta = Reply::delta(from, to, loads(rt, alloc, count)).expect(rt, "a delta");
@@ -103,7 +107,7 @@ fn takes_delta(rt: &impl Abort, alloc: Global, count: u16) -> bool {
 
 // Whether a node that keeps so many changes answers with as many.
 fn answers_kept(rt: &impl Abort, alloc: Global, count: u16) -> bool {
-    if count == 0 {
+    if count == 0 || 1_000 < count {
         return true;
     }
     let mut history = History::new(alloc, 3, count as usize).expect(rt, "memory");
@@ -168,7 +172,7 @@ fn knows_nodes(rt: &impl Abort, alloc: Global, count: u16) -> bool {
     if count == 0 || 64 < count {
         return count != 64;
     }
-    let inventory = Inventory::new(alloc, nodes(rt, alloc, count)).expect(rt, "an inventory");
+    let inventory = fresh(rt, alloc, count);
     let joined = inventory.join(&inventory).expect(rt, "a join");
     joined.node_count() == count && joined == inventory
 }
