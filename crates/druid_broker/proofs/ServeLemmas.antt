@@ -1,48 +1,58 @@
--- Which requests use links.
-use Rattle.std.proofs.Common.{◌≡◌, ◌⊎◌, ℕ, Bool, true, false, List, [], codes, bytes_eq, Option, Some, None, IfSome, Result, Ok, Err, IfOk, IfErr, refl, sym, ap, subst, ◌∙◌, inl, inr}
+-- Which requests use links, and which take the inventory.
+use Rattle.std.proofs.Common.{◌≡◌, ◌≢◌, ◌⊎◌, ℕ, Bool, true, List, codes, bytes_eq, Option, Some, None, IfSome, Result, Ok, Err, IfOk, IfErr, refl, sym, ap, subst, ◌∙◌, inl, inr}
 use Rattle.druid_shard.specs.Mark.{Point}
 use Rattle.druid_inventory.specs.Entry.{Entry}
 use Rattle.druid_link.specs.Links.{Came}
 use Rattle.druid_message.specs.Requests.{RequestValue, path_of}
-use Rattle.druid_wire.specs.Messages.{IsRequest}
-use Rattle.druid_wire.specs.Served.{IsSent, IsServed, IsCutShort, FailsToServe}
+use Rattle.druid_wire.specs.Served.{Tells, IsSent, IsServed, IsCutShort, FailsToServe}
 use Rattle.druid_message.specs.declared.fault.WireFault.{WireFault}
 use Rattle.druid_wire.proofs.ServeLemmas.{WasRead, served, unsent}
-use Rattle.druid_broker.specs.Routes.{Route, health, query, sources, load_status, entry, nowhere, route_of, AnswersPost, AnswersAt, Responds, IsOutOfMemory, KeepsLinks}
-use Rattle.druid_broker.specs.Views.{Reads, TakesInventory, AnswersStale, RespondsAt, RespondsBy, KeepsView}
+use Rattle.druid_query.specs.Query.{Query}
+use Rattle.druid_query.specs.Read.{ReadsAs, IsReadOf, query_at}
+use Rattle.druid_query.specs.Refusal.{Refusal}
+use Rattle.druid_query.specs.Refused.{refusal_text}
+use Rattle.druid_query.specs.declared.fault.QueryFault.{QueryFault}
+use Rattle.druid_query.specs.declared.fault.QueryFault.TheVariants.{NotJson, UnknownType, Field, BadInterval, LimitPassed, DoubledName, Memory}
+use Rattle.druid_published.specs.declared.fault.PublishFault.{PublishFault}
+use Rattle.serde_json.specs.Data.{Data}
+use Rattle.druid_broker.specs.Queries.{NamesField}
+use Rattle.druid_broker.specs.Routes.{Route, health, query, sources, load_status, entry, nowhere, route_of, AnswersPost, AnswersAt, IsOutOfMemory}
+use Rattle.druid_broker.specs.Views.{Reads, TakesInventory, AnswersUnread, RespondsAt, RespondsBy, KeepsView, KeepsViewAt, KeepsLinks}
 
-module _ {L : Type 0} (step : L → List ℕ → Came → L → Type 0) (inventory : List Entry) (old new : List L) where
-  posted : (b : Bool) (bytes : List ℕ) (status : ℕ) (body : List ℕ) → AnswersPost step b inventory bytes old new status body → (new ≡ old) ⊎ (b ≡ true)
-  posted true bytes status body h = inr refl
-  posted false bytes status body h = inl h.1
+-- bytes that read as a query are not refused as one
+one_reading : (bytes : List ℕ) (asked : Query) (fault : QueryFault) → fault ≢ Memory → IsReadOf bytes (Ok asked) → IsReadOf bytes (Err fault) → ⊥
+one_reading bytes asked fault had_memory reads refused = by_fault fault had_memory refused
+  where
+    same_data : (d : Data) → ReadsAs bytes d → query_at d ≡ Ok asked
+    same_data d r = let one : reads.0 ≡ d = same_Some (sym reads.1.1 ∙ r.1) in subst (λ (e : Data). query_at e ≡ Ok asked) one reads.2
+      where
+        same_Some : {A : Type 0} {x y : A} → Some x ≡ Some y → x ≡ y
+        same_Some e = cc
 
-  abbrev IsPosted : Route → RequestValue → Type 0
-  IsPosted route request = (route ≡ query) × (bytes_eq request.method (codes "POST") ≡ true)
+    not_refused : (d : Data) (e : Refusal) → ReadsAs bytes d → query_at d ≡ Err e → ⊥
+    not_refused d e r is = apart (sym (same_data d r) ∙ is)
+      where
+        apart : Path (Result Query Refusal) (Ok asked) (Err e) → ⊥
+        apart h = cc
 
-  of_query : (request : RequestValue) → (new ≡ old) ⊎ (bytes_eq request.method (codes "POST") ≡ true) → (new ≡ old) ⊎ IsPosted query request
-  of_query request (inl same) = inl same
-  of_query request (inr is) = inr (refl, is)
+    by_fault : (fault : QueryFault) → fault ≢ Memory → IsReadOf bytes (Err fault) → ⊥
+    by_fault NotJson had none = none reads.0 reads.1
+    by_fault UnknownType had r = not_refused r.0 _ r.1 r.2
+    by_fault (Field key) had r = not_refused r.0 _ r.1 r.2
+    by_fault BadInterval had r = not_refused r.0 _ r.1 r.2
+    by_fault LimitPassed had r = not_refused r.0 _ r.1 r.2
+    by_fault DoubledName had r = not_refused r.0 _ r.1 r.2
+    by_fault Memory had r = had refl
 
-  at_route : (route : Route) (request : RequestValue) (status : ℕ) (body : List ℕ) → AnswersAt step route inventory old new request status body
-      → (new ≡ old) ⊎ IsPosted route request
-  at_route health request status body h = inl h.1
-  at_route query request status body h = of_query request (posted (bytes_eq request.method (codes "POST")) request.body status body h)
-  at_route sources request status body h = inl h.1
-  at_route load_status request status body h = inl h.1
-  at_route (entry node) request status body h = inl h.1
-  at_route nowhere request status body h = inl h.1
-
-  kept : (input : List ℕ) (request : RequestValue) (rest : List ℕ) → IsRequest input request rest
-      → (new ≡ old) ⊎ IsPosted (route_of (path_of request.target)) request → KeepsLinks old new input
-  kept input request rest is (inl same) = inl same
-  kept input request rest is (inr (route, method)) = inr (request, rest, is, route, method)
-
-  -- the links after an answer
-  pub keeps_links : (before after : Option (List ℕ)) (request : RequestValue) (status : ℕ) (body : List ℕ) → WasRead before after request
-      → Responds step inventory old new request status body → IfSome before (KeepsLinks old new)
-  keeps_links None after request status body read answer = tt
-  keeps_links (Some input) after request status body (rest, after_is, is) answer =
-      kept input request rest is (at_route (route_of (path_of request.target)) request status body answer)
+-- only queries use links
+at_route : {L : Type 0} (step : L → List ℕ → Came → L → Type 0) (order : List ℕ → List ℕ) (inventory : List Entry) (old new : List L) (route : Route) (request : RequestValue) (status : ℕ) (body : List ℕ)
+    → AnswersAt step order route inventory old new request status body → (new ≡ old) ⊎ (route ≡ query)
+at_route step order inventory old new health request status body h = inl h.1
+at_route step order inventory old new query request status body h = inr refl
+at_route step order inventory old new sources request status body h = inl h.1
+at_route step order inventory old new load_status request status body h = inl h.1
+at_route step order inventory old new (entry node) request status body h = inl h.1
+at_route step order inventory old new nowhere request status body h = inl h.1
 
 -- what was sent of an answer
 module _ (R : RequestValue → ℕ → List ℕ → Type 0) (request : RequestValue) (before after old new : Option (List ℕ)) (status sent_as : ℕ) (body sent_body : List ℕ) where
@@ -57,38 +67,78 @@ module _ (R : RequestValue → ℕ → List ℕ → Type 0) (request : RequestVa
   cut_short (Err fault) read answer e f is = unsent R request before after old new fault read (sent_as, sent_body, rw (e, f) answer, is)
 
 -- the links and the view after an answer by way of a view
-module _ {L : Type 0} (step : L → List ℕ → Came → L → Type 0) (names : List (List ℕ)) (floor after : List Point) (old new : List L) where
+module _ {L : Type 0} (step : L → List ℕ → Came → L → Type 0) (order : List ℕ → List ℕ) (names : List (List ℕ)) (floor after : List Point) (old new : List L) where
   pub keeps_links_by : (before rest : Option (List ℕ)) (request : RequestValue) (status : ℕ) (body : List ℕ) → WasRead before rest request
-      → RespondsBy step names floor after old new request status body → IfSome before (KeepsLinks old new)
+      → RespondsBy step order names floor after old new request status body → IfSome before (KeepsLinks old new)
   keeps_links_by None rest request status body read answer = tt
-  keeps_links_by (Some input) rest request status body read (inl (inventory, reads, answer)) = keeps_links step inventory old new (Some input) rest request status body read answer
-  keeps_links_by (Some input) rest request status body read (inr (inl (answer, same))) = keeps_links step [] old new (Some input) rest request status body read (answer [])
-  keeps_links_by (Some input) rest request status body read (inr (inr (takes, told, same, links))) = inl links
+  keeps_links_by (Some input) rest request status body (left, is_left, is) (inl (takes, inventory, reads, answer)) =
+      elim (at_route step order inventory old new (route_of (path_of request.target)) request status body answer) [
+        | inl same ↦ inl same
+        | inr route ↦ inr (request, left, is, route, subst (λ (r : Route). TakesInventory r request) route takes)
+      ]
+  keeps_links_by (Some input) rest request status body read (inr (inl (memory, answer, same, links))) = inl links
+  keeps_links_by (Some input) rest request status body read (inr (inr (takes, fault, told, same, links))) = inl links
 
-  pub keeps_view : (request : RequestValue) (status : ℕ) (body : List ℕ) → RespondsBy step names floor after old new request status body → KeepsView names floor after
-  keeps_view request status body (inl (inventory, reads, answer)) = inr (inventory, reads)
-  keeps_view request status body (inr (inl (answer, same))) = inl same
-  keeps_view request status body (inr (inr (takes, told, same, links))) = inl same
+  pub keeps_view : (request : RequestValue) (status : ℕ) (body : List ℕ) → RespondsBy step order names floor after old new request status body → KeepsView names floor after
+  keeps_view request status body (inl (takes, inventory, reads, answer)) = inr (inventory, reads)
+  keeps_view request status body (inr (inl (memory, answer, same, links))) = inl same
+  keeps_view request status body (inr (inr (takes, fault, told, same, links))) = inl same
+
+  pub keeps_view_at : (before rest : Option (List ℕ)) (request : RequestValue) (status : ℕ) (body : List ℕ) → WasRead before rest request
+      → RespondsBy step order names floor after old new request status body → IfSome before (KeepsViewAt names floor after)
+  keeps_view_at None rest request status body read answer = tt
+  keeps_view_at (Some input) rest request status body (left, is_left, is) (inl (takes, inventory, reads, answer)) = inr ((request, left, is, takes), (inventory, reads))
+  keeps_view_at (Some input) rest request status body read (inr (inl (memory, answer, same, links))) = inl same
+  keeps_view_at (Some input) rest request status body read (inr (inr (takes, fault, told, same, links))) = inl same
 
   -- what is answered on the route of the request
   pub on_route : (request : RequestValue) (status : ℕ) (body path : List ℕ) (route : Route)
       → path ≡ path_of request.target → route ≡ route_of path
-      → RespondsAt step names route floor after old new request status body → RespondsBy step names floor after old new request status body
+      → RespondsAt step order names route floor after old new request status body → RespondsBy step order names floor after old new request status body
   on_route request status body path route is_path is_route answer =
-      subst (λ (r : Route). RespondsAt step names r floor after old new request status body) (is_route ∙ ap route_of is_path) answer
+      subst (λ (r : Route). RespondsAt step order names r floor after old new request status body) (is_route ∙ ap route_of is_path) answer
+
+  -- it is taken, and was read
+  pub known : (route : Route) (request : RequestValue) (status : ℕ) (body : List ℕ) (inventory found : List Entry) → found ≡ inventory → TakesInventory route request → Reads names floor after inventory
+      → AnswersAt step order route found old new request status body → RespondsAt step order names route floor after old new request status body
+  known route request status body inventory found same takes reads answer = inl (takes, found, subst (Reads names floor after) (sym same) reads, answer)
 
   -- where nothing is read, that is reported
-  pub unread : (route : Route) (request : RequestValue) (status : ℕ) (body : List ℕ) → TakesInventory route request
-      → AnswersStale names floor status body ⊎ IsOutOfMemory status body → after ≡ floor → new ≡ old
-      → RespondsAt step names route floor after old new request status body
-  unread route request status body takes told same links = inr (inr (takes, told, same, links))
+  pub unread : (route : Route) (request : RequestValue) (status : ℕ) (body : List ℕ) (fault : PublishFault) → TakesInventory route request
+      → AnswersUnread names floor fault status body → after ≡ floor → new ≡ old → RespondsAt step order names route floor after old new request status body
+  unread route request status body fault takes told same links = inr (inr (takes, fault, told, same, links))
 
   -- a query that was posted is answered by what was read
-  pub answered : (inventory lent : List Entry) (request : RequestValue) (status : ℕ) (body : List ℕ) → lent ≡ inventory
-      → bytes_eq request.method (codes "POST") ≡ true → Reads names floor after inventory → AnswersPost step true lent request.body old new status body
-      → RespondsAt step names query floor after old new request status body
-  answered inventory lent request status body same posted reads answer = inl (
-    lent,
+  pub answered : (inventory found : List Entry) (request : RequestValue) (asked : Query) (status : ℕ) (body : List ℕ) → found ≡ inventory
+      → bytes_eq request.method (codes "POST") ≡ true → IsReadOf request.body (Ok asked) → Reads names floor after inventory → AnswersPost step order true found request.body old new status body
+      → RespondsAt step order names query floor after old new request status body
+  answered inventory found request asked status body same posted read reads answer = inl (
+    (posted, (asked, read)),
+    found,
     subst (Reads names floor after) (sym same) reads,
-    subst (λ (b : Bool). AnswersPost step b lent request.body old new status body) (sym posted) answer,
+    subst (λ (b : Bool). AnswersPost step order b found request.body old new status body) (sym posted) answer,
   )
+
+  module _ (request : RequestValue) (status : ℕ) (body : List ℕ) (posted : bytes_eq request.method (codes "POST") ≡ true) (same : after ≡ floor) (links : new ≡ old) where
+    -- the same whatever is known
+    whatever : (TakesInventory query request → IsOutOfMemory status body) → ((inventory : List Entry) → AnswersPost step order true inventory request.body old new status body)
+        → RespondsAt step order names query floor after old new request status body
+    whatever memory answer = inr (inl (memory, λ inventory. subst (λ (b : Bool). AnswersPost step order b inventory request.body old new status body) (sym posted) (answer inventory), same, links))
+
+    refused_as : (fault : QueryFault) → fault ≢ Memory → IsReadOf request.body (Err fault) → Tells 400 (refusal_text fault) status body ⊎ (NamesField fault × IsOutOfMemory status body)
+        → RespondsAt step order names query floor after old new request status body
+    refused_as fault had read (inl told) =
+        whatever (λ takes. absurd (one_reading request.body takes.1.0 fault had takes.1.1 read)) (λ inventory. inl (inr (fault, had, read, told, links)))
+    refused_as fault had read (inr lacks) =
+        whatever (λ takes. lacks.1) (λ inventory. inr (inr (inl (fault, lacks.0, read, links)), lacks.1))
+
+    -- what was posted is no query, or memory was refused to read it
+    pub refused : (fault : QueryFault) → IsReadOf request.body (Err fault) → (fault ≢ Memory → Tells 400 (refusal_text fault) status body ⊎ (NamesField fault × IsOutOfMemory status body))
+        → (fault ≡ Memory → IsOutOfMemory status body) → RespondsAt step order names query floor after old new request status body
+    refused NotJson read told memory = let had : NotJson ≢ Memory = λ e. cc in refused_as NotJson had read (told had)
+    refused UnknownType read told memory = let had : UnknownType ≢ Memory = λ e. cc in refused_as UnknownType had read (told had)
+    refused (Field key) read told memory = let had : Field key ≢ Memory = λ e. cc in refused_as (Field key) had read (told had)
+    refused BadInterval read told memory = let had : BadInterval ≢ Memory = λ e. cc in refused_as BadInterval had read (told had)
+    refused LimitPassed read told memory = let had : LimitPassed ≢ Memory = λ e. cc in refused_as LimitPassed had read (told had)
+    refused DoubledName read told memory = let had : DoubledName ≢ Memory = λ e. cc in refused_as DoubledName had read (told had)
+    refused Memory read told memory = whatever (λ takes. memory refl) (λ inventory. inr (inl (read, links), memory refl))

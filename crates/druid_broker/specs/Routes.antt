@@ -13,8 +13,7 @@ use Rattle.druid_sync.specs.Written.{reply_text}
 use Rattle.druid_inventory.specs.Entry.{Entry, IsUnsynced, IsEntryOf}
 use Rattle.druid_inventory.specs.Sources.{HasSource}
 use Rattle.druid_link.specs.Links.{Came}
-use Rattle.druid_message.specs.Requests.{RequestValue, path_of}
-use Rattle.druid_wire.specs.Messages.{IsRequest}
+use Rattle.druid_message.specs.Requests.{RequestValue}
 use Rattle.druid_wire.specs.Served.{Tells, Allows}
 use Rattle.druid_broker.specs.Queries.{AnswersQuery, WantsMemory}
 
@@ -105,28 +104,14 @@ TellsAt (entry node) inventory request status body = Gets request (AnswersEntry 
 TellsAt nowhere inventory request status body = Tells 404 (codes "{\"error\":\"NoRoute\"}") status body
 
 -- the answer to a query that is posted; another method uses no link
-abbrev pub AnswersPost : {L : Type 0} → (L → List ℕ → Came → L → Type 0) → Bool → List Entry → List ℕ → List L → List L → ℕ → List ℕ → Type 0
-AnswersPost step true inventory bytes old new status body =
-    AnswersQuery step inventory bytes old new status body ⊎ (WantsMemory step bytes old new × IsOutOfMemory status body)
-AnswersPost step false inventory bytes old new status body = Tells 405 (codes "{\"error\":\"Method\"}") status body × (new ≡ old)
+abbrev pub AnswersPost : {L : Type 0} → (L → List ℕ → Came → L → Type 0) → (List ℕ → List ℕ) → Bool → List Entry → List ℕ → List L → List L → ℕ → List ℕ → Type 0
+AnswersPost step order true inventory bytes old new status body =
+    AnswersQuery step order inventory bytes old new status body ⊎ (WantsMemory step order inventory bytes old new × IsOutOfMemory status body)
+AnswersPost step order false inventory bytes old new status body = Tells 405 (codes "{\"error\":\"Method\"}") status body × (new ≡ old)
 
 -- the answer on a route, and what the links become: only queries use them
-abbrev pub AnswersAt : {L : Type 0} → (L → List ℕ → Came → L → Type 0) → Route → List Entry → List L → List L → RequestValue → ℕ → List ℕ → Type 0
-AnswersAt step query inventory old new request status body =
-    AnswersPost step (bytes_eq request.method (codes "POST")) inventory request.body old new status body
-AnswersAt step route inventory old new request status body =
+abbrev pub AnswersAt : {L : Type 0} → (L → List ℕ → Came → L → Type 0) → (List ℕ → List ℕ) → Route → List Entry → List L → List L → RequestValue → ℕ → List ℕ → Type 0
+AnswersAt step order query inventory old new request status body =
+    AnswersPost step order (bytes_eq request.method (codes "POST")) inventory request.body old new status body
+AnswersAt step order route inventory old new request status body =
     TellsAt route inventory request status body × (new ≡ old)
-
--- what a broker that knows the inventory answers, and what its links become
-abbrev pub Responds : {L : Type 0} → (L → List ℕ → Came → L → Type 0) → List Entry → List L → List L → RequestValue → ℕ → List ℕ → Type 0
-Responds step inventory old new request status body = AnswersAt step (route_of (path_of request.target)) inventory old new request status body
-
--- the input is a query that is posted
-abbrev pub IsPostedQuery : List ℕ → Type 0
-IsPostedQuery input =
-    (request : RequestValue) × (rest : List ℕ) × IsRequest input request rest × (route_of (path_of request.target) ≡ query)
-    × (bytes_eq request.method (codes "POST") ≡ true)
-
--- the links are as they were, unless the input is a query that is posted
-abbrev pub KeepsLinks : {L : Type 0} → List L → List L → List ℕ → Type 0
-KeepsLinks old new input = (new ≡ old) ⊎ IsPostedQuery input

@@ -3,9 +3,8 @@ ghost use Rattle.std.specs.Prelude.{◌≡◌, ◌≢◌, ◌↔◌, ◌≤◌, 
 ghost use Rattle.druid_partial.specs.Rows.{IsPartialFor};
 ghost use Rattle.druid_query.specs.Read.{IsReadOf};
 ghost use Rattle.druid_query.specs.Refused.{refusal_text};
-ghost use Rattle.druid_scatter.specs.Gathered.{Exchange, AreMade};
 ghost use Rattle.druid_wire.specs.Served.{Tells};
-ghost use Rattle.druid_broker.specs.Queries.{TellsRows, AnswersRows};
+ghost use Rattle.druid_broker.specs.Queries.{TellsRows, AnswersRows, AsksRows, NamesField};
 ghost use Rattle.druid_broker.specs.Routes.{IsOutOfMemory, AnswersPost};
 
 use crate::response::Response;
@@ -18,23 +17,36 @@ use http::StatusCode;
 use std::alloc::{AllocError, Global};
 use std::thread::Threads;
 
-fn is_memory(fault: &QueryFault) -> bool
-    ensures { IsTrue result ↔ (fault.now ≡ QueryFault.Memory) }
+// The answer to what is no query, for a field of another shape: its text is written anew.
+fn refuse_field(alloc: Global, fault: QueryFault) -> Response
+    ensures { Tells 400 (refusal_text fault) result.status result.body ⊎ IsOutOfMemory result.status result.body }
 {
-    matches!(fault, QueryFault::Memory)
-}
-
-/// The answer to what is no query.
-pub(crate) fn refuse_query(alloc: Global, fault: QueryFault) -> Response
-    ensures { ((fault ≢ QueryFault.Memory) × Tells 400 (refusal_text fault) result.status result.body)
-        ⊎ IsOutOfMemory result.status result.body }
-{
-    if is_memory(&fault) {
-        return Response::out_of_memory();
-    }
     match refusal_text(alloc, fault) {
         Ok(text) => Response::made(StatusCode::BAD_REQUEST, text),
         Err(_) => Response::out_of_memory(),
+    }
+}
+
+fn refuse(text: &'static str) -> Response
+    ensures { Tells 400 text.now result.status result.body }
+{
+    Response::fixed(StatusCode::BAD_REQUEST, text)
+}
+
+/// The answer to what is no query. Memory is taken only to name a field.
+pub(crate) fn refuse_query(alloc: Global, fault: QueryFault) -> Response
+    ensures refused { (fault ≢ QueryFault.Memory)
+        → Tells 400 (refusal_text fault) result.status result.body ⊎ (NamesField fault × IsOutOfMemory result.status result.body) }
+    ensures memory { fault ≡ QueryFault.Memory → IsOutOfMemory result.status result.body }
+{
+    match fault {
+        QueryFault::NotJson => refuse("{\"error\":\"Q1\"}"),
+        QueryFault::UnknownType => refuse("{\"error\":\"Q2\"}"),
+        QueryFault::Field(_) => refuse_field(alloc, fault),
+        QueryFault::BadInterval => refuse("{\"error\":\"Q4\"}"),
+        QueryFault::LimitPassed => refuse("{\"error\":\"Q5\"}"),
+        QueryFault::DoubledName => refuse("{\"error\":\"Q6\"}"),
+        QueryFault::Memory => Response::out_of_memory(),
     }
 }
 
@@ -63,9 +75,9 @@ fn answer_rows<T: Threads + Sync, P: Pick, L: Link + Send>(
     links: &mut [L],
 ) -> Result<Response, AllocError>
     requires { length inventory.now ≤ length links.old }
-    ensures ok { IfOk result (λ r. AnswersRows L.exchanges inventory.now query.now links.old links.new r.status r.body) }
+    ensures ok { IfOk result (λ r. AnswersRows L.exchanges (P.orders pick.now turn) inventory.now query.now links.old links.new r.status r.body) }
     ensures err { OnErr result ((links.new ≡ links.old)
-        ⊎ ((exchanges : List Exchange) × AreMade L.exchanges query.now exchanges links.old links.new)) }
+        ⊎ AsksRows L.exchanges (P.orders pick.now turn) inventory.now query.now links.old links.new) }
 {
     let Ok(pairs) = plan(alloc, inventory, query) else {
         return Err(AllocError);
@@ -89,7 +101,7 @@ pub(crate) fn answer_query<T: Threads + Sync, P: Pick, L: Link + Send>(
 ) -> Response
     requires { length inventory.now ≤ length links.old }
     ensures { (bytes : List ℕ) → IsReadOf bytes (Ok query.now)
-        → AnswersPost L.exchanges true inventory.now bytes links.old links.new result.status result.body }
+        → AnswersPost L.exchanges (P.orders pick.now turn) true inventory.now bytes links.old links.new result.status result.body }
 {
     match answer_rows(rt, alloc, inventory, query, turn, pick, links) {
         Ok(response) => response,

@@ -5,8 +5,8 @@ ghost use Rattle.druid_shard.specs.Mark.{Point};
 ghost use Rattle.druid_published.specs.Told.{TellsRead};
 ghost use Rattle.druid_wire.specs.Served.{Tells};
 ghost use Rattle.druid_broker.specs.Lent.{lent_route};
-ghost use Rattle.druid_broker.specs.Routes.{query, IsOutOfMemory, OrOutOfMemory, Gets, AnswersSources, AnswersAt};
-ghost use Rattle.druid_broker.specs.Views.{TakesInventory, AnswersStale, RespondsAt, RespondsBy};
+ghost use Rattle.druid_broker.specs.Routes.{query, OrOutOfMemory, Gets, AnswersSources, AnswersAt};
+ghost use Rattle.druid_broker.specs.Views.{TakesInventory, AnswersUnread, RespondsAt, RespondsBy};
 ghost use Rattle.druid_query.specs.Read.{IsReadOf};
 
 use crate::knowing::{tell_entry, tell_load_status, tell_sources, unknown_node};
@@ -65,8 +65,8 @@ fn answer_no_node(request: &Request) -> Response
 fn answer_anyway<L: Link>(route: &Route, request: &Request) -> Response
     requires no_query { lent_route route.now ≢ query }
     requires takes { TakesInventory (lent_route route.now) request.now → ⊥ }
-    ensures { (inventory : List Entry) (links : List L)
-        → AnswersAt L.exchanges (lent_route route.now) inventory links links request.now result.status result.body }
+    ensures { (order : List ℕ → List ℕ) (inventory : List Entry) (links : List L)
+        → AnswersAt L.exchanges order (lent_route route.now) inventory links links request.now result.status result.body }
 {
     match route {
         Route::Health => health(request),
@@ -96,7 +96,7 @@ fn answer_known<L: Link>(
 ) -> Response
     requires no_query { lent_route route.now ≢ query }
     requires takes { TakesInventory (lent_route route.now) request.now }
-    ensures { (links : List L) → AnswersAt L.exchanges (lent_route route.now) inventory.now links links request.now result.status result.body }
+    ensures { (order : List ℕ → List ℕ) (links : List L) → AnswersAt L.exchanges order (lent_route route.now) inventory.now links links request.now result.status result.body }
 {
     match route {
         Route::Query => unreachable!(),
@@ -111,7 +111,7 @@ fn answer_known<L: Link>(
 // What is answered where nothing was read. A read applies no reply.
 fn answer_unread(fault: PublishFault) -> Response
     ensures { (names : List (List ℕ)) (floor : List Point) → TellsRead names floor fault
-        → AnswersStale names floor result.status result.body ⊎ IsOutOfMemory result.status result.body }
+        → AnswersUnread names floor fault result.status result.body }
 {
     match fault {
         PublishFault::Stale { .. } => Response::stale(),
@@ -129,8 +129,8 @@ fn answer_got<T: Wait, N: NodeList, L: Link>(
     request: &Request,
 ) -> Response
     requires { lent_route route.now ≢ query }
-    ensures { (links : List L)
-        → RespondsAt L.exchanges N.names (lent_route route.now) view.old view.new links links request.now result.status result.body }
+    ensures { (order : List ℕ → List ℕ) (links : List L)
+        → RespondsAt L.exchanges order N.names (lent_route route.now) view.old view.new links links request.now result.status result.body }
 {
     if !takes_inventory(route, request) {
         return answer_anyway::<L>(route, request);
@@ -155,7 +155,7 @@ fn answer_read<T: Threads + Wait + Sync, N: NodeList, P: Pick, L: Link + Send>(
     requires links { length N.names ≤ length links.old }
     requires posted { bytes_eq request.now.method (codes "POST") ≡ true }
     requires read { IsReadOf request.now.body (Ok asked.now) }
-    ensures { RespondsAt L.exchanges N.names query view.old view.new links.old links.new request.now result.status result.body }
+    ensures { RespondsAt L.exchanges (P.orders pick.now turn) N.names query view.old view.new links.old links.new request.now result.status result.body }
 {
     match view.read(rt) {
         Ok(inventory) => answer_query(rt, alloc, &inventory, asked, turn, pick, links),
@@ -174,7 +174,7 @@ fn answer_posted<T: Threads + Wait + Sync, N: NodeList, P: Pick, L: Link + Send>
     links: &mut [L],
 ) -> Response
     requires { length N.names ≤ length links.old }
-    ensures { RespondsAt L.exchanges N.names query view.old view.new links.old links.new request.now result.status result.body }
+    ensures { RespondsAt L.exchanges (P.orders pick.now turn) N.names query view.old view.new links.old links.new request.now result.status result.body }
 {
     if !request.has_method("POST") {
         return Response::other_method();
@@ -197,7 +197,7 @@ pub(crate) fn respond<T: Threads + Wait + Sync, N: NodeList, P: Pick, L: Link + 
     links: &mut [L],
 ) -> Response
     requires { length N.names ≤ length links.old }
-    ensures { RespondsBy L.exchanges N.names view.old view.new links.old links.new request.now result.status result.body }
+    ensures { RespondsBy L.exchanges (P.orders pick.now turn) N.names view.old view.new links.old links.new request.now result.status result.body }
 {
     let route = routes.route_of(request.path());
     match route {

@@ -1,8 +1,7 @@
 //! Requests, served.
 ghost use Rattle.std.specs.Prelude.{◌≤◌, length, IfOk, IfErr, IfSome};
 ghost use Rattle.druid_wire.specs.Served.{IsServed, FailsToServe};
-ghost use Rattle.druid_broker.specs.Routes.{KeepsLinks};
-ghost use Rattle.druid_broker.specs.Views.{RespondsBy, KeepsView};
+ghost use Rattle.druid_broker.specs.Views.{RespondsBy, KeepsView, KeepsViewAt, KeepsLinks};
 
 use crate::responding::respond;
 use crate::routes::Routes;
@@ -47,11 +46,12 @@ pub fn serve_one<
     links: &mut [L],
 ) -> Result<u16, WireFault>
     requires { length N.names ≤ length links.old }
-    ensures ok { IfOk result (IsServed (RespondsBy L.exchanges N.names view.old view.new links.old links.new)
+    ensures ok { IfOk result (IsServed (RespondsBy L.exchanges (P.orders pick.now turn) N.names view.old view.new links.old links.new)
         (R.remaining reader.old) (R.remaining reader.new) (W.contents writer.old) (W.contents writer.new)) }
-    ensures err { IfErr result (FailsToServe (RespondsBy L.exchanges N.names view.old view.new links.old links.new)
+    ensures err { IfErr result (FailsToServe (RespondsBy L.exchanges (P.orders pick.now turn) N.names view.old view.new links.old links.new)
         (R.remaining reader.old) (R.remaining reader.new) (W.contents writer.old) (W.contents writer.new)) }
     ensures view { KeepsView N.names view.old view.new }
+    ensures view_at { IfSome (R.remaining reader.old) (KeepsViewAt N.names view.old view.new) }
     ensures links { IfSome (R.remaining reader.old) (KeepsLinks links.old links.new) }
 {
     match read_request(alloc, reader) {

@@ -27,19 +27,19 @@ use druid_link::Link;
 /// that are visible there, asked for and in no missing piece, each once. It answers 200 exactly where nothing is missing, and
 /// then with the text of that result.
 pub fn queries_are_exact<L: Link>()
-    ensures rows { (world : List Life) (inventory : List Entry) (query : Query) (old new : List L) (status : ℕ) (body : List ℕ)
-        (answer : AnswersRows L.exchanges inventory query old new status body)
+    ensures rows { (order : List ℕ → List ℕ) (world : List Life) (inventory : List Entry) (query : Query) (old new : List L) (status : ℕ) (body : List ℕ)
+        (answer : AnswersRows L.exchanges order inventory query old new status body)
         (segments : List Segment) (held : List Held) (sees : Segment → Row → Bool)
         → IsInventoryOf world inventory
         → AreServedAt world (marks_of inventory) query.source segments
         → IsHeldAt world (marks_of inventory) query.source held → Sees query held segments sees
         → ((e : Exchange) → Contains answer.exchanges e → IsHonest query segments e)
         → IsResult (kinds_of query) (told_visible query sees answer.missing segments) answer.groups }
-    ensures whole { (inventory : List Entry) (query : Query) (old new : List L) (status : ℕ) (body : List ℕ)
-        (answer : AnswersRows L.exchanges inventory query old new status body)
+    ensures whole { (order : List ℕ → List ℕ) (inventory : List Entry) (query : Query) (old new : List L) (status : ℕ) (body : List ℕ)
+        (answer : AnswersRows L.exchanges order inventory query old new status body)
         → (status ≡ 200) ↔ (answer.missing ≡ []) }
-    ensures text { (inventory : List Entry) (query : Query) (old new : List L) (status : ℕ) (body : List ℕ)
-        (answer : AnswersRows L.exchanges inventory query old new status body)
+    ensures text { (order : List ℕ → List ℕ) (inventory : List Entry) (query : Query) (old new : List L) (status : ℕ) (body : List ℕ)
+        (answer : AnswersRows L.exchanges order inventory query old new status body)
         → status ≡ 200 → body ≡ result_text query answer.groups }
 {}
 

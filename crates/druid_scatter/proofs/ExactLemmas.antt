@@ -210,7 +210,7 @@ to_given query (x ∷ more) rows (inl t) e a there gives =
     ]
 to_given query (x ∷ more) rows (inr t) e a there gives =
     elim (Contains-cons x more e there) [
-      | inl same ↦ let mine : Gives query x a = subst (λ (y : Exchange). Gives query y a) (sym same) gives in absurd (t.0 mine.1 mine.2 mine.3)
+      | inl same ↦ let mine : Gives query x a = subst (λ (y : Exchange). Gives query y a) (sym same) gives in absurd (t.0.no_answer mine.1 mine.2 mine.3)
       | inr later ↦ to_given query more rows t.1 e a later gives
     ]
 
@@ -322,9 +322,9 @@ told_seen query xs s row a there same asked =
     any_told (λ x. same_identifier x.0 s.descriptor.id && is_asked query x.1 s.fields row) xs a there
     (both_true (same_identifier a.0 s.descriptor.id) (is_asked query a.1 s.fields row) (ap (λ (x : Identifier). same_identifier x s.descriptor.id) same ∙ same_identifier-equiv.refl s.descriptor.id) asked)
 
-module _ (inventory : List Entry) (query : Query) (pairs : List Pair) (exchanges : List Exchange) (missing : List Asked) (groups : List Told)
+module _ (order : List ℕ → List ℕ) (inventory : List Entry) (query : Query) (pairs : List Pair) (exchanges : List Exchange) (missing : List Asked) (groups : List Told)
     (segments : List Segment) (held : List Held) (sees : Segment → Row → Bool)
-    (plan : IsPlanOf inventory query pairs) (gathered : IsGathered query pairs exchanges missing groups) (served : AreServed inventory query.source segments)
+    (plan : IsPlanOf inventory query pairs) (gathered : IsGathered order query pairs exchanges missing groups) (served : AreServed inventory query.source segments)
     (holding : IsHoldingOf inventory query.source held) (seen : Sees query held segments sees) where
   wanted : (a : Asked) → Contains (asked_of pairs) a → IsWanted query.source plan.held plan.pieces a
   wanted a there = (plan.paired.all a).0 there
@@ -334,8 +334,8 @@ module _ (inventory : List Entry) (query : Query) (pairs : List Pair) (exchanges
 
   planned : (e : Exchange) (a : Asked) → Contains exchanges e → Contains e.asked a → Contains (asked_of pairs) a
   planned e a there asks =
-      let p = gathered.planned e a there asks in
-      subst (Contains (asked_of pairs)) p.2 (Contains-map_back (λ (x : Pair). x.asked) pairs p.0 p.1)
+      let p = gathered.asked.planned e a there asks in
+      subst (Contains (asked_of pairs)) p.3 (Contains-map_back (λ (x : Pair). x.asked) pairs p.0 p.2)
 
   same_held : (x : Held) → Contains held x ↔ Contains plan.held x
   same_held x = ((λ h. (plan.holding x).1 ((holding x).0 h)), (λ h. (holding x).1 ((plan.holding x).0 h)))
@@ -436,7 +436,7 @@ module _ (inventory : List Entry) (query : Query) (pairs : List Pair) (exchanges
   pub exact : ((e : Exchange) → Contains exchanges e → IsHonest query segments e) → IsResult (kinds_of query) (told_visible query sees missing segments) groups
   exact honest =
       let kinds = kinds_of query in
-      let apart = apart_tested given (given_apart query exchanges gathered.rows gathered.told gathered.in_order
+      let apart = apart_tested given (given_apart query exchanges gathered.rows gathered.told gathered.asked.in_order
       (λ e f a b in_e in_f in_a in_b. one a b (planned e a in_e in_a) (planned f b in_f in_b)) gathered.given_once) in
       let told_each = result_alike kinds gathered.rows (told query segments given) groups (given_alike query segments exchanges gathered.rows gathered.told honest) gathered.merged in
       let once = result_alike kinds (told query segments given) (told_once query given segments) groups (told_alike query segments given served.own apart) told_each in

@@ -8,3 +8,4 @@ pub mod StateLemmas
 pub mod GatherLemmas
 pub mod LawLemmas
 pub mod ExactLemmas
+pub mod AskedLemmas

@@ -116,10 +116,10 @@ lost_kept query round node old e lost = inr (lost, refl)
 -- ---- what is kept
 
 -- what the test keeps is what the exchange did not give
-kept_by : (query : Query) (pairs : List Pair) (waits : List Waiting) (round node : ℕ) (old new : State) (e : Exchange) (exchanges : List Exchange) → AreOrdered pairs waits
+kept_by : (query : Query) (order : List ℕ → List ℕ) (pairs : List Pair) (waits : List Waiting) (round node : ℕ) (old new : State) (e : Exchange) (exchanges : List Exchange) → AreOrdered order pairs waits
     → Holds (Gives query) waits old.waiting round node exchanges → e.asked ≡ wanted_of round old.waiting node → IsStrictlySortedBy place_cmp e.asked → IsTaken query round node old new e
     → (w : Waiting) → Contains new.waiting w ↔ (Contains old.waiting w × (Gives query e w.asked → ⊥))
-kept_by query pairs waits round node old new e exchanges o h asked sorted t w = (
+kept_by query order pairs waits round node old new e exchanges o h asked sorted t w = (
   λ c. let is = from_filter t.kept.test old.waiting w (subst (λ (ws : _). Contains ws w) t.kept.kept c) in (
     is.0,
     λ g.
@@ -160,19 +160,19 @@ others_stay round node missing before after k n apart =
 -- ---- one exchange
 
 -- what a node is asked for is in the order of the plan
-wanted_sorted : (round node : ℕ) (left : List Waiting) → IsStrictlySortedBy place_cmp (pieces_of left) → IsStrictlySortedBy place_cmp (wanted_of round left node)
+pub wanted_sorted : (round node : ℕ) (left : List Waiting) → IsStrictlySortedBy place_cmp (pieces_of left) → IsStrictlySortedBy place_cmp (wanted_of round left node)
 wanted_sorted round node left s = sorted_filter place_cmp (λ (w : Waiting). w.asked) (has_turn round node) left s
 
-pub state_step : (query : Query) (pairs : List Pair) (waits : List Waiting) (round node : ℕ) (old new : State) (exchanges : List Exchange) (e : Exchange) → AreOrdered pairs waits
+pub state_step : (query : Query) (order : List ℕ → List ℕ) (pairs : List Pair) (waits : List Waiting) (round node : ℕ) (old new : State) (exchanges : List Exchange) (e : Exchange) → AreOrdered order pairs waits
     → IsState query waits old round node exchanges → e.node ≡ node → e.asked ≡ wanted_of round old.waiting node → (a : Asked) × Contains e.asked a → Took query round node old new e
     → IsState query waits new round (node + 1) (exchanges ++ e ∷ [])
-state_step query pairs waits round node old new exchanges e o s of_node asked some (inl t) = record {
-  holds = step (Gives query) pairs waits old.waiting new.waiting round node exchanges e o s.holds (record {
+state_step query order pairs waits round node old new exchanges e o s of_node asked some (inl t) = record {
+  holds = step (Gives query) order pairs waits old.waiting new.waiting round node exchanges e o s.holds (record {
     of_node = of_node;
     asked = asked;
     some = some;
     only = λ a g. g.0;
-    kept = kept_by query pairs waits round node old new e exchanges o s.holds asked sorted t;
+    kept = kept_by query order pairs waits round node old new e exchanges o s.holds asked sorted t;
     in_order = sorted;
     ordered = subst (λ (ws : _). IsStrictlySortedBy place_cmp (pieces_of ws)) (sym t.kept.kept) (sorted_filter place_cmp (λ (w : Waiting). w.asked) t.kept.test old.waiting s.holds.ordered);
   });
@@ -183,13 +183,13 @@ state_step query pairs waits round node old new exchanges e o s of_node asked so
   where
     sorted : IsStrictlySortedBy place_cmp e.asked
     sorted = subst (IsStrictlySortedBy place_cmp) (sym asked) (wanted_sorted round node old.waiting s.holds.ordered)
-state_step query pairs waits round node old new exchanges e o s of_node asked some (inr t) = subst (λ (x : State). IsState query waits x round (node + 1) (exchanges ++ e ∷ [])) (sym t.1) (record {
-  holds = step (Gives query) pairs waits old.waiting old.waiting round node exchanges e o s.holds (record {
+state_step query order pairs waits round node old new exchanges e o s of_node asked some (inr t) = subst (λ (x : State). IsState query waits x round (node + 1) (exchanges ++ e ∷ [])) (sym t.1) (record {
+  holds = step (Gives query) order pairs waits old.waiting old.waiting round node exchanges e o s.holds (record {
     of_node = of_node;
     asked = asked;
     some = some;
     only = λ a g. g.0;
-    kept = λ w. (λ c. (c, λ g. t.0 g.1 g.2 g.3), λ c. c.0);
+    kept = λ w. (λ c. (c, λ g. t.0.no_answer g.1 g.2 g.3), λ c. c.0);
     in_order = subst (IsStrictlySortedBy place_cmp) (sym asked) (wanted_sorted round node old.waiting s.holds.ordered);
     ordered = s.holds.ordered;
   });
@@ -234,24 +234,24 @@ pub node_step : (query : Query) (round node : ℕ) (wanted : ℕ → List Asked)
     → wanted node ≡ wanted_of round old.waiting node → TookIf round node old new sub came → Goes query round node (node + 1) old new (made_from wanted node (came ∷ []))
 node_step query round node wanted old new None (Some c) e m w t = absurd (false≢true m)
 node_step query round node wanted old new (Some sub) None e m w t = absurd (false≢true (sym m))
-node_step query round node wanted old new None None e m w t = λ pairs waits exchanges o s.
+node_step query round node wanted old new None None e m w t = λ order pairs waits exchanges o s.
     let none : wanted_of round old.waiting node ≡ [] = sym w ∙ sub_none query (wanted node) e in
     subst (λ (es : List Exchange). IsState query waits new round (node + 1) es) (sym (append-nil exchanges))
     (subst (λ (x : State). IsState query waits x round (node + 1) exchanges) (sym t)
     (record { holds = skip (Gives query) waits old.waiting round node exchanges s.holds none; rows = s.rows; told = s.told; merged = s.merged }))
-node_step query round node wanted old new (Some sub) (Some c) e m w t = λ pairs waits exchanges o s.
+node_step query round node wanted old new (Some sub) (Some c) e m w t = λ order pairs waits exchanges o s.
     let of = sub_some query (wanted node) sub e in
     let x : Exchange = record { node = node; asked = wanted node; came = c } in
     let same : exchange_of sub c node ≡ x = λ i. record { node = node; asked = of.1 i; came = c } in
     let took : Took query round node old new x = subst (λ (y : Exchange). Took query round node old new y) same (subst (λ (q : Query). Took q round node old new (exchange_of sub c node)) of.0 t) in
-    state_step query pairs waits round node old new exchanges x o s refl w (of.2, of.3) took
+    state_step query order pairs waits round node old new exchanges x o s refl w (of.2, of.3) took
 
 pub goes_on : (query : Query) (round a b c : ℕ) (old mid new : State) (es fs : List Exchange) → Goes query round a b old mid es → Goes query round b c mid new fs → Goes query round a c old new (es ++ fs)
-goes_on query round a b c old mid new es fs g h = λ pairs waits exchanges o s.
-    subst (λ (all : List Exchange). IsState query waits new round c all) (append_assoc exchanges es fs) (h pairs waits (exchanges ++ es) o (g pairs waits exchanges o s))
+goes_on query round a b c old mid new es fs g h = λ order pairs waits exchanges o s.
+    subst (λ (all : List Exchange). IsState query waits new round c all) (append_assoc exchanges es fs) (h order pairs waits (exchanges ++ es) o (g order pairs waits exchanges o s))
 
 pub goes_nowhere : (query : Query) (round node : ℕ) (state : State) → Goes query round node node state state []
-goes_nowhere query round node state = λ pairs waits exchanges o s. subst (λ (es : List Exchange). IsState query waits state round node es) (sym (append-nil exchanges)) s
+goes_nowhere query round node state = λ order pairs waits exchanges o s. subst (λ (es : List Exchange). IsState query waits state round node es) (sym (append-nil exchanges)) s
 
 -- those after are still asked for the same
 pub still_wanted : (round node : ℕ) (old new : State) (sub : Option SubQuery) (came : Option Came) → TookIf round node old new sub came → (n : ℕ) → node < n → wanted_of round new.waiting n ≡ wanted_of round old.waiting n
@@ -336,10 +336,6 @@ pub made_by : {L : Type 0} (step : L → List ℕ → Came → L → Type 0) (qu
     → there ≡ subs → subs ≡ map (λ node. sub_if query (wanted node)) (range_with_len 0 (length old)) → AreAnswered step old (map (option_map sub_request) there) came new → AreMade step query (made_from wanted 0 came) old new
 made_by step query wanted old new subs there came same e a =
     round_made step query wanted (length old) old came new (subst (λ (ss : List (Option SubQuery)). AreAnswered step old (map (option_map sub_request) ss) came new) (same ∙ e) a)
-
-pub made_err : {L S : Type 0} (step : L → List ℕ → Came → L → Type 0) (query : Query) (old new : List L) (r : Result S GatherFault) (more : List Exchange) → AreMade step query more old new → OnErr r ((more : List Exchange) × AreMade step query more old new)
-made_err step query old new (Ok x) more h = tt
-made_err step query old new (Err f) more h = (more, h)
 
 -- links that nothing was sent over
 pub made_same : {L : Type 0} (step : L → List ℕ → Came → L → Type 0) (query : Query) (old new : List L) → new ≡ old → AreMade step query [] old new

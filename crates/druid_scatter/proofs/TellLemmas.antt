@@ -1,7 +1,7 @@
 -- What an answer tells is one, and what is no answer tells nothing.
-use Rattle.std.proofs.Common.{◌≡◌, ◌∙◌, ℕ, List, Option, Some, None, Ok, Err, Result, true, not, eqb, refl, sym, ap, subst}
+use Rattle.std.proofs.Common.{◌≡◌, ◌∙◌, inl, inr, ℕ, List, Option, Some, None, Ok, Err, Result, true, not, eqb, refl, sym, ap, subst}
 use Rattle.std.specs.Option.{IfNone}
-use Rattle.std.specs.Result.{IfOk}
+use Rattle.std.specs.Result.{IfOk, OnErr}
 use Rattle.std.proofs.lemmas.Bool.{false≢true, eq-eqb}
 use Rattle.std.proofs.lemmas.Option.{same_Some}
 use Rattle.serde_json.specs.Data.{Data}
@@ -12,16 +12,19 @@ use Rattle.druid_query.specs.SubQuery.{SubQuery}
 use Rattle.druid_partial_text.specs.Answers.{IsAnswerOf, TellsAnswer}
 use Rattle.druid_partial_text.specs.declared.fault.PartialFault.{PartialFault}
 use Rattle.druid_partial_text.specs.declared.fault.PartialFault.TheVariants.{NotJson, Shape}
+use Rattle.druid_partial_text.specs.declared.fault.PartialFault.TheVariants as faults
 use Rattle.druid_partial_text.specs.declared.node_answer.NodeAnswer.{NodeAnswer}
 use Rattle.druid_partial.specs.Groups.{Group}
 use Rattle.druid_partial_text.specs.Read.{TellsGroups}
 use Rattle.druid_partial_text.proofs.ReadBackLemmas as back
 use Rattle.druid_link.specs.Links.{Came}
+use Rattle.druid_message.specs.declared.fault.WireFault.{WireFault}
+use Rattle.druid_message.specs.declared.fault.WireFault.TheVariants as wire
 use Rattle.druid_wire.specs.Messages.{IsResponse}
 use Rattle.druid_wire.proofs.OnceLemmas.{one_response}
 use Rattle.druid_scatter.specs.declared.fault.GatherFault.{GatherFault}
 use Rattle.druid_scatter.specs.Gathered.{Answers, IsLost, Exchange}
-use Rattle.druid_scatter.specs.Waiting.{Tells, TellsNothing, exchange_of}
+use Rattle.druid_scatter.specs.Waiting.{Tells, TellsNothing, ReadingLacksMemory, LacksMemory, MayLackMemory, exchange_of}
 
 -- ---- bytes
 
@@ -86,7 +89,10 @@ answers_same query e m n g h a b =
     tells_same (record { query = query; asked = e.asked }) a.bytes m n g h (answer_tells query e a.bytes m g a.came a) (answer_tells query e a.bytes n h a.came b)
 
 pub tells_nothing : (sub : SubQuery) (bytes : List ℕ) → TellsNothing sub bytes → (node : ℕ) → IsLost sub.query (exchange_of sub (Ok bytes) node)
-tells_nothing sub bytes none node m g a = none m g (answer_tells sub.query (exchange_of sub (Ok bytes) node) bytes m g refl a)
+tells_nothing sub bytes none node = record {
+  had_memory = λ e. cc;
+  no_answer = λ m g a. none m g (answer_tells sub.query (exchange_of sub (Ok bytes) node) bytes m g refl a);
+}
 
 -- bytes that tell nothing are lost
 pub lost_of : (sub : SubQuery) (bytes there : List ℕ) (came : Came) (r : Result (Option NodeAnswer) GatherFault) → there ≡ bytes → came ≡ Ok bytes → IfOk r (λ read. IfNone read (TellsNothing sub there))
@@ -95,3 +101,36 @@ lost_of sub bytes there came (Ok None) same is none =
     λ node. subst (λ (c : Came). IsLost sub.query (exchange_of sub c node)) (sym is) (tells_nothing sub bytes (subst (TellsNothing sub) same none) node)
 lost_of sub bytes there came (Ok (Some a)) same is none = tt
 lost_of sub bytes there came (Err f) same is none = tt
+
+-- a link that failed for something else than memory
+pub failed_link : (sub : SubQuery) (fault : WireFault) (came : Came) → came ≡ Err fault → (fault ≡ wire.Memory → ⊥) → (node : ℕ) → IsLost sub.query (exchange_of sub came node)
+failed_link sub fault came is other node = record {
+  had_memory = λ e. other (same_Err (sym is ∙ e));
+  no_answer = λ m g a. not_Ok (sym is ∙ a.came);
+}
+  where
+    same_Err : {f g : WireFault} → Path Came (Err f) (Err g) → f ≡ g
+    same_Err e = cc
+
+    not_Ok : {f : WireFault} {bytes : List ℕ} → Path Came (Err f) (Ok bytes) → ⊥
+    not_Ok e = cc
+
+-- ---- want of memory
+
+-- memory was refused where the body of the response was read
+pub lacks_reading : (sub : SubQuery) (bytes : List ℕ) (status : ℕ) (body rest : List ℕ) (fault : PartialFault) → IsResponse bytes status body rest → status ≡ 200 → IsAnswerOf sub body (Err fault) → fault ≡ faults.Memory
+    → ReadingLacksMemory sub bytes
+lacks_reading sub bytes status body rest fault r ok a e =
+    (body, rest, subst (λ (n : ℕ). IsResponse bytes n body rest) ok r, subst (λ (f : PartialFault). IsAnswerOf sub body (Err f)) e a)
+
+pub lacks_of : (sub : SubQuery) (bytes there : List ℕ) (came : Came) (r : Result (Option NodeAnswer) GatherFault) → there ≡ bytes → came ≡ Ok bytes → OnErr r (ReadingLacksMemory sub there) → OnErr r (LacksMemory sub came)
+lacks_of sub bytes there came (Ok a) same is lacks = tt
+lacks_of sub bytes there came (Err f) same is lacks = inr (bytes, is, subst (ReadingLacksMemory sub) same lacks)
+
+pub lacks_may : (sub : SubQuery) (came : Came) → LacksMemory sub came → MayLackMemory came
+lacks_may sub came (inl link) = inl link
+lacks_may sub came (inr h) = inr (h.0, h.2.0, h.2.1, h.1, h.2.2)
+
+-- an answer is a response, whose body is read
+pub answer_may : (sub : SubQuery) (came : Came) (node : ℕ) (missing : List Asked) (groups : List Group) → Answers sub.query (exchange_of sub came node) missing groups → MayLackMemory came
+answer_may sub came node missing groups a = inr (a.bytes, a.body, a.rest, a.came, a.response)

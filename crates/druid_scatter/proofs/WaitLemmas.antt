@@ -34,10 +34,12 @@ once_picked nodes order moved up i j n at there =
     alone-permutation (λ x y. x ≡ y) nodes order moved (rising_alone nodes up) i j n (slice_get_within order i n at) (slice_get_within order j n there)
     (get_or_from_slice_get order i n n at ∙ sym (get_or_from_slice_get order j n n there))
 
-pub all_ordered : (pairs : List Pair) (waits : List Waiting) → IsStrictlySortedBy place_cmp (asked_of pairs) → pieces_of waits ≡ map (λ p. p.asked) pairs → All (IsOrdered pairs) waits → AreOrdered pairs waits
-all_ordered pairs waits s whole each = record {
+pub all_ordered : (order : List ℕ → List ℕ) (pairs : List Pair) (waits : List Waiting) → IsStrictlySortedBy place_cmp (asked_of pairs) → pieces_of waits ≡ map (λ p. p.asked) pairs → All (IsOrdered order pairs) waits
+    → AreOrdered order pairs waits
+all_ordered order pairs waits s whole each = record {
   whole = whole;
-  each = λ w c. All-contains (IsOrdered pairs) waits w each c;
+  sorted = subst (IsStrictlySortedBy place_cmp) (sym whole) s;
+  each = λ w c. All-contains (IsOrdered order pairs) waits w each c;
   own = own_keys place_cmp place_cmp-total (λ (w : Waiting). w.asked) waits (subst (IsStrictlySortedBy place_cmp) (sym whole) s);
 }
 
@@ -113,12 +115,14 @@ waits_more pairs old new k p w within at e is so_far =
     ∙ ap (λ (a : Asked). map (λ (p : Pair). p.asked) (take k pairs) ++ a ∷ []) (is ∙ ap (λ (p : Pair). p.asked) at)
     ∙ sym (map_more (λ (p : Pair). p.asked) pairs k p within)
 
-pub is_ordered : (pairs : List Pair) (k : ℕ) (p : Pair) (w : Waiting) → k < length pairs → p ≡ get_or pairs k p → w.asked ≡ p.asked → IsPermutation p.nodes w.order → StandsOnce w.order → IsOrdered pairs w
-is_ordered pairs k p w within at is order once = record {
+pub is_ordered : (order : List ℕ → List ℕ) (pairs : List Pair) (k : ℕ) (p : Pair) (w : Waiting) → k < length pairs → p ≡ get_or pairs k p → w.asked ≡ p.asked → w.order ≡ order p.nodes → IsPermutation p.nodes w.order
+    → StandsOnce w.order → IsOrdered order pairs w
+is_ordered order pairs k p w within at is ordered moved once = record {
   pair = p;
   in_plan = subst (Contains pairs) (sym at) (Contains-get_or pairs k p within);
   of = sym is;
-  order = order;
+  ordered = ordered;
+  moved = moved;
   once = once;
 }
 

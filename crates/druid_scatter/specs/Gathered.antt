@@ -1,5 +1,5 @@
 -- What nodes were asked for, what came back, and what of it counts.
-use Rattle.std.specs.Prelude.{◌≡◌, ◌≢◌, ◌⊎◌, ℕ, List, [], ◌∷◌, ◌++◌, length, codes, slice_get, Some, Ok, Contains, ◌↔◌}
+use Rattle.std.specs.Prelude.{◌≡◌, ◌≢◌, ◌<◌, ◌⊎◌, ℕ, List, [], ◌∷◌, ◌++◌, length, codes, slice_get, Some, Ok, Err, Contains, ◌↔◌}
 use Rattle.std.specs.List.Sorted.{IsStrictlySortedBy}
 use Rattle.druid_query.specs.Query.{Query}
 use Rattle.druid_query.specs.Asked.{Asked}
@@ -10,6 +10,7 @@ use Rattle.druid_partial.specs.Groups.{Group, IsResult}
 use Rattle.druid_partial.specs.Rows.{kinds_of}
 use Rattle.druid_link.specs.Links.{Came}
 use Rattle.druid_message.specs.Requests.{RequestValue}
+use Rattle.druid_message.specs.declared.fault.WireFault.TheVariants.{Memory}
 use Rattle.druid_wire.specs.Messages.{IsResponse}
 use Rattle.druid_wire.specs.Written.{request_text}
 use Rattle.serde_json.specs.Data.{Data}
@@ -55,9 +56,11 @@ pub record Answers (query : Query) (e : Exchange) (missing : List Asked) (groups
   pub reads : ReadsAs body json
   pub told : TellsAnswer (sub_of query e.asked) json missing groups
 
--- it is no answer: the link failed, or the bytes are no response, or its status is another, or its body does not read
-abbrev pub IsLost : Query → Exchange → Type 0
-IsLost query e = (missing : List Asked) (groups : List Group) → Answers query e missing groups → ⊥
+-- it is no answer, and the link did not lack memory: it failed otherwise, or the bytes are no response, or its status is another,
+-- or its body does not read
+pub record IsLost (query : Query) (e : Exchange) : Type 0 where
+  pub had_memory : e.came ≢ Err Memory
+  pub no_answer : (missing : List Asked) (groups : List Group) → Answers query e missing groups → ⊥
 
 -- the exchange gave the piece: it was asked for, and the answer does not list it as missing
 abbrev pub Gives : Query → Exchange → Asked → Type 0
@@ -82,14 +85,28 @@ AtOnePlace exchanges P =
 abbrev pub Asks : Exchange → Asked → ℕ → Type 0
 Asks e a node = (e.node ≡ node) × Contains e.asked a
 
--- each pair was asked of some of its replicas, of each once at most, and in the order of the plan; some exchange gave it, and only one; or it is missing,
--- and then it was asked of each, and none gave it. The groups are the merge of all answers
-pub record IsGathered (query : Query) (pairs : List Pair) (exchanges : List Exchange) (missing : List Asked) (groups : List Group) : Type 0 where
+-- the exchange asks for the pair's piece, and its node stands at that place in the order of the pair's nodes
+abbrev pub AsksInRound : (List ℕ → List ℕ) → Exchange → Pair → ℕ → Type 0
+AsksInRound order e p round = Contains e.asked p.asked × (slice_get (order p.nodes) round ≡ Some e.node)
+
+-- what was asked, whether or not it came to an answer: each piece was asked of its replicas, of each once at most, and in their
+-- order, of one only after those before it did not give it; and a round asked a node in one exchange
+pub record AreAsked (order : List ℕ → List ℕ) (query : Query) (pairs : List Pair) (exchanges : List Exchange) : Type 0 where
   pub planned : (e : Exchange) (a : Asked) → Contains exchanges e → Contains e.asked a
-      → (p : Pair) × Contains pairs p × (p.asked ≡ a) × Contains p.nodes e.node
+      → (p : Pair) × (round : ℕ) × Contains pairs p × (p.asked ≡ a) × Contains p.nodes e.node × AsksInRound order e p round
   pub asks : (e : Exchange) → Contains exchanges e → (a : Asked) × Contains e.asked a
   pub in_order : (e : Exchange) → Contains exchanges e → IsStrictlySortedBy place_cmp e.asked
   pub asked_once : (a : Asked) (node : ℕ) → AtOnePlace exchanges (λ x y. Asks x a node × Asks y a node)
+  pub by_round : (i j : ℕ) (x y : Exchange) (p q : Pair) (r s : ℕ) → i < j → slice_get exchanges i ≡ Some x → slice_get exchanges j ≡ Some y
+      → Contains pairs p → Contains pairs q → AsksInRound order x p r → AsksInRound order y q s → (r < s) ⊎ ((r ≡ s) × (x.node < y.node))
+  pub in_turn : (i : ℕ) (e : Exchange) (p : Pair) (round sooner node : ℕ) → slice_get exchanges i ≡ Some e → Contains pairs p → AsksInRound order e p round
+      → sooner < round → slice_get (order p.nodes) sooner ≡ Some node
+      → (j : ℕ) × (d : Exchange) × (j < i) × (slice_get exchanges j ≡ Some d) × Asks d p.asked node × (Gives query d p.asked → ⊥)
+
+-- some exchange gave each pair, and only one; or it is missing, and then it was asked of each of its replicas, and none gave it. The
+-- groups are the merge of all answers
+pub record IsGathered (order : List ℕ → List ℕ) (query : Query) (pairs : List Pair) (exchanges : List Exchange) (missing : List Asked) (groups : List Group) : Type 0 where
+  pub asked : AreAsked order query pairs exchanges
   pub given_once : (a : Asked) → AtOnePlace exchanges (λ x y. Gives query x a × Gives query y a)
   pub missing_is : (a : Asked) → Contains missing a
       ↔ (Contains (asked_of pairs) a × ((e : Exchange) → Contains exchanges e → Gives query e a → ⊥))

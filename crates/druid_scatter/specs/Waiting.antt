@@ -1,5 +1,5 @@
 -- Pieces that no answer gave yet, and what a round asks for: only proofs use this.
-use Rattle.std.specs.Prelude.{◌≡◌, ◌==◌, ◌+◌, ◌<◌, ◌⊎◌, ◌↔◌, ℕ, Bool, false, not, ◌||◌, IsTrue, List, [], ◌∷◌, ◌++◌, map, filter, slice_get, Option, Some, None, Contains}
+use Rattle.std.specs.Prelude.{◌≡◌, ◌==◌, ◌+◌, ◌<◌, ◌⊎◌, ◌↔◌, ℕ, Bool, false, not, ◌||◌, IsTrue, List, [], ◌∷◌, ◌++◌, map, filter, slice_get, Option, Some, None, Ok, Err, Contains}
 use Rattle.std.specs.declared.cmp.Ordering.{Ordering}
 use Rattle.std.specs.Ordering.{nat_cmp, ordering_then}
 use Rattle.std.specs.List.Sorted.{IsPermutation, IsStrictlySortedBy}
@@ -7,15 +7,17 @@ use Rattle.druid_query.specs.Asked.{Asked}
 use Rattle.druid_query.specs.Query.{Query}
 use Rattle.druid_query.specs.Read.{ReadsAs}
 use Rattle.druid_query.specs.SubQuery.{SubQuery}
-use Rattle.druid_partial_text.specs.Answers.{TellsAnswer}
+use Rattle.druid_partial_text.specs.Answers.{TellsAnswer, IsAnswerOf}
+use Rattle.druid_partial_text.specs.declared.fault.PartialFault.TheVariants as faults
 use Rattle.druid_partial.specs.Groups.{Group, IsMerge, IsResult}
 use Rattle.druid_partial.specs.Rows.{Partial, kinds_of}
 use Rattle.druid_link.specs.Links.{Came}
+use Rattle.druid_message.specs.declared.fault.WireFault.TheVariants as wire
 use Rattle.druid_wire.specs.Messages.{IsResponse}
 use Rattle.druid_wire.specs.Written.{request_text}
 use Rattle.serde_json.specs.Data.{Data}
 use Rattle.druid_scatter.specs.Plan.{Pair, place_cmp}
-use Rattle.druid_scatter.specs.Gathered.{Exchange, AtOnePlace, Asks, Answers, IsLost, Gives, TellAll, sub_of, request_for}
+use Rattle.druid_scatter.specs.Gathered.{Exchange, AtOnePlace, Asks, Answers, IsLost, Gives, TellAll, AreAsked, sub_of, request_for}
 
 -- a piece, and the order in which its replicas are asked
 pub record Waiting : Type 0 where
@@ -59,6 +61,18 @@ pub record Tells (sub : SubQuery) (bytes : List ℕ) (missing : List Asked) (gro
   pub reads : ReadsAs body json
   pub told : TellsAnswer sub json missing groups
 
+-- reading them may lack memory: they are a response of status 200, whose body is read
+abbrev pub ReadingLacksMemory : SubQuery → List ℕ → Type 0
+ReadingLacksMemory sub bytes = (body rest : List ℕ) × IsResponse bytes 200 body rest × IsAnswerOf sub body (Err faults.Memory)
+
+-- memory was refused: to the link, or to the one who reads what came
+abbrev pub LacksMemory : SubQuery → Came → Type 0
+LacksMemory sub came = (came ≡ Err wire.Memory) ⊎ ((bytes : List ℕ) × (came ≡ Ok bytes) × ReadingLacksMemory sub bytes)
+
+-- what came may want memory: the link lacked it, or a response of status 200 came
+abbrev pub MayLackMemory : Came → Type 0
+MayLackMemory came = (came ≡ Err wire.Memory) ⊎ ((bytes body rest : List ℕ) × (came ≡ Ok bytes) × IsResponse bytes 200 body rest)
+
 -- they tell no groups
 abbrev pub TellsNothing : SubQuery → List ℕ → Type 0
 TellsNothing sub bytes = (missing : List Asked) (groups : List Group) → Tells sub bytes missing groups → ⊥
@@ -77,19 +91,25 @@ IsPast round node r n = (r < round) ⊎ ((r ≡ round) × (n < node))
 abbrev pub StandsOnce : List ℕ → Type 0
 StandsOnce order = (i j n : ℕ) → slice_get order i ≡ Some n → slice_get order j ≡ Some n → i ≡ j
 
--- a piece of the pairs, with an order of its nodes
-pub record IsOrdered (pairs : List Pair) (w : Waiting) : Type 0 where
+-- a piece of the pairs, with its nodes in their order
+pub record IsOrdered (order : List ℕ → List ℕ) (pairs : List Pair) (w : Waiting) : Type 0 where
   pub pair : Pair
   pub in_plan : Contains pairs pair
   pub of : pair.asked ≡ w.asked
-  pub order : IsPermutation pair.nodes w.order
+  pub ordered : w.order ≡ order pair.nodes
+  pub moved : IsPermutation pair.nodes w.order
   pub once : StandsOnce w.order
 
--- the pieces of a plan, each with an order of its nodes
-pub record AreOrdered (pairs : List Pair) (waits : List Waiting) : Type 0 where
+-- the pieces of a plan, each with its nodes in their order
+pub record AreOrdered (order : List ℕ → List ℕ) (pairs : List Pair) (waits : List Waiting) : Type 0 where
   pub whole : pieces_of waits ≡ map (λ p. p.asked) pairs
-  pub each : (w : Waiting) → Contains waits w → IsOrdered pairs w
+  pub sorted : IsStrictlySortedBy place_cmp (pieces_of waits)
+  pub each : (w : Waiting) → Contains waits w → IsOrdered order pairs w
   pub own : (v w : Waiting) → Contains waits v → Contains waits w → v.asked ≡ w.asked → v ≡ w
+
+-- the exchange asks for the piece, of the node that stands there in its order
+abbrev pub AsksAt : Exchange → Waiting → ℕ → Type 0
+AsksAt e w round = Contains e.asked w.asked × (slice_get w.order round ≡ Some e.node)
 
 -- what was asked up to a round and a node, and what is still open
 pub record Holds (gives : Exchange → Asked → Type 0) (waits left : List Waiting) (round node : ℕ) (exchanges : List Exchange) : Type 0 where
@@ -102,6 +122,10 @@ pub record Holds (gives : Exchange → Asked → Type 0) (waits left : List Wait
   pub done : (w : Waiting) (r n : ℕ) → Contains left w → slice_get w.order r ≡ Some n → IsPast round node r n
       → (e : Exchange) × Contains exchanges e × Asks e w.asked n
   pub asked_once : (a : Asked) (n : ℕ) → AtOnePlace exchanges (λ x y. Asks x a n × Asks y a n)
+  pub by_round : (i j : ℕ) (x y : Exchange) (v w : Waiting) (r s : ℕ) → i < j → slice_get exchanges i ≡ Some x → slice_get exchanges j ≡ Some y
+      → Contains waits v → Contains waits w → AsksAt x v r → AsksAt y w s → IsPast s y.node r x.node
+  pub in_turn : (i : ℕ) (e : Exchange) (w : Waiting) (r s n : ℕ) → slice_get exchanges i ≡ Some e → Contains waits w → AsksAt e w r → s < r → slice_get w.order s ≡ Some n
+      → (j : ℕ) × (d : Exchange) × (j < i) × (slice_get exchanges j ≡ Some d) × Asks d w.asked n × (gives d w.asked → ⊥)
   pub given_once : (a : Asked) → AtOnePlace exchanges (λ x y. gives x a × gives y a)
 
 -- what waits, and what was answered so far
@@ -159,5 +183,11 @@ pub record IsState (query : Query) (waits : List Waiting) (state : State) (round
 -- by these exchanges one state became the other, whatever came before
 abbrev pub Goes : Query → ℕ → ℕ → ℕ → State → State → List Exchange → Type 0
 Goes query round node next old new more =
-    (pairs : List Pair) (waits : List Waiting) (exchanges : List Exchange) → AreOrdered pairs waits → IsState query waits old round node exchanges
-    → IsState query waits new round next (exchanges ++ more)
+    (order : List ℕ → List ℕ) (pairs : List Pair) (waits : List Waiting) (exchanges : List Exchange) → AreOrdered order pairs waits
+    → IsState query waits old round node exchanges → IsState query waits new round next (exchanges ++ more)
+
+-- these exchanges ask for what a round asks for in that state, whatever came before
+abbrev pub AsksOn : Query → ℕ → State → List Exchange → Type 0
+AsksOn query round old more =
+    (order : List ℕ → List ℕ) (pairs : List Pair) (waits : List Waiting) (exchanges : List Exchange) → AreOrdered order pairs waits
+    → IsState query waits old round 0 exchanges → AreAsked order query pairs (exchanges ++ more)

@@ -1,9 +1,9 @@
 //! What came back from a node, read.
-ghost use Rattle.std.specs.Prelude.{◌≡◌, ℕ, IfOk, IfSome, IfNone};
+ghost use Rattle.std.specs.Prelude.{◌≡◌, ℕ, IfOk, OnErr, IfSome, IfNone};
 ghost use Rattle.druid_link.specs.Links.{came_of};
 ghost use Rattle.druid_partial.specs.Rows.{kinds_of};
 ghost use Rattle.druid_scatter.specs.Gathered.{Answers, IsLost};
-ghost use Rattle.druid_scatter.specs.Waiting.{Tells, TellsNothing, exchange_of};
+ghost use Rattle.druid_scatter.specs.Waiting.{Tells, TellsNothing, ReadingLacksMemory, LacksMemory, exchange_of};
 
 use crate::GatherFault;
 use druid_message::WireFault;
@@ -18,6 +18,7 @@ fn answer_in(alloc: Global, sub: &SubQuery, bytes: &[u8]) -> Result<Option<NodeA
     ensures some { IfOk result (λ read. IfSome read (λ a. Tells sub.now bytes.now a.missing a.partial.groups)) }
     ensures none { IfOk result (λ read. IfNone read (TellsNothing sub.now bytes.now)) }
     ensures kinds { IfOk result (λ read. IfSome read (λ a. a.partial.kinds ≡ kinds_of sub.now.query)) }
+    ensures err { OnErr result (ReadingLacksMemory sub.now bytes.now) }
 {
     let Ok(response) = response_of(bytes) else {
         return Ok(None);
@@ -44,6 +45,7 @@ pub(crate) fn answer_of(
     ensures none { IfOk result (λ read. IfNone read ((node : ℕ)
         → IsLost sub.now.query (exchange_of sub.now (came_of came.now) node))) }
     ensures kinds { IfOk result (λ read. IfSome read (λ a. a.partial.kinds ≡ kinds_of sub.now.query)) }
+    ensures err { OnErr result (LacksMemory sub.now (came_of came.now)) }
 {
     match came {
         Ok(bytes) => answer_in(alloc, sub, bytes),

@@ -1,12 +1,12 @@
 //! What was gathered so far.
-ghost use Rattle.std.specs.Prelude.{◌≡◌, List, IfOk, OnErr, IfSome, Option, length, map, option_map, is_some};
+ghost use Rattle.std.specs.Prelude.{◌≡◌, ◌⊎◌, List, [], Any, IfOk, OnErr, IfSome, IsSomeAnd, Option, length, map, option_map, is_some};
 ghost use Rattle.std.specs.List.{range_with_len, AllZip};
 ghost use Rattle.druid_query.specs.Query.{Query};
 ghost use Rattle.druid_partial.specs.Groups.{IsMerge, IsResult};
 ghost use Rattle.druid_partial.specs.Rows.{IsPartialFor};
 ghost use Rattle.druid_link.specs.Links.{Came, came_of};
 ghost use Rattle.druid_scatter.specs.Gathered.{Exchange, AreMade};
-ghost use Rattle.druid_scatter.specs.Waiting.{Keeps, Took, TookIf, Goes, pieces_of, sub_if, wanted_of, made_from, exchange_of};
+ghost use Rattle.druid_scatter.specs.Waiting.{Keeps, Took, TookIf, Goes, AsksOn, MayLackMemory, pieces_of, sub_if, wanted_of, made_from, exchange_of};
 
 use crate::answering::answer_of;
 use crate::requests::{ask, subs_for};
@@ -81,6 +81,7 @@ impl Gathering {
         requires { IsPartialFor sub.now.query self.partial }
         ensures took { IfOk result (λ new. Took sub.now.query round node self new (exchange_of sub.now (came_of came.now) node)) }
         ensures of_query { IfOk result (λ new. IsPartialFor sub.now.query new.partial) }
+        ensures err { OnErr result (MayLackMemory (came_of came.now)) }
     {
         match answer_of(alloc, sub, came)? {
             Some(answer) => self.told(alloc, round, node, answer),
@@ -102,6 +103,7 @@ impl Gathering {
         requires query { IfSome sub.now (λ s. s.query ≡ query.now) }
         ensures took { IfOk result (λ new. TookIf round node self new sub.now (option_map came_of came.now)) }
         ensures of_query { IfOk result (λ new. IsPartialFor query.now new.partial) }
+        ensures err { OnErr result (IsSomeAnd (option_map came_of came.now) MayLackMemory) }
     {
         match sub {
             None => Ok(self),
@@ -127,6 +129,7 @@ impl Gathering {
         ensures goes { IfOk result (λ new. Goes query.now round 0 (length subs.now) self new
             (made_from (wanted_of round self.waiting) 0 (map (option_map came_of) came.now))) }
         ensures of_query { IfOk result (λ new. IsPartialFor query.now new.partial) }
+        ensures err { OnErr result (Any (λ one. IsSomeAnd one MayLackMemory) (map (option_map came_of) came.now)) }
     {
         let mut gathering = self;
         for node in 0..subs.len() {
@@ -162,7 +165,8 @@ impl Gathering {
         ensures ok { IfOk result (λ new. (more : List Exchange) × AreMade L.exchanges query.now more links.old links.new
             × Goes query.now round 0 (length links.old) self new more) }
         ensures of_query { IfOk result (λ new. IsPartialFor query.now new.partial) }
-        ensures err { OnErr result ((more : List Exchange) × AreMade L.exchanges query.now more links.old links.new) }
+        ensures err { OnErr result ((more : List Exchange) × AreMade L.exchanges query.now more links.old links.new
+            × AsksOn query.now round self more × ((more ≡ []) ⊎ Any (λ e. MayLackMemory e.came) more)) }
     {
         let subs = self.wanted_subs(alloc, query, round, links.len())?;
         let came = ask(rt, alloc, &subs, links)?;

@@ -33,9 +33,9 @@ pub fn plans_may_be_asked()
 /// visible in the inventory, asked for and in no missing piece, each once, however many nodes serve it and whatever versions
 /// overlap.
 pub fn gathered_rows_are_exact()
-    ensures { (inventory : List Entry) (query : Query) (pairs : List Pair) (exchanges : List Exchange) (missing : List Asked) (groups : List Group)
+    ensures { (order : List ℕ → List ℕ) (inventory : List Entry) (query : Query) (pairs : List Pair) (exchanges : List Exchange) (missing : List Asked) (groups : List Group)
         (segments : List Segment) (held : List Held) (sees : Segment → Row → Bool)
-        → IsPlanOf inventory query pairs → IsGathered query pairs exchanges missing groups
+        → IsPlanOf inventory query pairs → IsGathered order query pairs exchanges missing groups
         → AreServed inventory query.source segments → IsHoldingOf inventory query.source held → Sees query held segments sees
         → ((e : Exchange) → Contains exchanges e → IsHonest query segments e)
         → IsResult (kinds_of query) (told_visible query sees missing segments) groups }

@@ -1,7 +1,7 @@
 //! Queries, asked of data nodes.
 ghost use Rattle.std.specs.Prelude.{List, IfOk, OnErr, length};
 ghost use Rattle.druid_partial.specs.Rows.{IsPartialFor};
-ghost use Rattle.druid_scatter.specs.Gathered.{Exchange, AreMade, IsGathered};
+ghost use Rattle.druid_scatter.specs.Gathered.{Exchange, AreMade, AreAsked, IsGathered};
 ghost use Rattle.druid_scatter.specs.Rounds.{AreLinked};
 
 use crate::gathering::Gathering;
@@ -15,8 +15,8 @@ use std::thread::Threads;
 
 /// Answers a query from the pieces of a plan. Each piece is asked of one node after another, in the order that `pick` gives
 /// them, until one gives it; a round sends each node one request for all that is asked of it. The nodes of a round are asked all
-/// at once, as `ask_round` asks them. A piece that no node gave is missing. G9 where memory was refused, also by a link: then
-/// too each exchange was one of the query, over its node's link.
+/// at once, as `ask_round` asks them. A piece that no node gave is missing. G9 where memory was refused, also to a link: then
+/// too each piece was asked of its nodes alone, of each once at most and in that order.
 pub fn gather<P: Pick, L: Link + Send, R: Threads + Sync>(
     rt: &R,
     alloc: Global,
@@ -28,9 +28,10 @@ pub fn gather<P: Pick, L: Link + Send, R: Threads + Sync>(
 ) -> Result<Answer, GatherFault>
     requires { AreLinked (length links.old) plan.now }
     ensures ok { IfOk result (λ answer. (exchanges : List Exchange) × AreMade L.exchanges query.now exchanges links.old links.new
-        × IsGathered query.now plan.now exchanges answer.missing answer.partial.groups) }
+        × IsGathered (P.orders pick.now turn) query.now plan.now exchanges answer.missing answer.partial.groups) }
     ensures of_query { IfOk result (λ answer. IsPartialFor query.now answer.partial) }
-    ensures err { OnErr result ((exchanges : List Exchange) × AreMade L.exchanges query.now exchanges links.old links.new) }
+    ensures err { OnErr result ((exchanges : List Exchange) × AreMade L.exchanges query.now exchanges links.old links.new
+        × AreAsked (P.orders pick.now turn) query.now plan.now exchanges) }
 {
     let waiting = waiting_for(alloc, plan, turn, pick)?;
     let rounds = most_nodes(&waiting);

@@ -1,8 +1,7 @@
 //! Pieces that wait for an answer.
 ghost use Rattle.std.specs.Prelude.{◌≡◌, ◌≤◌, ◌↔◌, ℕ, IsTrue, Contains, IfOk, filter, length};
-ghost use Rattle.std.specs.List.Sorted.{IsPermutation, IsStrictlySortedBy};
+ghost use Rattle.std.specs.List.Sorted.{IsPermutation};
 ghost use Rattle.std.specs.BTreeSet.{contains};
-ghost use Rattle.druid_scatter.specs.Plan.{asked_of, place_cmp};
 ghost use Rattle.druid_scatter.specs.Waiting.{Waiting, StandsOnce, AreOrdered, Keeps, StandsIn, stays, at_cmp, place_of, has_turn, pieces_of};
 
 use crate::{Pair, Pick, Plan};
@@ -30,7 +29,8 @@ fn picked<P: Pick>(
     turn: u64,
     pick: &P,
 ) -> Result<Vec<NodeNo>, AllocError>
-    ensures { IfOk result (λ order. IsPermutation nodes.now order.items) }
+    ensures ordered { IfOk result (λ order. order.items ≡ P.orders pick.now turn nodes.now) }
+    ensures permuted { IfOk result (λ order. IsPermutation nodes.now order.items) }
 {
     let mut order = Vec::from_slice(alloc, nodes)?;
     pick.order(turn, order.as_mut_slice());
@@ -57,7 +57,8 @@ impl Waiting {
     #[tactic(auto, using(crate::proofs::WaitLemmas::once_picked))]
     fn of<P: Pick>(alloc: Global, pair: &Pair, turn: u64, pick: &P) -> Result<Waiting, AllocError>
         ensures asked { IfOk result (λ w. w.asked ≡ pair.now.asked) }
-        ensures order { IfOk result (λ w. IsPermutation pair.now.nodes w.order) }
+        ensures ordered { IfOk result (λ w. w.order ≡ P.orders pick.now turn pair.now.nodes) }
+        ensures permuted { IfOk result (λ w. IsPermutation pair.now.nodes w.order) }
         ensures once { IfOk result (λ w. StandsOnce w.order) }
     {
         let order = picked(alloc, pair.nodes(), turn, pick)?;
@@ -107,8 +108,7 @@ pub(crate) fn waiting_for<P: Pick>(
     turn: u64,
     pick: &P,
 ) -> Result<Vec<Waiting>, AllocError>
-    ensures ordered { IfOk result (λ waits. AreOrdered plan.now waits.items) }
-    ensures sorted { IfOk result (λ waits. IsStrictlySortedBy place_cmp (pieces_of waits.items)) }
+    ensures { IfOk result (λ waits. AreOrdered (P.orders pick.now turn) plan.now waits.items) }
 {
     let pairs = plan.pairs();
     let mut waits = Vec::with_capacity(alloc, pairs.len())?;

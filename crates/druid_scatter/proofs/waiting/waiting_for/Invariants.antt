@@ -5,5 +5,5 @@ use Rattle.druid_scatter.proofs.waiting.waiting_for.Given as goal
 abbrev pub invariant-loop-pair : goal.invariant-loop-pair
 invariant-loop-pair g l = record {
   whole : pieces_of l.waits.items ≡ map (λ p. p.asked) (take l.pair-index l.pairs);
-  each : All (IsOrdered l.pairs) l.waits.items;
+  each : All (IsOrdered (g.P.Pick.orders l.pick l.turn) l.pairs) l.waits.items;
 }

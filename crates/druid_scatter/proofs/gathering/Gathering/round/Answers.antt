@@ -1,7 +1,9 @@
-use Rattle.std.proofs.Common.{◌∙◌, sym, ap, map, option_map, length}
+use Rattle.std.proofs.Common.{◌∙◌, refl, sym, ap, map, option_map, length}
+use Rattle.druid_timeline.proofs.ChunkLemmas.{always_err}
 use Rattle.druid_link.specs.Links.{came_of}
-use Rattle.druid_scatter.specs.Waiting.{sub_if, wanted_of, made_from}
-use Rattle.druid_scatter.proofs.StateLemmas.{as_many_subs, subs_again, round_ok, made_by, made_err, answered_there}
+use Rattle.druid_scatter.specs.Waiting.{sub_if, wanted_of}
+use Rattle.druid_scatter.proofs.StateLemmas.{as_many_subs, subs_again, round_ok, made_by, answered_there}
+use Rattle.druid_scatter.proofs.AskedLemmas.{round_err, unsent}
 use Rattle.druid_scatter.proofs.MadeLemmas.{matched}
 use Rattle.druid_scatter.proofs.gathering.Gathering.round.Goals as goal
 
@@ -35,8 +37,14 @@ returns-clause-ok g c =
 pub returns-clause-err : goal.returns-clause-err
 returns-clause-err g c =
     let wanted = wanted_of c.args.round c.args.self.waiting in
-    made_err g.L.Link.exchanges c.args.query.now c.args.links.now c.ask.new.links c.settled.result (made_from wanted 0 (map (option_map came_of) c.deref-3.result.now))
-    (made_by g.L.Link.exchanges c.args.query.now wanted c.args.links.now c.ask.new.links c.in_ok-subs.subs.items c.deref-2.result.now (map (option_map came_of) c.deref-3.result.now)
-    c.deref-2.ensures.value c.in_ok-subs.ensures
-    (answered_there g.L.Link.exchanges (option_map came_of) c.args.links.now c.ask.new.links c.deref.result.now c.deref-2.result.now c.in_ok-came.came.items c.deref-3.result.now
-    (c.deref.ensures.value ∙ sym c.deref-2.ensures.value) c.deref-3.ensures.value c.in_ok-came.ensures.ok))
+    let came = map (option_map came_of) c.deref-3.result.now in
+    let answered = answered_there g.L.Link.exchanges (option_map came_of) c.args.links.now c.ask.new.links c.deref.result.now c.deref-2.result.now c.in_ok-came.came.items c.deref-3.result.now
+    (c.deref.ensures.value ∙ sym c.deref-2.ensures.value) c.deref-3.ensures.value c.in_ok-came.ensures.ok in
+    round_err g.L.Link.exchanges c.args.query.now c.args.round c.args.links.now c.ask.new.links c.args.self c.settled.result c.in_ok-subs.subs.items c.deref-2.result.now came
+    c.deref-2.ensures.value c.in_ok-subs.ensures answered c.settled.ensures.err
+
+pub returns-in_err-subs-clause-err : goal.returns-in_err-subs-clause-err
+returns-in_err-subs-clause-err g c = always_err c.from_residual.result _ (unsent g.L.Link.exchanges c.args.query.now c.args.round c.args.self c.args.links.now c.args.links.now refl)
+
+pub returns-in_err-came-clause-err : goal.returns-in_err-came-clause-err
+returns-in_err-came-clause-err g c = always_err c.from_residual-in_err-came.result _ (unsent g.L.Link.exchanges c.args.query.now c.args.round c.args.self c.args.links.now c.ask.new.links c.in_err-came.ensures.err)

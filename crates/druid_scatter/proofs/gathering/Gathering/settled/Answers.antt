@@ -1,8 +1,10 @@
 use Rattle.std.proofs.Common.{map, option_map, arith}
+use Rattle.druid_timeline.proofs.ChunkLemmas.{always_err}
 use Rattle.druid_link.specs.Links.{came_of}
 use Rattle.druid_scatter.specs.Waiting.{wanted_of}
 use Rattle.druid_scatter.proofs.RoundLemmas.{mapped_at}
 use Rattle.druid_scatter.proofs.StateLemmas.{of_query_at, settled_step, behind_step, settled_all, inside_came}
+use Rattle.druid_scatter.proofs.AskedLemmas.{lacking_at}
 use Rattle.druid_scatter.proofs.gathering.Gathering.settled.Goals as goal
 
 pub bounds-came-node : goal.bounds-came-node
@@ -30,3 +32,9 @@ pub returns-clause-goes : goal.returns-clause-goes
 returns-clause-goes c =
     settled_all c.args.query.now c.args.round c.args.self c.loop-node.gathering c.args.subs.now (map (option_map came_of) c.args.came.now) c.loop-node.node c.requires.matched (omega arith)
     c.loop-node.invariant.goes
+
+pub returns-in_err-gathering-clause-err : goal.returns-in_err-gathering-clause-err
+returns-in_err-gathering-clause-err c =
+    always_err c.from_residual.result _
+    (lacking_at c.args.came.now c.loop-node.node c.index-came-node.result
+    (inside_came c.args.subs.now (option_map came_of) c.args.came.now c.loop-node.node c.requires.matched (omega arith)) c.index-came-node.is c.in_err-gathering.ensures.err)
