@@ -3,7 +3,8 @@ ghost use Rattle.std.specs.Prelude.{◌≡◌};
 ghost use Rattle.druid_inventory.specs.Join.{names_of};
 
 use crate::cluster::{
-    Behind, Cluster, Handle, Setup, answered, followed, made_by_two, posted, set, set_up, written,
+    Behind, Cluster, Failure, Handle, Setup, answered, followed, made_by_two, posted, set, set_up,
+    written,
 };
 use crate::printing::{assert_holds, assert_told, halves, printed, replaced};
 use druid_published::NodeList;
@@ -82,7 +83,7 @@ fn answer_to<R: Handle, N: NodeList>(
 {
     let mut made: Cluster<R, N> = followed(rt, alloc, setup, 64);
     for place in failing {
-        set(&mut made, place, Behind::Nothing);
+        set(&mut made, place, Behind::Failing(Failure::Read));
     }
     posted(alloc, &mut made, turn, query.as_str())
 }
@@ -148,8 +149,8 @@ GET /status/health HTTP/1.1|A:#|| = 200 true
 GET /status/health HTTP/1.1|A: #|| = 400 {\"error\":\"X5\"}
 POST /druid/v2 HTTP/1.1|Content-Length: 16777217|| = 400 {\"error\":\"X7\"}";
 
-// The bytes of the message that a short text stands for.
-fn message(rt: &impl Abort, alloc: Global, text: &str) -> String {
+/// The bytes of the message that a short text stands for.
+pub(crate) fn message(rt: &impl Abort, alloc: Global, text: &str) -> String {
     let text = replaced(rt, alloc, text, "|", "\r\n");
     let filling = "x".repeat(alloc, 16_349).expect(rt, "memory");
     replaced(rt, alloc, text.as_str(), "#", filling.as_str())
@@ -204,7 +205,8 @@ fn messages(rt: HostRuntime) {
 }
 
 // What a server that is no data node answers, in the place of one or of both of the replicas that have the only row. `*` stands for
-// the instant of the row's bucket.
+// the instant of the row's bucket, `%` for the piece that is asked for, `&` for the piece and a comma a thousand times, and `^` for a
+// byte that no UTF-8 has.
 const HOSTILE: &str = " = 
 HTTP/1.1 200 OK| = 
 HTTP/1.1 200 OK|Content-Length: 40||{} = 
@@ -223,7 +225,15 @@ HTTP/1.1 200 OK|Content-Length: # = {\"missing\":[],\"rows\":[[0,[],[1]]]}
 HTTP/1.1 200 OK|Content-Length: # = {\"missing\":[],\"rows\":[[*,[],[1]],[*,[],[1]]]}
 HTTP/1.1 200 OK|Content-Length: # = {\"missing\":[{\"chunk\":\"2024-01-01/2024-01-02\",\"itvl\":\"2024-01-01/2024-01-02\",\"part\":1,\"ver\":\"v1\"}],\"rows\":[[*,[],[1]]]}
 HTTP/1.1 200 OK|Content-Length: # = {\"missing\":[{\"chunk\":\"2024-01-01/2024-01-02\",\"itvl\":\"2024-01-01/2024-01-01T12:00\",\"part\":0,\"ver\":\"v1\"}],\"rows\":[]}
-HTTP/1.1 200 OK|Content-Length: # = {\"missing\":[{\"chunk\":\"2024-01-01/2024-01-02\",\"itvl\":\"2024-01-01/2024-01-02\",\"part\":0,\"ver\":\"v1\"}],\"rows\":[]}";
+HTTP/1.1 200 OK|Content-Length: # = {\"missing\":[%],\"rows\":[]}
+HTTP/1.1 200 OK|Content-Length: # = {\"missing\":[%,%],\"rows\":[]}
+HTTP/1.1 200 OK|Content-Length: # = {\"missing\":[&%],\"rows\":[]}
+HTTP/1.1 200 OK|Content-Length: # = ^
+HTTP/1.1 200 OK|Content-Length: # = {\"missing\":[],\"rows\":[[*,[],[1]]],\"by\":\"^\"}
+HTTP/1.1 200 OK|Content-Length: # = {\"missing\":[%],\"rows\":[[*,[],[1]]],\"by\":\"^\"}";
+
+const PIECE: &str =
+    "{\"chunk\":\"2024-01-01/2024-01-02\",\"itvl\":\"2024-01-01/2024-01-02\",\"part\":0,\"ver\":\"v1\"}";
 
 const COUNTED: &str = "200 [{\"result\":{\"n\":1},\"timestamp\":\"2024-01-01T00:00:00.000Z\"}]";
 
@@ -237,11 +247,26 @@ fn hostile_head(rt: &impl Abort, alloc: Global, head: &str, length: usize) -> St
     replaced(rt, alloc, head.as_str(), "|", "\r\n")
 }
 
+// The body that a short text stands for.
+fn hostile_body(rt: &impl Abort, alloc: Global, text: &str) -> String {
+    let many = "%,".repeat(alloc, 1000).expect(rt, "memory");
+    let body = replaced(rt, alloc, text, "*", "1704067200000");
+    let body = replaced(rt, alloc, body.as_str(), "&", many.as_str());
+    replaced(rt, alloc, body.as_str(), "%", PIECE)
+}
+
 // An answer: its head and its body.
-fn hostile(rt: &impl Abort, alloc: Global, head: &str, body: &str) -> String {
-    let body = replaced(rt, alloc, body, "*", "1704067200000");
+fn hostile(rt: &impl Abort, alloc: Global, head: &str, body: &str) -> Vec<u8> {
+    let body = hostile_body(rt, alloc, body);
     let head = hostile_head(rt, alloc, head, body.as_str().len());
-    format!(in alloc; "{head}{body}").expect(rt, "memory")
+    let text = format!(in alloc; "{head}{body}").expect(rt, "memory");
+    let mut bytes = text.into_bytes();
+    for byte in &mut bytes {
+        if *byte == b'^' {
+            *byte = 0xff;
+        }
+    }
+    bytes
 }
 
 /// What a broker answers to a count at a turn.
@@ -303,6 +328,63 @@ fn is_passed_on<R: Handle>(rt: R, alloc: Global, bytes: &[u8]) -> bool {
     passes_on::<R, Brand>(rt, alloc, setup, bytes)
 }
 
+// Whether a broker with two replicas counts the row where the first of them fails so, and lists it as missing where both do.
+fn passes_over<R: Handle, N: NodeList>(
+    alloc: Global,
+    made: &mut Cluster<R, N>,
+    failure: Failure,
+) -> bool {
+    set(made, 0, Behind::Failing(failure));
+    let counts = is_asked_once(alloc, made, 0, COUNTED);
+    set(made, 1, Behind::Failing(failure));
+    counts && is_asked_once(alloc, made, 1, NOT_COUNTED)
+}
+
+// Whether the broker wants memory where the first link that it asks does, and asks no other then.
+fn lacks_memory<R: Handle, N: NodeList>(alloc: Global, made: &mut Cluster<R, N>) -> bool {
+    made_by_two(made);
+    set(made, 0, Behind::Failing(Failure::Memory));
+    let lacks = counted(alloc, made, 0).as_str() == NO_MEMORY && made_by_two(made) == (1, 0);
+    lacks && counted(alloc, made, 1).as_str() == COUNTED && made_by_two(made) == (0, 1)
+}
+
+const NO_MEMORY: &str = "500 {\"error\":\"Memory\"}";
+
+// Whether a broker over these parts does so where a link fails so.
+fn fails_as_it_should<R: Handle, N: NodeList>(
+    rt: R,
+    alloc: Global,
+    setup: Setup<R>,
+    failure: Failure,
+) -> bool
+    requires { names_of setup.inventory ≡ N.names }
+{
+    let mut made: Cluster<R, N> = followed(rt, alloc, setup, 2);
+    match failure {
+        Failure::Memory => lacks_memory(alloc, &mut made),
+        _ => passes_over(alloc, &mut made, failure),
+    }
+}
+
+fn is_failure_met<R: Handle>(rt: R, alloc: Global, failure: Failure) -> bool {
+    let setup = set_up(rt, alloc, TWO_REPLICAS);
+    fails_as_it_should::<R, Brand>(rt, alloc, setup, failure)
+}
+
+#[test]
+fn failing_links(rt: HostRuntime) {
+    let failures = [
+        Failure::Read,
+        Failure::Write,
+        Failure::BodyTooLong,
+        Failure::Connect,
+        Failure::Memory,
+    ];
+    for failure in failures {
+        assert!(rt; is_failure_met(&rt, rt.alloc(), failure), "{failure:?}");
+    }
+}
+
 // Whether the first of two replicas is asked at an even turn alone, and the second at an odd one.
 fn takes_turns<R: Handle, N: NodeList>(alloc: Global, made: &mut Cluster<R, N>) -> bool {
     made_by_two(made);
@@ -330,7 +412,7 @@ fn queries_take_turns(rt: HostRuntime) {
 
 fn is_hostile<R: Handle>(rt: R, alloc: Global, line: &str) -> bool {
     let (head, body) = halves(&rt, line, " = ");
-    is_passed_on(rt, alloc, hostile(&rt, alloc, head, body).as_bytes())
+    is_passed_on(rt, alloc, &hostile(&rt, alloc, head, body))
 }
 
 #[test]

@@ -1,5 +1,6 @@
 //! Clusters in memory: data nodes, each after a link of its own, and a broker that follows them.
-ghost use Rattle.std.specs.Prelude.{◌≡◌, ◌⊎◌, ◌≤◌, IsTrue, length, IfOk, IfErr};
+ghost use Rattle.std.specs.Prelude.{◌≡◌, ◌⊎◌, ◌≤◌, IsTrue, length, IfOk, IfErr, IsErrAnd};
+ghost use Rattle.druid_link.specs.Links.{IsLinkFault, came_of, faults_after};
 ghost use Rattle.druid_inventory.specs.Join.{names_of};
 
 use druid_broker::{Routes, serve_one, sync_turn};
@@ -7,7 +8,7 @@ use druid_inventory::{Inventory, MAX_NODES};
 use druid_link::{Link, MAX_EXCHANGE};
 use druid_message::WireFault;
 use druid_node::{DataNode, Incarnation, NodeState};
-use druid_published::{NodeList, Publisher, View, open};
+use druid_published::{NodeList, Publisher, Receipt, View, open};
 use druid_rows::{Row, Schema, Segment};
 use druid_scatter::Rotate;
 use druid_segid::{Name, SegmentId, Version};
@@ -34,13 +35,46 @@ impl Incarnation for First {
     ghost number = { 1 };
 }
 
+/// How a link fails.
+#[derive(Clone, Copy, Debug, Drop)]
+pub(crate) enum Failure {
+    /// X2.
+    Read,
+    /// X3.
+    Write,
+    /// X7.
+    BodyTooLong,
+    /// X8.
+    Connect,
+    /// X9.
+    Memory,
+}
+
+// Fails so, and counts it where it is the device that fails.
+fn fail(failure: Failure, faults: &mut u64) -> Result<Vec<u8>, WireFault>
+    ensures fails { IsErrAnd result IsLinkFault }
+    ensures counted { faults.new ≡ faults_after (came_of result) faults.old }
+{
+    match failure {
+        Failure::BodyTooLong => return Err(WireFault::BodyTooLong),
+        Failure::Memory => return Err(WireFault::Memory),
+        Failure::Read | Failure::Write | Failure::Connect => {}
+    }
+    *faults = faults.saturating_add(1);
+    match failure {
+        Failure::Write => Err(WireFault::Write),
+        Failure::Connect => Err(WireFault::Connect),
+        _ => Err(WireFault::Read),
+    }
+}
+
 /// What follows a link.
 #[derive(Drop)]
 pub(crate) enum Behind {
     /// A data node.
     Node(DataNode<First>),
-    /// A data node that fails.
-    Nothing,
+    /// Nothing: each exchange fails so.
+    Failing(Failure),
     /// A server that answers these bytes to each request.
     Bytes(Vec<u8>),
 }
@@ -97,10 +131,7 @@ impl<R: Handle> Link for TestLink<R> {
         match &self.behind {
             Behind::Node(node) => answer_of(&self.rt, alloc, node, request, &mut self.seen),
             Behind::Bytes(bytes) => copy_of(alloc, bytes),
-            Behind::Nothing => {
-                self.faults = self.faults.saturating_add(1);
-                Err(WireFault::Read)
-            }
+            Behind::Failing(failure) => fail(*failure, &mut self.faults),
         }
     }
 
@@ -380,20 +411,19 @@ pub(crate) fn is_linked<R: Handle, N: NodeList>(cluster: &mut Cluster<R, N>) -> 
     true
 }
 
-// Serves a message at a turn.
-fn serve<R: Handle, N: NodeList>(
+// Serves a message at a turn, over links to all nodes.
+fn serve_linked<R: Handle, N: NodeList>(
     alloc: Global,
     cluster: &mut Cluster<R, N>,
     turn: u64,
     message: &[u8],
     written: &mut Vec<u8>,
-) {
+)
+    requires { length N.names ≤ length cluster.old.links.items }
+{
     let rt = cluster.rt;
     let routes = Routes::new(alloc).expect(&rt, "routes");
     let mut reader = message;
-    if !is_linked(cluster) {
-        panic!(rt; "fewer links than nodes");
-    }
     serve_one(
         &rt,
         alloc,
@@ -406,6 +436,38 @@ fn serve<R: Handle, N: NodeList>(
         &mut cluster.links,
     )
     .expect(&rt, "an answer");
+}
+
+// Serves a message at a turn.
+fn serve<R: Handle, N: NodeList>(
+    alloc: Global,
+    cluster: &mut Cluster<R, N>,
+    turn: u64,
+    message: &[u8],
+    written: &mut Vec<u8>,
+) {
+    let rt = cluster.rt;
+    if !is_linked(cluster) {
+        panic!(rt; "fewer links than nodes");
+    }
+    serve_linked(alloc, cluster, turn, message, written);
+}
+
+/// What the broker answers to a message once its view was given a receipt.
+pub(crate) fn answered_after<R: Handle, N: NodeList>(
+    alloc: Global,
+    cluster: &mut Cluster<R, N>,
+    receipt: &Receipt<N>,
+    message: &[u8],
+) -> String {
+    let rt = cluster.rt;
+    if !is_linked(cluster) {
+        panic!(rt; "fewer links than nodes");
+    }
+    cluster.view.learn(receipt);
+    let mut written = Vec::new(alloc);
+    serve_linked(alloc, cluster, 0, message, &mut written);
+    told_response(&rt, alloc, &written)
 }
 
 /// What the broker writes for a message, at a turn.
@@ -425,8 +487,8 @@ fn code_and_body(rt: &impl Abort, alloc: Global, code: u16, body: &[u8]) -> Stri
     format!(in alloc; "{code} {body}").expect(rt, "memory")
 }
 
-// A response: `200 true`.
-fn told_response(rt: &impl Abort, alloc: Global, bytes: &[u8]) -> String {
+/// A response: `200 true`.
+pub(crate) fn told_response(rt: &impl Abort, alloc: Global, bytes: &[u8]) -> String {
     match response_of(bytes) {
         Ok((status, body)) => code_and_body(rt, alloc, status.as_u16(), body),
         Err(_) => panic!(rt; "no response"),
@@ -444,8 +506,8 @@ pub(crate) fn answered<R: Handle, N: NodeList>(
     told_response(&cluster.rt, alloc, &bytes)
 }
 
-// The message that posts a query.
-fn message_of(rt: &impl Abort, alloc: Global, query: &str) -> String {
+/// The message that posts a query.
+pub(crate) fn message_of(rt: &impl Abort, alloc: Global, query: &str) -> String {
     let length = query.len();
     format!(in alloc; "POST /druid/v2/ HTTP/1.1\r\nContent-Length: {length}\r\n\r\n{query}").expect(
         rt, "memory",
@@ -476,6 +538,22 @@ pub(crate) fn set<R: Handle, N: NodeList>(
     behind: Behind,
 ) {
     link_at(cluster, place).set(behind);
+}
+
+/// How often each link was asked since the last time that this was asked: `1 0 2`.
+pub(crate) fn made_by_all<R: Handle, N: NodeList>(
+    alloc: Global,
+    cluster: &mut Cluster<R, N>,
+) -> String {
+    let rt = cluster.rt;
+    let mut text = String::new(alloc);
+    for link in &mut cluster.links {
+        let made = link.take_made();
+        let between = if text.as_str().is_empty() { "" } else { " " };
+        let one = format!(in alloc; "{between}{made}").expect(&rt, "memory");
+        text.push_str(one.as_str()).expect(&rt, "memory");
+    }
+    text
 }
 
 /// How many exchanges each of the first two links made since the last time that this was asked.

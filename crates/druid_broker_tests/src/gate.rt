@@ -84,29 +84,29 @@ fn count_of(answers: &[Option<Result<Vec<u8>, WireFault>>]) -> u64 {
     count
 }
 
-// Three links of a gate.
-fn three_links<R: Handle + Clock>(rt: R, alloc: Global) -> Vec<GateLink<R>> {
-    let left = Arc::new(alloc, Mutex::new(3_u64)).expect(&rt, "memory");
+// Links of a gate that opens once so many were asked.
+fn gate_links<R: Handle + Clock>(rt: R, alloc: Global, count: u64) -> Vec<GateLink<R>> {
+    let left = Arc::new(alloc, Mutex::new(count)).expect(&rt, "memory");
     let mut links = Vec::new(alloc);
-    for _ in 0..3 {
+    for _ in 0..count {
         links.push(gate_link(rt, &left)).expect(&rt, "memory");
     }
     links
 }
 
-fn three_requests(rt: &impl Abort, alloc: Global) -> Vec<Option<Vec<u8>>> {
+fn requests(rt: &impl Abort, alloc: Global, count: u64) -> Vec<Option<Vec<u8>>> {
     let mut requests = Vec::new(alloc);
-    for _ in 0..3 {
+    for _ in 0..count {
         let request = b"?".to_vec(alloc).expect(rt, "memory");
         requests.push(Some(request)).expect(rt, "memory");
     }
     requests
 }
 
-// How many of three links give an answer that each gives once all three were asked.
-fn answered<R: Handle + Clock>(rt: R, alloc: Global) -> u64 {
-    let mut links = three_links(rt, alloc);
-    let requests = three_requests(&rt, alloc);
+// How many of the links give an answer that each gives once all were asked.
+fn answered<R: Handle + Clock>(rt: R, alloc: Global, count: u64) -> u64 {
+    let mut links = gate_links(rt, alloc, count);
+    let requests = requests(&rt, alloc, count);
     if links.len() != requests.len() {
         panic!(rt; "as many links as requests");
     }
@@ -115,5 +115,7 @@ fn answered<R: Handle + Clock>(rt: R, alloc: Global) -> u64 {
 
 #[test]
 fn gate_gather(rt: HostRuntime) {
-    assert!(rt; answered(&rt, rt.alloc()) == 3);
+    for count in [1, 2, 3, 4, 5, 8] {
+        assert!(rt; answered(&rt, rt.alloc(), count) == count, "{count} links");
+    }
 }

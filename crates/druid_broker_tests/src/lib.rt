@@ -11,6 +11,8 @@ mod drawn;
 #[cfg(test)]
 mod gate;
 #[cfg(test)]
+mod limits;
+#[cfg(test)]
 mod plain;
 #[cfg(test)]
 mod printing;
@@ -20,5 +22,7 @@ mod published;
 mod scatter;
 #[cfg(test)]
 mod sockets;
+#[cfg(test)]
+mod stale;
 #[cfg(test)]
 mod turns;

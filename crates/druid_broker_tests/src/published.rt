@@ -17,6 +17,10 @@ use std::sync::Wait;
 pub(crate) const SNAPSHOT: &str =
     "200 {\"counter\":{\"counter\":3,\"hash\":1},\"from\":null,\"requests\":[@],\"resetCause\":null,\"resetCounter\":false}";
 
+// A delta after it, which drops the segment.
+const DELTA: &str =
+    "200 {\"counter\":{\"counter\":4,\"hash\":1},\"from\":{\"counter\":3,\"hash\":1},\"requests\":[{\"action\":\"drop\",\"dataSource\":\"w\",\"interval\":\"2024-01-01/2024-01-02\",\"shardSpec\":{\"partitionNum\":0,\"partitions\":1,\"type\":\"numbered\"},\"size\":0,\"version\":\"v1\"}],\"resetCause\":null,\"resetCounter\":false}";
+
 // A delta that fits nowhere.
 const GAP: &str =
     "200 {\"counter\":{\"counter\":8,\"hash\":1},\"from\":{\"counter\":7,\"hash\":1},\"requests\":[@],\"resetCause\":null,\"resetCounter\":false}";
@@ -34,10 +38,12 @@ fn reply<N: NodeList>(
     fetch(alloc, publisher.inventory(), 0, &mut link).expect(rt, "a reply")
 }
 
-// The mark of the first node that a view reads.
+// The mark of the first node that a view reads, and how many segments it serves: `1 3: 1`.
 fn read<R: Wait + Abort, N: NodeList>(rt: &R, alloc: Global, view: &mut View<N>) -> String {
     let found = view.read(rt).expect(rt, "an inventory");
-    first_mark(rt, alloc, &found)
+    let mark = first_mark(rt, alloc, &found);
+    let segments = found.segments(0).expect(rt, "a node").len();
+    format!(in alloc; "{mark}: {segments}").expect(rt, "memory")
 }
 
 // What is reported of a reply that is not published.
@@ -67,7 +73,20 @@ fn publish_to<R: Wait + Abort, N: NodeList>(
     view.learn(&receipt);
 }
 
-// What the views read before a snapshot is published and its receipt given to the first of them, then, and once a reply was refused.
+// What both views read.
+fn both<R: Wait + Abort, N: NodeList>(
+    rt: &R,
+    alloc: Global,
+    told: &mut View<N>,
+    untold: &mut View<N>,
+) -> String {
+    let first = read(rt, alloc, told);
+    let other = read(rt, alloc, untold);
+    format!(in alloc; "{first} {other}").expect(rt, "memory")
+}
+
+// What the views read before anything is published, once a snapshot is, once a delta is, and once a reply was refused. The receipts
+// are given to the first of them alone.
 fn views_read<R: Wait + Abort, N: NodeList>(
     rt: &R,
     alloc: Global,
@@ -75,13 +94,14 @@ fn views_read<R: Wait + Abort, N: NodeList>(
     told: &mut View<N>,
     untold: &mut View<N>,
 ) -> String {
-    let before = read(rt, alloc, untold);
+    let before = both(rt, alloc, told, untold);
     publish_to(rt, alloc, publisher, told, SNAPSHOT);
-    let first = read(rt, alloc, told);
-    let other = read(rt, alloc, untold);
+    let snapshot = both(rt, alloc, told, untold);
+    publish_to(rt, alloc, publisher, told, DELTA);
+    let delta = both(rt, alloc, told, untold);
     let refused = refused(rt, alloc, publisher, GAP);
-    let after = read(rt, alloc, told);
-    format!(in alloc; "{before}, {first}, {other}, {refused}, {after}").expect(rt, "memory")
+    let after = both(rt, alloc, told, untold);
+    format!(in alloc; "{before}, {snapshot}, {delta}, {refused}, {after}").expect(rt, "memory")
 }
 
 // The same of the two views of a new publisher.
@@ -102,5 +122,10 @@ fn read_of<R: Wait + Abort>(rt: &R, alloc: Global) -> String {
 #[test]
 fn ample_memory(rt: HostRuntime) {
     let read = read_of(&rt, rt.alloc());
-    assert_told(&rt, "two views", read, "0 0, 1 3, 1 3, B1: A2: a gap, 1 3");
+    assert_told(
+        &rt,
+        "two views",
+        read,
+        "0 0: 0 0 0: 0, 1 3: 1 1 3: 1, 1 4: 0 1 4: 0, B1: A2: a gap, 1 4: 0 1 4: 0",
+    );
 }

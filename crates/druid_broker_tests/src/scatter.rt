@@ -4,7 +4,10 @@ ghost use Rattle.druid_inventory.specs.Join.{names_of};
 ghost use Rattle.druid_scatter.specs.Rounds.{AreLinked};
 
 use crate::broker::{counted, query};
-use crate::cluster::{Cluster, Handle, Setup, followed, inventory, made_by_two, set_up};
+use crate::cluster::{
+    Behind, Cluster, Failure, Handle, Setup, followed, inventory, made_by_all, made_by_two, set,
+    set_up,
+};
 use crate::printing::{assert_told, halves};
 use crate::published::SNAPSHOT;
 use crate::turns::link;
@@ -67,6 +70,65 @@ fn ample_memory(rt: HostRuntime) {
     assert!(rt; made_over(&rt, rt.alloc(), replicas) == [(1, 0), (0, 1)]);
     let parts = "v1/0/24/0/3 d:m 0/a/1 + v1/0/24/1/3 d:m 0/a/1 + v2/6/12/0/1 d:m | v1/0/24/2/3 d:m";
     assert!(rt; made_over(&rt, rt.alloc(), parts) == [(1, 1), (1, 1)]);
+}
+
+// Which of three replicas fail, marked by `!`, and how often each of them is asked for a count at the turns 0 to 5.
+const IN_TURN: &str = "... = 1 0 0, 0 1 0, 0 0 1, 1 0 0, 0 1 0, 0 0 1
+!.. = 1 1 0, 0 1 0, 0 0 1, 1 1 0, 0 1 0, 0 0 1
+.!. = 1 0 0, 0 1 1, 0 0 1, 1 0 0, 0 1 1, 0 0 1
+..! = 1 0 0, 0 1 0, 1 0 1, 1 0 0, 0 1 0, 1 0 1
+!!. = 1 1 1, 0 1 1, 0 0 1, 1 1 1, 0 1 1, 0 0 1
+.!! = 1 0 0, 1 1 1, 1 0 1, 1 0 0, 1 1 1, 1 0 1
+!.! = 1 1 0, 0 1 0, 1 1 1, 1 1 0, 0 1 0, 1 1 1
+!!! = 1 1 1, 1 1 1, 1 1 1, 1 1 1, 1 1 1, 1 1 1";
+
+// How often each replica is asked at six turns.
+fn asked_in_turn<R: Handle, N: NodeList>(alloc: Global, cluster: &mut Cluster<R, N>) -> String {
+    let rt = cluster.rt;
+    let mut text = String::new(alloc);
+    made_by_all(alloc, cluster);
+    for turn in 0..6_u64 {
+        counted(alloc, cluster, turn);
+        let made = made_by_all(alloc, cluster);
+        let between = if turn == 0 { "" } else { ", " };
+        let one = format!(in alloc; "{between}{made}").expect(&rt, "memory");
+        text.push_str(one.as_str()).expect(&rt, "memory");
+    }
+    text
+}
+
+// The same over these parts, of which the marked replicas fail.
+fn asked_over<R: Handle, N: NodeList>(
+    rt: R,
+    alloc: Global,
+    setup: Setup<R>,
+    marks: Vec<u8>,
+) -> String
+    requires { names_of setup.inventory ≡ N.names }
+{
+    let mut cluster: Cluster<R, N> = followed(rt, alloc, setup, 3);
+    for (place, mark) in marks.iter().enumerate() {
+        if *mark == b'!' {
+            set(&mut cluster, place, Behind::Failing(Failure::Connect));
+        }
+    }
+    asked_in_turn(alloc, &mut cluster)
+}
+
+fn asked_of_three<R: Handle>(rt: R, alloc: Global, marks: &str) -> String {
+    let one = "v1/0/24/0/1 d:m 0/a/1";
+    let three = format!(in alloc; "{one} | {one} | {one}").expect(&rt, "memory");
+    let setup = set_up(rt, alloc, three.as_str());
+    let marks = marks.as_bytes().to_vec(alloc).expect(&rt, "memory");
+    asked_over::<R, Brand>(rt, alloc, setup, marks)
+}
+
+#[test]
+fn three_replicas(rt: HostRuntime) {
+    for line in IN_TURN.lines() {
+        let (marks, wanted) = halves(&rt, line, " = ");
+        assert_told(&rt, line, asked_of_three(&rt, rt.alloc(), marks), wanted);
+    }
 }
 
 // The inventory once a node reported that it serves the only segment.
