@@ -1,8 +1,8 @@
 -- The text of a reply is JSON that reads as the reply's.
-use Rattle.std.proofs.Common.{◌≡◌, ◌≤◌, ◌<◌, ◌^◌, ℕ, arith, List, [], map, codes, All, Contains, Option, Some, None, IfSome, refl, sym, subst, ap, ◌∙◌}
+use Rattle.std.proofs.Common.{◌≡◌, ◌≤◌, ◌<◌, ◌^◌, ℕ, arith, List, [], map, codes, All, Option, Some, None, IfSome, refl, sym, subst, ap, ◌∙◌}
 use Rattle.std.proofs.lemmas.List.Elements.{All-contains}
 use Rattle.json.proofs.Printed.Decimals.{IsNumber-decimal}
-use Rattle.serde_json.specs.Data.{Data, Items, depth, items_depth}
+use Rattle.serde_json.specs.Data.{Data, depth, items_depth}
 use Rattle.serde_json.specs.View.{items_of}
 use Rattle.serde_json.specs.Read.{read}
 use Rattle.serde_json.proofs.Numbers.{number_of-decimal}
@@ -14,6 +14,9 @@ use Rattle.druid_shard.specs.declared.change.Cause.{Cause}
 use Rattle.druid_shard.specs.declared.reply.Body.{Body}
 use Rattle.druid_shard.specs.declared.reply.Body.TheVariants.{Delta, Snapshot, Reset}
 use Rattle.druid_shard.proofs.WrittenLemmas.{IsBack, AreBack, items_back, items_shallow, compact_read}
+use Rattle.druid_shard.specs.ReplyBody.{IsReply}
+use Rattle.druid_sync.specs.Back.{IsReadBack}
+use Rattle.druid_sync.proofs.BackLemmas.{delta_back, snapshot_back, reset_back}
 use Rattle.druid_sync.specs.Written.{mark_data, from_data, request_data, change_data, load_data, segment_of, cause_data, five_fields, reply_data, reply_text, IsOfDescriptors, IsWord, IsOfWords}
 
 mark_back : (m : Point) → IsWord m → IsBack (mark_data m)
@@ -112,3 +115,28 @@ snapshot_read body text at segments is written word each =
 pub reset_read : (body : Body) (text : List ℕ) (cause : Cause) (at : Point) → body ≡ Reset cause at → text ≡ reply_text body → IsWord at → read text ≡ Some (reply_data body)
 reset_read body text cause at is written word =
     ap read written ∙ subst (λ b. read (reply_text b) ≡ Some (reply_data b)) (sym is) (reply_read (Reset cause at) tt word)
+
+-- so it is read back as the reply
+
+pub delta_again : (body : Body) (from to : Point) (changes : List Change) → body ≡ Delta from to changes → IsReply body → IsWord to × IsWord from → All (λ c. IsDescribed (segment_of c)) changes → IsReadBack body
+delta_again body from to changes is valid words each =
+    let described : IsOfDescriptors (Delta from to changes) = λ c in_it. All-contains (λ x. IsDescribed (segment_of x)) changes c each in_it in
+    let now : IsReply (Delta from to changes) = subst IsReply is valid in
+    subst IsReadBack (sym is)
+    (record {
+      valid = now;
+      text = reply_read (Delta from to changes) described (words.1, words.0);
+      form = delta_back from to changes now.incarnation (subst (λ n. 1 ≤ n) (sym now.far.incarnation) now.incarnation) described;
+    })
+
+pub snapshot_again : (body : Body) (at : Point) (segments : List Described) → body ≡ Snapshot at segments → IsReply body → IsWord at → All IsDescribed segments → IsReadBack body
+snapshot_again body at segments is valid word each =
+    let described : IsOfDescriptors (Snapshot at segments) = λ d in_it. All-contains IsDescribed segments d each in_it in
+    let now : IsReply (Snapshot at segments) = subst IsReply is valid in
+    subst IsReadBack (sym is)
+    (record { valid = now; text = reply_read (Snapshot at segments) described word; form = snapshot_back at segments now.incarnation described })
+
+pub reset_again : (body : Body) (cause : Cause) (at : Point) → body ≡ Reset cause at → IsReply body → IsWord at → IsReadBack body
+reset_again body cause at is valid word =
+    let now : IsReply (Reset cause at) = subst IsReply is valid in
+    subst IsReadBack (sym is) (record { valid = now; text = reply_read (Reset cause at) tt word; form = reset_back cause at now })

@@ -3,3 +3,4 @@ pub mod Read
 pub mod Lent
 pub mod Asks
 pub mod Given
+pub mod Back

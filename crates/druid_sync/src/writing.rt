@@ -5,6 +5,7 @@ ghost use Rattle.serde_json.specs.View.{view, items_of};
 ghost use Rattle.serde_json.specs.Written.{compact_text, comma_if, items_text};
 ghost use Rattle.druid_shard.specs.Described.{IsDescribed};
 ghost use Rattle.druid_shard.specs.Json.{shard_data};
+ghost use Rattle.druid_sync.specs.Back.{IsReadBack};
 ghost use Rattle.druid_sync.specs.Written.{mark_data, from_data, request_data, change_data, load_data, segment_of, IsWord, front_text, back_text, reply_data, reply_text};
 
 use druid_shard::{Body, Cause, Change, Descriptor, Mark, Reply};
@@ -177,6 +178,7 @@ fn back_of(cause: Option<Cause>) -> &'static str
 pub fn reply_text(alloc: Global, reply: &Reply) -> Result<String, AllocError>
     ensures text { IfOk result (λ text. string_bytes text ≡ reply_text reply.now) }
     ensures read_back { IfOk result (λ text. read (string_bytes text) ≡ Some (reply_data reply.now)) }
+    ensures again { IfOk result (λ _. IsReadBack reply.now) }
 {
     match reply.body() {
         Body::Delta { from, to, changes } => {
