@@ -68,7 +68,7 @@ response_is status n body b rest low high short response =
     (one.0, one.1)
 
 -- a response of status 200 has the status and the body that were written
-written_is : (status : ℕ) (body b rest : List ℕ) → 100 ≤ status → status < 1000 → IsResponse (wire.answer_text status body) 200 b rest → (status ≡ 200) × (body ≡ b)
+pub written_is : (status : ℕ) (body b rest : List ℕ) → 100 ≤ status → status < 1000 → IsResponse (wire.answer_text status body) 200 b rest → (status ≡ 200) × (body ≡ b)
 written_is status body b rest low high response = by (nat_le (length body) MAX_BODY) refl response
   where
     by : (short : Bool) → nat_le (length body) MAX_BODY ≡ short → IsResponse (cond short (response_text status body) (response_text 500 (codes "{\"error\":\"TooLarge\"}"))) 200 b rest

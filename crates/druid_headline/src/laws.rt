@@ -1,5 +1,8 @@
 //! The sentences that a user of a broker relies on.
 ghost use Rattle.std.specs.Prelude.{◌≡◌, ◌↔◌, ℕ, Bool, List, [], Some, Ok, All, Contains};
+ghost use Rattle.druid_shard.specs.declared.change.Ask.{Ask};
+ghost use Rattle.druid_shard.specs.declared.reply.Body.{Body};
+ghost use Rattle.druid_sync.specs.Asks.{ask_at, parameters_of};
 ghost use Rattle.druid_timeline.specs.Holding.{Held};
 ghost use Rattle.druid_inventory.specs.Entry.{Entry};
 ghost use Rattle.druid_rows.specs.Rows.{Row};
@@ -13,10 +16,11 @@ ghost use Rattle.druid_partial.specs.Rows.{kinds_of};
 ghost use Rattle.druid_partial_text.specs.Written.{result_text};
 ghost use Rattle.druid_wire.specs.Written.{answer_text};
 ghost use Rattle.druid_node.specs.State.{State, IsState};
-ghost use Rattle.druid_node.specs.Routes.{RespondsInTurn};
+ghost use Rattle.druid_node.specs.Routes.{RespondsInTurn, IsReplyTo};
 ghost use Rattle.druid_scatter.specs.Gathered.{Exchange, request_for};
 ghost use Rattle.druid_scatter.specs.Exact.{IsHonest, Sees, told_visible};
 ghost use Rattle.druid_broker.specs.Queries.{AnswersRows};
+ghost use Rattle.druid_broker.specs.Turns.{ask_request, IsAnswerTo};
 ghost use Rattle.druid_world.specs.World.{Life, IsInventoryOf, marks_of};
 ghost use Rattle.druid_headline.specs.Headline.{IsHeldAt, AreServedAt, AreAmong};
 
@@ -52,4 +56,14 @@ pub fn nodes_are_honest()
         → RespondsInTurn state (request_for query asked) status body
         → AreAmong asked state.held segments
         → IsHonest query segments (record { node = node; asked = asked; came = Ok (answer_text status body) }) }
+{}
+
+/// What a data node of ours answers to an ask, where a broker reads it as a reply, is the answer of the node's history. Of the
+/// ask it takes what `ask_target` says: that it is read back as itself.
+pub fn asks_are_answered()
+    ensures { (state : State) (ask : Ask) (status : ℕ) (body : List ℕ) (reply : Body)
+        → ask_at (parameters_of ask) ≡ Some ask
+        → RespondsInTurn state (ask_request ask) status body
+        → IsAnswerTo (Ok (answer_text status body)) (Ok reply)
+        → IsReplyTo state.history ask reply }
 {}

@@ -6,6 +6,7 @@ use Rattle.druid_shard.specs.declared.reply.Body.{Body}
 use Rattle.druid_changes.specs.Kept.{Kept, StandsFor}
 use Rattle.druid_changes.specs.Answer.{answer}
 use Rattle.druid_sync.specs.Asks.{ask_at}
+use Rattle.druid_sync.specs.Back.{IsReadBack}
 use Rattle.druid_sync.specs.Written.{reply_text}
 use Rattle.druid_rows.specs.Segment.{Segment}
 use Rattle.druid_query.specs.Read.{IsReadBy}
@@ -35,9 +36,11 @@ abbrev pub IsReplyTo : Kept → Ask → Body → Type 0
 IsReplyTo kept ask reply =
     (history : List Change) → StandsFor kept history → answer kept.incarnation history kept.limit ask ≡ Some reply
 
+-- with a text that is read back as that
 abbrev pub AnswersFound : Kept → Option Ask → ℕ → List ℕ → Type 0
 AnswersFound kept None status body = Tells 400 (codes "{\"error\":\"Y6\"}") status body
-AnswersFound kept (Some ask) status body = (reply : Body) × IsReplyTo kept ask reply × Tells 200 (reply_text reply) status body
+AnswersFound kept (Some ask) status body =
+    (reply : Body) × IsReplyTo kept ask reply × IsReadBack reply × Tells 200 (reply_text reply) status body
 
 -- the parameters spell an ask
 abbrev pub AnswersAsk : Kept → List ℕ → ℕ → List ℕ → Type 0

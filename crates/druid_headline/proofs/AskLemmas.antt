@@ -1,0 +1,62 @@
+-- What a data node of ours answers to an ask is the answer of its history.
+use Rattle.std.proofs.Common.{◌≡◌, ◌⊎◌, inl, inr, ℕ, List, Option, Some, Result, Ok, sym, ap, ◌∙◌, subst, arith}
+use Rattle.std.proofs.lemmas.Option.{same_Some}
+use Rattle.serde_json.specs.Data.{Data}
+use Rattle.druid_shard.specs.ReplyBody.{IsReply}
+use Rattle.druid_shard.specs.declared.change.Ask.{Ask}
+use Rattle.druid_shard.specs.declared.change.Ask.TheVariants.{Whole, Since}
+use Rattle.druid_shard.specs.declared.reply.Body.{Body}
+use Rattle.druid_shard.specs.declared.reply.Body.TheVariants.{Delta, Snapshot, Reset}
+use Rattle.druid_changes.specs.Kept.{Kept}
+use Rattle.druid_sync.specs.Asks.{ask_at, parameters_of}
+use Rattle.druid_sync.specs.Back.{IsReadBack}
+use Rattle.druid_sync.specs.Written.{reply_data, reply_text}
+use Rattle.druid_sync.specs.Read.{Form, form_at, form_of, Answers, IsReadOf}
+use Rattle.druid_sync.specs.declared.fault.SyncFault.{SyncFault}
+use Rattle.druid_inventory.proofs.EntryLemmas.{snapshot_is}
+use Rattle.druid_wire.specs.Messages.{IsResponse}
+use Rattle.druid_wire.specs.Written as wire
+use Rattle.druid_node.specs.State.{State}
+use Rattle.druid_node.specs.Routes.{IsReplyTo, AnswersFound, AnswersAsk, Responds, RespondsInTurn}
+use Rattle.druid_broker.specs.Turns.{ask_request, IsAnswerTo}
+use Rattle.druid_headline.proofs.HonestLemmas.{written_is}
+
+same_ok : {A E : Type 0} {x y : A} → Path (Result A E) (Ok x) (Ok y) → x ≡ y
+same_ok e = cc
+
+-- a request for what an ask asks is answered by the history
+asked_of : (state : State) (ask : Ask) (status : ℕ) (body : List ℕ) → Responds state (ask_request ask) status body → AnswersAsk state.history (parameters_of ask) status body
+asked_of state Whole status body answer = answer
+asked_of state (Since m) status body answer = answer
+
+-- what is read of the text of a reply is the reply
+answered : (told reply : Body) → IsReply told → Answers (Some (form_of told)) (Ok reply) → reply ≡ told
+answered (Delta from to changes) reply valid read = read.0
+answered (Snapshot at segments) reply valid read = snapshot_is at segments reply valid.sorted read
+answered (Reset cause at) reply valid read = same_ok read
+
+read_is : (told reply : Body) → IsReadBack told → IsReadOf (reply_text told) (Ok reply) → reply ≡ told
+read_is told reply back read =
+    let json : read.0 ≡ reply_data told = same_Some _ _ (sym read.1.1 ∙ back.text) in
+    answered told reply back.valid (subst (λ (f : Option Form). Answers f (Ok reply)) (ap form_at json ∙ back.form) read.2)
+
+-- a response that is read is what was written of a reply
+of_history : (kept : Kept) (ask : Ask) (status : ℕ) (body b rest : List ℕ) (reply : Body) → AnswersFound kept (Some ask) status body → IsResponse (wire.answer_text status body) 200 b rest → IsReadOf b (Ok reply)
+    → IsReplyTo kept ask reply
+of_history kept ask status body b rest reply found response read =
+    let is = found.3.status_is in
+    let written = written_is status body b rest (omega (arith, is)) (omega (arith, is)) response in
+    let same : reply ≡ found.0 = read_is found.0 reply found.2 (subst (λ (text : List ℕ). IsReadOf text (Ok reply)) (sym written.1 ∙ found.3.body_is) read) in
+    subst (IsReplyTo kept ask) (sym same) found.1
+
+pub answer_of_history : (state : State) (ask : Ask) (status : ℕ) (body : List ℕ) (reply : Body) → ask_at (parameters_of ask) ≡ Some ask → RespondsInTurn state (ask_request ask) status body
+    → IsAnswerTo (Ok (wire.answer_text status body)) (Ok reply) → IsReplyTo state.history ask reply
+answer_of_history state ask status body reply back (inl responds) told =
+    let found = subst (λ (o : Option Ask). AnswersFound state.history o status body) back (asked_of state ask status body responds) in
+    let response = subst (λ (text : List ℕ). IsResponse text 200 told.1 told.3.0) (sym (same_ok told.2)) told.3.1 in
+    of_history state.history ask status body told.1 told.3.0 reply found response told.4
+answer_of_history state ask status body reply back (inr memory) told =
+    let is = memory.status_is in
+    let response = subst (λ (text : List ℕ). IsResponse text 200 told.1 told.3.0) (sym (same_ok told.2)) told.3.1 in
+    let no = (written_is status body told.1 told.3.0 (omega (arith, is)) (omega (arith, is)) response).0 in
+    absurd (omega (arith, is, no))
