@@ -301,7 +301,12 @@ fn head(rt: &impl Abort, alloc: Global, kind: &str, size: usize) -> String {
     format!(in alloc; "GET /status/health HTTP/1.1\r\n{fields}\r\n").expect(rt, "memory")
 }
 
-fn is_head_answered<R: Abort + Wait>(rt: &R, alloc: Global, node: &DataNode<First>, row: &str) -> bool {
+fn is_head_answered<R: Abort + Wait>(
+    rt: &R,
+    alloc: Global,
+    node: &DataNode<First>,
+    row: &str,
+) -> bool {
     let (what, wanted) = row.split_once(" = ").expect(rt, "a row");
     let (kind, size) = what.split_once(" ").expect(rt, "a size");
     let head = head(rt, alloc, kind, size.parse().expect(rt, "a size"));

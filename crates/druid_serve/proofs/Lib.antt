@@ -1,1 +1,2 @@
 pub mod ViewLemmas
+mod PrintLemmas

@@ -244,7 +244,6 @@ fn take<
     true
 }
 
-
 // Answers connections.
 fn work<
     R: Net<Listener = TcpListener, Stream = TcpStream>

@@ -120,6 +120,7 @@ where
         Ok(words) if asks_for_serve(&words) => {
             serve_file(rt, alloc, words[1].as_str(), writer, errors)
         }
-        words => run_program(alloc, words, reader, writer, errors),
+        Ok(words) => run_program(alloc, Ok(words), reader, writer, errors),
+        Err(error) => run_program(alloc, Err(error), reader, writer, errors),
     }
 }

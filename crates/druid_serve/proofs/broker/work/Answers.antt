@@ -6,4 +6,4 @@ pub loop-stream-init : goal.loop-stream-init
 loop-stream-init g c = rises_by c.args.desk.now.view c.args.desk.now.view refl
 
 pub loop-stream-preserved-in-Ok : goal.loop-stream-preserved-in-Ok
-loop-stream-preserved-in-Ok g c = rises_on c.args.desk.now.view c.loop-stream.desk.view c.take.new.desk.view c.loop-stream.invariant c.take.ensures
+loop-stream-preserved-in-Ok g c = rises_on c.args.desk.now.view c.loop-stream.desk.view c.take.new.desk.view c.loop-stream.invariant c.take.ensures.view
