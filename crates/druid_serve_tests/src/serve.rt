@@ -203,27 +203,37 @@ fn served_cluster(rt: HostRuntime) {
     clear(&rt, &place);
 }
 
-// A writer that takes nothing.
-struct Full;
+// A writer that takes nothing, or all and does not flush.
+#[derive(Drop)]
+struct Full {
+    takes: bool,
+}
 
 impl Write for Full {
-    fn write(&mut self, _buf: &[u8]) -> io::Result<usize> {
-        Err(ErrorKind::StorageFull.into())
+    fn write(&mut self, buf: &[u8]) -> io::Result<usize> {
+        if self.takes {
+            Ok(buf.len())
+        } else {
+            Err(ErrorKind::StorageFull.into())
+        }
     }
 
     fn flush(&mut self) -> io::Result<()> {
-        Ok(())
+        Err(ErrorKind::StorageFull.into())
     }
 }
 
 #[test]
 fn full_output(rt: HostRuntime) {
-    let place = place_of(&rt, rt.alloc(), "full");
-    let config = config(&rt, rt.alloc(), &place, 0);
-    let mut errors = Vec::new(rt.alloc());
-    let ending = serve(&rt, rt.alloc(), config.as_bytes(), &mut Full, &mut errors);
-    assert!(rt; ending.status == 3 && errors.as_slice() == b"device\n".as_slice());
-    clear(&rt, &place);
+    for takes in [false, true] {
+        let place = place_of(&rt, rt.alloc(), "full");
+        let config = config(&rt, rt.alloc(), &place, 0);
+        let mut errors = Vec::new(rt.alloc());
+        let mut out = Full { takes };
+        let ending = serve(&rt, rt.alloc(), config.as_bytes(), &mut out, &mut errors);
+        assert!(rt; ending.status == 3 && errors.as_slice() == b"device\n".as_slice());
+        clear(&rt, &place);
+    }
 }
 
 #[test]
