@@ -121,6 +121,37 @@ fn numbers_of_nodes(rt: HostRuntime) {
     }
 }
 
+// So many times a text, with commas between.
+fn listed(rt: &impl Abort, alloc: Global, text: &str, count: usize) -> String {
+    let mut list = String::new(alloc);
+    for place in 0..count {
+        let comma = if place == 0 { "" } else { "," };
+        list.push_str(comma).expect(rt, "memory");
+        list.push_str(text).expect(rt, "memory");
+    }
+    list
+}
+
+// Asserts what becomes of a config in which a text stands so many times in place of itself.
+fn assert_listed(rt: &impl Abort, alloc: Global, text: &str, count: usize, wanted: &str) {
+    let list = listed(rt, alloc, text, count);
+    let told = told_of(alloc, changed(rt, alloc, text, list.as_str()));
+    assert!(rt; told == wanted, "{text} {count}");
+}
+
+#[test]
+fn numbers_of_brokers_and_queries(rt: HostRuntime) {
+    let broker = "{\"address\":\"127.0.0.1:9001\",\"workers\":16}";
+    for count in [1usize, 2, 3, 5, 17, 64] {
+        assert_listed(&rt, rt.alloc(), broker, count, "taken");
+    }
+    assert_listed(&rt, rt.alloc(), broker, 65, "bad config");
+    let query = "{\"broker\":0,\"query\":{}}";
+    for count in [0usize, 1, 2, 3, 5, 17, 65, 1_000] {
+        assert_listed(&rt, rt.alloc(), query, count, "taken");
+    }
+}
+
 // A config of two nodes of one name.
 fn with_doubled(rt: &impl Abort, alloc: Global) -> String {
     let text = with_nodes(rt, alloc, 2);

@@ -53,6 +53,9 @@ pub(crate) const OLDER_FILE: &str = "wiki_2024-01-01T00:00:00.000Z_2024-01-02T00
 /// The file of the newer segment.
 pub(crate) const NEWER_FILE: &str = "wiki_2024-01-01T10:00:00.000Z_2024-01-01T12:00:00.000Z_v2.seg";
 
+/// The file of a segment of the next day.
+pub(crate) const LATER_FILE: &str = "wiki_2024-01-02T00:00:00.000Z_2024-01-03T00:00:00.000Z_v1.seg";
+
 // The segment of a file.
 fn segment_of(rt: &impl Abort, alloc: Global, name: &str) -> Segment {
     if name == OLDER_FILE {
@@ -63,6 +66,9 @@ fn segment_of(rt: &impl Abort, alloc: Global, name: &str) -> Segment {
             "2024-01-01/2024-01-02",
             "2024-01-01T09:59:59.999 2024-01-01T10:00 2024-01-01T11:59:59.999 2024-01-01T12:00",
         );
+    }
+    if name == LATER_FILE {
+        return segment(rt, alloc, "v1", "2024-01-02/2024-01-03", "2024-01-02");
     }
     segment(
         rt,

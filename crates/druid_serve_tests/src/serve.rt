@@ -1,7 +1,7 @@
 //! Clusters that are served.
-use crate::folders::{NEWER_FILE, OLDER_FILE, file_bytes, fresh_folder, put};
+use crate::folders::{LATER_FILE, NEWER_FILE, OLDER_FILE, file_bytes, fresh_folder, put};
 use druid_link::{Link, TcpLink};
-use druid_serve::serve;
+use druid_serve::{run, serve};
 use std::alloc::Global;
 use std::fs::File;
 use std::io::{ErrorKind, Write};
@@ -177,11 +177,11 @@ fn incarnations<R: Files<File = File> + AllocGlobal + Abort>(
 const SERVED: &str =
     "0\n200\n[{\"result\":{\"n\":5},\"timestamp\":\"2024-01-01T00:00:00.000Z\"}]\n400\n{\"error\":\"Q2\"}\n";
 
-// What a node answers to an ask for all that it serves.
-fn snapshot_of<R: Net + Clock + Copy + Abort>(rt: &R, alloc: Global, address: &str) -> String {
+// What a node answers to an ask for what it changed since its incarnation 8 began.
+fn changes_of<R: Net + Clock + Copy + Abort>(rt: &R, alloc: Global, address: &str) -> String {
     let address = String::from_str(alloc, address).expect(rt, "memory");
     let mut link = TcpLink::new(*rt, address);
-    let request = b"GET /druid-internal/v1/segments HTTP/1.1\r\n\r\n";
+    let request = b"GET /druid-internal/v1/segments?counter=0&hash=8 HTTP/1.1\r\n\r\n";
     let answer = link.exchange(alloc, request).expect(rt, "an answer");
     let text = str::from_utf8(&answer).expect(rt, "a text");
     String::from_str(alloc, text).expect(rt, "memory")
@@ -191,15 +191,74 @@ fn snapshot_of<R: Net + Clock + Copy + Abort>(rt: &R, alloc: Global, address: &s
 fn served_cluster(rt: HostRuntime) {
     let place = place_of(&rt, rt.alloc(), "cluster");
     put(&rt, rt.alloc(), place.newer.as_str(), "incarnation", b"7\n");
+    let later = file_bytes(&rt, rt.alloc(), LATER_FILE);
+    put(&rt, rt.alloc(), place.newer.as_str(), LATER_FILE, &later);
     assert_told(&rt, served_at(&rt, rt.alloc(), &place), SERVED);
     assert_told(&rt, incarnations(&rt, rt.alloc(), &place), "1\n8\n");
-    let answer = snapshot_of(&rt, rt.alloc(), place.second.as_str());
-    assert!(rt;
-        answer
-            .as_str()
-            .contains("\"counter\":{\"counter\":1,\"hash\":8}"),
-        "{answer}"
-    );
+    let answer = changes_of(&rt, rt.alloc(), place.second.as_str());
+    let delta = "{\"counter\":{\"counter\":2,\"hash\":8},\"from\":{\"counter\":0,\"hash\":8},";
+    assert!(rt; answer.as_str().contains(delta), "{answer}");
+    clear(&rt, &place);
+}
+
+// What the program ends with for `serve` and a path: its status, what was printed and what was reported.
+fn run_with<
+    R: Files<File = File>
+        + Net<Listener = TcpListener, Stream = TcpStream>
+        + AllocGlobal
+        + Wait
+        + Threads
+        + Clock
+        + Abort
+        + Copy
+        + Send
+        + Sync
+        + 'static,
+>(rt: &R, alloc: Global, path: &str) -> String
+where
+    R::Dir: Send,
+{
+    let mut words = Vec::new(alloc);
+    for word in ["serve", path] {
+        let word = String::from_str(alloc, word).expect(rt, "memory");
+        words.push(word).expect(rt, "memory");
+    }
+    let (mut out, mut errors) = (Vec::new(alloc), Vec::new(alloc));
+    let mut input = b"".as_slice();
+    let ending = run(rt, alloc, Ok(words), &mut input, &mut out, &mut errors);
+    let status = ending.status;
+    let printed = str::from_utf8(&out).expect(rt, "a text");
+    let reported = str::from_utf8(&errors).expect(rt, "a text");
+    format!(in alloc; "{status}\n{printed}{reported}").expect(rt, "memory")
+}
+
+// So many spaces.
+fn spaces(rt: &impl Abort, alloc: Global, digits: &str) -> Vec<u8> {
+    let count: usize = digits.parse().expect(rt, "a number");
+    let mut bytes = Vec::new(alloc);
+    bytes.resize(count, b' ').expect(rt, "memory");
+    bytes
+}
+
+// A config is read of its path, and no more than 16 MiB of it.
+#[test]
+fn configs_of_paths(rt: HostRuntime) {
+    let alloc = rt.alloc();
+    let place = place_of(&rt, alloc, "paths");
+    let good = config(&rt, alloc, &place, 0);
+    let folder = place.older.as_str();
+    put(&rt, alloc, folder, "good", good.as_str().as_bytes());
+    put(&rt, alloc, folder, "bad", b"{}");
+    put(&rt, alloc, folder, "long", &spaces(&rt, alloc, "16777217"));
+    for row in ["good", "bad", "long", "none"] {
+        let path = format!(in alloc; "{folder}/{row}").expect(&rt, "memory");
+        let wanted = match row {
+            "good" => SERVED,
+            "none" => "3\ndevice\n",
+            _ => "1\nbad config\n",
+        };
+        assert_told(&rt, run_with(&rt, alloc, path.as_str()), wanted);
+    }
     clear(&rt, &place);
 }
 
