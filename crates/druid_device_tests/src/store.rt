@@ -4,6 +4,7 @@ use druid_folder::{Folder, StoreFault, is_file_name};
 use druid_incarnation::next_incarnation;
 use druid_store::{DiskFolder, MemoryFolder};
 use std::alloc::Global;
+use std::marker::Brand;
 use std::path::PathBuf;
 use std::process::Abort;
 use std::{env, fs, io, process};
@@ -143,13 +144,13 @@ fn ample_memory(rt: HostRuntime) {
 }
 
 // The path of a folder of this run, for one test.
-fn path_for(rt: &HostRuntime, test: &str) -> io::Result<PathBuf> {
+pub(crate) fn path_for(rt: &HostRuntime, test: &str) -> io::Result<PathBuf> {
     let name = format!(in rt.alloc(); "druid_store_{}_{test}", process::id(rt.process()))?;
     Ok(env::temp_dir(rt)?.join(rt.alloc(), name.as_str())?)
 }
 
 // A folder on the disk, which is made.
-fn fresh_folder(rt: &HostRuntime, path: &PathBuf) -> io::Result<DiskFolder<HostRuntime>> {
+fn fresh_folder(rt: &HostRuntime, path: &PathBuf) -> io::Result<DiskFolder<HostRuntime, Brand>> {
     fs::create_dir(rt, path.as_path())?;
     let path = String::from_str(rt.alloc(), path.as_str())?;
     Ok(DiskFolder::new(rt.clone()?, path))

@@ -4,6 +4,7 @@ use std::alloc::{Allocator, Global};
 use std::cell::{Cell, RefCell};
 use std::fs::{Metadata, OpenFile, OpenOptions};
 use std::io::{ErrorKind, Read, Seek, SeekFrom, Write};
+use std::marker::Brand;
 use std::process::Abort;
 use std::rc::Rc;
 use std::rt::Files;
@@ -192,7 +193,7 @@ fn folder_at(
     path: &str,
     failing: u64,
     kind: ErrorKind,
-) -> (DiskFolder<Double>, Rc<Tape>) {
+) -> (DiskFolder<Double, Brand>, Rc<Tape>) {
     let tape = Tape {
         made: RefCell::new(String::new(alloc)),
         before_failure: Cell::new(failing),
@@ -213,7 +214,7 @@ fn folder_of(
     alloc: Global,
     failing: u64,
     kind: ErrorKind,
-) -> (DiskFolder<Double>, Rc<Tape>) {
+) -> (DiskFolder<Double, Brand>, Rc<Tape>) {
     folder_at(rt, alloc, "d", failing, kind)
 }
 

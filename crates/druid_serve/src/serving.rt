@@ -50,7 +50,7 @@ where
 {
     let mut loaders = Vec::new(alloc);
     for node in nodes {
-        loaders.push(start_node(rt, alloc, node, kept)?)?;
+        loaders.push(start_node::<R, Brand, Brand>(rt, alloc, node, kept)?)?;
     }
     Ok(loaders)
 }

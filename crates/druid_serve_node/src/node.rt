@@ -15,7 +15,7 @@ use druid_folder::Folder;
 use druid_incarnation::next_incarnation;
 use druid_node::{DataNode, Incarnation, NodeState};
 use druid_shard::Mark;
-use druid_store::DiskFolder;
+use druid_store::{Device, DiskFolder};
 use std::alloc::{AllocError, Global};
 use std::fs::File;
 use std::io::{BufReader, BufWriter, Write};
@@ -133,19 +133,20 @@ fn load_later<R: Wait, F: Folder, I: Incarnation>(
 }
 
 // What the thread does that loads files later.
-fn load_from<R: Files<File = File> + AllocGlobal + Wait + Copy, I: Incarnation>(
+fn load_from<R: Files<File = File> + AllocGlobal + Wait + Copy, L: Device, I: Incarnation>(
     rt: &R,
     node: &DataNode<I>,
     path: String,
     names: &[String],
 ) {
-    let mut folder: DiskFolder<R> = DiskFolder::new(*rt, path);
+    let mut folder: DiskFolder<R, L> = DiskFolder::new(*rt, path);
     load_later(rt, node, &mut folder, names, &mut Mark::never());
 }
 
 // Starts the thread that loads files once the node stands.
 fn start_loader<
     R: Files<File = File> + AllocGlobal + Wait + Threads + Copy + Send + Sync + 'static,
+    L: Device + Send + Sync + 'static,
     I: Incarnation + Send + Sync + 'static,
 >(
     rt: &R,
@@ -158,7 +159,7 @@ where
 {
     let rt = *rt;
     let node = Arc::try_clone(node)?;
-    let job = move || load_from(&rt, &node, path, &names);
+    let job = move || load_from::<R, L, I>(&rt, &node, path, &names);
     match thread::spawn(&rt, job) {
         Ok(loader) => Ok(loader),
         Err(_) => Err(DeviceFailed),
@@ -244,6 +245,7 @@ fn start_from<
         + Sync
         + 'static,
     F: Folder,
+    L: Device + Send + Sync + 'static,
     I: Incarnation + Send + Sync + 'static,
 >(
     rt: &R,
@@ -261,7 +263,7 @@ where
     let listener = Arc::new(alloc, listen(rt, config.address())?)?;
     let path = String::from_str(alloc, config.folder())?;
     let loads = copies_of(alloc, config.loads())?;
-    let loader = start_loader(rt, &node, path, loads)?;
+    let loader = start_loader::<R, L, I>(rt, &node, path, loads)?;
     for _ in 0..config.workers() {
         start_worker(rt, alloc, &node, &listener)?;
     }
@@ -269,7 +271,8 @@ where
 }
 
 /// Starts a data node: raises its incarnation, loads the segment files of its folder, listens, and starts its threads. It
-/// gives the thread that loads the files that come later.
+/// gives the thread that loads the files that come later. The device `D` is the one under the folder that it makes, and `L` the one
+/// under the folder that the thread makes at the same path: the call picks both.
 pub fn start_node<
     R: Files<File = File>
         + Net<Listener = TcpListener, Stream = TcpStream>
@@ -281,13 +284,16 @@ pub fn start_node<
         + Send
         + Sync
         + 'static,
+    D: Device,
+    L: Device + Send + Sync + 'static,
 >(rt: &R, alloc: Global, config: &NodeConfig, kept: usize) -> Result<JoinHandle<()>, ClusterFault>
 where
     R::Dir: Send,
     requires some { 1 ≤ kept }
     requires few { kept ≤ max_changes }
 {
-    let mut folder: DiskFolder<R> = DiskFolder::new(*rt, String::from_str(alloc, config.folder())?);
+    let path = String::from_str(alloc, config.folder())?;
+    let mut folder: DiskFolder<R, D> = DiskFolder::new(*rt, path);
     let state = first_state(alloc, &mut folder, kept)?;
-    start_from::<R, DiskFolder<R>, Brand>(rt, alloc, config, &mut folder, state)
+    start_from::<R, DiskFolder<R, D>, L, Brand>(rt, alloc, config, &mut folder, state)
 }

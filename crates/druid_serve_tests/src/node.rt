@@ -7,6 +7,7 @@ use druid_link::{Link, TcpLink};
 use druid_serve_node::start_node;
 use std::alloc::Global;
 use std::fs::File;
+use std::marker::Brand;
 use std::net::{Net, TcpListener, TcpStream};
 use std::process::Abort;
 use std::rt::{Env, Files};
@@ -74,7 +75,10 @@ where
     let address = free_address(rt, alloc);
     let config = config(rt, alloc, (address.as_str(), folder), loads, workers);
     let node = config.nodes().first().expect(rt, "a node");
-    let loader = start_node(rt, alloc, node, kept).expect(rt, "a node that starts");
+    let loader = start_node::<R, Brand, Brand>(rt, alloc, node, kept).expect(
+        rt,
+        "a node that starts",
+    );
     loader.join(rt);
     let mut link = TcpLink::new(*rt, address);
     let answer = link

@@ -1,7 +1,7 @@
 -- What an honest device does. That the real one is such a device is the premise of whoever relies on a `DiskFolder`.
 use Rattle.std.specs.Prelude.{◌≡◌, ◌⊎◌, ℕ, ◌≤◌, ◌<◌, Bool, true, false, List, [], ◌∷◌, length, Some, IfSome, IsSome}
 use Rattle.druid_store.specs.Event.{Event, did_list, did_read, did_write, did_sync, did_rename, did_remove}
-use Rattle.druid_folder.specs.Folder.{Content, with_file, without, renamed, Torn, DoneOrNot, Follows, Only, SameLeft, AreNames, read_part}
+use Rattle.druid_folder.specs.Folder.{Content, with_file, without, renamed, Torn, DoneOrNot, Follows, Only, SameLeft, Elapses, AreNames, read_part}
 
 -- the first of these where it succeeded, else the second
 abbrev pub WhereDone : Bool → Type 0 → Type 0 → Type 0
@@ -41,3 +41,8 @@ HonestIn content left during (event ∷ earlier) =
 abbrev pub LeftFrom : (left during : ℕ → Content → Type 0) (n t : ℕ) → Content → Type 0
 LeftFrom left during n t c =
     ((k : ℕ) × (t ≤ k) × (k ≤ n) × left k c) ⊎ ((k : ℕ) × (t ≤ k) × (k < n) × during k c)
+
+-- time goes on from one list of calls to a later one
+abbrev pub ElapsesOver : (left during : ℕ → Content → Type 0) → (old new : List Event) → Type 0
+ElapsesOver left during old new =
+    Elapses (length old) (length new) (LeftFrom left during (length old)) (LeftFrom left during (length new)) (left (length new))

@@ -1,12 +1,11 @@
 ghost use Rattle.std.specs.Prelude.{ℕ, List};
 ghost use Rattle.druid_store.specs.Event.{Event};
-ghost use Rattle.druid_folder.specs.Folder.{Content};
+ghost use Rattle.druid_folder.specs.Folder.{Content, nothing};
 ghost use Rattle.druid_store.specs.Model.{AreRight, IsHonestModel};
-ghost use Rattle.druid_store.specs.Unknown.{unknown_content, unknown_left, unknown_during};
 
 use std::marker::Brand;
 
-/// What happens on the device under a [`crate::DiskFolder`], which no code can know. A type
+/// What happens on the device under one [`crate::DiskFolder`], which no code can know. A type
 /// parameter stands for it, so that what is proved holds whatever it is.
 pub trait Device {
     /// What is read after so many calls.
@@ -19,13 +18,13 @@ pub trait Device {
     ghost during: { ℕ → Content → Type 0 };
 }
 
-/// The device of a program, of which nothing is known.
+// No folder is on this one: each call that makes a folder picks its device.
 impl Device for Brand {
-    ghost content = { unknown_content };
+    ghost content = { λ n. nothing };
 
-    ghost left = { unknown_left };
+    ghost left = { λ n c. ⊥ };
 
-    ghost during = { unknown_during };
+    ghost during = { λ n c. ⊥ };
 }
 
 /// A device can be honest: one that obeys is, in all calls whose answers are right.

@@ -1,4 +1,4 @@
-ghost use Rattle.std.specs.Prelude.{◌≡◌, ◌∷◌, ◌+◌, ◌≤◌, [], length, codes, bytes_eq, if◌then◌else◌, false, None, Ok, IfOk, IfErr, IfSome, MatchResult, All};
+ghost use Rattle.std.specs.Prelude.{◌≡◌, ◌∷◌, ◌&&◌, IsErrOf, OnErr, ◌+◌, ◌≤◌, [], length, codes, bytes_eq, if◌then◌else◌, false, None, Ok, IfOk, IfErr, IfSome, MatchResult, All};
 ghost use Rattle.std.specs.Result.{is_ok};
 ghost use Rattle.druid_store.specs.Disk.{calls_made, disk_failures};
 ghost use Rattle.druid_store.specs.Event.{did_list, did_read, did_write, did_sync, did_rename, did_remove};
@@ -6,7 +6,7 @@ ghost use Rattle.druid_store.specs.Noted.{names_answered, file_answered};
 ghost use Rattle.druid_store.specs.System.{TellsFile, TellsRemoved, TellsEntry, TellsFault};
 ghost use Rattle.druid_folder.specs.declared.fault.StoreFault.TheVariants.{Memory};
 ghost use Rattle.druid_folder.specs.FileName.{is_file_name, IsFileName};
-ghost use Rattle.druid_folder.specs.Folder.{AreInOrder, max_file, names_of, faults_after, IsOwnFault};
+ghost use Rattle.druid_folder.specs.Folder.{Torn, Follows, AreInOrder, max_file, names_of, faults_after, IsOwnFault};
 
 use crate::Device;
 use crate::log::{Log, Note};
@@ -15,7 +15,7 @@ use druid_folder::{Folder, MAX_FILE, StoreFault, is_file_name};
 use std::alloc::{AllocError, Global};
 use std::fs::{Metadata, OpenFile};
 use std::io::{ErrorKind, Read, Write};
-use std::marker::{Brand, PhantomData};
+use std::marker::PhantomData;
 use std::path::{Path, PathBuf};
 use std::rt::Files;
 use std::{fs, io};
@@ -24,10 +24,12 @@ use std::{fs, io};
 ///
 /// It keeps, for proofs alone, the calls that were made on it and what each answered. It has been
 /// honest so far where the device `D` did with each of them what an honest device does, and nobody
-/// else changed the folder. That the real device is such a one is a premise of whoever relies on
-/// it: no proof says what a real file gives back, nor what a stop leaves of it.
+/// else changed the folder. Each folder has a device of its own, which is picked where a call
+/// passes `Brand` to the function that makes the folder. That the real device is honest is a
+/// premise of whoever relies on it: no proof says what a real file gives back, nor what a stop
+/// leaves of it.
 #[derive(Drop)]
-pub struct DiskFolder<R: Files + AllocGlobal + Clone + Drop, D = Brand> {
+pub struct DiskFolder<R: Files + AllocGlobal + Clone + Drop, D: Device> {
     rt: R,
     path: String,
     faults: u64,
@@ -40,7 +42,7 @@ impl<R: Files + AllocGlobal + Clone + Drop, D: Device> DiskFolder<R, D> {
     /// working folder.
     pub fn new(rt: R, path: String) -> DiskFolder<R, D>
         ensures faults { ⟦<DiskFolder<R, D> as Folder>⟧.faults result ≡ 0 }
-        ensures no_calls { ⟦<DiskFolder<R, D> as Folder>⟧.moment result ≡ 0 }
+        ensures no_calls { calls_made result ≡ [] }
     {
         DiskFolder {
             rt,
@@ -52,89 +54,12 @@ impl<R: Files + AllocGlobal + Clone + Drop, D: Device> DiskFolder<R, D> {
     }
 }
 
-// The calls, each with the note of what it was given and of what it answers.
-impl<R: Files + AllocGlobal + Clone + Drop, D: Device> DiskFolder<R, D> {
-    fn files_listed(&mut self, alloc: Global) -> Result<Vec<String>, StoreFault>
-        ensures noted { calls_made self.new ≡ did_list (names_answered result) ∷ calls_made self.old }
-        ensures file_names { IfOk result (λ names. All IsFileName (names_of names.items)) }
-        ensures order { IfOk result (λ names. AreInOrder (names_of names.items)) }
-        ensures counted { disk_failures self.new ≡ faults_after result (disk_failures self.old) }
-        ensures fault { IfErr result IsOwnFault }
-    {
-        let found = files_in(&self.rt, alloc, folder_path(&self.path));
-        let answer = counted(&mut self.faults, found);
-        self.log = self.log.then(&Note::List(&answer));
-        answer
-    }
-
-    fn file_read(&mut self, alloc: Global, name: &str) -> Result<Option<Vec<u8>>, StoreFault>
-        ensures noted { calls_made self.new
-            ≡ did_read name.now (file_answered result) ∷ calls_made self.old }
-        ensures no_name { is_file_name name.now ≡ false
-            → MatchResult result (λ found. found ≡ None) (λ e. e ≡ Memory) }
-        ensures bound { IfOk result (λ found.
-            IfSome found (λ bytes. length bytes.items ≤ max_file + 1)) }
-        ensures counted { disk_failures self.new ≡ faults_after result (disk_failures self.old) }
-        ensures fault { IfErr result IsOwnFault }
-    {
-        let found = read_named(&self.rt, alloc, &self.path, name);
-        let answer = counted(&mut self.faults, found);
-        self.log = self.log.then(&Note::Read(name, &answer));
-        answer
-    }
-
-    fn file_written(&mut self, name: &str, bytes: &[u8]) -> Result<(), StoreFault>
-        ensures noted { calls_made self.new
-            ≡ did_write name.now bytes.now (is_ok result) ∷ calls_made self.old }
-        ensures counted { disk_failures self.new ≡ faults_after result (disk_failures self.old) }
-        ensures fault { IfErr result IsOwnFault }
-    {
-        let done = write_named(&self.rt, &self.path, name, bytes);
-        let answer = counted(&mut self.faults, done);
-        self.log = self.log.then(&Note::Write(name, bytes, answer.is_ok()));
-        answer
-    }
-
-    fn files_synced(&mut self) -> Result<(), StoreFault>
-        ensures noted { calls_made self.new ≡ did_sync (is_ok result) ∷ calls_made self.old }
-        ensures counted { disk_failures self.new ≡ faults_after result (disk_failures self.old) }
-        ensures fault { IfErr result IsOwnFault }
-    {
-        let done = sync_folder(&self.rt, folder_path(&self.path));
-        let answer = counted(&mut self.faults, done);
-        self.log = self.log.then(&Note::Sync(answer.is_ok()));
-        answer
-    }
-
-    fn file_renamed(&mut self, from: &str, to: &str) -> Result<(), StoreFault>
-        ensures noted { calls_made self.new
-            ≡ did_rename from.now to.now (is_ok result) ∷ calls_made self.old }
-        ensures counted { disk_failures self.new ≡ faults_after result (disk_failures self.old) }
-        ensures fault { IfErr result IsOwnFault }
-    {
-        let done = rename_named(&self.rt, &self.path, from, to);
-        let answer = counted(&mut self.faults, done);
-        self.log = self.log.then(&Note::Rename(from, to, answer.is_ok()));
-        answer
-    }
-
-    fn file_removed(&mut self, name: &str) -> Result<(), StoreFault>
-        ensures noted { calls_made self.new
-            ≡ did_remove name.now (is_ok result) ∷ calls_made self.old }
-        ensures counted { disk_failures self.new ≡ faults_after result (disk_failures self.old) }
-        ensures fault { IfErr result IsOwnFault }
-    {
-        let done = remove_named(&self.rt, &self.path, name);
-        let answer = counted(&mut self.faults, done);
-        self.log = self.log.then(&Note::Remove(name, answer.is_ok()));
-        answer
-    }
-}
-
+// Each method notes the call, with what it was given and what it answers; what a folder's clauses
+// say of an honest one follows. A name that no file can have makes no call.
 impl<R: Files + AllocGlobal + Clone + Drop, D: Device> Folder for DiskFolder<R, D> {
     ghost use Rattle.std.specs.Prelude.{length};
     ghost use Rattle.druid_store.specs.Disk.{calls_made, disk_failures};
-    ghost use Rattle.druid_store.specs.Honest.{HonestIn, LeftFrom};
+    ghost use Rattle.druid_store.specs.Honest.{HonestIn, ElapsesOver, LeftFrom};
     ghost use Rattle.druid_store.specs.HonestLaws.{honest_content, left_counts, left_alone};
 
     ghost is_honest = { λ d. HonestIn D.content D.left D.during (calls_made d) };
@@ -157,37 +82,110 @@ impl<R: Files + AllocGlobal + Clone + Drop, D: Device> Folder for DiskFolder<R, 
     ghost only_now = { λ d c honest left.
         left_alone D.left D.during (length (calls_made d)) c left };
 
-    fn list(&mut self, alloc: Global) -> Result<Vec<String>, StoreFault> {
-        self.files_listed(alloc)
+    fn list(&mut self, alloc: Global) -> Result<Vec<String>, StoreFault>
+        ensures noted { calls_made self.new ≡ did_list (names_answered result) ∷ calls_made self.old }
+        ensures file_names { IfOk result (λ names. All IsFileName (names_of names.items)) }
+        ensures order { IfOk result (λ names. AreInOrder (names_of names.items)) }
+        ensures counted { disk_failures self.new ≡ faults_after result (disk_failures self.old) }
+        ensures fault { IfErr result IsOwnFault }
+    {
+        let found = files_in(&self.rt, alloc, folder_path(&self.path));
+        let answer = counted(&mut self.faults, found);
+        self.log = self.log.then(&Note::List(&answer));
+        answer
     }
 
-    fn read(&mut self, alloc: Global, name: &str) -> Result<Option<Vec<u8>>, StoreFault> {
-        self.file_read(alloc, name)
+    fn read(&mut self, alloc: Global, name: &str) -> Result<Option<Vec<u8>>, StoreFault>
+        ensures noted { calls_made self.new
+            ≡ did_read name.now (file_answered result) ∷ calls_made self.old }
+        ensures no_name { is_file_name name.now ≡ false
+            → MatchResult result (λ found. found ≡ None) (λ e. e ≡ Memory) }
+        ensures bound { IfOk result (λ found.
+            IfSome found (λ bytes. length bytes.items ≤ max_file + 1)) }
+        ensures counted { disk_failures self.new ≡ faults_after result (disk_failures self.old) }
+        ensures fault { IfErr result IsOwnFault }
+    {
+        let found = read_named(&self.rt, alloc, &self.path, name);
+        let answer = counted(&mut self.faults, found);
+        self.log = self.log.then(&Note::Read(name, &answer));
+        answer
     }
 
-    fn write(&mut self, name: &str, bytes: &[u8]) -> Result<(), StoreFault> {
+    fn write(&mut self, name: &str, bytes: &[u8]) -> Result<(), StoreFault>
+        ensures noted { IsFileName name.now → calls_made self.new
+            ≡ did_write name.now bytes.now (is_ok result) ∷ calls_made self.old }
+        ensures bad_name { is_file_name name.now ≡ false → IsErrOf result StoreFault.BadName }
+        ensures not_noted { is_file_name name.now ≡ false → calls_made self.new ≡ calls_made self.old }
+        ensures failed { HonestIn D.content D.left D.during (calls_made self.new)
+            → OnErr result (Torn name.now (D.content (length (calls_made self.old)))
+            (D.content (length (calls_made self.new)))) }
+        ensures stop { HonestIn D.content D.left D.during (calls_made self.new)
+            → Follows (Torn name.now) (D.left (length (calls_made self.old)))
+            (D.left (length (calls_made self.new))) }
+        ensures time { HonestIn D.content D.left D.during (calls_made self.new)
+            → ElapsesOver D.left D.during (calls_made self.old) (calls_made self.new) }
+        ensures counted { disk_failures self.new ≡ faults_after result (disk_failures self.old) }
+        ensures fault { IsFileName name.now → IfErr result IsOwnFault }
+    {
         if !is_file_name(name) {
             return Err(StoreFault::BadName);
         }
-        self.file_written(name, bytes)
+        let done = write_named(&self.rt, &self.path, name, bytes);
+        let answer = counted(&mut self.faults, done);
+        self.log = self.log.then(&Note::Write(name, bytes, answer.is_ok()));
+        answer
     }
 
-    fn sync(&mut self) -> Result<(), StoreFault> {
-        self.files_synced()
+    fn sync(&mut self) -> Result<(), StoreFault>
+        ensures noted { calls_made self.new ≡ did_sync (is_ok result) ∷ calls_made self.old }
+        ensures counted { disk_failures self.new ≡ faults_after result (disk_failures self.old) }
+        ensures fault { IfErr result IsOwnFault }
+    {
+        let done = sync_folder(&self.rt, folder_path(&self.path));
+        let answer = counted(&mut self.faults, done);
+        self.log = self.log.then(&Note::Sync(answer.is_ok()));
+        answer
     }
 
-    fn rename(&mut self, from: &str, to: &str) -> Result<(), StoreFault> {
+    fn rename(&mut self, from: &str, to: &str) -> Result<(), StoreFault>
+        ensures noted { IsFileName from.now → IsFileName to.now → calls_made self.new
+            ≡ did_rename from.now to.now (is_ok result) ∷ calls_made self.old }
+        ensures bad_name { (is_file_name from.now && is_file_name to.now) ≡ false
+            → IsErrOf result StoreFault.BadName }
+        ensures not_noted { (is_file_name from.now && is_file_name to.now) ≡ false
+            → calls_made self.new ≡ calls_made self.old }
+        ensures time { HonestIn D.content D.left D.during (calls_made self.new)
+            → ElapsesOver D.left D.during (calls_made self.old) (calls_made self.new) }
+        ensures counted { disk_failures self.new ≡ faults_after result (disk_failures self.old) }
+        ensures fault { IsFileName from.now → IsFileName to.now
+            → IfErr result IsOwnFault }
+    {
         if !is_file_name(from) || !is_file_name(to) {
             return Err(StoreFault::BadName);
         }
-        self.file_renamed(from, to)
+        let done = rename_named(&self.rt, &self.path, from, to);
+        let answer = counted(&mut self.faults, done);
+        self.log = self.log.then(&Note::Rename(from, to, answer.is_ok()));
+        answer
     }
 
-    fn remove(&mut self, name: &str) -> Result<(), StoreFault> {
+    fn remove(&mut self, name: &str) -> Result<(), StoreFault>
+        ensures noted { IsFileName name.now → calls_made self.new
+            ≡ did_remove name.now (is_ok result) ∷ calls_made self.old }
+        ensures bad_name { is_file_name name.now ≡ false → IsErrOf result StoreFault.BadName }
+        ensures not_noted { is_file_name name.now ≡ false → calls_made self.new ≡ calls_made self.old }
+        ensures time { HonestIn D.content D.left D.during (calls_made self.new)
+            → ElapsesOver D.left D.during (calls_made self.old) (calls_made self.new) }
+        ensures counted { disk_failures self.new ≡ faults_after result (disk_failures self.old) }
+        ensures fault { IsFileName name.now → IfErr result IsOwnFault }
+    {
         if !is_file_name(name) {
             return Err(StoreFault::BadName);
         }
-        self.file_removed(name)
+        let done = remove_named(&self.rt, &self.path, name);
+        let answer = counted(&mut self.faults, done);
+        self.log = self.log.then(&Note::Remove(name, answer.is_ok()));
+        answer
     }
 
     fn faults(&self) -> u64 {

@@ -1,0 +1,17 @@
+use Rattle.druid_serve.proofs.serving.start_nodes.Given as goal
+use Rattle.druid_store.specs.Unknown.{unknown_content, unknown_left, unknown_during}
+
+-- the folders of each node are on the devices at its path
+abbrev pub ghosts-start_node-D-Device : goal.ghosts-start_node-D-Device
+ghosts-start_node-D-Device g a = record {
+  content = unknown_content a.config.now.folder 0;
+  left = unknown_left a.config.now.folder 0;
+  during = unknown_during a.config.now.folder 0;
+}
+
+abbrev pub ghosts-start_node-L-Device : goal.ghosts-start_node-L-Device
+ghosts-start_node-L-Device g a = record {
+  content = unknown_content a.config.now.folder 1;
+  left = unknown_left a.config.now.folder 1;
+  during = unknown_during a.config.now.folder 1;
+}
