@@ -7,6 +7,6 @@ mod config;
 #[cfg(test)]
 mod folders;
 #[cfg(test)]
-mod node;
-#[cfg(test)]
 mod serve;
+#[cfg(test)]
+mod serve_node;
