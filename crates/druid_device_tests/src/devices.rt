@@ -253,7 +253,7 @@ fn interrupted_calls(rt: HostRuntime) {
     }
 }
 
-// What a failed read and a failed write tell: want of memory, or that the device failed.
+// What a failed read and a failed write tell: out of memory, or that the device failed.
 fn wanted_of(kind: ErrorKind) -> (&'static str, &'static str) {
     match kind {
         ErrorKind::OutOfMemory => ("X9: out of memory=X9: out of memory", "X9: out of memory 2"),

@@ -458,7 +458,7 @@ fn writers_fail(rt: HostRuntime) {
     }
 }
 
-// What is reported of a failed read and of a failed write: want of memory, or that the device failed.
+// What is reported of a failed read and of a failed write: out of memory, or that the device failed.
 fn wanted_of(kind: ErrorKind) -> (&'static str, &'static str) {
     match kind {
         ErrorKind::OutOfMemory => ("F9", "F9"),

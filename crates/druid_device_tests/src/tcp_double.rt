@@ -309,7 +309,7 @@ fn interrupted_calls(rt: HostRuntime) {
     }
 }
 
-// What an exchange tells where each write fails so: only an interrupted one is made again.
+// What an exchange tells where each write fails so: only an interrupted one is made once more.
 fn failed_write(kind: ErrorKind) -> &'static str {
     match kind {
         ErrorKind::Interrupted => "X3 1 0 1000 0",
