@@ -1,4 +1,5 @@
 //! Folders with files of segments.
+use crate::host::Host;
 use druid_rows::{Row, Schema, Segment};
 use druid_segfile::write_segment;
 use druid_segid::{Name, SegmentId, Version};
@@ -7,7 +8,7 @@ use druid_time::{Instant, Interval};
 use std::alloc::Global;
 use std::path::{Path, PathBuf};
 use std::process::Abort;
-use std::rt::{Env, Files};
+use std::rt::Files;
 use std::{env, fs};
 
 // The descriptor of a segment of the source `wiki`, the part of that number of its interval.
@@ -103,11 +104,7 @@ fn numbered(rt: &impl Abort, alloc: Global, top: &PathBuf, name: &str, number: u
 }
 
 /// A new folder, whose name begins so.
-pub(crate) fn fresh_folder<R: Files + Env + AllocGlobal + Abort>(
-    rt: &R,
-    alloc: Global,
-    name: &str,
-) -> String {
+pub(crate) fn fresh_folder<R: Host>(rt: &R, alloc: Global, name: &str) -> String {
     let top = env::temp_dir(rt).expect(rt, "a folder");
     for number in 0..MAX_LEFT {
         let path = numbered(rt, alloc, &top, name, number);

@@ -7,6 +7,8 @@ mod config;
 #[cfg(test)]
 mod folders;
 #[cfg(test)]
+mod host;
+#[cfg(test)]
 mod serve;
 #[cfg(test)]
 mod serve_node;

@@ -1,16 +1,14 @@
 //! Clusters that are served.
 use crate::folders::{LATER_FILE, NEWER_FILE, OLDER_FILE, file_bytes, fresh_folder, put};
+use crate::host::{Host, free_address};
 use druid_link::{Link, TcpLink};
 use druid_serve::{run, serve};
 use std::alloc::Global;
-use std::fs::File;
 use std::io::{ErrorKind, Write};
 use std::net::{Net, TcpListener, TcpStream};
 use std::process::Abort;
-use std::rt::{Env, Files};
-use std::sync::Wait;
 use std::sync::atomic::{AtomicBool, Ordering};
-use std::thread::{Threads, join};
+use std::thread::join;
 use std::time::{Clock, Duration};
 use std::{fs, io, str, thread};
 
@@ -25,23 +23,8 @@ struct Place {
     newer: String,
 }
 
-// An address of this machine where nobody listens.
-fn free_address<R: Net<Listener = TcpListener, Stream = TcpStream> + Abort>(
-    rt: &R,
-    alloc: Global,
-) -> String {
-    let listener = TcpListener::bind(rt, "127.0.0.1:0").expect(rt, "a listener");
-    let address = listener.local_addr().expect(rt, "an address");
-    format!(in alloc; "{address}").expect(rt, "memory")
-}
-
 // A new folder of a test with this file.
-fn folder_with<R: Files + Env + AllocGlobal + Abort>(
-    rt: &R,
-    alloc: Global,
-    test: &str,
-    file: &str,
-) -> String {
+fn folder_with<R: Host>(rt: &R, alloc: Global, test: &str, file: &str) -> String {
     let name = format!(in alloc; "druid_serve_{test}").expect(rt, "memory");
     let folder = fresh_folder(rt, alloc, name.as_str());
     put(
@@ -55,13 +38,11 @@ fn folder_with<R: Files + Env + AllocGlobal + Abort>(
 }
 
 // A place with folders of the row's two segments.
-fn place_of<
-    R: Files<File = File>
-        + Env
-        + AllocGlobal
-        + Net<Listener = TcpListener, Stream = TcpStream>
-        + Abort,
->(rt: &R, alloc: Global, test: &str) -> Place {
+fn place_of<R: Host + Net<Listener = TcpListener, Stream = TcpStream>>(
+    rt: &R,
+    alloc: Global,
+    test: &str,
+) -> Place {
     let older = folder_with(rt, alloc, test, OLDER_FILE);
     let newer = folder_with(rt, alloc, test, NEWER_FILE);
     put(rt, alloc, newer.as_str(), "other", b"no segment");
@@ -90,22 +71,11 @@ fn config(rt: &impl Abort, alloc: Global, place: &Place, connections: u64) -> St
 }
 
 // What a config comes to: the status, a line feed, what was printed and what was written to the error writer.
-fn served<
-    R: Files<File = File>
-        + Net<Listener = TcpListener, Stream = TcpStream>
-        + AllocGlobal
-        + Wait
-        + Threads
-        + Clock
-        + Abort
-        + Copy
-        + Send
-        + Sync
-        + 'static,
->(rt: &R, alloc: Global, config: &str) -> String
-where
-    R::Dir: Send,
-{
+fn served<R: Host + Net<Listener = TcpListener, Stream = TcpStream>>(
+    rt: &R,
+    alloc: Global,
+    config: &str,
+) -> String {
     let mut out = Vec::new(alloc);
     let mut errors = Vec::new(alloc);
     let ending = serve(rt, alloc, config.as_bytes(), &mut out, &mut errors);
@@ -117,22 +87,11 @@ where
 }
 
 // What the config of a place comes to.
-fn served_at<
-    R: Files<File = File>
-        + Net<Listener = TcpListener, Stream = TcpStream>
-        + AllocGlobal
-        + Wait
-        + Threads
-        + Clock
-        + Abort
-        + Copy
-        + Send
-        + Sync
-        + 'static,
->(rt: &R, alloc: Global, place: &Place) -> String
-where
-    R::Dir: Send,
-{
+fn served_at<R: Host + Net<Listener = TcpListener, Stream = TcpStream>>(
+    rt: &R,
+    alloc: Global,
+    place: &Place,
+) -> String {
     served(rt, alloc, config(rt, alloc, place, 0).as_str())
 }
 
@@ -145,28 +104,19 @@ fn assert_served(rt: &impl Abort, told: String) {
 }
 
 // The text of a file of a folder.
-fn text_in<R: Files<File = File> + AllocGlobal + Abort>(
-    rt: &R,
-    alloc: Global,
-    folder: &str,
-    name: &str,
-) -> String {
+fn text_in<R: Host>(rt: &R, alloc: Global, folder: &str, name: &str) -> String {
     let path = format!(in alloc; "{folder}/{name}").expect(rt, "memory");
     fs::read_to_string(rt, path.as_str()).expect(rt, "a file")
 }
 
 // Removes the folders of a place.
-fn clear<R: Files + AllocGlobal + Abort>(rt: &R, place: &Place) {
+fn clear<R: Host>(rt: &R, place: &Place) {
     fs::remove_dir_all(rt, place.older.as_str()).expect(rt, "a folder");
     fs::remove_dir_all(rt, place.newer.as_str()).expect(rt, "a folder");
 }
 
 // The files that keep the incarnations of a place.
-fn incarnations<R: Files<File = File> + AllocGlobal + Abort>(
-    rt: &R,
-    alloc: Global,
-    place: &Place,
-) -> String {
+fn incarnations<R: Host>(rt: &R, alloc: Global, place: &Place) -> String {
     let older = text_in(rt, alloc, place.older.as_str(), "incarnation");
     let newer = text_in(rt, alloc, place.newer.as_str(), "incarnation");
     format!(in alloc; "{older}{newer}").expect(rt, "memory")
@@ -202,22 +152,11 @@ fn served_cluster(rt: HostRuntime) {
 }
 
 // What the program ends with for `serve` and a path: its status, what was printed and what was reported.
-fn run_with<
-    R: Files<File = File>
-        + Net<Listener = TcpListener, Stream = TcpStream>
-        + AllocGlobal
-        + Wait
-        + Threads
-        + Clock
-        + Abort
-        + Copy
-        + Send
-        + Sync
-        + 'static,
->(rt: &R, alloc: Global, path: &str) -> String
-where
-    R::Dir: Send,
-{
+fn run_with<R: Host + Net<Listener = TcpListener, Stream = TcpStream>>(
+    rt: &R,
+    alloc: Global,
+    path: &str,
+) -> String {
     let mut words = Vec::new(alloc);
     for word in ["serve", path] {
         let word = String::from_str(alloc, word).expect(rt, "memory");
@@ -312,23 +251,12 @@ fn no_config(rt: HostRuntime) {
 
 // What the config of a place comes to, once a file of a folder has these bytes: the first node's where the name begins with a
 // slash.
-fn told_with<
-    R: Files<File = File>
-        + Env
-        + Net<Listener = TcpListener, Stream = TcpStream>
-        + AllocGlobal
-        + Wait
-        + Threads
-        + Clock
-        + Abort
-        + Copy
-        + Send
-        + Sync
-        + 'static,
->(rt: &R, alloc: Global, name: &str, text: &str) -> String
-where
-    R::Dir: Send,
-{
+fn told_with<R: Host + Net<Listener = TcpListener, Stream = TcpStream>>(
+    rt: &R,
+    alloc: Global,
+    name: &str,
+    text: &str,
+) -> String {
     let place = place_of(rt, alloc, "refused");
     match name.strip_prefix('/') {
         Some(name) => put(rt, alloc, place.older.as_str(), name, text.as_bytes()),
@@ -340,23 +268,11 @@ where
 }
 
 // The same of a row, in whose text `|` stands for a line feed.
-fn told_of<
-    R: Files<File = File>
-        + Env
-        + Net<Listener = TcpListener, Stream = TcpStream>
-        + AllocGlobal
-        + Wait
-        + Threads
-        + Clock
-        + Abort
-        + Copy
-        + Send
-        + Sync
-        + 'static,
->(rt: &R, alloc: Global, row: &str) -> String
-where
-    R::Dir: Send,
-{
+fn told_of<R: Host + Net<Listener = TcpListener, Stream = TcpStream>>(
+    rt: &R,
+    alloc: Global,
+    row: &str,
+) -> String {
     let (name, text) = row.split_once(":").expect(rt, "no row");
     let text = text.replace(alloc, "|", "\n").expect(rt, "memory");
     told_with(rt, alloc, name, text.as_str())
@@ -428,22 +344,12 @@ fn keep_asking<L: Link, C: Clock>(
 }
 
 // Serves a cluster whose brokers wait for connections from outside, and gives what it printed and how many were answered.
-fn served_to_others<
-    R: Files<File = File>
-        + Net<Listener = TcpListener, Stream = TcpStream>
-        + AllocGlobal
-        + Wait
-        + Threads
-        + Clock
-        + Abort
-        + Copy
-        + Send
-        + Sync
-        + 'static,
->(rt: &R, alloc: Global, config: &str, place: &Place) -> (String, u64)
-where
-    R::Dir: Send,
-{
+fn served_to_others<R: Host + Net<Listener = TcpListener, Stream = TcpStream>>(
+    rt: &R,
+    alloc: Global,
+    config: &str,
+    place: &Place,
+) -> (String, u64) {
     let done = AtomicBool::new(false);
     let mut links = Vec::new(alloc);
     for address in [&place.broker, &place.other] {

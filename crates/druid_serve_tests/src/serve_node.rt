@@ -2,29 +2,15 @@
 ghost use Rattle.std.specs.Prelude.{◌≤◌};
 
 use crate::folders::{fresh_folder, put, put_parts};
+use crate::host::{Host, free_address};
 use druid_config::{Config, read_config};
 use druid_link::{Link, TcpLink};
 use druid_serve_node::start_node;
 use std::alloc::Global;
-use std::fs::File;
 use std::marker::Brand;
 use std::net::{Net, TcpListener, TcpStream};
 use std::process::Abort;
-use std::rt::{Env, Files};
-use std::sync::Wait;
-use std::thread::Threads;
-use std::time::Clock;
 use std::{fs, str};
-
-// An address of this machine where nobody listens.
-fn free_address<R: Net<Listener = TcpListener, Stream = TcpStream> + Abort>(
-    rt: &R,
-    alloc: Global,
-) -> String {
-    let listener = TcpListener::bind(rt, "127.0.0.1:0").expect(rt, "a listener");
-    let address = listener.local_addr().expect(rt, "an address");
-    format!(in alloc; "{address}").expect(rt, "memory")
-}
 
 // The names of so many files that are not there, as JSON.
 fn absent_files(rt: &impl Abort, alloc: Global, count: usize) -> String {
@@ -53,22 +39,14 @@ fn config(
 }
 
 // What a node that is started over a folder tells of its segments, once it has tried the files that it loads later.
-fn told_over<
-    R: Files<File = File>
-        + Env
-        + AllocGlobal
-        + Net<Listener = TcpListener, Stream = TcpStream>
-        + Wait
-        + Threads
-        + Clock
-        + Abort
-        + Copy
-        + Send
-        + Sync
-        + 'static,
->(rt: &R, alloc: Global, folder: &str, loads: usize, workers: u8, kept: usize) -> String
-where
-    R::Dir: Send,
+fn told_over<R: Host + Net<Listener = TcpListener, Stream = TcpStream>>(
+    rt: &R,
+    alloc: Global,
+    folder: &str,
+    loads: usize,
+    workers: u8,
+    kept: usize,
+) -> String
     requires some { 1 ≤ kept }
     requires few { kept ≤ 1000 }
 {
@@ -97,22 +75,13 @@ fn is_at(rt: &impl Abort, alloc: Global, told: &str, count: usize, incarnation: 
 }
 
 // Asserts that a node starts over a folder of so many segments, and serves them.
-fn assert_starts<
-    R: Files<File = File>
-        + Env
-        + AllocGlobal
-        + Net<Listener = TcpListener, Stream = TcpStream>
-        + Wait
-        + Threads
-        + Clock
-        + Abort
-        + Copy
-        + Send
-        + Sync
-        + 'static,
->(rt: &R, alloc: Global, count: u16, workers: u8, kept: usize)
-where
-    R::Dir: Send,
+fn assert_starts<R: Host + Net<Listener = TcpListener, Stream = TcpStream>>(
+    rt: &R,
+    alloc: Global,
+    count: u16,
+    workers: u8,
+    kept: usize,
+)
     requires some { 1 ≤ kept }
     requires few { kept ≤ 1000 }
 {
@@ -135,23 +104,11 @@ fn ample_memory(rt: HostRuntime) {
 }
 
 // Asserts that a node starts with the second of two incarnations, where its folder had the first.
-fn assert_raised<
-    R: Files<File = File>
-        + Env
-        + AllocGlobal
-        + Net<Listener = TcpListener, Stream = TcpStream>
-        + Wait
-        + Threads
-        + Clock
-        + Abort
-        + Copy
-        + Send
-        + Sync
-        + 'static,
->(rt: &R, alloc: Global, row: &str)
-where
-    R::Dir: Send,
-{
+fn assert_raised<R: Host + Net<Listener = TcpListener, Stream = TcpStream>>(
+    rt: &R,
+    alloc: Global,
+    row: &str,
+) {
     let (before, after) = row.split_once(" = ").expect(rt, "no row");
     let folder = fresh_folder(rt, alloc, "druid_serve_incarnation");
     let text = format!(in alloc; "{before}\n").expect(rt, "memory");

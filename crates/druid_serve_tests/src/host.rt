@@ -1,0 +1,47 @@
+//! What tests ask of the machine that they run on, and addresses of it.
+use std::alloc::Global;
+use std::fs::File;
+use std::net::{Net, TcpListener, TcpStream};
+use std::process::Abort;
+use std::rt::{Env, Files};
+use std::sync::Wait;
+use std::thread::Threads;
+use std::time::Clock;
+
+/// A machine on which a cluster is served, all but its sockets: the borrow checker does not cover a test that passes the runtime
+/// where the types of sockets are known by a supertrait alone, so `Net` is named beside it.
+pub(crate) trait Host: Files<File = File, Dir: Send>
+    + Env
+    + AllocGlobal
+    + Wait
+    + Threads
+    + Clock
+    + Abort
+    + Copy
+    + Send
+    + Sync
+    + 'static {}
+
+impl<
+    R: Files<File = File, Dir: Send>
+        + Env
+        + AllocGlobal
+        + Wait
+        + Threads
+        + Clock
+        + Abort
+        + Copy
+        + Send
+        + Sync
+        + 'static,
+> Host for R {}
+
+/// An address of this machine where nobody listens.
+pub(crate) fn free_address<R: Net<Listener = TcpListener, Stream = TcpStream> + Abort>(
+    rt: &R,
+    alloc: Global,
+) -> String {
+    let listener = TcpListener::bind(rt, "127.0.0.1:0").expect(rt, "a listener");
+    let address = listener.local_addr().expect(rt, "an address");
+    format!(in alloc; "{address}").expect(rt, "memory")
+}
