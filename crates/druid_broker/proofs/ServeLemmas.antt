@@ -1,6 +1,6 @@
 -- Which requests use links, and which take the inventory.
-use Rattle.std.proofs.Common.{◌≡◌, ◌≢◌, ◌⊎◌, ℕ, Bool, true, List, codes, bytes_eq, Option, Some, None, IfSome, Result, Ok, Err, IfOk, IfErr, refl, sym, ap, subst, ◌∙◌, inl, inr}
-use Rattle.druid_shard.specs.Mark.{Point}
+use Rattle.std.proofs.Common.{◌≡◌, ◌≢◌, ◌⊎◌, ℕ, Bool, true, List, codes, bytes_eq, Option, Some, Result, Ok, Err, IfOk, IfErr, refl, sym, ap, subst, ◌∙◌, inl, inr}
+use mathlib.Core.List.{IsPrefix}
 use Rattle.druid_inventory.specs.Entry.{Entry}
 use Rattle.druid_link.specs.Links.{Came}
 use Rattle.druid_message.specs.Requests.{RequestValue, path_of}
@@ -13,14 +13,15 @@ use Rattle.druid_query.specs.Refusal.{Refusal}
 use Rattle.druid_query.specs.Refused.{refusal_text}
 use Rattle.druid_query.specs.declared.fault.QueryFault.{QueryFault}
 use Rattle.druid_query.specs.declared.fault.QueryFault.TheVariants.{NotJson, UnknownType, Field, BadInterval, LimitPassed, DoubledName, Memory}
-use Rattle.druid_published.specs.declared.fault.PublishFault.{PublishFault}
+use Rattle.druid_published.specs.Fold.{Published, fold_of}
+use Rattle.druid_published.proofs.Beginnings.{prefix_self}
 use Rattle.serde_json.specs.Data.{Data}
 use Rattle.druid_broker.specs.Queries.{NamesField}
-use Rattle.druid_broker.specs.Routes.{Route, health, query, sources, load_status, entry, nowhere, route_of, AnswersPost, AnswersAt, IsOutOfMemory}
-use Rattle.druid_broker.specs.Views.{Reads, TakesInventory, AnswersUnread, RespondsAt, RespondsBy, KeepsView, KeepsViewAt, KeepsLinks}
+use Rattle.druid_broker.specs.Routes.{Route, query, route_of, AnswersPost, AnswersAt, IsOutOfMemory}
+use Rattle.druid_broker.specs.Views.{TakesInventory, AnswersUnread, RespondsAt, RespondsBy}
 
 -- bytes that read as a query are not refused as one
-one_reading : (bytes : List ℕ) (asked : Query) (fault : QueryFault) → fault ≢ Memory → IsReadOf bytes (Ok asked) → IsReadOf bytes (Err fault) → ⊥
+pub one_reading : (bytes : List ℕ) (asked : Query) (fault : QueryFault) → fault ≢ Memory → IsReadOf bytes (Ok asked) → IsReadOf bytes (Err fault) → ⊥
 one_reading bytes asked fault had_memory reads refused = by_fault fault had_memory refused
   where
     same_data : (d : Data) → ReadsAs bytes d → query_at d ≡ Ok asked
@@ -44,89 +45,64 @@ one_reading bytes asked fault had_memory reads refused = by_fault fault had_memo
     by_fault DoubledName had r = not_refused r.0 _ r.1 r.2
     by_fault Memory had r = had refl
 
--- only queries use links
-at_route : {L : Type 0} (step : L → List ℕ → Came → L → Type 0) (order : List ℕ → List ℕ) (inventory : List Entry) (old new : List L) (route : Route) (request : RequestValue) (status : ℕ) (body : List ℕ)
-    → AnswersAt step order route inventory old new request status body → (new ≡ old) ⊎ (route ≡ query)
-at_route step order inventory old new health request status body h = inl h.1
-at_route step order inventory old new query request status body h = inr refl
-at_route step order inventory old new sources request status body h = inl h.1
-at_route step order inventory old new load_status request status body h = inl h.1
-at_route step order inventory old new (entry node) request status body h = inl h.1
-at_route step order inventory old new nowhere request status body h = inl h.1
+prefix_same : (seen now : Published) → now ≡ seen → IsPrefix seen now
+prefix_same seen now same = subst (λ (l : Published). IsPrefix seen l) (sym same) (prefix_self seen)
 
 -- what was sent of an answer
-module _ (R : RequestValue → ℕ → List ℕ → Type 0) (request : RequestValue) (before after old new : Option (List ℕ)) (status sent_as : ℕ) (body sent_body : List ℕ) where
+module _ (R : RequestValue → ℕ → List ℕ → Type 0) (Stays : Type 0) (request : RequestValue) (before after old new : Option (List ℕ)) (status sent_as : ℕ) (body sent_body : List ℕ) where
   pub sent : (r : Result ℕ WireFault) → WasRead before after request → R request status body → sent_as ≡ status → sent_body ≡ body
-      → IfOk r (IsSent old new sent_as sent_body) → IfOk r (IsServed R before after old new)
-  sent (Ok s) read answer e f is = served R request before after old new s read (sent_as, sent_body, rw (e, f) answer, is)
+      → IfOk r (IsSent old new sent_as sent_body) → IfOk r (IsServed R Stays before after old new)
+  sent (Ok s) read answer e f is = served R Stays request before after old new read s (sent_as, sent_body, rw (e, f) answer, is)
   sent (Err fault) read answer e f is = tt
 
   pub cut_short : (r : Result ℕ WireFault) → WasRead before after request → R request status body → sent_as ≡ status → sent_body ≡ body
-      → IfErr r (IsCutShort old new sent_as sent_body) → IfErr r (FailsToServe R before after old new)
+      → IfErr r (IsCutShort old new sent_as sent_body) → IfErr r (FailsToServe R Stays before after old new)
   cut_short (Ok s) read answer e f is = tt
-  cut_short (Err fault) read answer e f is = unsent R request before after old new fault read (sent_as, sent_body, rw (e, f) answer, is)
+  cut_short (Err fault) read answer e f is = unsent R Stays request before after old new read fault (sent_as, sent_body, rw (e, f) answer, is)
 
--- the links and the view after an answer by way of a view
-module _ {L : Type 0} (step : L → List ℕ → Came → L → Type 0) (order : List ℕ → List ℕ) (names : List (List ℕ)) (floor after : List Point) (old new : List L) where
-  pub keeps_links_by : (before rest : Option (List ℕ)) (request : RequestValue) (status : ℕ) (body : List ℕ) → WasRead before rest request
-      → RespondsBy step order names floor after old new request status body → IfSome before (KeepsLinks old new)
-  keeps_links_by None rest request status body read answer = tt
-  keeps_links_by (Some input) rest request status body (left, is_left, is) (inl (takes, inventory, reads, answer)) =
-      elim (at_route step order inventory old new (route_of (path_of request.target)) request status body answer) [
-        | inl same ↦ inl same
-        | inr route ↦ inr (request, left, is, route, subst (λ (r : Route). TakesInventory r request) route takes)
-      ]
-  keeps_links_by (Some input) rest request status body read (inr (inl (memory, answer, same, links))) = inl links
-  keeps_links_by (Some input) rest request status body read (inr (inr (takes, fault, told, same, links))) = inl links
-
-  pub keeps_view : (request : RequestValue) (status : ℕ) (body : List ℕ) → RespondsBy step order names floor after old new request status body → KeepsView names floor after
-  keeps_view request status body (inl (takes, inventory, reads, answer)) = inr (inventory, reads)
-  keeps_view request status body (inr (inl (memory, answer, same, links))) = inl same
-  keeps_view request status body (inr (inr (takes, fault, told, same, links))) = inl same
-
-  pub keeps_view_at : (before rest : Option (List ℕ)) (request : RequestValue) (status : ℕ) (body : List ℕ) → WasRead before rest request
-      → RespondsBy step order names floor after old new request status body → IfSome before (KeepsViewAt names floor after)
-  keeps_view_at None rest request status body read answer = tt
-  keeps_view_at (Some input) rest request status body (left, is_left, is) (inl (takes, inventory, reads, answer)) = inr ((request, left, is, takes), (inventory, reads))
-  keeps_view_at (Some input) rest request status body read (inr (inl (memory, answer, same, links))) = inl same
-  keeps_view_at (Some input) rest request status body read (inr (inr (takes, fault, told, same, links))) = inl same
+-- an answer by way of a view
+module _ {L : Type 0} (step : L → List ℕ → Came → L → Type 0) (order : List ℕ → List ℕ) (opening : List Entry) (seen now : Published) (old new : List L) where
+  pub goes_on : (request : RequestValue) (status : ℕ) (body : List ℕ) → RespondsBy step order opening seen now old new request status body → IsPrefix seen now
+  goes_on request status body (inl (takes, prefix, answer)) = prefix
+  goes_on request status body (inr (inl (memory, answer, same, links))) = prefix_same seen now same
+  goes_on request status body (inr (inr (takes, unread, same, links))) = prefix_same seen now same
 
   -- what is answered on the route of the request
   pub on_route : (request : RequestValue) (status : ℕ) (body path : List ℕ) (route : Route)
       → path ≡ path_of request.target → route ≡ route_of path
-      → RespondsAt step order names route floor after old new request status body → RespondsBy step order names floor after old new request status body
+      → RespondsAt step order opening route seen now old new request status body → RespondsBy step order opening seen now old new request status body
   on_route request status body path route is_path is_route answer =
-      subst (λ (r : Route). RespondsAt step order names r floor after old new request status body) (is_route ∙ ap route_of is_path) answer
+      subst (λ (r : Route). RespondsAt step order opening r seen now old new request status body) (is_route ∙ ap route_of is_path) answer
 
   -- it is taken, and was read
-  pub known : (route : Route) (request : RequestValue) (status : ℕ) (body : List ℕ) (inventory found : List Entry) → found ≡ inventory → TakesInventory route request → Reads names floor after inventory
-      → AnswersAt step order route found old new request status body → RespondsAt step order names route floor after old new request status body
-  known route request status body inventory found same takes reads answer = inl (takes, found, subst (Reads names floor after) (sym same) reads, answer)
+  pub known : (route : Route) (request : RequestValue) (status : ℕ) (body : List ℕ) (inventory found : List Entry) → found ≡ inventory → TakesInventory route request
+      → IsPrefix seen now → inventory ≡ fold_of opening now
+      → AnswersAt step order route found old new request status body → RespondsAt step order opening route seen now old new request status body
+  known route request status body inventory found same takes prefix folds answer =
+      inl (takes, prefix, subst (λ (i : List Entry). AnswersAt step order route i old new request status body) (same ∙ folds) answer)
 
   -- where nothing is read, that is reported
-  pub unread : (route : Route) (request : RequestValue) (status : ℕ) (body : List ℕ) (fault : PublishFault) → TakesInventory route request
-      → AnswersUnread names floor fault status body → after ≡ floor → new ≡ old → RespondsAt step order names route floor after old new request status body
-  unread route request status body fault takes told same links = inr (inr (takes, fault, told, same, links))
+  pub unread : (route : Route) (request : RequestValue) (status : ℕ) (body : List ℕ) → TakesInventory route request
+      → AnswersUnread status body → now ≡ seen → new ≡ old → RespondsAt step order opening route seen now old new request status body
+  unread route request status body takes told same links = inr (inr (takes, told, same, links))
 
   -- a query that was posted is answered by what was read
   pub answered : (inventory found : List Entry) (request : RequestValue) (asked : Query) (status : ℕ) (body : List ℕ) → found ≡ inventory
-      → bytes_eq request.method (codes "POST") ≡ true → IsReadOf request.body (Ok asked) → Reads names floor after inventory → AnswersPost step order true found request.body old new status body
-      → RespondsAt step order names query floor after old new request status body
-  answered inventory found request asked status body same posted read reads answer = inl (
-    (posted, (asked, read)),
-    found,
-    subst (Reads names floor after) (sym same) reads,
-    subst (λ (b : Bool). AnswersPost step order b found request.body old new status body) (sym posted) answer,
-  )
+      → bytes_eq request.method (codes "POST") ≡ true → IsReadOf request.body (Ok asked) → IsPrefix seen now → inventory ≡ fold_of opening now
+      → AnswersPost step order true found request.body old new status body
+      → RespondsAt step order opening query seen now old new request status body
+  answered inventory found request asked status body same posted read prefix folds answer =
+      known query request status body inventory found same (posted, (asked, read)) prefix folds
+      (subst (λ (b : Bool). AnswersPost step order b found request.body old new status body) (sym posted) answer)
 
-  module _ (request : RequestValue) (status : ℕ) (body : List ℕ) (posted : bytes_eq request.method (codes "POST") ≡ true) (same : after ≡ floor) (links : new ≡ old) where
+  module _ (request : RequestValue) (status : ℕ) (body : List ℕ) (posted : bytes_eq request.method (codes "POST") ≡ true) (same : now ≡ seen) (links : new ≡ old) where
     -- the same whatever is known
     whatever : (TakesInventory query request → IsOutOfMemory status body) → ((inventory : List Entry) → AnswersPost step order true inventory request.body old new status body)
-        → RespondsAt step order names query floor after old new request status body
+        → RespondsAt step order opening query seen now old new request status body
     whatever memory answer = inr (inl (memory, λ inventory. subst (λ (b : Bool). AnswersPost step order b inventory request.body old new status body) (sym posted) (answer inventory), same, links))
 
     refused_as : (fault : QueryFault) → fault ≢ Memory → IsReadOf request.body (Err fault) → Tells 400 (refusal_text fault) status body ⊎ (NamesField fault × IsOutOfMemory status body)
-        → RespondsAt step order names query floor after old new request status body
+        → RespondsAt step order opening query seen now old new request status body
     refused_as fault had read (inl told) =
         whatever (λ takes. absurd (one_reading request.body takes.1.0 fault had takes.1.1 read)) (λ inventory. inl (inr (fault, had, read, told, links)))
     refused_as fault had read (inr lacks) =
@@ -134,7 +110,7 @@ module _ {L : Type 0} (step : L → List ℕ → Came → L → Type 0) (order :
 
     -- what was posted is no query, or memory was refused to read it
     pub refused : (fault : QueryFault) → IsReadOf request.body (Err fault) → (fault ≢ Memory → Tells 400 (refusal_text fault) status body ⊎ (NamesField fault × IsOutOfMemory status body))
-        → (fault ≡ Memory → IsOutOfMemory status body) → RespondsAt step order names query floor after old new request status body
+        → (fault ≡ Memory → IsOutOfMemory status body) → RespondsAt step order opening query seen now old new request status body
     refused NotJson read told memory = let had : NotJson ≢ Memory = λ e. cc in refused_as NotJson had read (told had)
     refused UnknownType read told memory = let had : UnknownType ≢ Memory = λ e. cc in refused_as UnknownType had read (told had)
     refused (Field key) read told memory = let had : Field key ≢ Memory = λ e. cc in refused_as (Field key) had read (told had)

@@ -1,5 +1,6 @@
 -- How a broker follows a node, and how it is seeded by another broker.
-use Rattle.std.specs.Prelude.{◌≡◌, ◌≢◌, ◌⊎◌, ℕ, ◌++◌, List, [], codes, decimal, slice_get, slice_set, Some, Result, Ok, Err, ⊤}
+use Rattle.std.specs.Prelude.{◌≡◌, ◌≢◌, ◌⊎◌, ℕ, ◌++◌, ◌∷◌, List, [], codes, decimal, slice_get, slice_set, Some, Result, Ok, Err, ⊤, zero, suc}
+use mathlib.Core.List.{IsPrefix}
 use Rattle.druid_shard.specs.declared.change.Ask.{Ask}
 use Rattle.druid_shard.specs.declared.change.Ask.TheVariants.{Whole, Since}
 use Rattle.druid_shard.specs.declared.reply.Body.{Body}
@@ -10,6 +11,7 @@ use Rattle.druid_sync.specs.declared.fault.SyncFault.TheVariants as sync
 use Rattle.druid_inventory.specs.Entry.{Entry, ask_of}
 use Rattle.druid_inventory.specs.Step.{StepsAt, RefusedAt}
 use Rattle.druid_inventory.specs.declared.fault.Outcome.{Outcome}
+use Rattle.druid_published.specs.Fold.{Published, PublisherValue, fold_of}
 use Rattle.druid_link.specs.Links.{Came}
 use Rattle.druid_message.specs.Requests.{RequestValue}
 use Rattle.druid_wire.specs.Messages.{IsResponse, ResponseSays, HasFault, IsOfBytes}
@@ -89,10 +91,15 @@ IsFetchedFrom step inventory node old new answer =
 
 -- ---- turns
 
--- the reply that was fetched is applied: the inventory makes its step
-abbrev pub TakesTurn : (Result Body TurnFault → Type 0) → List Entry → ℕ → Outcome → List Entry → Type 0
-TakesTurn Fetched old node outcome new =
-    (reply : Body) × (entry : Entry) × Fetched (Ok reply) × StepsAt old node reply outcome entry × (new ≡ slice_set old node entry)
+-- the reply of a node is published: it stands at the end of the list, and the inventory makes its step
+abbrev pub Publishes : PublisherValue → ℕ → Body → Outcome → PublisherValue → Type 0
+Publishes old node reply outcome new =
+    (entry : Entry) × StepsAt old.inventory node reply outcome entry
+    × (new ≡ record { published = old.published ++ (node, reply) ∷ []; inventory = slice_set old.inventory node entry })
+
+-- the reply that was fetched is published
+abbrev pub TakesTurn : (Result Body TurnFault → Type 0) → PublisherValue → ℕ → Outcome → PublisherValue → Type 0
+TakesTurn Fetched old node outcome new = (reply : Body) × Fetched (Ok reply) × Publishes old node reply outcome new
 
 -- what was fetched is no reply, or one that is not applied; out of memory comes of either
 abbrev pub FailsTurn : (Result Body TurnFault → Type 0) → List Entry → ℕ → TurnFault → Type 0
@@ -100,3 +107,37 @@ FailsTurn Fetched inventory node (Apply fault) = (reply : Body) × Fetched (Ok r
 FailsTurn Fetched inventory node Memory =
     Fetched (Err Memory) ⊎ ((reply : Body) × (outcome : Outcome) × (entry : Entry) × Fetched (Ok reply) × StepsAt inventory node reply outcome entry)
 FailsTurn Fetched inventory node fault = Fetched (Err fault)
+
+-- ---- a turn of one of the threads that share a publisher
+
+-- a view read a list, by which a reply was fetched; the reply was published behind a list that another thread may have made longer;
+-- and then the view has seen both lists
+pub record TakesSharedTurn {L : Type 0} (step : L → List ℕ → Came → L → Type 0) (opening : List Entry) (node : ℕ) (old new : Published) (link after : L) (outcome : Outcome) : Type 0 where
+  pub read : Published
+  pub goes_on : IsPrefix old read
+  pub reply : Body
+  pub fetched : IsFetchedFrom step (fold_of opening read) node link after (Ok reply)
+  pub before : Published
+  pub entry : Entry
+  pub steps : StepsAt (fold_of opening before) node reply outcome entry
+  pub has_read : IsPrefix read new
+  pub has_reply : IsPrefix (before ++ (node, reply) ∷ []) new
+  pub one : (new ≡ read) ⊎ (new ≡ before ++ (node, reply) ∷ [])
+
+-- nothing was read, and no link is used; or the turn fails by a list that was read, with an inventory that another list made, and the
+-- view has seen what it read
+abbrev pub FailsSharedTurn : {L : Type 0} → (L → List ℕ → Came → L → Type 0) → List Entry → ℕ → Published → Published → L → L → TurnFault → Type 0
+FailsSharedTurn step opening node old new link after fault =
+    ((fault ≡ Memory) × (new ≡ old) × (after ≡ link))
+    ⊎ ((before : Published) × IsPrefix old new × FailsTurn (IsFetchedFrom step (fold_of opening new) node link after) (fold_of opening before) node fault)
+
+abbrev pub IsSharedTurn : {L : Type 0} → (L → List ℕ → Came → L → Type 0) → List Entry → ℕ → Published → Published → L → L → Result Outcome TurnFault → Type 0
+IsSharedTurn step opening node old new link after (Ok outcome) = TakesSharedTurn step opening node old new link after outcome
+IsSharedTurn step opening node old new link after (Err fault) = FailsSharedTurn step opening node old new link after fault
+
+-- so many turns, one after another, each as it ends
+abbrev pub MakesTurns : {L : Type 0} → (L → List ℕ → Came → L → Type 0) → List Entry → ℕ → ℕ → Published → Published → L → L → Type 0
+MakesTurns step opening node zero old new link after = (new ≡ old) × (after ≡ link)
+MakesTurns {L} step opening node (suc n) old new link after =
+    (seen : Published) × (between : L) × (result : Result Outcome TurnFault)
+    × MakesTurns step opening node n old seen link between × IsSharedTurn step opening node seen new between after result

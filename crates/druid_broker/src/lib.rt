@@ -2,6 +2,7 @@
 #![tactic(auto)]
 
 mod fault;
+mod following;
 mod knowing;
 mod querying;
 mod responding;
@@ -11,6 +12,7 @@ mod serving;
 mod turns;
 
 pub use fault::TurnFault;
+pub use following::{follow, shared_turn};
 pub use routes::Routes;
 pub use serving::serve_one;
 pub use turns::{fetch, fetch_entry, seed_turn, sync_turn};

@@ -1,8 +1,6 @@
 //! What a broker answers to requests.
 ghost use Rattle.std.specs.Prelude.{◌≡◌, ◌≢◌, ◌≤◌, ◌⊎◌, ◌↔◌, ℕ, true, false, Ok, IsTrue, List, codes, length, bytes_eq};
 ghost use Rattle.druid_inventory.specs.Entry.{Entry};
-ghost use Rattle.druid_shard.specs.Mark.{Point};
-ghost use Rattle.druid_published.specs.Told.{TellsRead};
 ghost use Rattle.druid_wire.specs.Served.{Tells};
 ghost use Rattle.druid_broker.specs.Lent.{lent_route};
 ghost use Rattle.druid_broker.specs.Routes.{query, OrOutOfMemory, Gets, AnswersSources, AnswersAt};
@@ -16,7 +14,7 @@ use crate::routes::{Route, Routes};
 use druid_inventory::Inventory;
 use druid_link::Link;
 use druid_message::Request;
-use druid_published::{NodeList, PublishFault, View};
+use druid_published::{Publication, PublishFault, View};
 use druid_query::Query;
 use druid_query_text::read_query;
 use druid_scatter::Pick;
@@ -110,71 +108,69 @@ fn answer_known<L: Link>(
 
 // What is answered where nothing was read. A read applies no reply.
 fn answer_unread(fault: PublishFault) -> Response
-    ensures { (names : List (List ℕ)) (floor : List Point) → TellsRead names floor fault
-        → AnswersUnread names floor fault result.status result.body }
+    ensures { AnswersUnread result.status result.body }
 {
     match fault {
-        PublishFault::Stale { .. } => Response::stale(),
+        PublishFault::NoReading => Response::no_reading(),
         PublishFault::Memory => Response::out_of_memory(),
         PublishFault::Apply(_) => Response::out_of_memory(),
     }
 }
 
 // What is answered on a route that is no query's.
-fn answer_got<T: Wait, N: NodeList, L: Link>(
-    rt: &T,
+fn answer_got<J: Publication, L: Link>(
     alloc: Global,
     route: &Route,
-    view: &mut View<N>,
+    view: &mut View<J>,
     request: &Request,
 ) -> Response
     requires { lent_route route.now ≢ query }
     ensures { (order : List ℕ → List ℕ) (links : List L)
-        → RespondsAt L.exchanges order N.names (lent_route route.now) view.old view.new links links request.now result.status result.body }
+        → RespondsAt L.exchanges order J.opening (lent_route route.now) view.old view.new links links request.now result.status result.body }
 {
     if !takes_inventory(route, request) {
         return answer_anyway::<L>(route, request);
     }
-    match view.read(rt) {
+    match view.read() {
         Ok(inventory) => answer_known::<L>(alloc, route, &inventory, request),
         Err(fault) => answer_unread(fault),
     }
 }
 
 // What is answered to a query that was posted.
-fn answer_read<T: Threads + Wait + Sync, N: NodeList, P: Pick, L: Link + Send>(
+fn answer_read<T: Threads + Wait + Sync, J: Publication, P: Pick, L: Link + Send>(
     rt: &T,
     alloc: Global,
-    view: &mut View<N>,
+    view: &mut View<J>,
     request: &Request,
     asked: &Query,
     turn: u64,
     pick: &P,
     links: &mut [L],
 ) -> Response
-    requires links { length N.names ≤ length links.old }
+    requires links { length J.opening ≤ length links.old }
     requires posted { bytes_eq request.now.method (codes "POST") ≡ true }
     requires read { IsReadOf request.now.body (Ok asked.now) }
-    ensures { RespondsAt L.exchanges (P.orders pick.now turn) N.names query view.old view.new links.old links.new request.now result.status result.body }
+    ensures { RespondsAt L.exchanges (P.orders pick.now turn) J.opening query view.old view.new links.old links.new request.now result.status result.body }
 {
-    match view.read(rt) {
+    match view.read() {
         Ok(inventory) => answer_query(rt, alloc, &inventory, asked, turn, pick, links),
         Err(fault) => answer_unread(fault),
     }
 }
 
 // What is answered where queries go. The view is read once the body reads as a query.
-fn answer_posted<T: Threads + Wait + Sync, N: NodeList, P: Pick, L: Link + Send>(
+fn answer_posted<T: Threads + Wait + Sync, J: Publication, P: Pick, L: Link + Send>(
     rt: &T,
     alloc: Global,
-    view: &mut View<N>,
+    view: &mut View<J>,
     request: &Request,
     turn: u64,
     pick: &P,
     links: &mut [L],
 ) -> Response
-    requires { length N.names ≤ length links.old }
-    ensures { RespondsAt L.exchanges (P.orders pick.now turn) N.names query view.old view.new links.old links.new request.now result.status result.body }
+    requires { length J.opening ≤ length links.old }
+    ensures { RespondsAt L.exchanges (P.orders pick.now turn) J.opening query view.old view.new links.old links.new request.now result.status result.body }
 {
     if !request.has_method("POST") {
         return Response::other_method();
@@ -186,22 +182,22 @@ fn answer_posted<T: Threads + Wait + Sync, N: NodeList, P: Pick, L: Link + Send>
 }
 
 /// What a broker answers to a request by way of a view. The view is read where the answer takes the inventory, and only there.
-pub(crate) fn respond<T: Threads + Wait + Sync, N: NodeList, P: Pick, L: Link + Send>(
+pub(crate) fn respond<T: Threads + Wait + Sync, J: Publication, P: Pick, L: Link + Send>(
     rt: &T,
     alloc: Global,
     routes: &Routes,
-    view: &mut View<N>,
+    view: &mut View<J>,
     request: &Request,
     turn: u64,
     pick: &P,
     links: &mut [L],
 ) -> Response
-    requires { length N.names ≤ length links.old }
-    ensures { RespondsBy L.exchanges (P.orders pick.now turn) N.names view.old view.new links.old links.new request.now result.status result.body }
+    requires { length J.opening ≤ length links.old }
+    ensures { RespondsBy L.exchanges (P.orders pick.now turn) J.opening view.old view.new links.old links.new request.now result.status result.body }
 {
     let route = routes.route_of(request.path());
     match route {
         Route::Query => answer_posted(rt, alloc, view, request, turn, pick, links),
-        other => answer_got::<T, N, L>(rt, alloc, &other, view, request),
+        other => answer_got::<J, L>(alloc, &other, view, request),
     }
 }

@@ -63,10 +63,13 @@ impl Response {
     }
 
     /// The answer where what was found is older than what the view knows.
-    pub(crate) fn stale() -> Response
-        ensures { Tells 500 (codes "{\"error\":\"Stale\"}") result.status result.body }
+    pub(crate) fn no_reading() -> Response
+        ensures { Tells 500 (codes "{\"error\":\"NoReading\"}") result.status result.body }
     {
-        Response::fixed(StatusCode::INTERNAL_SERVER_ERROR, "{\"error\":\"Stale\"}")
+        Response::fixed(
+            StatusCode::INTERNAL_SERVER_ERROR,
+            "{\"error\":\"NoReading\"}",
+        )
     }
 
     /// The status.

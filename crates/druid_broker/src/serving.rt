@@ -1,13 +1,14 @@
 //! Requests, served.
-ghost use Rattle.std.specs.Prelude.{◌≤◌, length, IfOk, IfErr, IfSome};
+ghost use Rattle.std.specs.Prelude.{◌≡◌, ◌≤◌, length, IfOk, IfErr};
+ghost use mathlib.Core.List.{IsPrefix};
 ghost use Rattle.druid_wire.specs.Served.{IsServed, FailsToServe};
-ghost use Rattle.druid_broker.specs.Views.{RespondsBy, KeepsView, KeepsViewAt, KeepsLinks};
+ghost use Rattle.druid_broker.specs.Views.{RespondsBy};
 
 use crate::responding::respond;
 use crate::routes::Routes;
 use druid_link::Link;
 use druid_message::WireFault;
-use druid_published::{NodeList, View};
+use druid_published::{Publication, View};
 use druid_scatter::Pick;
 use druid_wire::{read_request, refuse_request, send_response};
 use std::alloc::Global;
@@ -16,14 +17,15 @@ use std::sync::Wait;
 use std::thread::Threads;
 
 /// Reads one request and writes the answer, and gives the status that was written. Link k leads to node k, and only a query
-/// that is posted uses links. What is answered is by the inventory that the view reads, which is then what the view knows.
+/// that is posted uses links. What is answered is by the inventory of what the view has seen after the call; the view goes on where
+/// the answer takes an inventory, and only there.
 ///
 /// `POST` of a query to `/druid/v2` or `/druid/v2/` is answered with its rows, as its nodes tell them; 503 with what is missing
 /// beside them where no replica gave a piece; 400 with the number of the fault where the body is no query. `GET` is answered on
 /// `/druid/v2/datasources` with the data sources in order, on `/druid/broker/v1/loadstatus` with whether each node was synced,
 /// on `/druid-internal/v1/inventory/{node}` with what is known of the node, as a reply, or 404 with V2 or V3, and on
 /// `/status/health` with `true`. Another method there is answered 405, and another path 404. 500 and `{"error":"Memory"}` where
-/// memory was refused for the answer, and `{"error":"Stale"}` where what is found is older than what the view knows.
+/// memory was refused for the answer, and `{"error":"NoReading"}` where the view was given no reading.
 ///
 /// X4 to X7 of the request are answered 400 with their number. X1, X2 or X9 where no request was read, and nothing was written;
 /// X3 or X9 where the writer failed, which then has some front of the answer, and not the whole. Nothing is flushed.
@@ -31,7 +33,7 @@ pub fn serve_one<
     T: Threads + Wait + Sync,
     R: BufRead,
     W: Write,
-    N: NodeList,
+    J: Publication,
     P: Pick,
     L: Link + Send,
 >(
@@ -40,19 +42,19 @@ pub fn serve_one<
     routes: &Routes,
     reader: &mut R,
     writer: &mut W,
-    view: &mut View<N>,
+    view: &mut View<J>,
     turn: u64,
     pick: &P,
     links: &mut [L],
 ) -> Result<u16, WireFault>
-    requires { length N.names ≤ length links.old }
-    ensures ok { IfOk result (IsServed (RespondsBy L.exchanges (P.orders pick.now turn) N.names view.old view.new links.old links.new)
+    requires { length J.opening ≤ length links.old }
+    ensures ok { IfOk result (IsServed (RespondsBy L.exchanges (P.orders pick.now turn) J.opening view.old view.new links.old links.new)
+        ((view.new ≡ view.old) × (links.new ≡ links.old))
         (R.remaining reader.old) (R.remaining reader.new) (W.contents writer.old) (W.contents writer.new)) }
-    ensures err { IfErr result (FailsToServe (RespondsBy L.exchanges (P.orders pick.now turn) N.names view.old view.new links.old links.new)
+    ensures err { IfErr result (FailsToServe (RespondsBy L.exchanges (P.orders pick.now turn) J.opening view.old view.new links.old links.new)
+        ((view.new ≡ view.old) × (links.new ≡ links.old))
         (R.remaining reader.old) (R.remaining reader.new) (W.contents writer.old) (W.contents writer.new)) }
-    ensures view { KeepsView N.names view.old view.new }
-    ensures view_at { IfSome (R.remaining reader.old) (KeepsViewAt N.names view.old view.new) }
-    ensures links { IfSome (R.remaining reader.old) (KeepsLinks links.old links.new) }
+    ensures view { IsPrefix view.old view.new }
 {
     match read_request(alloc, reader) {
         Ok(request) => {

@@ -1,19 +1,16 @@
 //! Turns: what a broker asks of a node or of another broker, and what it makes of the answer.
-ghost use Rattle.std.specs.Prelude.{◌≡◌, ◌≢◌, ◌↔◌, ◌<◌, ◌⊎◌, IsTrue, IfOk, IfErr, OnErr, Ok, Err, Some, length, slice_get, slice_set, string_bytes};
+ghost use Rattle.std.specs.Prelude.{◌≡◌, ◌≢◌, ◌↔◌, ◌<◌, ◌⊎◌, IsTrue, IfOk, IfErr, OnErr, Ok, Err, Some, length, slice_get, string_bytes};
 ghost use Rattle.druid_sync.specs.Asks.{ask_text};
-ghost use Rattle.druid_inventory.specs.Entry.{Entry};
-ghost use Rattle.druid_inventory.specs.Step.{StepsAt};
-ghost use Rattle.druid_published.specs.Floor.{marks_of};
 ghost use Rattle.druid_link.specs.Links.{came_of};
 ghost use Rattle.druid_wire.specs.Written.{request_text};
-ghost use Rattle.druid_broker.specs.Turns.{get_request, entry_request, entry_target, IsAnswerTo, Fetches, StartsAgain, IsFetched, IsFetchedFrom, TakesTurn, FailsTurn};
+ghost use Rattle.druid_broker.specs.Turns.{get_request, entry_request, entry_target, IsAnswerTo, Fetches, StartsAgain, IsFetched, IsFetchedFrom, Publishes, TakesTurn, FailsTurn};
 ghost use Rattle.druid_broker.specs.Lent.{RefusesTurn};
 
 use crate::TurnFault;
 use druid_inventory::{Inventory, Outcome};
 use druid_link::Link;
 use druid_message::{Request, WireFault};
-use druid_published::{NodeList, PublishFault, Publisher, Receipt};
+use druid_published::{Publication, PublishFault, Publisher, Receipt};
 use druid_shard::{Ask, Body, NodeNo, Reply};
 use druid_sync::{SyncFault, ask_target, read_reply};
 use druid_wire::{request_bytes, response_of};
@@ -154,79 +151,75 @@ pub fn fetch_entry<L: Link>(alloc: Global, peer: &mut L, node: NodeNo) -> Result
 
 // Publishes a reply of a node.
 #[tactic(auto, using(crate::proofs::TurnLemmas::refused_at))]
-fn publish_reply<T: Wait, N: NodeList>(
-    rt: &T,
+pub(crate) fn publish_reply<J: Publication, R: Wait + Drop>(
     node: NodeNo,
     reply: &Reply,
-    publisher: &mut Publisher<N>,
-) -> Result<(Outcome, Receipt<N>), TurnFault>
-    requires { node < length publisher.old }
-    ensures ok { IfOk result (λ r. (entry : Entry) × StepsAt publisher.old node reply.now r.0 entry
-        × (publisher.new ≡ slice_set publisher.old node entry)) }
-    ensures receipt { IfOk result (λ r. r.1 ≡ marks_of publisher.new) }
-    ensures err { IfErr result (RefusesTurn publisher.old node reply.now) }
+    publisher: &mut Publisher<J, R>,
+) -> Result<(Outcome, Receipt<J>), TurnFault>
+    requires { node < length publisher.old.inventory }
+    ensures ok { IfOk result (λ r. Publishes publisher.old node reply.now r.0 publisher.new) }
+    ensures receipt { IfOk result (λ r. r.1 ≡ publisher.new.published) }
+    ensures err { IfErr result (RefusesTurn publisher.old.inventory node reply.now) }
     ensures unchanged { OnErr result (publisher.new ≡ publisher.old) }
 {
-    match publisher.publish(rt, node, reply) {
+    match publisher.publish(node, reply) {
         Ok(published) => Ok(published),
         Err(PublishFault::Apply(fault)) => Err(TurnFault::Apply(fault)),
         Err(PublishFault::Memory) => Err(TurnFault::Memory),
-        Err(PublishFault::Stale { .. }) => unreachable!(),
+        Err(PublishFault::NoReading) => unreachable!(),
     }
 }
 
 // Asks a node for what changed after its mark in what is published.
-fn fetch_change<N: NodeList, L: Link>(
+fn fetch_change<J: Publication, R: Wait + Drop, L: Link>(
     alloc: Global,
-    publisher: &Publisher<N>,
+    publisher: &Publisher<J, R>,
     node: NodeNo,
     link: &mut L,
 ) -> Result<Reply, TurnFault>
-    requires { node < length publisher.now }
-    ensures { IsFetchedFrom L.exchanges publisher.now node link.old link.new result }
+    requires { node < length publisher.now.inventory }
+    ensures { IsFetchedFrom L.exchanges publisher.now.inventory node link.old link.new result }
 {
     fetch(alloc, publisher.inventory(), node, link)
 }
 
-/// Fetches what changed of a node, and publishes it; the receipt tells the marks then. K3 where the reply is not applied, and
-/// else the faults of `fetch`; then what is published stays as it was.
-pub fn sync_turn<T: Wait, N: NodeList, L: Link>(
-    rt: &T,
+/// Fetches what changed of a node, and publishes it; the receipt tells what is published then. K3 where the reply is not applied,
+/// and else the faults of `fetch`; then what is published stays as it was.
+pub fn sync_turn<J: Publication, R: Wait + Drop, L: Link>(
     alloc: Global,
     node: NodeNo,
     link: &mut L,
-    publisher: &mut Publisher<N>,
-) -> Result<(Outcome, Receipt<N>), TurnFault>
-    requires { node < length publisher.old }
-    ensures ok { IfOk result (λ r. TakesTurn (IsFetchedFrom L.exchanges publisher.old node link.old link.new)
+    publisher: &mut Publisher<J, R>,
+) -> Result<(Outcome, Receipt<J>), TurnFault>
+    requires { node < length publisher.old.inventory }
+    ensures ok { IfOk result (λ r. TakesTurn (IsFetchedFrom L.exchanges publisher.old.inventory node link.old link.new)
         publisher.old node r.0 publisher.new) }
-    ensures receipt { IfOk result (λ r. r.1 ≡ marks_of publisher.new) }
-    ensures err { IfErr result (FailsTurn (IsFetchedFrom L.exchanges publisher.old node link.old link.new) publisher.old node) }
+    ensures receipt { IfOk result (λ r. r.1 ≡ publisher.new.published) }
+    ensures err { IfErr result (FailsTurn (IsFetchedFrom L.exchanges publisher.old.inventory node link.old link.new) publisher.old.inventory node) }
     ensures unchanged { OnErr result (publisher.new ≡ publisher.old) }
 {
     match fetch_change(alloc, publisher, node, link) {
-        Ok(reply) => publish_reply(rt, node, &reply, publisher),
+        Ok(reply) => publish_reply(node, &reply, publisher),
         Err(fault) => Err(fault),
     }
 }
 
 /// Fetches what a peer broker knows of a node, and publishes it as a reply of that node; the faults as for `sync_turn`.
-pub fn seed_turn<T: Wait, N: NodeList, L: Link>(
-    rt: &T,
+pub fn seed_turn<J: Publication, R: Wait + Drop, L: Link>(
     alloc: Global,
     node: NodeNo,
     peer: &mut L,
-    publisher: &mut Publisher<N>,
-) -> Result<(Outcome, Receipt<N>), TurnFault>
-    requires { node < length publisher.old }
+    publisher: &mut Publisher<J, R>,
+) -> Result<(Outcome, Receipt<J>), TurnFault>
+    requires { node < length publisher.old.inventory }
     ensures ok { IfOk result (λ r. TakesTurn (Fetches L.exchanges (entry_request node) peer.old peer.new)
         publisher.old node r.0 publisher.new) }
-    ensures receipt { IfOk result (λ r. r.1 ≡ marks_of publisher.new) }
-    ensures err { IfErr result (FailsTurn (Fetches L.exchanges (entry_request node) peer.old peer.new) publisher.old node) }
+    ensures receipt { IfOk result (λ r. r.1 ≡ publisher.new.published) }
+    ensures err { IfErr result (FailsTurn (Fetches L.exchanges (entry_request node) peer.old peer.new) publisher.old.inventory node) }
     ensures unchanged { OnErr result (publisher.new ≡ publisher.old) }
 {
     match fetch_entry(alloc, peer, node) {
-        Ok(reply) => publish_reply(rt, node, &reply, publisher),
+        Ok(reply) => publish_reply(node, &reply, publisher),
         Err(fault) => Err(fault),
     }
 }

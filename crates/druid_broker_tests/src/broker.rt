@@ -1,13 +1,12 @@
 //! What brokers answer to messages.
 ghost use Rattle.std.specs.Prelude.{◌≡◌};
-ghost use Rattle.druid_inventory.specs.Join.{names_of};
 
 use crate::cluster::{
     Behind, Cluster, Failure, Handle, Setup, answered, followed, made_by_two, posted, set, set_up,
     written,
 };
 use crate::printing::{assert_holds, assert_told, halves, printed, replaced};
-use druid_published::NodeList;
+use druid_published::Publication;
 use std::alloc::Global;
 use std::marker::Brand;
 use std::process::Abort;
@@ -71,7 +70,7 @@ fn marked(rt: &impl Abort, alloc: Global, nodes: &str) -> Vec<usize> {
 
 // What a broker over these parts answers to the query at a turn, once the nodes at these places fail. (Its signature has no
 // `&str`: no ghost member can be picked at a call of one that has.)
-fn answer_to<R: Handle, N: NodeList>(
+fn answer_to<R: Handle, J: Publication>(
     rt: R,
     alloc: Global,
     setup: Setup<R>,
@@ -79,9 +78,10 @@ fn answer_to<R: Handle, N: NodeList>(
     query: String,
     turn: u64,
 ) -> String
-    requires { names_of setup.inventory ≡ N.names }
+    requires book { setup.list ≡ J.book }
+    requires opening { setup.inventory ≡ J.opening }
 {
-    let mut made: Cluster<R, N> = followed(rt, alloc, setup, 64);
+    let mut made: Cluster<R, J> = followed(rt, alloc, setup, 64);
     for place in failing {
         set(&mut made, place, Behind::Failing(Failure::Read));
     }
@@ -157,7 +157,7 @@ pub(crate) fn message(rt: &impl Abort, alloc: Global, text: &str) -> String {
 }
 
 // Asserts that a broker answers the message of a line so.
-fn assert_message<R: Handle, N: NodeList>(alloc: Global, made: &mut Cluster<R, N>, line: &str) {
+fn assert_message<R: Handle, J: Publication>(alloc: Global, made: &mut Cluster<R, J>, line: &str) {
     let rt = made.rt;
     let (text, wanted) = halves(&rt, line, " = ");
     let message = message(&rt, alloc, text);
@@ -173,13 +173,13 @@ const HEALTH: &[u8] =
     b"HTTP/1.1 200 OK\r\nContent-Type: application/json\r\nContent-Length: 4\r\nConnection: close\r\n\r\ntrue";
 
 // Asserts that a broker writes these bytes where it is asked how it is.
-fn assert_health<R: Handle, N: NodeList>(alloc: Global, made: &mut Cluster<R, N>) {
+fn assert_health<R: Handle, J: Publication>(alloc: Global, made: &mut Cluster<R, J>) {
     let rt = made.rt;
     let bytes = written(alloc, made, 0, b"GET /status/health HTTP/1.1\r\n\r\n");
     assert_holds(&rt, "the bytes of health", bytes.as_slice() == HEALTH);
 }
 
-fn assert_all<R: Handle, N: NodeList>(alloc: Global, made: &mut Cluster<R, N>) {
+fn assert_all<R: Handle, J: Publication>(alloc: Global, made: &mut Cluster<R, J>) {
     for line in MESSAGES.lines() {
         assert_message(alloc, made, line);
     }
@@ -187,10 +187,11 @@ fn assert_all<R: Handle, N: NodeList>(alloc: Global, made: &mut Cluster<R, N>) {
 }
 
 // Asserts what a broker over these parts answers, once it has followed the first node.
-fn assert_messages<R: Handle, N: NodeList>(rt: R, alloc: Global, setup: Setup<R>)
-    requires { names_of setup.inventory ≡ N.names }
+fn assert_messages<R: Handle, J: Publication>(rt: R, alloc: Global, setup: Setup<R>)
+    requires book { setup.list ≡ J.book }
+    requires opening { setup.inventory ≡ J.opening }
 {
-    let mut made: Cluster<R, N> = followed(rt, alloc, setup, 1);
+    let mut made: Cluster<R, J> = followed(rt, alloc, setup, 1);
     assert_all(alloc, &mut made);
 }
 
@@ -270,9 +271,9 @@ fn hostile(rt: &impl Abort, alloc: Global, head: &str, body: &str) -> Vec<u8> {
 }
 
 /// What a broker answers to a count at a turn.
-pub(crate) fn counted<R: Handle, N: NodeList>(
+pub(crate) fn counted<R: Handle, J: Publication>(
     alloc: Global,
-    made: &mut Cluster<R, N>,
+    made: &mut Cluster<R, J>,
     turn: u64,
 ) -> String {
     let count = "@,\"aggregations\":[{\"type\":\"count\",\"name\":\"n\"}]}";
@@ -281,9 +282,9 @@ pub(crate) fn counted<R: Handle, N: NodeList>(
 }
 
 // Whether a count is answered so at a turn, and each of the two links was asked once.
-fn is_asked_once<R: Handle, N: NodeList>(
+fn is_asked_once<R: Handle, J: Publication>(
     alloc: Global,
-    made: &mut Cluster<R, N>,
+    made: &mut Cluster<R, J>,
     turn: u64,
     wanted: &str,
 ) -> bool {
@@ -293,9 +294,9 @@ fn is_asked_once<R: Handle, N: NodeList>(
 }
 
 // Puts a server that answers these bytes after a link.
-fn set_bytes<R: Handle, N: NodeList>(
+fn set_bytes<R: Handle, J: Publication>(
     alloc: Global,
-    made: &mut Cluster<R, N>,
+    made: &mut Cluster<R, J>,
     place: usize,
     bytes: &[u8],
 ) {
@@ -305,7 +306,11 @@ fn set_bytes<R: Handle, N: NodeList>(
 
 // Whether a broker with two replicas counts the row where one of them answers these bytes, and lists it as missing where both
 // do.
-fn passes<R: Handle, N: NodeList>(alloc: Global, made: &mut Cluster<R, N>, bytes: &[u8]) -> bool {
+fn passes<R: Handle, J: Publication>(
+    alloc: Global,
+    made: &mut Cluster<R, J>,
+    bytes: &[u8],
+) -> bool {
     set_bytes(alloc, made, 0, bytes);
     let counts = is_asked_once(alloc, made, 0, COUNTED);
     set_bytes(alloc, made, 1, bytes);
@@ -313,10 +318,11 @@ fn passes<R: Handle, N: NodeList>(alloc: Global, made: &mut Cluster<R, N>, bytes
 }
 
 // The same of a broker over these parts.
-fn passes_on<R: Handle, N: NodeList>(rt: R, alloc: Global, setup: Setup<R>, bytes: &[u8]) -> bool
-    requires { names_of setup.inventory ≡ N.names }
+fn passes_on<R: Handle, J: Publication>(rt: R, alloc: Global, setup: Setup<R>, bytes: &[u8]) -> bool
+    requires book { setup.list ≡ J.book }
+    requires opening { setup.inventory ≡ J.opening }
 {
-    let mut made: Cluster<R, N> = followed(rt, alloc, setup, 2);
+    let mut made: Cluster<R, J> = followed(rt, alloc, setup, 2);
     passes(alloc, &mut made, bytes)
 }
 
@@ -329,9 +335,9 @@ fn is_passed_on<R: Handle>(rt: R, alloc: Global, bytes: &[u8]) -> bool {
 }
 
 // Whether a broker with two replicas counts the row where the first of them fails so, and lists it as missing where both do.
-fn passes_over<R: Handle, N: NodeList>(
+fn passes_over<R: Handle, J: Publication>(
     alloc: Global,
-    made: &mut Cluster<R, N>,
+    made: &mut Cluster<R, J>,
     failure: Failure,
 ) -> bool {
     set(made, 0, Behind::Failing(failure));
@@ -341,7 +347,7 @@ fn passes_over<R: Handle, N: NodeList>(
 }
 
 // Whether the broker wants memory where the first link that it asks does, and asks no other then.
-fn lacks_memory<R: Handle, N: NodeList>(alloc: Global, made: &mut Cluster<R, N>) -> bool {
+fn lacks_memory<R: Handle, J: Publication>(alloc: Global, made: &mut Cluster<R, J>) -> bool {
     made_by_two(made);
     set(made, 0, Behind::Failing(Failure::Memory));
     let lacks = counted(alloc, made, 0).as_str() == NO_MEMORY && made_by_two(made) == (1, 0);
@@ -351,15 +357,16 @@ fn lacks_memory<R: Handle, N: NodeList>(alloc: Global, made: &mut Cluster<R, N>)
 const NO_MEMORY: &str = "500 {\"error\":\"Memory\"}";
 
 // Whether a broker over these parts does so where a link fails so.
-fn fails_as_it_should<R: Handle, N: NodeList>(
+fn fails_as_it_should<R: Handle, J: Publication>(
     rt: R,
     alloc: Global,
     setup: Setup<R>,
     failure: Failure,
 ) -> bool
-    requires { names_of setup.inventory ≡ N.names }
+    requires book { setup.list ≡ J.book }
+    requires opening { setup.inventory ≡ J.opening }
 {
-    let mut made: Cluster<R, N> = followed(rt, alloc, setup, 2);
+    let mut made: Cluster<R, J> = followed(rt, alloc, setup, 2);
     match failure {
         Failure::Memory => lacks_memory(alloc, &mut made),
         _ => passes_over(alloc, &mut made, failure),
@@ -386,17 +393,18 @@ fn failing_links(rt: HostRuntime) {
 }
 
 // Whether the first of two replicas is asked at an even turn alone, and the second at an odd one.
-fn takes_turns<R: Handle, N: NodeList>(alloc: Global, made: &mut Cluster<R, N>) -> bool {
+fn takes_turns<R: Handle, J: Publication>(alloc: Global, made: &mut Cluster<R, J>) -> bool {
     made_by_two(made);
     let even = counted(alloc, made, 0).as_str() == COUNTED && made_by_two(made) == (1, 0);
     even && counted(alloc, made, 1).as_str() == COUNTED && made_by_two(made) == (0, 1)
 }
 
 // The same of a broker over these parts.
-fn turns_on<R: Handle, N: NodeList>(rt: R, alloc: Global, setup: Setup<R>) -> bool
-    requires { names_of setup.inventory ≡ N.names }
+fn turns_on<R: Handle, J: Publication>(rt: R, alloc: Global, setup: Setup<R>) -> bool
+    requires book { setup.list ≡ J.book }
+    requires opening { setup.inventory ≡ J.opening }
 {
-    let mut made: Cluster<R, N> = followed(rt, alloc, setup, 2);
+    let mut made: Cluster<R, J> = followed(rt, alloc, setup, 2);
     takes_turns(alloc, &mut made)
 }
 

@@ -1,14 +1,13 @@
 //! Clusters in memory: data nodes, each after a link of its own, and a broker that follows them.
 ghost use Rattle.std.specs.Prelude.{◌≡◌, ◌⊎◌, ◌≤◌, IsTrue, length, IfOk, IfErr, IsErrAnd};
 ghost use Rattle.druid_link.specs.Links.{IsLinkFault, came_of, faults_after};
-ghost use Rattle.druid_inventory.specs.Join.{names_of};
 
 use druid_broker::{Routes, serve_one, sync_turn};
 use druid_inventory::{Inventory, MAX_NODES};
 use druid_link::{Link, MAX_EXCHANGE};
 use druid_message::WireFault;
 use druid_node::{DataNode, Incarnation, NodeState};
-use druid_published::{NodeList, Publisher, Receipt, View, open};
+use druid_published::{Opened, Publication, Publisher, View, open};
 use druid_rows::{Row, Schema, Segment};
 use druid_scatter::Rotate;
 use druid_segid::{Name, SegmentId, Version};
@@ -24,9 +23,9 @@ use std::sync::Wait;
 use std::thread::Threads;
 
 /// What clusters do with the handle.
-pub(crate) trait Handle: Abort + Wait + Threads + Copy + Send + Sync {}
+pub(crate) trait Handle: Abort + Wait + Threads + Copy + Drop + Send + Sync {}
 
-impl<R: Abort + Wait + Threads + Copy + Send + Sync> Handle for R {}
+impl<R: Abort + Wait + Threads + Copy + Drop + Send + Sync> Handle for R {}
 
 /// The incarnation of the nodes here.
 pub(crate) struct First;
@@ -166,19 +165,20 @@ impl<R: Handle> TestLink<R> {
     }
 }
 
-/// What a cluster is made of: an inventory of its nodes, and link k to node k.
+/// What a cluster is made of: a list with nothing published, an inventory of its nodes, and link k to node k.
 #[derive(Drop)]
 pub(crate) struct Setup<R: Handle> {
+    pub(crate) list: Opened,
     pub(crate) inventory: Inventory,
     pub(crate) links: Vec<TestLink<R>>,
 }
 
 /// A broker, a view of what it publishes, and link k to node k of its list.
 #[derive(Drop)]
-pub(crate) struct Cluster<R: Handle, N: NodeList> {
+pub(crate) struct Cluster<R: Handle, J: Publication> {
     pub(crate) rt: R,
-    pub(crate) publisher: Publisher<N>,
-    pub(crate) view: View<N>,
+    pub(crate) publisher: Publisher<J, R>,
+    pub(crate) view: View<J>,
     pub(crate) links: Vec<TestLink<R>>,
 }
 
@@ -314,20 +314,22 @@ fn node(rt: &impl Abort, alloc: Global, text: &str) -> DataNode<First> {
 }
 
 // Follows a node, and tells the view of it.
-fn follow_node<R: Handle, N: NodeList>(alloc: Global, cluster: &mut Cluster<R, N>, node: NodeNo) {
+fn follow_node<R: Handle, J: Publication>(
+    alloc: Global,
+    cluster: &mut Cluster<R, J>,
+    node: NodeNo,
+) {
     let rt = cluster.rt;
     if node >= cluster.publisher.inventory().node_count() {
         panic!(rt; "more links than nodes");
     }
     let link = cluster.links.get_mut(node as usize).expect(&rt, "a link");
-    let (_, receipt) = sync_turn(&rt, alloc, node, link, &mut cluster.publisher).expect(
-        &rt, "a turn",
-    );
+    let (_, receipt) = sync_turn(alloc, node, link, &mut cluster.publisher).expect(&rt, "a turn");
     cluster.view.learn(&receipt);
 }
 
 // Follows the first nodes.
-fn follow<R: Handle, N: NodeList>(alloc: Global, cluster: &mut Cluster<R, N>, count: usize) {
+fn follow<R: Handle, J: Publication>(alloc: Global, cluster: &mut Cluster<R, J>, count: usize) {
     let count = count.min(cluster.links.len());
     for node in 0..64_u16 {
         if (node as usize) < count {
@@ -370,21 +372,25 @@ pub(crate) fn set_up<R: Handle>(rt: R, alloc: Global, text: &str) -> Setup<R> {
         links.push(node_link(rt, alloc, one)).expect(&rt, "memory");
     }
     Setup {
+        list: Opened::new(),
         inventory: inventory(&rt, alloc, links.len()),
         links,
     }
 }
 
 /// A cluster of these parts, whose broker has followed the first nodes.
-pub(crate) fn followed<R: Handle, N: NodeList>(
+pub(crate) fn followed<R: Handle, J: Publication>(
     rt: R,
     alloc: Global,
     setup: Setup<R>,
     count: usize,
-) -> Cluster<R, N>
-    requires { names_of setup.inventory ≡ N.names }
+) -> Cluster<R, J>
+    requires book { setup.list ≡ J.book }
+    requires opening { setup.inventory ≡ J.opening }
 {
-    let (publisher, mut views) = open::<N>(alloc, setup.inventory, 1).expect(&rt, "memory");
+    let (publisher, mut views) = open::<J, R>(alloc, rt, setup.list, setup.inventory, 1).expect(
+        &rt, "memory",
+    );
     let view = views.pop().expect(&rt, "a view");
     let mut cluster = Cluster {
         rt,
@@ -398,11 +404,11 @@ pub(crate) fn followed<R: Handle, N: NodeList>(
 
 /// Whether there is a link to each node that the view reads of.
 #[tactic(auto, using(crate::proofs::LinkLemmas::linked))]
-pub(crate) fn is_linked<R: Handle, N: NodeList>(cluster: &mut Cluster<R, N>) -> bool
-    ensures { IsTrue result → length N.names ≤ length cluster.new.links.items }
+pub(crate) fn is_linked<R: Handle, J: Publication>(cluster: &mut Cluster<R, J>) -> bool
+    ensures { IsTrue result → length J.opening ≤ length cluster.new.links.items }
 {
     let rt = cluster.rt;
-    let Ok(found) = cluster.view.read(&rt) else {
+    let Ok(found) = cluster.view.read() else {
         return false;
     };
     if cluster.links.len() < found.node_count() as usize {
@@ -412,16 +418,17 @@ pub(crate) fn is_linked<R: Handle, N: NodeList>(cluster: &mut Cluster<R, N>) -> 
 }
 
 // Serves a message at a turn, over links to all nodes.
-fn serve_linked<R: Handle, N: NodeList>(
+fn serve_linked<R: Handle, J: Publication>(
+    rt: R,
     alloc: Global,
-    cluster: &mut Cluster<R, N>,
+    view: &mut View<J>,
+    links: &mut [TestLink<R>],
     turn: u64,
     message: &[u8],
     written: &mut Vec<u8>,
 )
-    requires { length N.names ≤ length cluster.old.links.items }
+    requires { length J.opening ≤ length links.old }
 {
-    let rt = cluster.rt;
     let routes = Routes::new(alloc).expect(&rt, "routes");
     let mut reader = message;
     serve_one(
@@ -430,18 +437,18 @@ fn serve_linked<R: Handle, N: NodeList>(
         &routes,
         &mut reader,
         written,
-        &mut cluster.view,
+        view,
         turn,
         &Rotate,
-        &mut cluster.links,
+        links,
     )
     .expect(&rt, "an answer");
 }
 
 // Serves a message at a turn.
-fn serve<R: Handle, N: NodeList>(
+fn serve<R: Handle, J: Publication>(
     alloc: Global,
-    cluster: &mut Cluster<R, N>,
+    cluster: &mut Cluster<R, J>,
     turn: u64,
     message: &[u8],
     written: &mut Vec<u8>,
@@ -450,30 +457,36 @@ fn serve<R: Handle, N: NodeList>(
     if !is_linked(cluster) {
         panic!(rt; "fewer links than nodes");
     }
-    serve_linked(alloc, cluster, turn, message, written);
+    let Cluster { view, links, .. } = cluster;
+    serve_linked(rt, alloc, view, links, turn, message, written);
 }
 
-/// What the broker answers to a message once its view was given a receipt.
-pub(crate) fn answered_after<R: Handle, N: NodeList>(
+/// What the broker answers to a message once its publisher is gone.
+pub(crate) fn answered_alone<R: Handle, J: Publication>(
     alloc: Global,
-    cluster: &mut Cluster<R, N>,
-    receipt: &Receipt<N>,
+    cluster: Cluster<R, J>,
     message: &[u8],
 ) -> String {
-    let rt = cluster.rt;
-    if !is_linked(cluster) {
-        panic!(rt; "fewer links than nodes");
+    let mut cluster = cluster;
+    if !is_linked(&mut cluster) {
+        panic!(cluster.rt; "fewer links than nodes");
     }
-    cluster.view.learn(receipt);
+    let Cluster {
+        rt,
+        publisher,
+        mut view,
+        mut links,
+    } = cluster;
+    drop(publisher);
     let mut written = Vec::new(alloc);
-    serve_linked(alloc, cluster, 0, message, &mut written);
+    serve_linked(rt, alloc, &mut view, &mut links, 0, message, &mut written);
     told_response(&rt, alloc, &written)
 }
 
 /// What the broker writes for a message, at a turn.
-pub(crate) fn written<R: Handle, N: NodeList>(
+pub(crate) fn written<R: Handle, J: Publication>(
     alloc: Global,
-    cluster: &mut Cluster<R, N>,
+    cluster: &mut Cluster<R, J>,
     turn: u64,
     message: &[u8],
 ) -> Vec<u8> {
@@ -496,9 +509,9 @@ pub(crate) fn told_response(rt: &impl Abort, alloc: Global, bytes: &[u8]) -> Str
 }
 
 /// What the broker answers to a message, at a turn: `200 true`.
-pub(crate) fn answered<R: Handle, N: NodeList>(
+pub(crate) fn answered<R: Handle, J: Publication>(
     alloc: Global,
-    cluster: &mut Cluster<R, N>,
+    cluster: &mut Cluster<R, J>,
     turn: u64,
     message: &[u8],
 ) -> String {
@@ -515,9 +528,9 @@ pub(crate) fn message_of(rt: &impl Abort, alloc: Global, query: &str) -> String 
 }
 
 /// What it answers to a query.
-pub(crate) fn posted<R: Handle, N: NodeList>(
+pub(crate) fn posted<R: Handle, J: Publication>(
     alloc: Global,
-    cluster: &mut Cluster<R, N>,
+    cluster: &mut Cluster<R, J>,
     turn: u64,
     query: &str,
 ) -> String {
@@ -526,14 +539,17 @@ pub(crate) fn posted<R: Handle, N: NodeList>(
 }
 
 // The link at a place.
-fn link_at<R: Handle, N: NodeList>(cluster: &mut Cluster<R, N>, place: usize) -> &mut TestLink<R> {
+fn link_at<R: Handle, J: Publication>(
+    cluster: &mut Cluster<R, J>,
+    place: usize,
+) -> &mut TestLink<R> {
     let rt = cluster.rt;
     cluster.links.get_mut(place).expect(&rt, "a link")
 }
 
 /// Puts something else after a link.
-pub(crate) fn set<R: Handle, N: NodeList>(
-    cluster: &mut Cluster<R, N>,
+pub(crate) fn set<R: Handle, J: Publication>(
+    cluster: &mut Cluster<R, J>,
     place: usize,
     behind: Behind,
 ) {
@@ -541,9 +557,9 @@ pub(crate) fn set<R: Handle, N: NodeList>(
 }
 
 /// How often each link was asked since the last time that this was asked: `1 0 2`.
-pub(crate) fn made_by_all<R: Handle, N: NodeList>(
+pub(crate) fn made_by_all<R: Handle, J: Publication>(
     alloc: Global,
-    cluster: &mut Cluster<R, N>,
+    cluster: &mut Cluster<R, J>,
 ) -> String {
     let rt = cluster.rt;
     let mut text = String::new(alloc);
@@ -557,7 +573,7 @@ pub(crate) fn made_by_all<R: Handle, N: NodeList>(
 }
 
 /// How many exchanges each of the first two links made since the last time that this was asked.
-pub(crate) fn made_by_two<R: Handle, N: NodeList>(cluster: &mut Cluster<R, N>) -> (u64, u64) {
+pub(crate) fn made_by_two<R: Handle, J: Publication>(cluster: &mut Cluster<R, J>) -> (u64, u64) {
     let first = link_at(cluster, 0).take_made();
     (first, link_at(cluster, 1).take_made())
 }

@@ -13,16 +13,20 @@ mod gate;
 #[cfg(test)]
 mod limits;
 #[cfg(test)]
+mod many_pieces;
+#[cfg(test)]
 mod plain;
 #[cfg(test)]
 mod printing;
 #[cfg(test)]
 mod published;
 #[cfg(test)]
+mod reading;
+#[cfg(test)]
 mod scatter;
 #[cfg(test)]
 mod sockets;
 #[cfg(test)]
-mod stale;
-#[cfg(test)]
 mod turns;
+#[cfg(test)]
+mod unread;

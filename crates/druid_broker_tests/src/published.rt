@@ -1,12 +1,11 @@
 //! What views read of what is published.
 ghost use Rattle.std.specs.Prelude.{◌≡◌};
-ghost use Rattle.druid_inventory.specs.Join.{names_of};
 
 use crate::printing::{assert_told, printed};
 use crate::turns::{first_mark, link, one_node};
 use druid_broker::fetch;
 use druid_inventory::Inventory;
-use druid_published::{NodeList, Publisher, View, open};
+use druid_published::{Opened, Publication, Publisher, View, open};
 use druid_shard::Reply;
 use std::alloc::Global;
 use std::marker::Brand;
@@ -25,10 +24,10 @@ const DELTA: &str =
 const GAP: &str =
     "200 {\"counter\":{\"counter\":8,\"hash\":1},\"from\":{\"counter\":7,\"hash\":1},\"requests\":[@],\"resetCause\":null,\"resetCounter\":false}";
 
-fn reply<N: NodeList>(
-    rt: &impl Abort,
+fn reply<R: Wait + Abort + Drop, J: Publication>(
+    rt: &R,
     alloc: Global,
-    publisher: &Publisher<N>,
+    publisher: &Publisher<J, R>,
     text: &str,
 ) -> Reply {
     let mut link = link(rt, alloc, text);
@@ -39,84 +38,101 @@ fn reply<N: NodeList>(
 }
 
 // The mark of the first node that a view reads, and how many segments it serves: `1 3: 1`.
-fn read<R: Wait + Abort, N: NodeList>(rt: &R, alloc: Global, view: &mut View<N>) -> String {
-    let found = view.read(rt).expect(rt, "an inventory");
+fn read<J: Publication>(rt: &impl Abort, alloc: Global, view: &mut View<J>) -> String {
+    let found = match view.read() {
+        Ok(found) => found,
+        Err(fault) => return printed(rt, alloc, &fault),
+    };
     let mark = first_mark(rt, alloc, &found);
     let segments = found.segments(0).expect(rt, "a node").len();
     format!(in alloc; "{mark}: {segments}").expect(rt, "memory")
 }
 
 // What is reported of a reply that is not published.
-fn refused<R: Wait + Abort, N: NodeList>(
+fn refused<R: Wait + Abort + Drop, J: Publication>(
     rt: &R,
     alloc: Global,
-    publisher: &mut Publisher<N>,
+    publisher: &mut Publisher<J, R>,
     text: &str,
 ) -> String {
     let reply = reply(rt, alloc, publisher, text);
-    match publisher.publish(rt, 0, &reply) {
+    match publisher.publish(0, &reply) {
         Ok(_) => printed(rt, alloc, &"published"),
         Err(fault) => printed(rt, alloc, &fault),
     }
 }
 
 // Publishes a reply, and tells the view of its receipt.
-fn publish_to<R: Wait + Abort, N: NodeList>(
+fn publish_to<R: Wait + Abort + Drop, J: Publication>(
     rt: &R,
     alloc: Global,
-    publisher: &mut Publisher<N>,
-    view: &mut View<N>,
+    publisher: &mut Publisher<J, R>,
+    view: &mut View<J>,
     text: &str,
 ) {
     let reply = reply(rt, alloc, publisher, text);
-    let (_, receipt) = publisher.publish(rt, 0, &reply).expect(rt, "a receipt");
+    let (_, receipt) = publisher.publish(0, &reply).expect(rt, "a receipt");
     view.learn(&receipt);
 }
 
 // What both views read.
-fn both<R: Wait + Abort, N: NodeList>(
-    rt: &R,
+fn both<J: Publication>(
+    rt: &impl Abort,
     alloc: Global,
-    told: &mut View<N>,
-    untold: &mut View<N>,
+    told: &mut View<J>,
+    untold: &mut View<J>,
 ) -> String {
     let first = read(rt, alloc, told);
     let other = read(rt, alloc, untold);
     format!(in alloc; "{first} {other}").expect(rt, "memory")
 }
 
-// What the views read before anything is published, once a snapshot is, once a delta is, and once a reply was refused. The receipts
-// are given to the first of them alone.
-fn views_read<R: Wait + Abort, N: NodeList>(
+// What the views read before anything is published, once a snapshot is, once a delta is, once a reply was refused, and once the
+// publisher is gone. The receipts are given to the first of them alone.
+fn views_read<R: Wait + Abort + Drop, J: Publication>(
     rt: &R,
     alloc: Global,
-    publisher: &mut Publisher<N>,
-    told: &mut View<N>,
-    untold: &mut View<N>,
+    publisher: Publisher<J, R>,
+    told: &mut View<J>,
+    untold: &mut View<J>,
 ) -> String {
+    let mut publisher = publisher;
     let before = both(rt, alloc, told, untold);
-    publish_to(rt, alloc, publisher, told, SNAPSHOT);
+    publish_to(rt, alloc, &mut publisher, told, SNAPSHOT);
     let snapshot = both(rt, alloc, told, untold);
-    publish_to(rt, alloc, publisher, told, DELTA);
+    publish_to(rt, alloc, &mut publisher, told, DELTA);
     let delta = both(rt, alloc, told, untold);
-    let refused = refused(rt, alloc, publisher, GAP);
+    let refused = refused(rt, alloc, &mut publisher, GAP);
     let after = both(rt, alloc, told, untold);
-    format!(in alloc; "{before}, {snapshot}, {delta}, {refused}, {after}").expect(rt, "memory")
+    drop(publisher);
+    let gone = both(rt, alloc, told, untold);
+    format!(in alloc; "{before}, {snapshot}, {delta}, {refused}, {after}, {gone}").expect(
+        rt, "memory",
+    )
 }
 
 // The same of the two views of a new publisher.
-fn both_read<R: Wait + Abort, N: NodeList>(rt: &R, alloc: Global, inventory: Inventory) -> String
-    requires { names_of inventory ≡ N.names }
+fn both_read<R: Wait + Abort + Drop + Copy, J: Publication>(
+    rt: &R,
+    alloc: Global,
+    opened: Opened,
+    inventory: Inventory,
+) -> String
+    requires book { opened ≡ J.book }
+    requires opening { inventory ≡ J.opening }
 {
-    let (mut publisher, mut views) = open::<N>(alloc, inventory, 2).expect(rt, "memory");
+    let (publisher, mut views) = open::<J, R>(alloc, *rt, opened, inventory, 2).expect(
+        rt, "memory",
+    );
     let mut told = views.pop().expect(rt, "a view");
     let mut untold = views.pop().expect(rt, "a view");
-    views_read(rt, alloc, &mut publisher, &mut told, &mut untold)
+    views_read(rt, alloc, publisher, &mut told, &mut untold)
 }
 
-fn read_of<R: Wait + Abort>(rt: &R, alloc: Global) -> String {
+fn read_of<R: Wait + Abort + Drop + Copy>(rt: &R, alloc: Global) -> String {
+    let opened = Opened::new();
     let inventory = one_node(rt, alloc);
-    both_read::<R, Brand>(rt, alloc, inventory)
+    both_read::<R, Brand>(rt, alloc, opened, inventory)
 }
 
 #[test]
@@ -126,6 +142,6 @@ fn ample_memory(rt: HostRuntime) {
         &rt,
         "two views",
         read,
-        "0 0: 0 0 0: 0, 1 3: 1 1 3: 1, 1 4: 0 1 4: 0, B1: A2: a gap, 1 4: 0 1 4: 0",
+        "0 0: 0 0 0: 0, 1 3: 1 1 3: 1, 1 4: 0 1 4: 0, B1: A2: a gap, 1 4: 0 1 4: 0, B3: no reading B3: no reading",
     );
 }

@@ -1,6 +1,5 @@
 //! In which order replicas are asked, and how often.
 ghost use Rattle.std.specs.Prelude.{◌≡◌, ◌≤◌, length};
-ghost use Rattle.druid_inventory.specs.Join.{names_of};
 ghost use Rattle.druid_scatter.specs.Rounds.{AreLinked};
 
 use crate::broker::{counted, query};
@@ -14,7 +13,7 @@ use crate::turns::link;
 use druid_broker::fetch_entry;
 use druid_inventory::Inventory;
 use druid_link::Link;
-use druid_published::NodeList;
+use druid_published::Publication;
 use druid_query::{Asked, Query};
 use druid_query_text::read_query;
 use druid_scatter::{Answer, Pick, Plan, Rotate, gather, plan};
@@ -39,9 +38,9 @@ fn rotation(rt: HostRuntime) {
 }
 
 // How many exchanges each link of two makes for a count at a turn.
-fn made<R: Handle, N: NodeList>(
+fn made<R: Handle, J: Publication>(
     alloc: Global,
-    cluster: &mut Cluster<R, N>,
+    cluster: &mut Cluster<R, J>,
     turn: u64,
 ) -> (u64, u64) {
     made_by_two(cluster);
@@ -50,10 +49,11 @@ fn made<R: Handle, N: NodeList>(
 }
 
 // The same at the first two turns.
-fn made_in_turn<R: Handle, N: NodeList>(rt: R, alloc: Global, setup: Setup<R>) -> [(u64, u64); 2]
-    requires { names_of setup.inventory ≡ N.names }
+fn made_in_turn<R: Handle, J: Publication>(rt: R, alloc: Global, setup: Setup<R>) -> [(u64, u64); 2]
+    requires book { setup.list ≡ J.book }
+    requires opening { setup.inventory ≡ J.opening }
 {
-    let mut cluster: Cluster<R, N> = followed(rt, alloc, setup, 2);
+    let mut cluster: Cluster<R, J> = followed(rt, alloc, setup, 2);
     let first = made(alloc, &mut cluster, 0);
     [first, made(alloc, &mut cluster, 1)]
 }
@@ -83,7 +83,7 @@ const IN_TURN: &str = "... = 1 0 0, 0 1 0, 0 0 1, 1 0 0, 0 1 0, 0 0 1
 !!! = 1 1 1, 1 1 1, 1 1 1, 1 1 1, 1 1 1, 1 1 1";
 
 // How often each replica is asked at six turns.
-fn asked_in_turn<R: Handle, N: NodeList>(alloc: Global, cluster: &mut Cluster<R, N>) -> String {
+fn asked_in_turn<R: Handle, J: Publication>(alloc: Global, cluster: &mut Cluster<R, J>) -> String {
     let rt = cluster.rt;
     let mut text = String::new(alloc);
     made_by_all(alloc, cluster);
@@ -98,15 +98,16 @@ fn asked_in_turn<R: Handle, N: NodeList>(alloc: Global, cluster: &mut Cluster<R,
 }
 
 // The same over these parts, of which the marked replicas fail.
-fn asked_over<R: Handle, N: NodeList>(
+fn asked_over<R: Handle, J: Publication>(
     rt: R,
     alloc: Global,
     setup: Setup<R>,
     marks: Vec<u8>,
 ) -> String
-    requires { names_of setup.inventory ≡ N.names }
+    requires book { setup.list ≡ J.book }
+    requires opening { setup.inventory ≡ J.opening }
 {
-    let mut cluster: Cluster<R, N> = followed(rt, alloc, setup, 3);
+    let mut cluster: Cluster<R, J> = followed(rt, alloc, setup, 3);
     for (place, mark) in marks.iter().enumerate() {
         if *mark == b'!' {
             set(&mut cluster, place, Behind::Failing(Failure::Connect));
@@ -145,8 +146,8 @@ fn of_two(rt: &impl Abort, alloc: Global) -> Inventory {
     with_node(rt, alloc, &first, 1)
 }
 
-// A count over a part of the day.
-fn count(rt: &impl Abort, alloc: Global) -> Query {
+/// A count over a part of the day.
+pub(crate) fn count(rt: &impl Abort, alloc: Global) -> Query {
     let text = query(
         rt,
         alloc,
@@ -155,8 +156,8 @@ fn count(rt: &impl Abort, alloc: Global) -> Query {
     read_query(alloc, text.as_bytes()).expect(rt, "a query")
 }
 
-// A piece: the identifier of its segment, and its interval.
-fn piece_text(rt: &impl Abort, alloc: Global, asked: &Asked) -> String {
+/// A piece: the identifier of its segment, and its interval.
+pub(crate) fn piece_text(rt: &impl Abort, alloc: Global, asked: &Asked) -> String {
     let id = asked.0.text(alloc).expect(rt, "memory");
     let interval = asked.1;
     format!(in alloc; "{id} {interval}").expect(rt, "memory")
@@ -201,8 +202,8 @@ fn linked_plan(
     plan
 }
 
-// What is gathered over these links at turn 1.
-fn gathered<R: Handle, L: Link + Send>(
+/// What is gathered over these links at turn 1.
+pub(crate) fn gathered<R: Handle, L: Link + Send>(
     rt: R,
     alloc: Global,
     inventory: &Inventory,

@@ -1,6 +1,5 @@
 //! A broker that is seeded by another over a socket of this machine.
 ghost use Rattle.std.specs.Prelude.{◌≡◌};
-ghost use Rattle.druid_inventory.specs.Join.{names_of};
 
 use crate::cluster::{Cluster, Handle, Setup, followed, is_linked, set_up};
 use crate::printing::printed;
@@ -8,7 +7,7 @@ use crate::turns::one_node;
 use druid_broker::{Routes, seed_turn, serve_one};
 use druid_inventory::Inventory;
 use druid_link::TcpLink;
-use druid_published::{NodeList, Publisher, open};
+use druid_published::{Opened, Publication, Publisher, open};
 use druid_scatter::Rotate;
 use std::alloc::Global;
 use std::io::BufReader;
@@ -19,10 +18,10 @@ use std::thread::join;
 use std::time::Clock;
 
 // Answers one connection, and says whether it did.
-fn answers_once<R: Handle, N: NodeList>(
+fn answers_once<R: Handle, J: Publication>(
     alloc: Global,
     listener: &TcpListener,
-    peer: &mut Cluster<R, N>,
+    peer: &mut Cluster<R, J>,
 ) -> bool {
     if !is_linked(peer) {
         return false;
@@ -52,17 +51,17 @@ fn answers_once<R: Handle, N: NodeList>(
 }
 
 // Whether a broker is seeded over the socket.
-fn is_seeded_over<R: Handle + Net + Clock, N: NodeList>(
+fn is_seeded_over<R: Handle + Net + Clock, J: Publication>(
     rt: R,
     alloc: Global,
     address: String,
-    publisher: &mut Publisher<N>,
+    publisher: &mut Publisher<J, R>,
 ) -> bool {
     if publisher.inventory().node_count() == 0 {
         return false;
     }
     let mut link = TcpLink::new(rt, address);
-    seed_turn(&rt, alloc, 0, &mut link, publisher).is_ok()
+    seed_turn(alloc, 0, &mut link, publisher).is_ok()
 }
 
 fn address_of(rt: &impl Abort, alloc: Global, listener: &TcpListener) -> String {
@@ -73,9 +72,9 @@ fn address_of(rt: &impl Abort, alloc: Global, listener: &TcpListener) -> String 
 // Whether a broker that is seeded by this one over a socket equals it then.
 fn equals_once_seeded<
     R: Handle + Net<Listener = TcpListener, Stream = TcpStream> + Clock,
-    N: NodeList + Send,
-    M: NodeList + Send,
->(rt: R, alloc: Global, peer: &mut Cluster<R, N>, publisher: &mut Publisher<M>) -> bool {
+    J: Publication + Send,
+    K: Publication + Send,
+>(rt: R, alloc: Global, peer: &mut Cluster<R, J>, publisher: &mut Publisher<K, R>) -> bool {
     let listener = TcpListener::bind(&rt, "127.0.0.1:0").expect(&rt, "a listener");
     let address = address_of(&rt, alloc, &listener);
     let (served, seeded) = join(
@@ -89,14 +88,16 @@ fn equals_once_seeded<
 // The same of a broker of these parts, and of one of this inventory.
 fn equals_its_peer<
     R: Handle + Net<Listener = TcpListener, Stream = TcpStream> + Clock,
-    N: NodeList + Send,
-    M: NodeList + Send,
->(rt: R, alloc: Global, setup: Setup<R>, inventory: Inventory) -> bool
-    requires peer { names_of setup.inventory ≡ N.names }
-    requires seeded { names_of inventory ≡ M.names }
+    J: Publication + Send,
+    K: Publication + Send,
+>(rt: R, alloc: Global, setup: Setup<R>, list: Opened, inventory: Inventory) -> bool
+    requires peer_book { setup.list ≡ J.book }
+    requires peer { setup.inventory ≡ J.opening }
+    requires book { list ≡ K.book }
+    requires opening { inventory ≡ K.opening }
 {
-    let mut peer: Cluster<R, N> = followed(rt, alloc, setup, 1);
-    let (mut publisher, _views) = open::<M>(alloc, inventory, 1).expect(&rt, "memory");
+    let mut peer: Cluster<R, J> = followed(rt, alloc, setup, 1);
+    let (mut publisher, _views) = open::<K, R>(alloc, rt, list, inventory, 1).expect(&rt, "memory");
     equals_once_seeded(rt, alloc, &mut peer, &mut publisher)
 }
 
@@ -106,7 +107,7 @@ fn seeded<R: Handle + Net<Listener = TcpListener, Stream = TcpStream> + Clock>(
 ) -> bool {
     let setup = set_up(rt, alloc, "v1/0/24/0/1 d:m 0/a/1");
     let inventory = one_node(&rt, alloc);
-    equals_its_peer::<R, Brand, Brand>(rt, alloc, setup, inventory)
+    equals_its_peer::<R, Brand, Brand>(rt, alloc, setup, Opened::new(), inventory)
 }
 
 #[test]

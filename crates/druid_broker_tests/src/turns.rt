@@ -1,6 +1,5 @@
 //! How brokers follow nodes and seed each other.
 ghost use Rattle.std.specs.Prelude.{◌≡◌};
-ghost use Rattle.druid_inventory.specs.Join.{names_of};
 
 use crate::cluster::{Cluster, Handle, Setup, answered, followed, set_up};
 use crate::printing::{assert_told, halves, printed, replaced};
@@ -8,7 +7,7 @@ use crate::published::SNAPSHOT;
 use druid_broker::{fetch_entry, seed_turn, sync_turn};
 use druid_inventory::{Inventory, Outcome};
 use druid_link::MemoryLink;
-use druid_published::{NodeList, Publisher, open};
+use druid_published::{Opened, Publication, Publisher, open};
 use druid_segid::Name;
 use druid_shard::{Body, Reply};
 use std::alloc::Global;
@@ -108,27 +107,27 @@ fn outcome_of(outcome: Outcome) -> &'static str {
 }
 
 // What following the node tells.
-fn followed_once<R: Wait + Abort, N: NodeList>(
+fn followed_once<R: Wait + Abort + Drop, J: Publication>(
     rt: &R,
     alloc: Global,
-    publisher: &mut Publisher<N>,
+    publisher: &mut Publisher<J, R>,
     replies: &str,
 ) -> String {
     let mut link = link(rt, alloc, replies);
     if publisher.inventory().node_count() == 0 {
         panic!(rt; "no node");
     }
-    match sync_turn(rt, alloc, 0, &mut link, publisher) {
+    match sync_turn(alloc, 0, &mut link, publisher) {
         Ok((outcome, _)) => printed(rt, alloc, &outcome_of(outcome)),
         Err(fault) => printed(rt, alloc, &fault),
     }
 }
 
 // What following the node tells, and the mark that is then held.
-fn told_of<R: Wait + Abort, N: NodeList>(
+fn told_of<R: Wait + Abort + Drop, J: Publication>(
     rt: &R,
     alloc: Global,
-    publisher: &mut Publisher<N>,
+    publisher: &mut Publisher<J, R>,
     replies: &str,
 ) -> String {
     let told = followed_once(rt, alloc, publisher, replies);
@@ -137,28 +136,34 @@ fn told_of<R: Wait + Abort, N: NodeList>(
 }
 
 // Asserts that the replies of a line are followed so.
-fn assert_line<R: Wait + Abort, N: NodeList>(
+fn assert_line<R: Wait + Abort + Drop, J: Publication>(
     rt: &R,
     alloc: Global,
-    publisher: &mut Publisher<N>,
+    publisher: &mut Publisher<J, R>,
     line: &str,
 ) {
     let (replies, wanted) = halves(rt, line, " = ");
     assert_told(rt, line, told_of(rt, alloc, publisher, replies), wanted);
 }
 
-fn assert_lines<R: Wait + Abort, N: NodeList>(rt: &R, alloc: Global, inventory: Inventory)
-    requires { names_of inventory ≡ N.names }
+fn assert_lines<R: Wait + Abort + Drop + Copy, J: Publication>(
+    rt: &R,
+    alloc: Global,
+    list: Opened,
+    inventory: Inventory,
+)
+    requires book { list ≡ J.book }
+    requires opening { inventory ≡ J.opening }
 {
-    let (mut publisher, _views) = open::<N>(alloc, inventory, 1).expect(rt, "memory");
+    let (mut publisher, _views) = open::<J, R>(alloc, *rt, list, inventory, 1).expect(rt, "memory");
     for line in TURNS.lines() {
         assert_line(rt, alloc, &mut publisher, line);
     }
 }
 
-fn assert_turns<R: Wait + Abort>(rt: &R, alloc: Global) {
+fn assert_turns<R: Wait + Abort + Drop + Copy>(rt: &R, alloc: Global) {
     let inventory = one_node(rt, alloc);
-    assert_lines::<R, Brand>(rt, alloc, inventory);
+    assert_lines::<R, Brand>(rt, alloc, Opened::new(), inventory);
 }
 
 #[test]
@@ -167,34 +172,37 @@ fn turns(rt: HostRuntime) {
 }
 
 // Seeds a broker that has followed nothing with this entry, and gives whether it moved.
-fn moves<R: Handle, N: NodeList>(
+fn moves<R: Handle, J: Publication>(
     rt: R,
     alloc: Global,
-    publisher: &mut Publisher<N>,
+    publisher: &mut Publisher<J, R>,
     entry: &str,
 ) -> bool {
     let mut first = link(&rt, alloc, entry);
     if publisher.inventory().node_count() == 0 {
         panic!(rt; "no node");
     }
-    let (outcome, _) = seed_turn(&rt, alloc, 0, &mut first, publisher).expect(&rt, "a turn");
+    let (outcome, _) = seed_turn(alloc, 0, &mut first, publisher).expect(&rt, "a turn");
     outcome == Outcome::Moved
 }
 
 // Whether a broker that has followed nothing is seeded with what another knows of its first node.
-fn is_seeded<R: Handle, N: NodeList, M: NodeList>(
+fn is_seeded<R: Handle, J: Publication, K: Publication>(
     rt: R,
     alloc: Global,
     setup: Setup<R>,
+    list: Opened,
     inventory: Inventory,
 ) -> bool
-    requires peer { names_of setup.inventory ≡ N.names }
-    requires seeded { names_of inventory ≡ M.names }
+    requires peer_book { setup.list ≡ J.book }
+    requires peer { setup.inventory ≡ J.opening }
+    requires book { list ≡ K.book }
+    requires opening { inventory ≡ K.opening }
 {
-    let mut peer: Cluster<R, N> = followed(rt, alloc, setup, 1);
+    let mut peer: Cluster<R, J> = followed(rt, alloc, setup, 1);
     let request = b"GET /druid-internal/v1/inventory/0 HTTP/1.1\r\n\r\n";
     let entry = answered(alloc, &mut peer, 0, request);
-    let (mut publisher, _views) = open::<M>(alloc, inventory, 1).expect(&rt, "memory");
+    let (mut publisher, _views) = open::<K, R>(alloc, rt, list, inventory, 1).expect(&rt, "memory");
     moves(rt, alloc, &mut publisher, entry.as_str())
         && publisher.inventory() == peer.publisher.inventory()
 }
@@ -202,7 +210,7 @@ fn is_seeded<R: Handle, N: NodeList, M: NodeList>(
 fn seeds_of<R: Handle>(rt: R, alloc: Global) -> bool {
     let setup = set_up(rt, alloc, "v1/0/24/0/1 d:m 0/a/1");
     let inventory = one_node(&rt, alloc);
-    is_seeded::<R, Brand, Brand>(rt, alloc, setup, inventory)
+    is_seeded::<R, Brand, Brand>(rt, alloc, setup, Opened::new(), inventory)
 }
 
 #[test]

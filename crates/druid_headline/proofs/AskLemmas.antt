@@ -1,7 +1,6 @@
 -- What a data node of ours answers to an ask is the answer of its history.
-use Rattle.std.proofs.Common.{◌≡◌, ◌⊎◌, inl, inr, ℕ, List, Option, Some, Result, Ok, sym, ap, ◌∙◌, subst, arith}
+use Rattle.std.proofs.Common.{◌≡◌, inl, inr, ℕ, List, Option, Some, Result, Ok, sym, ap, ◌∙◌, subst, arith}
 use Rattle.std.proofs.lemmas.Option.{same_Some}
-use Rattle.serde_json.specs.Data.{Data}
 use Rattle.druid_shard.specs.ReplyBody.{IsReply}
 use Rattle.druid_shard.specs.declared.change.Ask.{Ask}
 use Rattle.druid_shard.specs.declared.change.Ask.TheVariants.{Whole, Since}
@@ -12,13 +11,16 @@ use Rattle.druid_sync.specs.Asks.{ask_at, parameters_of}
 use Rattle.druid_sync.specs.Back.{IsReadBack}
 use Rattle.druid_sync.specs.Written.{reply_data, reply_text}
 use Rattle.druid_sync.specs.Read.{Form, form_at, form_of, Answers, IsReadOf}
-use Rattle.druid_sync.specs.declared.fault.SyncFault.{SyncFault}
 use Rattle.druid_inventory.proofs.EntryLemmas.{snapshot_is}
 use Rattle.druid_wire.specs.Messages.{IsResponse}
 use Rattle.druid_wire.specs.Written as wire
 use Rattle.druid_node.specs.State.{State}
 use Rattle.druid_node.specs.Routes.{IsReplyTo, AnswersFound, AnswersAsk, Responds, RespondsInTurn}
 use Rattle.druid_broker.specs.Turns.{ask_request, IsAnswerTo}
+use Rattle.druid_changes.specs.Answer.{answer}
+use Rattle.druid_world.specs.World.{Life, IsLife, IsHonest, eras_of}
+use Rattle.druid_world.proofs.WorldLemmas.{answer_true}
+use Rattle.druid_headline.specs.Headline.{IsLastOf}
 use Rattle.druid_headline.proofs.HonestLemmas.{written_is}
 
 same_ok : {A E : Type 0} {x y : A} → Path (Result A E) (Ok x) (Ok y) → x ≡ y
@@ -60,3 +62,11 @@ answer_of_history state ask status body reply back (inr memory) told =
     let response = subst (λ (text : List ℕ). IsResponse text 200 told.1 told.3.0) (sym (same_ok told.2)) told.3.1 in
     let no = (written_is status body told.1 told.3.0 (omega (arith, is)) (omega (arith, is)) response).0 in
     absurd (omega (arith, is, no))
+
+pub honest_answer : (life : Life) (state : State) (ask : Ask) (status : ℕ) (body : List ℕ) (reply : Body) → IsLife life → IsLastOf life state
+    → ask_at (parameters_of ask) ≡ Some ask → RespondsInTurn state (ask_request ask) status body
+    → IsAnswerTo (Ok (wire.answer_text status body)) (Ok reply) → IsHonest (eras_of life) reply
+honest_answer life state ask status body reply valid last back responds told =
+    let is = answer_of_history state ask status body reply back responds told life.last.changes last.changes in
+    answer_true life ask reply valid
+    (ap (λ (i : ℕ). answer i life.last.changes life.kept ask) last.incarnation ∙ ap (λ (k : ℕ). answer state.history.incarnation life.last.changes k ask) last.kept ∙ is)

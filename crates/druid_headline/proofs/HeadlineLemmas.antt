@@ -1,21 +1,39 @@
 -- From what nodes serve in a world to what an inventory of the world tells.
-use Rattle.std.proofs.Common.{◌≡◌, ℕ, arith, zero, suc, List, [], ◌∷◌, Option, Some, None, option_map, refl, sym, ap, ◌∙◌, subst}
+use Rattle.std.proofs.Common.{◌≡◌, ◌⊎◌, ◌<◌, ℕ, Bool, arith, zero, suc, List, [], ◌∷◌, length, Option, Some, None, option_map, Result, Ok, refl, sym, ap, ◌∙◌, subst, inl, inr}
 use Rattle.std.specs.Prelude.{◌↔◌}
 use Rattle.std.specs.List.{Contains, slice_get}
-use Rattle.druid_shard.specs.Described.{Described}
+use Rattle.std.proofs.lemmas.List.Elements.{All-contains}
+use Rattle.std.proofs.lemmas.Option.{same_Some}
+use Rattle.druid_shard.proofs.MemberLemmas.{Contains-map_back}
+use Rattle.druid_shard.specs.Described.{Described, IsDescribed}
 use Rattle.druid_timeline.specs.Holding.{Held}
 use Rattle.druid_inventory.specs.Entry.{Entry}
 use Rattle.druid_inventory.specs.Sources.{Serves, IsHoldingOf}
 use Rattle.druid_rows.specs.Segment.{Segment}
 use Rattle.druid_query.specs.Query.{Query}
 use Rattle.druid_query.specs.Asked.{Asked}
+use Rattle.druid_query.specs.SubQuery.{IsAsked}
+use Rattle.druid_query.specs.Read.{IsReadOf, query_at}
+use Rattle.druid_query.specs.Refusal.{Refusal}
 use Rattle.druid_partial.specs.Groups.{Group}
 use Rattle.druid_partial_text.specs.Written.{result_text}
+use Rattle.druid_partial_text.specs.Answers.{shortfall_text}
+use Rattle.druid_link.specs.Links.{Came}
+use Rattle.druid_message.specs.Requests.{RequestValue}
+use Rattle.druid_published.specs.Fold.{Published, fold_of}
 use Rattle.druid_scatter.specs.Exact.{AreServed}
-use Rattle.druid_broker.specs.Queries.{TellsRows}
+use Rattle.druid_scatter.specs.Gathered.{Exchange, AreAsked}
+use Rattle.druid_scatter.specs.Plan.{Pair, asked_of, AreReplicas, IsPlanOf}
+use Rattle.druid_scatter.proofs.ExactLemmas.{exact}
+use Rattle.druid_scatter.proofs.LawLemmas.{may_be_asked}
+use Rattle.druid_broker.specs.Queries.{TellsRows, AnswersRows, AnswersQuery, WantsMemory}
+use Rattle.druid_broker.specs.Routes.{Route, AnswersPost, IsOutOfMemory}
+use Rattle.druid_broker.specs.Routes as routes
+use Rattle.druid_broker.specs.Views.{TakesInventory, AnswersUnread, RespondsAt, RespondsBy}
+use Rattle.druid_broker.proofs.ServeLemmas.{one_reading}
 use Rattle.druid_world.specs.World.{Life, IsTrueEntry, IsInventoryOf, marks_of, eras_of, set_at}
 use Rattle.druid_world.proofs.ListLemmas.{pairs_get, pairs_at}
-use Rattle.druid_headline.specs.Headline.{ServesAt, IsHeldAt, AreServedAt}
+use Rattle.druid_headline.specs.Headline.{ServesAt, IsHeldAt, AreServedAt, IsPosted, IsExactAt}
 
 mark_got : (inventory : List Entry) (node : ℕ) (e : Entry) → slice_get inventory node ≡ Some e → slice_get (marks_of inventory) node ≡ Some e.mark
 mark_got [] node e at = absurd (cc)
@@ -62,12 +80,99 @@ holding world inventory source held of_world at x = (
 some_piece : (a : Asked) (more : List Asked) → a ∷ more ≡ [] → ⊥
 some_piece a more e = cc
 
-pub whole : (query : Query) (missing : List Asked) (groups : List Group) (status : ℕ) (body : List ℕ) → TellsRows query missing groups status body
+whole : (query : Query) (missing : List Asked) (groups : List Group) (status : ℕ) (body : List ℕ) → TellsRows query missing groups status body
     → (status ≡ 200) ↔ (missing ≡ [])
 whole query [] groups status body told = ((λ e. refl), (λ e. told.status_is))
 whole query (a ∷ more) groups status body told = ((λ e. let no : 200 ≡ 503 = sym e ∙ told.status_is in absurd (omega (arith, no))), (λ e. absurd (some_piece a more e)))
 
-pub text : (query : Query) (missing : List Asked) (groups : List Group) (status : ℕ) (body : List ℕ) → TellsRows query missing groups status body
+rows : (query : Query) (missing : List Asked) (groups : List Group) (status : ℕ) (body : List ℕ) → TellsRows query missing groups status body
     → status ≡ 200 → body ≡ result_text query groups
-text query [] groups status body told e = told.body_is
-text query (a ∷ more) groups status body told e = let no : 200 ≡ 503 = sym e ∙ told.status_is in absurd (omega (arith, no))
+rows query [] groups status body told e = told.body_is
+rows query (a ∷ more) groups status body told e = let no : 200 ≡ 503 = sym e ∙ told.status_is in absurd (omega (arith, no))
+
+short : (query : Query) (missing : List Asked) (groups : List Group) (status : ℕ) (body : List ℕ) → TellsRows query missing groups status body
+    → (status ≡ 200 → ⊥) → (status ≡ 503) × (body ≡ shortfall_text query missing groups)
+short query [] groups status body told other = absurd (other told.status_is)
+short query (a ∷ more) groups status body told other = (told.status_is, told.body_is)
+
+-- ---- what was asked
+
+within : (inventory : List Entry) (node : ℕ) (e : Entry) → slice_get inventory node ≡ Some e → node < length (marks_of inventory)
+within [] node e at = absurd (cc)
+within (x ∷ more) zero e at = omega arith
+within (x ∷ more) (suc n) e at = let rest = within more n e at in omega (arith, rest)
+
+module _ (order : List ℕ → List ℕ) (inventory : List Entry) (query : Query) (pairs : List Pair) (exchanges : List Exchange) (plan : IsPlanOf inventory query pairs)
+    (asked : AreAsked order query pairs exchanges) (e : Exchange) (there : Contains exchanges e) where
+  listed : e.node < length (marks_of inventory)
+  listed =
+      let some = asked.asks e there in
+      let p = asked.planned e some.0 there some.1 in
+      let replicas = All-contains (λ (q : Pair). AreReplicas inventory q.asked.0 q.nodes) pairs p.0 plan.paired.replicas p.2 in
+      let serves = (replicas.all e.node).0 p.4 in
+      within inventory e.node serves.1.0 serves.1.1
+
+  among : (a : Asked) → Contains e.asked a → Contains (asked_of pairs) a
+  among a asks =
+      let p = asked.planned e a there asks in
+      subst (Contains (asked_of pairs)) p.3 (Contains-map_back (λ (q : Pair). q.asked) pairs p.0 p.2)
+
+  allowed : ((node : ℕ) (d : Described) → Serves inventory node d → IsDescribed d) → IsAsked query.source e.asked
+  allowed described = may_be_asked inventory query pairs e.asked plan described (asked.asks e there) among (asked.in_order e there)
+
+-- ---- what is answered by what was published
+
+-- bytes read as one query
+one_query : (bytes : List ℕ) (a b : Query) → IsReadOf bytes (Ok a) → IsReadOf bytes (Ok b) → a ≡ b
+one_query bytes a b first second =
+    let same : first.0 ≡ second.0 = same_Some _ _ (sym first.1.1 ∙ second.1.1) in
+    same_ok (sym first.2 ∙ ap query_at same ∙ second.2)
+  where
+    same_ok : {x y : Query} → Path (Result Query Refusal) (Ok x) (Ok y) → x ≡ y
+    same_ok e = cc
+
+module _ {L : Type 0} (step : L → List ℕ → Came → L → Type 0) (order : List ℕ → List ℕ) (world : List Life) (inventory : List Entry) (of_world : IsInventoryOf world inventory)
+    (asked : Query) (old new : List L) (status : ℕ) (body : List ℕ) where
+  exact_rows : AnswersRows step order inventory asked old new status body → IsExactAt step world (marks_of inventory) asked old new status body
+  exact_rows answer = record {
+    exchanges = answer.exchanges;
+    made = answer.made;
+    missing = answer.missing;
+    groups = answer.groups;
+    whole = whole asked answer.missing answer.groups status body answer.told;
+    rows = rows asked answer.missing answer.groups status body answer.told;
+    short = short asked answer.missing answer.groups status body answer.told;
+    listed = λ e there. listed order inventory asked answer.pairs answer.exchanges answer.plan answer.gathered.asked e there;
+    may_be_asked = λ described e there.
+        allowed order inventory asked answer.pairs answer.exchanges answer.plan answer.gathered.asked e there
+        (λ node d serves. described node d (to_world world inventory node d of_world serves));
+    exact = λ segments held sees at held_at seen honest.
+        exact order inventory asked answer.pairs answer.exchanges answer.missing answer.groups segments held sees answer.plan answer.gathered
+        (served world inventory asked.source segments of_world at) (holding world inventory asked.source held of_world held_at) seen honest;
+  }
+
+  exact_query : (bytes : List ℕ) → IsReadOf bytes (Ok asked)
+      → AnswersQuery step order inventory bytes old new status body ⊎ (WantsMemory step order inventory bytes old new × IsOutOfMemory status body)
+      → IsExactAt step world (marks_of inventory) asked old new status body ⊎ AnswersUnread status body
+  exact_query bytes read (inl (inl (query, reads, answer))) =
+      inl (exact_rows (subst (λ (q : Query). AnswersRows step order inventory q old new status body) (one_query bytes query asked reads read) answer))
+  exact_query bytes read (inl (inr (fault, had, refused, told, same))) = absurd (one_reading bytes asked fault had read refused)
+  exact_query bytes read (inr (wants, memory)) = inr (inr memory)
+
+pub exact_answer : {L : Type 0} (step : L → List ℕ → Came → L → Type 0) (order : List ℕ → List ℕ) (world : List Life) (opening : List Entry) (seen now : Published) (request : RequestValue) (asked : Query)
+    (old new : List L) (status : ℕ) (body : List ℕ) → IsInventoryOf world (fold_of opening now) → IsPosted request asked
+    → RespondsBy step order opening seen now old new request status body
+    → IsExactAt step world (marks_of (fold_of opening now)) asked old new status body ⊎ AnswersUnread status body
+exact_answer step order world opening seen now request asked old new status body of_world posted responds =
+    by (subst (λ (r : Route). RespondsAt step order opening r seen now old new request status body) posted.route responds)
+  where
+    takes : TakesInventory routes.query request
+    takes = (posted.method, (asked, posted.read))
+
+    by : RespondsAt step order opening routes.query seen now old new request status body
+        → IsExactAt step world (marks_of (fold_of opening now)) asked old new status body ⊎ AnswersUnread status body
+    by (inl (_, prefix, answer)) =
+        exact_query step order world (fold_of opening now) of_world asked old new status body request.body posted.read
+        (subst (λ (b : Bool). AnswersPost step order b (fold_of opening now) request.body old new status body) posted.method answer)
+    by (inr (inl (memory, answer, same, links))) = inr (inr (memory takes))
+    by (inr (inr (_, unread, same, links))) = inr unread

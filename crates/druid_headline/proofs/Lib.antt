@@ -1,4 +1,5 @@
 pub mod HeadlineLemmas
+pub mod FoldLemmas
 pub mod TextLemmas
 pub mod WordLemmas
 pub mod HonestLemmas

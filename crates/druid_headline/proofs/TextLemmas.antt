@@ -1,21 +1,17 @@
 -- The texts of a subquery and of an answer of a node are JSON that reads as the subquery's, and as the answer's.
-use Rattle.std.proofs.Common.{◌≡◌, ℕ, ◌≤◌, ℤ, pos, negsuc, List, [], ◌∷◌, map, All, Option, Some, None, IfSome, option_map, codes, refl, sym, ap, ◌∙◌, arith, suc}
+use Rattle.std.proofs.Common.{◌≡◌, ℕ, ℤ, pos, negsuc, List, [], ◌∷◌, map, All, Option, Some, None, IfSome, codes, refl, arith}
 use Rattle.std.specs.Prelude.{FitsSigned, Contains}
 use Rattle.std.specs.Int.{w64}
 use Rattle.std.proofs.lemmas.Int.{ints}
 use Rattle.std.proofs.lemmas.List.Elements.{All-head, All-tail, All-contains}
-use Rattle.json.specs.Lex.{tokens}
 use Rattle.json.specs.Tree as tree
-use Rattle.json.proofs.Printed.Tokens.{tokens-print}
-use Rattle.json.proofs.Printed.Trees.{ArePrintable-json_tokens}
 use Rattle.json.proofs.Printed.Decimals.{IsNumber-decimal, IsNumber-signed_decimal}
-use Rattle.serde_json.specs.Data.{Data, null, boolean, number, string, array, object, Items, no_items, item, Members, no_members, member, depth, items_depth, members_depth}
+use Rattle.serde_json.specs.Data.{Data, number, Items}
 use Rattle.serde_json.specs.Find.{of_integer}
 use Rattle.serde_json.specs.View.{items_of}
-use Rattle.serde_json.specs.Written.{outline, items_outline, members_outline, compact_text}
-use Rattle.serde_json.specs.Read.{read, of_json, of_items}
+use Rattle.serde_json.specs.Written.{outline, items_outline, compact_text}
+use Rattle.serde_json.specs.Read.{read}
 use Rattle.serde_json.proofs.Numbers.{number_of-decimal}
-use Rattle.serde_json.proofs.Texts.{print-outline}
 use Rattle.druid_time.specs.Extent.{Extent}
 use Rattle.druid_filter.specs.Filters.{Condition, has, has_among, all_of, any_of, is_not, Conditions, no_conditions, condition}
 use Rattle.druid_query.specs.Query.{Query, Dimension, Aggregator}
@@ -30,9 +26,8 @@ use Rattle.druid_partial.specs.Groups.{Group}
 use Rattle.druid_partial_text.specs.Written.{number_data, group_data, IsHeld}
 use Rattle.druid_partial_text.specs.Answers.{answer_data}
 use Rattle.druid_partial_text.specs.Missed.{IsOfSegment}
-use Rattle.druid_partial_text.specs.Tokens.{tokens_of}
 use Rattle.druid_partial_text.proofs.TextBackLemmas.{bucket_fits}
-use Rattle.druid_shard.proofs.WrittenLemmas.{read_tokens, compact_tokens, outline_deep, IsBack, AreBack, items_back, any_items_back, array_back, one_more_back}
+use Rattle.druid_shard.proofs.WrittenLemmas.{read_tokens, compact_tokens, outline_deep, IsBack, AreBack, items_back, any_items_back, one_more_back}
 use Rattle.druid_partial_text.proofs.AnswerTextLemmas.{answer_read}
 
 -- ---- subqueries

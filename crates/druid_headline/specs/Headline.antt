@@ -1,12 +1,27 @@
 -- What a user of a broker relies on: what nodes serve in a world at the marks at which the broker stands, and the rows that are
 -- visible there.
-use Rattle.std.specs.Prelude.{◌≡◌, ℕ, List, slice_get, Some, Contains, ◌↔◌}
-use Rattle.druid_shard.specs.Described.{Described}
+use Rattle.std.specs.Prelude.{◌≡◌, ◌<◌, ℕ, Bool, true, List, [], length, slice_get, Some, Ok, Contains, ◌↔◌, codes, bytes_eq}
+use Rattle.druid_changes.specs.Kept.{StandsFor}
+use Rattle.druid_shard.specs.Described.{Described, IsDescribed}
 use Rattle.druid_shard.specs.Mark.{Point}
 use Rattle.druid_timeline.specs.Holding.{Held, held_of}
 use Rattle.druid_rows.specs.Segment.{Segment}
+use Rattle.druid_rows.specs.Rows.{Row}
+use Rattle.druid_query.specs.Query.{Query}
 use Rattle.druid_query.specs.Asked.{Asked}
+use Rattle.druid_query.specs.SubQuery.{IsAsked}
+use Rattle.druid_query.specs.Read.{IsReadOf}
+use Rattle.druid_partial.specs.Groups.{Group, IsResult}
 use Rattle.druid_partial.specs.Once.{HaveOwnSegments, segment_named}
+use Rattle.druid_partial.specs.Rows.{kinds_of}
+use Rattle.druid_partial_text.specs.Written.{result_text}
+use Rattle.druid_partial_text.specs.Answers.{shortfall_text}
+use Rattle.druid_link.specs.Links.{Came}
+use Rattle.druid_message.specs.Requests.{RequestValue, path_of}
+use Rattle.druid_node.specs.State.{State}
+use Rattle.druid_scatter.specs.Gathered.{Exchange, AreMade}
+use Rattle.druid_scatter.specs.Exact.{IsHonest, Sees, told_visible}
+use Rattle.druid_broker.specs.Routes.{query, route_of}
 use Rattle.druid_world.specs.World.{Life, eras_of, set_at}
 
 -- at its mark of this list, the node serves the segment
@@ -34,3 +49,40 @@ pub record AreServedAt (world : List Life) (marks : List Point) (source : List �
 abbrev pub AreAmong : List Asked → List Segment → List Segment → Type 0
 AreAmong asked held segments =
     (a : Asked) (s : Segment) → Contains asked a → segment_named a.0 held ≡ Some s → segment_named a.0 segments ≡ Some s
+
+-- ---- what a data node of ours is in a world
+
+-- the node's incarnation and its changes are the last of this life
+pub record IsLastOf (life : Life) (state : State) : Type 0 where
+  pub incarnation : life.last.incarnation ≡ state.history.incarnation
+  pub changes : StandsFor state.history life.last.changes
+  pub kept : life.kept ≡ state.history.limit
+
+-- ---- what a broker answers
+
+-- the request posts this query
+pub record IsPosted (request : RequestValue) (asked : Query) : Type 0 where
+  pub route : route_of (path_of request.target) ≡ query
+  pub method : bytes_eq request.method (codes "POST") ≡ true
+  pub read : IsReadOf request.body (Ok asked)
+
+-- the answer to a query at these marks of a world. The call made these exchanges, and no others, over the links; where each of them was
+-- honest over the segments that nodes serve there, the groups are the result over the rows that are visible there, asked for and in no
+-- missing piece, each once. The status is 200 exactly where nothing is missing, and the body is the text of the groups then, and else
+-- 503, and what is missing stands beside them
+pub record IsExactAt {L : Type 0} (step : L → List ℕ → Came → L → Type 0) (world : List Life) (marks : List Point) (asked : Query) (old new : List L) (status : ℕ) (body : List ℕ) : Type 0 where
+  pub exchanges : List Exchange
+  pub made : AreMade step asked exchanges old new
+  pub missing : List Asked
+  pub groups : List Group
+  pub whole : (status ≡ 200) ↔ (missing ≡ [])
+  pub rows : status ≡ 200 → body ≡ result_text asked groups
+  pub short : (status ≡ 200 → ⊥) → (status ≡ 503) × (body ≡ shortfall_text asked missing groups)
+  -- each exchange was with a node of the list, for pieces that one request may ask for, as what nodes serve has identifiers
+  pub listed : (e : Exchange) → Contains exchanges e → e.node < length marks
+  pub may_be_asked : ((node : ℕ) (d : Described) → ServesAt world marks node d → IsDescribed d)
+      → (e : Exchange) → Contains exchanges e → IsAsked asked.source e.asked
+  pub exact : (segments : List Segment) (held : List Held) (sees : Segment → Row → Bool)
+      → AreServedAt world marks asked.source segments → IsHeldAt world marks asked.source held → Sees asked held segments sees
+      → ((e : Exchange) → Contains exchanges e → IsHonest asked segments e)
+      → IsResult (kinds_of asked) (told_visible asked sees missing segments) groups

@@ -4,4 +4,4 @@
 
 mod laws;
 
-pub use laws::{asks_are_answered, nodes_are_honest, queries_are_exact};
+pub use laws::{asks_are_answered, nodes_are_honest, queries_are_exact, readers_agree};

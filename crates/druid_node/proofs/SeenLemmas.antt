@@ -10,9 +10,9 @@ use Rattle.druid_changes.specs.declared.fault.HistoryFault.{HistoryFault}
 use Rattle.druid_changes.specs.declared.fault.HistoryFault.TheVariants.{Served, NotServed, Full, CountAtEnd}
 use Rattle.druid_message.specs.Requests.{RequestValue}
 use Rattle.druid_wire.specs.Messages.{IsRequest, RequestSays, HasFault}
-use Rattle.druid_wire.specs.Served.{refusal_text, IsSent, IsUnread, IsCutShort}
+use Rattle.druid_wire.specs.Served.{refusal_text, IsSent, IsCutShort}
 use Rattle.druid_message.specs.declared.fault.WireFault.{WireFault}
-use Rattle.druid_wire.proofs.ServeLemmas.{WasRead}
+use Rattle.druid_wire.proofs.ServeLemmas.{WasRead, served, unsent, refused, unanswered}
 use Rattle.druid_node.specs.declared.fault.NodeFault.{NodeFault}
 use Rattle.druid_node.specs.declared.fault.NodeFault.TheVariants as faults
 use Rattle.std.specs.declared.cmp.Ordering.{Ordering}
@@ -25,7 +25,7 @@ use Rattle.druid_shard.specs.declared.change.Change.{Change}
 use Rattle.druid_shard.specs.declared.change.Change.TheVariants.{Load, Drop}
 use Rattle.druid_changes.specs.Kept.{Kept, IsKept, last_count, refusal}
 use Rattle.druid_node.specs.State.{State, Records, Refuses, RefusesToDrop}
-use Rattle.druid_node.specs.Seen.{mark_of, IsBehind, IsAtLeast, IsLoadRefusal, RefusesAsSeen, RefusesLoad, RefusesDrop, AnswersFrom, AnswersSince, IsServedAsSeen, IsBegun, IsPassedBy, IsUnserved}
+use Rattle.druid_node.specs.Seen.{mark_of, IsBehind, IsAtLeast, IsLoadRefusal, RefusesAsSeen, RefusesLoad, RefusesDrop, AnswersFrom, AnswersSince, IsServedAsSeen, IsPassedBy, IsUnserved}
 
 -- a change more is a greater count
 counted : (old new : Kept) (c : Change) → IsKept old → Records old new c → new.count ≡ old.count + 1
@@ -128,13 +128,13 @@ drop_as kept o incarnation found seen fault (inr (at, why)) = drop_told kept o i
 
 pub served_as_seen : (incarnation : ℕ) (seen now : Point) (request : RequestValue) (before after old new : Option (List ℕ)) (sent : ℕ) → WasRead before after request
     → (status : ℕ) × (body : List ℕ) × AnswersFrom incarnation seen now request status body × IsSent old new status body sent → IsServedAsSeen incarnation seen now before after old new sent
-served_as_seen incarnation seen now request before after old new sent read (status, body, answer, is) =
-    record { status = status; body = body; served = inl (record { request = request; read = read; answer = answer }); is_sent = is }
+served_as_seen incarnation seen now request before after old new sent read =
+    served (AnswersFrom incarnation seen now) (now ≡ seen) request before after old new read sent
 
 pub refused_as_seen : (incarnation : ℕ) (seen : Point) (before after old new : Option (List ℕ)) (fault : WireFault) (sent : ℕ) → IfSome before (λ input. HasFault RequestSays input fault)
     → (text : List ℕ) × (refusal_text fault ≡ Some text) × IsSent old new 400 text sent → IsServedAsSeen incarnation seen seen before after old new sent
-refused_as_seen incarnation seen before after old new fault sent has (text, e, is) =
-    record { status = 400; body = text; served = inr (record { fault = fault; has = has; tells = e; status_is = refl; unseen = refl }); is_sent = is }
+refused_as_seen incarnation seen before after old new fault sent has =
+    refused (AnswersFrom incarnation seen seen) (seen ≡ seen) before after old new fault has refl sent
 
 -- ---- what was not served
 
@@ -153,21 +153,24 @@ pub serve_told : (incarnation : ℕ) (seen : Point) (request : RequestValue) (be
 serve_told incarnation seen request before after old new given read (inl (found, behind, told, same)) =
     inl (record { found = found; behind = behind; told = told; read = read_some before after request read; unwritten = same })
 serve_told incarnation seen request before after old new given read (inr (cause, told, status, body, answer, cut)) =
-    inr (record { cause = cause; told = told; fails = inr (record { now = answer.0; status = status; body = body; served = inl (record { request = request; read = read; answer = answer.1 }); cut = cut }) })
+    inr (record {
+      cause = cause;
+      told = told;
+      now = answer.0;
+      fails = unsent (AnswersFrom incarnation seen answer.0) (answer.0 ≡ seen) request before after old new read cause (status, body, answer.1, cut);
+    })
 
 abbrev pub UnreadTold : WireFault → Option (List ℕ) → Option (List ℕ) → NodeFault → Type 0
 UnreadTold fault old new given =
     (told : WireFault) × (given ≡ faults.Wire told)
     × (((told ≡ fault) × (refusal_text fault ≡ None) × Keeps old new) ⊎ ((text : List ℕ) × (refusal_text fault ≡ Some text) × IsCutShort old new 400 text told))
 
-unanswered : (incarnation : ℕ) (seen : Point) (before after old new : Option (List ℕ)) (fault told : WireFault) → IfSome before (λ input. HasFault RequestSays input fault)
-    → ((told ≡ fault) × (refusal_text fault ≡ None) × Keeps old new) ⊎ ((text : List ℕ) × (refusal_text fault ≡ Some text) × IsCutShort old new 400 text told)
-    → IsUnread before old new told ⊎ IsBegun incarnation seen before after old new told
-unanswered incarnation seen before after old new fault told has (inl (e, none, kept)) = inl (rw e (record { unanswered = none; has = has; kept = kept }))
-unanswered incarnation seen before after old new fault told has (inr (text, e, cut)) =
-    inr (record { now = seen; status = 400; body = text; served = inr (record { fault = fault; has = has; tells = e; status_is = refl; unseen = refl }); cut = cut })
-
 pub unread_told : (incarnation : ℕ) (seen : Point) (before after old new : Option (List ℕ)) (fault : WireFault) (given : NodeFault) → IfSome before (λ input. HasFault RequestSays input fault) → UnreadTold fault old new given
     → IsPassedBy incarnation seen before after old new given ⊎ IsUnserved incarnation seen before after old new given
 unread_told incarnation seen before after old new fault given has (cause, told, why) =
-    inr (record { cause = cause; told = told; fails = unanswered incarnation seen before after old new fault cause has why })
+    inr (record {
+      cause = cause;
+      told = told;
+      now = seen;
+      fails = unanswered (AnswersFrom incarnation seen seen) (seen ≡ seen) before after old new fault has refl cause why;
+    })

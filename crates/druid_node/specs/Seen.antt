@@ -8,8 +8,8 @@ use Rattle.druid_changes.specs.declared.fault.HistoryFault.{HistoryFault}
 use Rattle.druid_changes.specs.declared.fault.HistoryFault.TheVariants.{Served, NotServed, Full, CountAtEnd}
 use Rattle.druid_changes.specs.declared.fault.HistoryFault.TheVariants as history
 use Rattle.druid_message.specs.Requests.{RequestValue}
-use Rattle.druid_wire.specs.Messages.{IsRequest, RequestSays, HasFault}
-use Rattle.druid_wire.specs.Served.{refusal_text, IsSent, IsUnread, IsCutShort}
+use Rattle.druid_wire.specs.Messages.{IsRequest}
+use Rattle.druid_wire.specs.Served.{IsServed, FailsToServe}
 use Rattle.druid_message.specs.declared.fault.WireFault.{WireFault}
 use Rattle.druid_node.specs.State.{State, IsState}
 use Rattle.druid_node.specs.Routes.{RespondsInTurn}
@@ -78,28 +78,10 @@ text_of (Some body) = body.items
 abbrev pub AnswersSince : ℕ → Point → RequestValue → ℕ → List ℕ → Type 0
 AnswersSince incarnation before request status body = (after : Point) × AnswersFrom incarnation before after request status body
 
--- a request was read, which the bytes of the input are where they are known; a state of that incarnation, whose mark is the
--- second and not below the first, answers it so
-pub record IsAnswered (incarnation : ℕ) (seen now : Point) (before after : Option (List ℕ)) (status : ℕ) (body : List ℕ) : Type 0 where
-  pub request : RequestValue
-  pub read : IfSome before (λ input. (rest : List ℕ) × (after ≡ Some rest) × IsRequest input request rest)
-  pub answer : AnswersFrom incarnation seen now request status body
-
--- no request was read, for a fault which the bytes of the input have where they are known; it is answered, and nothing is seen
-pub record IsRefused (seen now : Point) (before : Option (List ℕ)) (status : ℕ) (body : List ℕ) : Type 0 where
-  pub fault : WireFault
-  pub has : IfSome before (λ input. HasFault RequestSays input fault)
-  pub tells : refusal_text fault ≡ Some body
-  pub status_is : status ≡ 400
-  pub unseen : now ≡ seen
-
--- an answer was written, and what is seen then is the mark of the state that gave it, or what was seen where no state did; this
--- is known of any reader and any writer
-pub record IsServedAsSeen (incarnation : ℕ) (seen now : Point) (before after old new : Option (List ℕ)) (sent : ℕ) : Type 0 where
-  pub status : ℕ
-  pub body : List ℕ
-  pub served : IsAnswered incarnation seen now before after status body ⊎ IsRefused seen now before status body
-  pub is_sent : IsSent old new status body sent
+-- an answer was written, and what is seen then is the mark of the state that gave it, or what was seen where no state did
+abbrev pub IsServedAsSeen : ℕ → Point → Point → Option (List ℕ) → Option (List ℕ) → Option (List ℕ) → Option (List ℕ) → ℕ → Type 0
+IsServedAsSeen incarnation seen now before after old new sent =
+    IsServed (AnswersFrom incarnation seen now) (now ≡ seen) before after old new sent
 
 -- N8: a request was read, and the state is older than what was seen; nothing was written
 pub record IsPassedBy (incarnation : ℕ) (seen : Point) (before after old new : Option (List ℕ)) (fault : NodeFault) : Type 0 where
@@ -109,16 +91,9 @@ pub record IsPassedBy (incarnation : ℕ) (seen : Point) (before after old new :
   pub read : IfSome before (λ input. (request : RequestValue) × (rest : List ℕ) × (after ≡ Some rest) × IsRequest input request rest)
   pub unwritten : new ≡ old
 
--- an answer was begun, of a state that is not older than what was seen, or of none
-pub record IsBegun (incarnation : ℕ) (seen : Point) (before after old new : Option (List ℕ)) (cause : WireFault) : Type 0 where
-  pub now : Point
-  pub status : ℕ
-  pub body : List ℕ
-  pub served : IsAnswered incarnation seen now before after status body ⊎ IsRefused seen now before status body
-  pub cut : IsCutShort old new status body cause
-
--- N5: no request was read, or no whole answer was written
+-- N5: no request was read, or no whole answer was written of a state that is not older than what was seen, or of none
 pub record IsUnserved (incarnation : ℕ) (seen : Point) (before after old new : Option (List ℕ)) (fault : NodeFault) : Type 0 where
   pub cause : WireFault
   pub told : fault ≡ faults.Wire cause
-  pub fails : IsUnread before old new cause ⊎ IsBegun incarnation seen before after old new cause
+  pub now : Point
+  pub fails : FailsToServe (AnswersFrom incarnation seen now) (now ≡ seen) before after old new cause

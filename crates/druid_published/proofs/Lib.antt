@@ -1,3 +1,6 @@
-pub mod FloorLemmas
+pub mod FoldLemmas
 pub mod RisesLemmas
-pub mod ToldLemmas
+pub mod FaultLemmas
+pub mod Beginnings
+pub mod Adding
+pub mod Placing

@@ -1,2 +1,5 @@
+pub mod Fold
+pub mod Rules
+pub mod Places
 pub mod Floor
-pub mod Told
+pub mod Faults

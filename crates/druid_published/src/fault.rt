@@ -2,7 +2,6 @@ ghost use Rattle.std.specs.Prelude.{◌≡◌};
 ghost use Rattle.druid_published.specs.declared.fault.PublishFault.TheVariants.{Memory};
 
 use druid_inventory::ApplyFault;
-use druid_shard::{Mark, NodeNo};
 use std::alloc::AllocError;
 use thiserror::Error;
 
@@ -12,16 +11,9 @@ pub enum PublishFault {
     /// B1: the reply is not applied.
     #[error("B1: {0}")]
     Apply(ApplyFault),
-    /// B2: what was found is older than what the view knows; it is the least such node.
-    #[error("B2: node {node} is behind")]
-    Stale {
-        /// The node.
-        node: NodeNo,
-        /// The mark that the view knows.
-        floor: Mark,
-        /// The mark that was found.
-        found: Mark,
-    },
+    /// B3: there is nothing to read: the publisher is gone, or what is shown is shorter than what the view has seen.
+    #[error("B3: no reading")]
+    NoReading,
     /// B9: memory was refused.
     #[error("B9: out of memory")]
     Memory,

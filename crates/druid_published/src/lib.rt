@@ -1,8 +1,22 @@
-//! An inventory that one publisher owns and views in other threads read.
+//! An inventory that one publisher owns, and views in other threads read without waiting.
 #![tactic(auto)]
 
+mod book;
 mod fault;
-mod published;
+mod laws;
+mod opening;
+mod publication;
+mod publisher;
+mod receipt;
+mod rule;
+mod shown;
+mod view;
 
+pub use book::Opened;
 pub use fault::PublishFault;
-pub use published::{MAX_PLACES, NodeList, Publisher, Receipt, View, open};
+pub use laws::{folds_go_on, folds_keep_names, marks_never_fall};
+pub use opening::{MAX_PLACES, open};
+pub use publication::Publication;
+pub use publisher::Publisher;
+pub use receipt::Receipt;
+pub use view::View;

@@ -1,2 +1,1 @@
-pub mod ViewLemmas
 mod PrintLemmas

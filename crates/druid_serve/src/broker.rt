@@ -1,19 +1,19 @@
 //! A broker: the threads that follow the nodes, and those that answer.
-ghost use Rattle.std.specs.Prelude.{◌≡◌, ◌≤◌, ◌+◌, ◌-◌, ◌^◌, min, if◌then◌else◌, IfOk, OnOk, length, vec_len};
+ghost use Rattle.std.specs.Prelude.{◌≡◌, ◌<◌, ◌≤◌, ◌+◌, ◌-◌, ◌^◌, min, if◌then◌else◌, IfOk, OnOk, length, vec_len};
 ghost use Rattle.druid_config.specs.Limits.{max_workers};
 ghost use Rattle.druid_inventory.specs.Entry.{max_nodes};
-ghost use Rattle.druid_inventory.specs.Join.{names_of};
-ghost use Rattle.druid_published.specs.Floor.{Rises};
+ghost use Rattle.druid_broker.specs.Turns.{MakesTurns};
+ghost use mathlib.Core.List.{IsPrefix};
 
 use crate::gate::Gate;
-use druid_broker::{Routes, fetch, serve_one};
+use druid_broker::{Routes, follow, serve_one};
 use druid_config::NodeConfig;
 use druid_inventory::Inventory;
-use druid_link::TcpLink;
-use druid_published::{NodeList, Publisher, Receipt, View, open};
+use druid_link::{Link, TcpLink};
+use druid_published::{Opened, Publication, Publisher, View, open};
 use druid_scatter::Rotate;
 use druid_serve_node::{DeviceFailed, REST_MILLISECONDS, limit};
-use druid_shard::{NodeNo, Reply};
+use druid_shard::NodeNo;
 use std::alloc::{AllocError, Global};
 use std::io::{BufRead, BufReader, BufWriter, Write};
 use std::net::{Net, TcpListener, TcpStream};
@@ -31,81 +31,48 @@ pub(crate) struct Broker {
     pub(crate) syncers: Vec<JoinHandle<()>>,
 }
 
+// The publisher, which threads share.
+type Shared<J, R> = Arc<Mutex<Publisher<J, R>>, Global>;
+
 // What a worker answers with.
 #[derive(Drop)]
-struct Desk<R: Net + Clock, N: NodeList> {
+struct Worker<R: Net + Clock + Wait + Drop, J: Publication> {
     routes: Routes,
-    view: View<N>,
+    view: View<J>,
     links: Vec<TcpLink<R>>,
     // The connections that were answered.
     turn: u64,
-    ghost linked: { length N.names ≤ vec_len links },
+    // Views end with their publisher, so each worker holds it.
+    publisher: Shared<J, R>,
+    ghost linked: { length J.opening ≤ vec_len links },
 }
 
-// What a node changed, by what the view reads. Nothing waits for the publisher here.
-fn fetched<R: Wait + Net + Clock, N: NodeList>(
+// What follows a node.
+#[derive(Drop)]
+struct Syncer<R: Wait + Drop, J: Publication, L: Link> {
+    node: NodeNo,
+    view: View<J>,
+    link: L,
+    publisher: Shared<J, R>,
+    ghost there: { node < length J.opening },
+}
+
+// Makes so many turns.
+fn follow_node<R: Wait + Drop, J: Publication, L: Link>(
     rt: &R,
     alloc: Global,
-    node: NodeNo,
-    view: &mut View<N>,
-    link: &mut TcpLink<R>,
-) -> Option<Reply>
-    ensures { Rises view.old view.new }
-{
-    let inventory = view.read(rt).ok()?;
-    if inventory.node_count() <= node {
-        return None;
-    }
-    fetch(alloc, &inventory, node, link).ok()
-}
-
-// Publishes what a node changed.
-fn published<R: Wait, N: NodeList>(
-    rt: &R,
-    node: NodeNo,
-    reply: &Reply,
-    publisher: &Mutex<Publisher<N>>,
-) -> Option<Receipt<N>> {
-    let mut publisher = publisher.lock(rt);
-    match publisher.publish(rt, node, reply) {
-        Ok((_, receipt)) => Some(receipt),
-        Err(_) => None,
-    }
-}
-
-// Asks a node what changed, and publishes it. A turn that is refused leaves what is published as it was.
-fn make_turn<R: Wait + Net + Clock, N: NodeList>(
-    rt: &R,
-    alloc: Global,
-    node: NodeNo,
-    view: &mut View<N>,
-    link: &mut TcpLink<R>,
-    publisher: &Mutex<Publisher<N>>,
-)
-    ensures { Rises view.old view.new }
-{
-    if let Some(reply) = fetched(rt, alloc, node, view, link) {
-        if let Some(receipt) = published(rt, node, &reply, publisher) {
-            view.learn(&receipt);
-        }
-    }
-}
-
-// Follows a node for so many turns.
-fn follow<R: Wait + Net + Clock, N: NodeList>(
-    rt: &R,
-    alloc: Global,
-    node: NodeNo,
     turns: u64,
-    view: &mut View<N>,
-    link: &mut TcpLink<R>,
-    publisher: &Mutex<Publisher<N>>,
+    syncer: &mut Syncer<R, J, L>,
 )
-    ensures { Rises view.old view.new }
+    ensures { MakesTurns L.exchanges J.opening syncer.old.node turns syncer.old.view syncer.new.view syncer.old.link syncer.new.link }
 {
-    for _turn in 0..turns {
-        make_turn(rt, alloc, node, view, link, publisher);
-    }
+    let Syncer {
+        node,
+        view,
+        link,
+        publisher,
+    } = syncer;
+    follow(rt, alloc, *node, turns, view, link, publisher);
 }
 
 // A link to a server at an address.
@@ -142,22 +109,17 @@ fn start_syncer<
         + Send
         + Sync
         + 'static,
-    N: NodeList + Send + Sync + 'static,
+    J: Publication + Send + Sync + 'static,
 >(
     rt: &R,
     alloc: Global,
-    node: NodeNo,
     turns: u64,
-    view: View<N>,
-    link: TcpLink<R>,
-    publisher: &Arc<Mutex<Publisher<N>>, Global>,
+    syncer: Syncer<R, J, TcpLink<R>>,
 ) -> Result<JoinHandle<()>, DeviceFailed> {
     let rt = *rt;
-    let (mut view, mut link) = (view, link);
-    let publisher = Arc::try_clone(publisher)?;
-    let job = move || follow(&rt, alloc, node, turns, &mut view, &mut link, &publisher);
-    match thread::spawn(&rt, job) {
-        Ok(syncer) => Ok(syncer),
+    let mut syncer = syncer;
+    match thread::spawn(&rt, move || follow_node(&rt, alloc, turns, &mut syncer)) {
+        Ok(thread) => Ok(thread),
         Err(_) => Err(DeviceFailed),
     }
 }
@@ -171,23 +133,23 @@ fn respond<
         + Copy
         + Send
         + Sync,
-    N: NodeList,
+    J: Publication,
     I: BufRead,
     O: Write,
->(rt: &R, alloc: Global, desk: &mut Desk<R, N>, reader: &mut I, writer: &mut O) -> bool
-    ensures view { Rises desk.old.view desk.new.view }
-    ensures turn { desk.new.turn ≡ desk.old.turn }
+>(rt: &R, alloc: Global, worker: &mut Worker<R, J>, reader: &mut I, writer: &mut O) -> bool
+    ensures view { IsPrefix worker.old.view worker.new.view }
+    ensures turn { worker.new.turn ≡ worker.old.turn }
 {
     let served = serve_one(
         rt,
         alloc,
-        &desk.routes,
+        &worker.routes,
         reader,
         writer,
-        &mut desk.view,
-        desk.turn,
+        &mut worker.view,
+        worker.turn,
         &Rotate,
-        &mut desk.links,
+        &mut worker.links,
     );
     served.is_ok()
 }
@@ -201,10 +163,10 @@ fn answer<
         + Copy
         + Send
         + Sync,
-    N: NodeList,
->(rt: &R, alloc: Global, desk: &mut Desk<R, N>, stream: &TcpStream) -> bool
-    ensures view { Rises desk.old.view desk.new.view }
-    ensures turn { desk.new.turn ≡ desk.old.turn }
+    J: Publication,
+>(rt: &R, alloc: Global, worker: &mut Worker<R, J>, stream: &TcpStream) -> bool
+    ensures view { IsPrefix worker.old.view worker.new.view }
+    ensures turn { worker.new.turn ≡ worker.old.turn }
 {
     if !limit(stream) {
         return false;
@@ -215,7 +177,7 @@ fn answer<
     let Ok(mut writer) = BufWriter::new(alloc, stream) else {
         return false;
     };
-    respond(rt, alloc, desk, &mut reader, &mut writer) && writer.flush().is_ok()
+    respond(rt, alloc, worker, &mut reader, &mut writer) && writer.flush().is_ok()
 }
 
 // Answers a connection, counts it once it is closed, and tells whether it was answered: then the next has the next turn.
@@ -227,16 +189,16 @@ fn take<
         + Copy
         + Send
         + Sync,
-    N: NodeList,
->(rt: &R, alloc: Global, desk: &mut Desk<R, N>, gate: &Gate, stream: TcpStream) -> bool
-    ensures view { Rises desk.old.view desk.new.view }
-    ensures turn { desk.new.turn ≡ (if result then min (desk.old.turn + 1) (2 ^ 64 - 1) else desk.old.turn) }
+    J: Publication,
+>(rt: &R, alloc: Global, worker: &mut Worker<R, J>, gate: &Gate, stream: TcpStream) -> bool
+    ensures view { IsPrefix worker.old.view worker.new.view }
+    ensures turn { worker.new.turn ≡ (if result then min (worker.old.turn + 1) (2 ^ 64 - 1) else worker.old.turn) }
 {
     let counts = gate.is_open(rt);
-    if !answer(rt, alloc, desk, &stream) {
+    if !answer(rt, alloc, worker, &stream) {
         return false;
     }
-    desk.turn = desk.turn.saturating_add(1);
+    worker.turn = worker.turn.saturating_add(1);
     drop(stream);
     if counts {
         gate.add(rt);
@@ -253,14 +215,14 @@ fn work<
         + Copy
         + Send
         + Sync,
-    N: NodeList,
->(rt: &R, alloc: Global, desk: &mut Desk<R, N>, gate: &Gate, listener: &TcpListener)
-    ensures { Rises desk.old.view desk.new.view }
+    J: Publication,
+>(rt: &R, alloc: Global, worker: &mut Worker<R, J>, gate: &Gate, listener: &TcpListener)
+    ensures { IsPrefix worker.old.view worker.new.view }
 {
     for stream in listener.incoming() {
         match stream {
             Ok(stream) => {
-                take(rt, alloc, desk, gate, stream);
+                take(rt, alloc, worker, gate, stream);
             }
             Err(_) => thread::sleep(rt, Duration::from_millis(REST_MILLISECONDS)),
         }
@@ -277,21 +239,21 @@ fn start_worker<
         + Send
         + Sync
         + 'static,
-    N: NodeList + Send + Sync + 'static,
+    J: Publication + Send + Sync + 'static,
 >(
     rt: &R,
     alloc: Global,
-    desk: Desk<R, N>,
+    worker: Worker<R, J>,
     gate: &Arc<Gate, Global>,
     listener: &Arc<TcpListener, Global>,
 ) -> Result<(), DeviceFailed> {
     let rt = *rt;
-    let mut desk = desk;
+    let mut worker = worker;
     let gate = Arc::try_clone(gate)?;
     let listener = Arc::try_clone(listener)?;
-    match thread::spawn(&rt, move || work(&rt, alloc, &mut desk, &gate, &listener)) {
-        Ok(worker) => {
-            drop(worker);
+    match thread::spawn(&rt, move || work(&rt, alloc, &mut worker, &gate, &listener)) {
+        Ok(thread) => {
+            drop(thread);
             Ok(())
         }
         Err(_) => Err(DeviceFailed),
@@ -299,21 +261,23 @@ fn start_worker<
 }
 
 // What a worker answers with.
-fn desk_of<R: Net + Clock + Copy, N: NodeList>(
+fn worker_of<R: Net + Clock + Wait + Copy, J: Publication>(
     rt: &R,
     alloc: Global,
-    view: View<N>,
+    view: View<J>,
     nodes: &[NodeConfig],
-) -> Result<Desk<R, N>, DeviceFailed>
-    requires { length nodes.now ≡ length N.names }
+    publisher: &Shared<J, R>,
+) -> Result<Worker<R, J>, DeviceFailed>
+    requires { length nodes.now ≡ length J.opening }
 {
     let links = links_to(rt, alloc, nodes)?;
     match Routes::new(alloc) {
-        Ok(routes) => Ok(Desk {
+        Ok(routes) => Ok(Worker {
             routes,
             view,
             links,
             turn: 0,
+            publisher: Arc::try_clone(publisher)?,
         }),
         Err(_) => Err(DeviceFailed),
     }
@@ -334,22 +298,22 @@ pub(crate) struct Opening {
     ghost few: { workers ≤ max_workers },
 }
 
-// The views of a publisher, and the publisher, which threads share.
-type Shared<N> = (Arc<Mutex<Publisher<N>>, Global>, Vec<View<N>>);
-
 // A publisher of an inventory, with a view for each node and for each worker.
-fn opened<N: NodeList>(
+fn opened<J: Publication, R: Wait + Drop + Copy>(
+    rt: &R,
     alloc: Global,
+    opened: Opened,
     inventory: Inventory,
     workers: u16,
-) -> Result<Shared<N>, DeviceFailed>
-    requires names { names_of inventory ≡ N.names }
+) -> Result<(Shared<J, R>, Vec<View<J>>), DeviceFailed>
+    requires book { opened ≡ J.book }
+    requires opening { inventory ≡ J.opening }
     requires some { 1 ≤ workers }
     requires few { workers ≤ max_workers }
-    ensures { IfOk result (λ shared. vec_len shared.1 ≡ length N.names + workers) }
+    ensures { IfOk result (λ shared. vec_len shared.1 ≡ length J.opening + workers) }
 {
     let places = inventory.node_count() + workers;
-    match open::<N>(alloc, inventory, places) {
+    match open::<J, R>(alloc, *rt, opened, inventory, places) {
         Ok((publisher, views)) => Ok((Arc::new(alloc, Mutex::new(publisher))?, views)),
         Err(_) => Err(DeviceFailed),
     }
@@ -365,16 +329,17 @@ fn start_syncers<
         + Send
         + Sync
         + 'static,
-    N: NodeList + Send + Sync + 'static,
+    J: Publication + Send + Sync + 'static,
 >(
     rt: &R,
     alloc: Global,
     turns: u64,
     nodes: &[NodeConfig],
-    publisher: &Arc<Mutex<Publisher<N>>, Global>,
-    views: &mut Vec<View<N>>,
+    publisher: &Shared<J, R>,
+    views: &mut Vec<View<J>>,
 ) -> Result<Vec<JoinHandle<()>>, DeviceFailed>
     requires nodes { length nodes.now ≤ max_nodes }
+    requires there { length nodes.now ≡ length J.opening }
     requires views { length nodes.now ≤ vec_len views.old }
     ensures { OnOk result (length nodes.now + vec_len views.new ≡ vec_len views.old) }
 {
@@ -383,9 +348,13 @@ fn start_syncers<
         let Some(view) = views.pop() else {
             unreachable!()
         };
-        let link = link_to(rt, alloc, nodes[node].address())?;
-        let syncer = start_syncer(rt, alloc, node as NodeNo, turns, view, link, publisher)?;
-        syncers.push(syncer)?;
+        let syncer = Syncer {
+            node: node as NodeNo,
+            view,
+            link: link_to(rt, alloc, nodes[node].address())?,
+            publisher: Arc::try_clone(publisher)?,
+        };
+        syncers.push(start_syncer(rt, alloc, turns, syncer)?)?;
     }
     Ok(syncers)
 }
@@ -400,9 +369,16 @@ pub(crate) fn start_broker<
         + Send
         + Sync
         + 'static,
-    N: NodeList + Send + Sync + 'static,
->(rt: &R, alloc: Global, opening: Opening, nodes: &[NodeConfig]) -> Result<Broker, DeviceFailed>
-    requires names { names_of opening.inventory ≡ N.names }
+    J: Publication + Send + Sync + 'static,
+>(
+    rt: &R,
+    alloc: Global,
+    list: Opened,
+    opening: Opening,
+    nodes: &[NodeConfig],
+) -> Result<Broker, DeviceFailed>
+    requires book { list ≡ J.book }
+    requires opening { opening.inventory ≡ J.opening }
     requires nodes { length nodes.now ≡ length opening.inventory }
 {
     let Opening {
@@ -412,11 +388,11 @@ pub(crate) fn start_broker<
         turns,
     } = opening;
     let gate = Arc::new(alloc, Gate::new())?;
-    let (publisher, mut views) = opened::<N>(alloc, inventory, workers)?;
+    let (publisher, mut views) = opened::<J, R>(rt, alloc, list, inventory, workers)?;
     let syncers = start_syncers(rt, alloc, turns, nodes, &publisher, &mut views)?;
     for view in views {
-        let desk = desk_of(rt, alloc, view, nodes)?;
-        start_worker(rt, alloc, desk, &gate, &listener)?;
+        let worker = worker_of(rt, alloc, view, nodes, &publisher)?;
+        start_worker(rt, alloc, worker, &gate, &listener)?;
     }
     Ok(Broker { gate, syncers })
 }

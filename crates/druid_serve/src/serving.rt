@@ -14,6 +14,7 @@ use crate::gate::Gate;
 use druid_command_line::{Ending, Exit};
 use druid_config::{BrokerConfig, Config, NodeConfig, QueryConfig, names_in, read_config};
 use druid_inventory::Inventory;
+use druid_published::Opened;
 use druid_serve_node::{ClusterFault, DeviceFailed, listen, start_node};
 use std::alloc::Global;
 use std::fs::File;
@@ -81,7 +82,7 @@ fn fresh(alloc: Global, nodes: &[NodeConfig]) -> Result<Inventory, DeviceFailed>
     }
 }
 
-// Starts a broker: its publisher, views and receipts are of the names that its inventory has.
+// Starts a broker: its publisher, views and receipts are of this list, which begins with its inventory.
 fn start_one<
     R: Net<Listener = TcpListener, Stream = TcpStream>
         + Wait
@@ -91,10 +92,16 @@ fn start_one<
         + Send
         + Sync
         + 'static,
->(rt: &R, alloc: Global, opening: Opening, nodes: &[NodeConfig]) -> Result<Broker, DeviceFailed>
+>(
+    rt: &R,
+    alloc: Global,
+    list: Opened,
+    opening: Opening,
+    nodes: &[NodeConfig],
+) -> Result<Broker, DeviceFailed>
     requires { length nodes.now ≡ length opening.inventory }
 {
-    start_broker::<R, Brand>(rt, alloc, opening, nodes)
+    start_broker::<R, Brand>(rt, alloc, list, opening, nodes)
 }
 
 // Starts the brokers after their listeners.
@@ -127,7 +134,7 @@ fn start_brokers<
             workers: broker.workers(),
             turns,
         };
-        standing.push(start_one(rt, alloc, opening, nodes)?)?;
+        standing.push(start_one(rt, alloc, Opened::new(), opening, nodes)?)?;
     }
     Ok(standing)
 }

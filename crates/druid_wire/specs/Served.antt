@@ -49,17 +49,32 @@ pub record IsCutShort (old new : Option (List ℕ)) (status : ℕ) (body : List 
   pub front : AppendsFront old new (answer_text status body)
   pub told : IsWriteFault fault
 
--- the input is a request, after which it is left, and this is an answer to it; or it has a fault, which is returned
-abbrev pub Serves : (RequestValue → ℕ → List ℕ → Type 0) → List ℕ → Option (List ℕ) → ℕ → List ℕ → Type 0
-Serves Responds input after status body =
-    ((request : RequestValue) × (rest : List ℕ) × (after ≡ Some rest) × IsRequest input request rest × Responds request status body)
-    ⊎ ((fault : WireFault) × (text : List ℕ) × HasFault RequestSays input fault × (refusal_text fault ≡ Some text) × Tells 400 text status body)
+-- ---- what was read and answered. Of an input whose bytes are not known, as over a socket, it says that there was some request or
+-- some fault; where they are known, these bytes have it
 
--- the input was served, where its bytes are known
-pub record IsServed (Responds : RequestValue → ℕ → List ℕ → Type 0) (before after old new : Option (List ℕ)) (sent : ℕ) : Type 0 where
+-- a request was read, after which the input is left, and this answers it
+pub record IsAnswered (Responds : RequestValue → ℕ → List ℕ → Type 0) (before after : Option (List ℕ)) (status : ℕ) (body : List ℕ) : Type 0 where
+  pub request : RequestValue
+  pub read : IfSome before (λ input. (rest : List ℕ) × (after ≡ Some rest) × IsRequest input request rest)
+  pub answer : Responds request status body
+
+-- no request was read, for a fault that is answered
+pub record IsRefused (before : Option (List ℕ)) (status : ℕ) (body : List ℕ) : Type 0 where
+  pub fault : WireFault
+  pub has : IfSome before (λ input. HasFault RequestSays input fault)
+  pub tells : refusal_text fault ≡ Some body
+  pub status_is : status ≡ 400
+
+-- one or the other; where no request was read, what answers draw on stays
+abbrev pub Serves : (RequestValue → ℕ → List ℕ → Type 0) → Type 0 → Option (List ℕ) → Option (List ℕ) → ℕ → List ℕ → Type 0
+Serves Responds Stays before after status body =
+    IsAnswered Responds before after status body ⊎ (IsRefused before status body × Stays)
+
+-- the answer was written
+pub record IsServed (Responds : RequestValue → ℕ → List ℕ → Type 0) (Stays : Type 0) (before after old new : Option (List ℕ)) (sent : ℕ) : Type 0 where
   pub status : ℕ
   pub body : List ℕ
-  pub served : IfSome before (λ input. Serves Responds input after status body)
+  pub served : Serves Responds Stays before after status body
   pub is_sent : IsSent old new status body sent
 
 -- no request was read, and nothing written
@@ -69,12 +84,13 @@ pub record IsUnread (before old new : Option (List ℕ)) (fault : WireFault) : T
   pub kept : Keeps old new
 
 -- an answer was begun
-pub record IsUnsent (Responds : RequestValue → ℕ → List ℕ → Type 0) (before after old new : Option (List ℕ)) (fault : WireFault) : Type 0 where
+pub record IsUnsent (Responds : RequestValue → ℕ → List ℕ → Type 0) (Stays : Type 0) (before after old new : Option (List ℕ)) (fault : WireFault) : Type 0 where
   pub status : ℕ
   pub body : List ℕ
-  pub served : IfSome before (λ input. Serves Responds input after status body)
+  pub served : Serves Responds Stays before after status body
   pub cut : IsCutShort old new status body fault
 
--- why the input was not served
-abbrev pub FailsToServe : (RequestValue → ℕ → List ℕ → Type 0) → Option (List ℕ) → Option (List ℕ) → Option (List ℕ) → Option (List ℕ) → WireFault → Type 0
-FailsToServe Responds before after old new fault = IsUnread before old new fault ⊎ IsUnsent Responds before after old new fault
+-- why no answer was written, or not the whole
+abbrev pub FailsToServe : (RequestValue → ℕ → List ℕ → Type 0) → Type 0 → Option (List ℕ) → Option (List ℕ) → Option (List ℕ) → Option (List ℕ) → WireFault → Type 0
+FailsToServe Responds Stays before after old new fault =
+    (IsUnread before old new fault × Stays) ⊎ IsUnsent Responds Stays before after old new fault

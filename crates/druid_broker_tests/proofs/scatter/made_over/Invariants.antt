@@ -1,5 +1,4 @@
-use Rattle.druid_inventory.specs.Join.{names_of}
 use Rattle.druid_broker_tests.proofs.scatter.made_over.Given as goal
 
 abbrev pub ghosts-made_in_turn : goal.ghosts-made_in_turn
-ghosts-made_in_turn g a = record { names = names_of a.setup.inventory }
+ghosts-made_in_turn g a = record { opening = a.setup.inventory; book = a.setup.list }

@@ -1,8 +1,7 @@
-use Rattle.druid_inventory.specs.Join.{names_of}
 use Rattle.druid_broker_tests.proofs.sockets.seeded.Given as goal
 
-abbrev pub ghosts-equals_its_peer-N-NodeList : goal.ghosts-equals_its_peer-N-NodeList
-ghosts-equals_its_peer-N-NodeList g a = record { names = names_of a.setup.inventory }
+abbrev pub ghosts-equals_its_peer-J-Publication : goal.ghosts-equals_its_peer-J-Publication
+ghosts-equals_its_peer-J-Publication g a = record { opening = a.setup.inventory; book = a.setup.list }
 
-abbrev pub ghosts-equals_its_peer-M-NodeList : goal.ghosts-equals_its_peer-M-NodeList
-ghosts-equals_its_peer-M-NodeList g a = record { names = names_of a.inventory }
+abbrev pub ghosts-equals_its_peer-K-Publication : goal.ghosts-equals_its_peer-K-Publication
+ghosts-equals_its_peer-K-Publication g a = record { opening = a.inventory; book = a.list }

@@ -1,8 +1,7 @@
-use Rattle.druid_inventory.specs.Join.{names_of}
 use Rattle.druid_broker_tests.proofs.turns.seeds_of.Given as goal
 
-abbrev pub ghosts-is_seeded-N-NodeList : goal.ghosts-is_seeded-N-NodeList
-ghosts-is_seeded-N-NodeList g a = record { names = names_of a.setup.inventory }
+abbrev pub ghosts-is_seeded-J-Publication : goal.ghosts-is_seeded-J-Publication
+ghosts-is_seeded-J-Publication g a = record { opening = a.setup.inventory; book = a.setup.list }
 
-abbrev pub ghosts-is_seeded-M-NodeList : goal.ghosts-is_seeded-M-NodeList
-ghosts-is_seeded-M-NodeList g a = record { names = names_of a.inventory }
+abbrev pub ghosts-is_seeded-K-Publication : goal.ghosts-is_seeded-K-Publication
+ghosts-is_seeded-K-Publication g a = record { opening = a.inventory; book = a.list }

@@ -1,0 +1,129 @@
+-- What is made of an inventory, reply by reply.
+use Rattle.std.proofs.Common.{◌≡◌, ◌⊎◌, ◌<◌, ◌≤◌, ℕ, Bool, true, false, zero, suc, List, [], ◌∷◌, ◌++◌, set, Option, Some, None, if◌then◌else◌, nat_le, nat_lt, ◌==◌, ◌&&◌, inl, inr, refl, sym, ap, ◌∙◌, subst, arith}
+use Rattle.std.proofs.lemmas.Bool.Decides.{nat_tests}
+use Rattle.std.specs.List.{slice_get}
+use Rattle.std.specs.Ordering.{is_lt}
+use Rattle.std.specs.declared.cmp.Ordering.{Ordering}
+use Rattle.std.specs.declared.cmp.Ordering.TheVariants.{Less, Equal, Greater}
+use Rattle.std.proofs.lemmas.Option.{same_Some}
+use Rattle.druid_shard.specs.Described.{Described}
+use Rattle.druid_shard.specs.Mark.{Point, mark_cmp}
+use Rattle.druid_shard.specs.Replay.{replay_from}
+use Rattle.druid_shard.specs.declared.reply.Body.{Body}
+use Rattle.druid_shard.specs.declared.reply.Body.TheVariants.{Delta, Snapshot, Reset}
+use Rattle.druid_inventory.specs.Entry.{Entry}
+use Rattle.druid_inventory.specs.Join.{names_of}
+use Rattle.druid_inventory.specs.Step.{Steps, StepsAt, GoesOn, moved_to, tail_of}
+use Rattle.druid_inventory.specs.declared.fault.Outcome.{Outcome}
+use Rattle.druid_inventory.specs.declared.fault.Outcome.TheVariants.{Moved, AlreadyHave, AskWhole}
+use Rattle.druid_published.specs.Fold.{Published, goes_on, moved_if, stepped, stepped_if, step_by, fold_of}
+
+-- ---- one entry
+
+going : (i j m n k : ℕ) → i ≡ j → m < n → k ≤ m → ((i == j) && nat_lt m n && nat_le k m) ≡ true
+going i j m n k same later near = grind (arith, nat_tests, same, later, near)
+
+not_later : (i j m n k : ℕ) → n ≤ m → ((i == j) && nat_lt m n && nat_le k m) ≡ false
+not_later i j m n k early = grind (arith, nat_tests, early)
+
+gone : (i j m n k : ℕ) → ((i == j) && nat_lt m n && nat_le k m) ≡ true → (i ≡ j) × (m < n) × (k ≤ m)
+gone i j m n k e = (grind (arith, nat_tests, e), grind (arith, nat_tests, e), grind (arith, nat_tests, e))
+
+-- what Step makes of an entry
+pub steps_are_stepped : (e : Entry) (b : Body) (o : Outcome) (new : Entry) → Steps e b o new → new ≡ stepped e b
+steps_are_stepped e (Delta from to changes) Moved new (goes, t, made, is) =
+    is ∙ sym (ap (λ (b : Bool). if b then moved_if e to (replay_from e.set (tail_of e from changes)) else e)
+    (going to.incarnation e.mark.incarnation e.mark.count to.count from.count goes.ahead.incarnation goes.ahead.later goes.no_gap)
+    ∙ ap (moved_if e to) made)
+steps_are_stepped e (Delta from to changes) AlreadyHave new (same, early, is) =
+    is ∙ sym (ap (λ (b : Bool). if b then moved_if e to (replay_from e.set (tail_of e from changes)) else e)
+    (not_later to.incarnation e.mark.incarnation e.mark.count to.count from.count early))
+steps_are_stepped e (Delta from to changes) AskWhole new h = absurd h
+steps_are_stepped e (Snapshot at held) Moved new (less, is) = is ∙ sym (ap (λ (o : Ordering). if is_lt o then moved_to e at held else e) less)
+steps_are_stepped e (Snapshot at held) AlreadyHave new (inl greater, is) = is ∙ sym (ap (λ (o : Ordering). if is_lt o then moved_to e at held else e) greater)
+steps_are_stepped e (Snapshot at held) AlreadyHave new (inr (equal, _), is) = is ∙ sym (ap (λ (o : Ordering). if is_lt o then moved_to e at held else e) equal)
+steps_are_stepped e (Snapshot at held) AskWhole new h = absurd h
+steps_are_stepped e (Reset cause at) Moved new h = absurd h
+steps_are_stepped e (Reset cause at) AlreadyHave new h = absurd h
+steps_are_stepped e (Reset cause at) AskWhole new h = h
+
+-- a reply moves an entry by Step, or leaves it
+pub stepping : (e : Entry) (b : Body) → Steps e b Moved (stepped e b) ⊎ (stepped e b ≡ e)
+stepping e (Delta from to changes) = by (goes_on e from to) refl (replay_from e.set (tail_of e from changes)) refl
+  where
+    by : (b : Bool) → goes_on e from to ≡ b → (o : Option (List Described)) → replay_from e.set (tail_of e from changes) ≡ o
+        → Steps e (Delta from to changes) Moved (if b then moved_if e to o else e) ⊎ ((if b then moved_if e to o else e) ≡ e)
+    by false stays o made = inr refl
+    by true goes None made = inr refl
+    by true goes (Some t) made =
+        let g = gone to.incarnation e.mark.incarnation e.mark.count to.count from.count goes in
+        inl (record { ahead = record { incarnation = g.0; later = g.1 }; no_gap = g.2 }, t, made, refl)
+stepping e (Snapshot at held) = by (mark_cmp e.mark at) refl
+  where
+    by : (o : Ordering) → mark_cmp e.mark at ≡ o
+        → Steps e (Snapshot at held) Moved (if is_lt o then moved_to e at held else e) ⊎ ((if is_lt o then moved_to e at held else e) ≡ e)
+    by Less is = inl (is, refl)
+    by Equal is = inr refl
+    by Greater is = inr refl
+stepping e (Reset cause at) = inr refl
+
+stepped_name : (e : Entry) (b : Body) → (stepped e b).name ≡ e.name
+stepped_name e (Delta from to changes) = by (goes_on e from to) (replay_from e.set (tail_of e from changes))
+  where
+    by : (b : Bool) (o : Option (List Described)) → (if b then moved_if e to o else e).name ≡ e.name
+    by false o = refl
+    by true None = refl
+    by true (Some t) = refl
+stepped_name e (Snapshot at held) = by (is_lt (mark_cmp e.mark at))
+  where
+    by : (b : Bool) → (if b then moved_to e at held else e).name ≡ e.name
+    by false = refl
+    by true = refl
+stepped_name e (Reset cause at) = refl
+
+-- ---- one reply
+
+-- what Step makes of an inventory
+pub steps_by : (inventory : List Entry) (node : ℕ) (b : Body) (o : Outcome) (new : Entry) → StepsAt inventory node b o new → set inventory node new ≡ step_by inventory (node, b)
+steps_by inventory node b o new (e, there, steps) =
+    ap (set inventory node) (steps_are_stepped e b o new steps) ∙ sym (ap (stepped_if inventory (node, b)) there)
+
+-- what is made by Step
+pub made_by : (inventory made : List Entry) (node : ℕ) (b : Body) (o : Outcome) (new : Entry) → StepsAt inventory node b o new → made ≡ set inventory node new → made ≡ step_by inventory (node, b)
+made_by inventory made node b o new steps is = is ∙ steps_by inventory node b o new steps
+
+names_set : (inventory : List Entry) (node : ℕ) (e new : Entry) → slice_get inventory node ≡ Some e → new.name ≡ e.name → names_of (set inventory node new) ≡ names_of inventory
+names_set [] node e new is same = refl
+names_set (x ∷ xs) zero e new is same = ap (λ n. n ∷ names_of xs) (same ∙ ap (λ (y : Entry). y.name) (sym (same_Some x e is)))
+names_set (x ∷ xs) (suc node) e new is same = ap (λ ns. x.name ∷ ns) (names_set xs node e new is same)
+
+step_names : (inventory : List Entry) (pair : ℕ × Body) → names_of (step_by inventory pair) ≡ names_of inventory
+step_names inventory pair = by (slice_get inventory pair.0) refl
+  where
+    by : (o : Option Entry) → slice_get inventory pair.0 ≡ o → names_of (stepped_if inventory pair o) ≡ names_of inventory
+    by None there = refl
+    by (Some e) there = names_set inventory pair.0 e (stepped e pair.1) there (stepped_name e pair.1)
+
+-- ---- one after the other
+
+pub fold_names : (opening : List Entry) (published : Published) → names_of (fold_of opening published) ≡ names_of opening
+fold_names opening [] = refl
+fold_names opening (pair ∷ published) = fold_names (step_by opening pair) published ∙ step_names opening pair
+
+-- more replies go on from there
+pub fold_on : (opening : List Entry) (published more : Published) → fold_of opening (published ++ more) ≡ fold_of (fold_of opening published) more
+fold_on opening [] more = refl
+fold_on opening (pair ∷ published) more = fold_on (step_by opening pair) published more
+
+pub fold_more : (opening : List Entry) (published : Published) (pair : ℕ × Body) (now new : List Entry) → now ≡ fold_of opening published → new ≡ step_by now pair
+    → new ≡ fold_of opening (published ++ pair ∷ [])
+fold_more opening published pair now new folds steps =
+    steps ∙ ap (λ (xs : List Entry). step_by xs pair) folds ∙ sym (fold_on opening published (pair ∷ []))
+
+pub fold_steps : (opening : List Entry) (published : Published) (node : ℕ) (b : Body) (o : Outcome) (new : Entry) → StepsAt (fold_of opening published) node b o new
+    → fold_of opening (published ++ (node, b) ∷ []) ≡ set (fold_of opening published) node new
+fold_steps opening published node b o new steps =
+    fold_on opening published ((node, b) ∷ []) ∙ sym (steps_by (fold_of opening published) node b o new steps)
+
+pub names_of_fold : (opening : List Entry) (published : Published) (inventory : List Entry) → inventory ≡ fold_of opening published → names_of inventory ≡ names_of opening
+names_of_fold opening published inventory folds = ap (λ (xs : List Entry). names_of xs) folds ∙ fold_names opening published

@@ -1,0 +1,240 @@
+//! A publisher, the one owner of an inventory.
+ghost use Rattle.std.specs.Prelude.{◌≡◌, ◌≢◌, ◌↔◌, ◌++◌, ◌∷◌, [], None, IfOk, IfErr, OnOk, OnErr, IsErrOf, slice_get, slice_set};
+ghost use Rattle.std.specs.Arc.{arc_value};
+ghost use Rattle.left_right.specs.Sides.{view};
+ghost use Rattle.druid_inventory.specs.Entry.{Entry};
+ghost use Rattle.druid_inventory.specs.Step.{StepsAt, RefusedAt};
+ghost use Rattle.druid_inventory.specs.declared.fault.ApplyFault.{ApplyFault};
+ghost use Rattle.druid_published.specs.Faults.{publish_fault, TellsPublish};
+ghost use Rattle.druid_published.specs.Places.{known};
+ghost use Rattle.druid_published.specs.Fold.{fold_of, step_by};
+
+use crate::book::Head;
+use crate::fault::PublishFault;
+use crate::publication::Publication;
+use crate::receipt::Receipt;
+use crate::rule::{Known, Looks, OneOpening};
+use crate::shown::Shown;
+use core::mem::replace_with;
+use druid_inventory::{ApplyFault, Inventory, Outcome};
+use druid_shard::{NodeNo, Reply};
+use left_right::writer::Writer;
+use std::alloc::{AllocError, Global};
+use std::marker::Model;
+use std::sync::{Arc, Wait};
+
+/// The place of a publisher.
+pub type WriterPlace = Writer<Shown, Shown, Known, OneOpening>;
+
+// As many as are counted.
+const MOST: u64 = 1 << 62;
+
+// Shows it to the views. Where memory is refused it is left pending, and the next one is shown in its stead.
+fn show<J: Publication, R: Wait>(rt: &R, writer: WriterPlace, shown: Shown) -> (WriterPlace, ())
+    requires place { view writer.desk.place ≡ known J.book J.opening }
+    requires book { shown.seen.book ≡ J.book }
+    requires fold { arc_value shown.inventory ≡ fold_of J.opening shown.seen.log }
+    ensures { view result.0.desk.place ≡ known J.book J.opening }
+{
+    let mut writer = writer;
+    match writer.append(shown) {
+        Ok(()) => (writer.publish_as::<Looks, R>(rt).0, ()),
+        Err(_) => (writer, ()),
+    }
+}
+
+// Out of memory is B9, and why else a reply is not applied B1.
+#[tactic(auto, using(crate::proofs::FaultLemmas::not_memory))]
+fn fault_of(fault: ApplyFault) -> PublishFault
+    ensures { result ≡ publish_fault fault }
+{
+    match fault {
+        ApplyFault::Memory => PublishFault::Memory,
+        fault => PublishFault::Apply(fault),
+    }
+}
+
+/// The owner of an inventory. A contract sees what it published, and the inventory.
+///
+/// It keeps the handle that it was opened with, since it waits for readers when it publishes and when it is dropped.
+pub struct Publisher<J: Publication, R: Wait + Drop> {
+    alloc: Global,
+    rt: R,
+    head: Head<J>,
+    seen: Receipt<J>,
+    inventory: Arc<Inventory, Global>,
+    writer: WriterPlace,
+}
+
+impl<J: Publication, R: Wait + Drop> Model for Publisher<J, R> {
+    ghost use Rattle.std.specs.Prelude.{◌≡◌};
+    ghost use Rattle.std.specs.Arc.{arc_value};
+    ghost use Rattle.left_right.specs.Sides as sides;
+    ghost use Rattle.druid_published.specs.Places.{known};
+    ghost use Rattle.druid_published.specs.Fold.{fold_of, PublisherValue};
+
+    ghost Value = { PublisherValue };
+
+    ghost view = { λ a. record { published = a.seen; inventory = arc_value a.inventory } };
+
+    ghost invariant = { λ a. (arc_value a.inventory ≡ fold_of J.opening a.seen)
+        × (sides.view a.writer.desk.place ≡ known J.book J.opening) };
+}
+
+impl<J: Publication, R: Wait + Drop> Drop for Publisher<J, R> {
+    fn drop(self) {
+        let Self {
+            alloc: _,
+            rt,
+            head: _head,
+            seen: _seen,
+            inventory: _inventory,
+            writer,
+        } = self;
+        drop(writer.take(&rt));
+    }
+}
+
+// The inventory, to be shared, and an owner more of it.
+fn shared(
+    alloc: Global,
+    inventory: Inventory,
+) -> Result<(Arc<Inventory, Global>, Arc<Inventory, Global>), AllocError>
+    ensures mine { IfOk result (λ r. arc_value r.0 ≡ inventory) }
+    ensures theirs { IfOk result (λ r. arc_value r.1 ≡ inventory) }
+{
+    let mine = Arc::new(alloc, inventory)?;
+    let theirs = Arc::try_clone(&mine)?;
+    Ok((mine, theirs))
+}
+
+impl<J: Publication, R: Wait + Drop> Publisher<J, R> {
+    // The publisher of an inventory, with nothing published.
+    pub(crate) fn new(
+        alloc: Global,
+        rt: R,
+        named: (Head<J>, Receipt<J>),
+        inventory: Arc<Inventory, Global>,
+        writer: WriterPlace,
+    ) -> Publisher<J, R>
+        requires published { named.1 ≡ [] }
+        requires inventory { arc_value inventory ≡ J.opening }
+        requires place { view writer.desk.place ≡ known J.book J.opening }
+        ensures published { result.published ≡ [] }
+        ensures inventory { result.inventory ≡ J.opening }
+    {
+        let (head, seen) = named;
+        Publisher {
+            alloc,
+            rt,
+            head,
+            seen,
+            inventory,
+            writer,
+        }
+    }
+
+    /// Publishes a reply of a node, in one step: it is what was published last, and the inventory what it makes of the
+    /// one before. The receipt is for all that is published then. B1 where the reply is not applied, and B9 last, where
+    /// memory is refused, or as much is published as can be counted; then all stays as it was.
+    ///
+    /// It waits for those that still read what was shown before. Room for what is shown is made by `open`; should memory be
+    /// refused after the step all the same, the reply is published, and shown with the next one.
+    pub fn publish(
+        &mut self,
+        node: NodeNo,
+        reply: &Reply,
+    ) -> Result<(Outcome, Receipt<J>), PublishFault>
+        ensures ok { IfOk result (λ r. (entry : Entry) × StepsAt self.old.inventory node reply.now r.0 entry
+            × (self.new.inventory ≡ slice_set self.old.inventory node entry)) }
+        ensures published { OnOk result (self.new.published ≡ self.old.published ++ (node, reply.now) ∷ []) }
+        ensures receipt { IfOk result (λ r. r.1 ≡ self.new.published) }
+        ensures fold { self.new.inventory ≡ fold_of J.opening self.new.published }
+        ensures stays { OnErr result (self.new ≡ self.old) }
+        ensures fault { IfErr result (TellsPublish self.old.inventory node reply.now) }
+        ensures unknown { IsErrOf result (PublishFault.Apply ApplyFault.UnknownNode) ↔ (slice_get self.old.inventory node ≡ None) }
+        ensures refused { (fault : ApplyFault) → fault ≢ ApplyFault.UnknownNode → fault ≢ ApplyFault.Memory
+            → IsErrOf result (PublishFault.Apply fault) ↔ RefusedAt self.old.inventory node reply.now fault }
+    {
+        self.applied(node, reply)
+    }
+
+    // The same, with the fault made in one place.
+    #[tactic(auto, using(crate::proofs::FoldLemmas::made_by))]
+    fn applied(
+        &mut self,
+        node: NodeNo,
+        reply: &Reply,
+    ) -> Result<(Outcome, Receipt<J>), PublishFault>
+        ensures ok { IfOk result (λ r. (entry : Entry) × StepsAt self.old.inventory node reply.now r.0 entry
+            × (self.new.inventory ≡ slice_set self.old.inventory node entry)) }
+        ensures published { OnOk result (self.new.published ≡ self.old.published ++ (node, reply.now) ∷ []) }
+        ensures receipt { IfOk result (λ r. r.1 ≡ self.new.published) }
+        ensures fold { self.new.inventory ≡ fold_of J.opening self.new.published }
+        ensures stays { OnErr result (self.new ≡ self.old) }
+        ensures fault { IfErr result (TellsPublish self.old.inventory node reply.now) }
+    {
+        let (inventory, outcome) = match self.inventory.apply(node, reply) {
+            Ok(made) => made,
+            Err(fault) => return Err(fault_of(fault)),
+        };
+        match self.add(node, reply, inventory) {
+            Ok(receipt) => Ok((outcome, receipt)),
+            Err(_) => Err(PublishFault::Memory),
+        }
+    }
+
+    // Adds a reply of a node that makes this of the inventory, in one step, with what views are shown then.
+    #[tactic(auto, using(crate::proofs::FoldLemmas::fold_more))]
+    fn step(
+        &self,
+        node: NodeNo,
+        reply: &Reply,
+        inventory: Arc<Inventory, Global>,
+    ) -> Result<(Receipt<J>, Shown), AllocError>
+        requires { arc_value inventory ≡ step_by self.now.inventory (node, reply.now) }
+        ensures published { IfOk result (λ r. r.0 ≡ self.now.published ++ (node, reply.now) ∷ []) }
+        ensures fold { IfOk result (λ r. arc_value inventory ≡ fold_of J.opening r.0) }
+        ensures book { IfOk result (λ r. r.1.seen.book ≡ J.book) }
+        ensures shown { IfOk result (λ r. arc_value r.1.inventory ≡ fold_of J.opening r.1.seen.log) }
+    {
+        let mut seen = self.seen.again();
+        if seen.len() >= MOST || !seen.add(&self.head, node, reply) {
+            return Err(AllocError);
+        }
+        let shown = seen.shown(inventory);
+        Ok((seen, shown))
+    }
+
+    // Publishes a reply of a node that makes this of the inventory. All that may be refused comes before the step.
+    fn add(
+        &mut self,
+        node: NodeNo,
+        reply: &Reply,
+        inventory: Inventory,
+    ) -> Result<Receipt<J>, AllocError>
+        requires { inventory ≡ step_by self.old.inventory (node, reply.now) }
+        ensures inventory { OnOk result (self.new.inventory ≡ inventory) }
+        ensures published { OnOk result (self.new.published ≡ self.old.published ++ (node, reply.now) ∷ []) }
+        ensures receipt { IfOk result (λ receipt. receipt ≡ self.new.published) }
+        ensures fold { self.new.inventory ≡ fold_of J.opening self.new.published }
+        ensures stays { OnErr result (self.new ≡ self.old) }
+    {
+        let (mine, theirs) = shared(self.alloc, inventory)?;
+        let (seen, shown) = self.step(node, reply, theirs)?;
+        replace_with(&mut self.writer, &self.rt, |writer, rt| {
+            show::<J, R>(rt, writer, shown)
+        });
+        self.seen = seen.again();
+        self.inventory = mine;
+        Ok(seen)
+    }
+
+    /// The inventory: the fold of what was published. Does not allocate.
+    pub fn inventory(&self) -> &Inventory
+        ensures now { result.now ≡ self.now.inventory }
+        ensures fold { self.now.inventory ≡ fold_of J.opening self.now.published }
+    {
+        &self.inventory
+    }
+}
