@@ -314,6 +314,40 @@ fn ample_memory(rt: HostRuntime) {
     assert!(rt; many.len() > 99_000 && is_written_again(&rt, rt.alloc(), &many));
 }
 
+// A file of one row and so many dimensions, of which every second one is null: the vector's source, interval, version,
+// partition, core and size stand in front.
+fn wide(rt: &impl Abort, alloc: Global, dimensions: u8) -> Vec<u8> {
+    let mut bytes = bytes_of(rt, alloc, vector());
+    bytes.truncate(36);
+    extend(rt, &mut bytes, &[&[dimensions]]);
+    for n in 0..dimensions {
+        extend(
+            rt,
+            &mut bytes,
+            &[&[2, b'a'.wrapping_add(n / 16), b'a'.wrapping_add(n % 16)]],
+        );
+    }
+    extend(
+        rt,
+        &mut bytes,
+        &[&[1, 1, b'm', 0, 0, 0, 1, 0, 0, 0, 0, 0, 0, 3, 232]],
+    );
+    for n in 0..dimensions {
+        let value: &[u8] = if n % 2 == 0 { &[1, 0, 1, b'x'] } else { &[0] };
+        extend(rt, &mut bytes, &[value]);
+    }
+    extend(rt, &mut bytes, &[&[1, 0, 0, 0, 0, 0, 0, 0, 5]]);
+    bytes
+}
+
+#[test]
+fn many_dimensions(rt: HostRuntime) {
+    for dimensions in [4, 17, 64] {
+        let bytes = wide(&rt, rt.alloc(), dimensions);
+        assert!(rt; is_written_again(&rt, rt.alloc(), &bytes), "{dimensions}");
+    }
+}
+
 // Gives its bytes, a few at a time, and counts them. Then it fails, if it has a fault, gives zeros for ever, or ends.
 #[derive(Drop)]
 struct Source<'a> {

@@ -6,5 +6,5 @@ mod node;
 mod outside;
 
 pub use fault::{ClusterFault, DeviceFailed};
-pub use node::start_node;
+pub use node::{load_later, start_node};
 pub use outside::{PEER_SECONDS, REST_MILLISECONDS, limit, listen};

@@ -117,8 +117,8 @@ fn loaded<R: Wait, F: Folder, I: Incarnation>(
     Ok(node)
 }
 
-// Loads files of a folder; one that is refused is passed over.
-fn load_later<R: Wait, F: Folder, I: Incarnation>(
+/// Loads files of a folder that a node serves from, one after another; one that is refused is passed over.
+pub fn load_later<R: Wait, F: Folder, I: Incarnation>(
     rt: &R,
     node: &DataNode<I>,
     folder: &mut F,

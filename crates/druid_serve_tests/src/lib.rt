@@ -9,6 +9,10 @@ mod folders;
 #[cfg(test)]
 mod host;
 #[cfg(test)]
+mod loading;
+#[cfg(test)]
 mod serve;
 #[cfg(test)]
 mod serve_node;
+#[cfg(test)]
+mod workers;

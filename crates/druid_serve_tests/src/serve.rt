@@ -12,12 +12,15 @@ use std::thread::join;
 use std::time::{Clock, Duration};
 use std::{fs, io, str, thread};
 
-// Where the two nodes and the two brokers of a test are, and over which folders the nodes stand.
+/// Where the two nodes and the two brokers of a test are, and over which folders the nodes stand.
 #[derive(Drop)]
-struct Place {
-    first: String,
-    second: String,
-    broker: String,
+pub(crate) struct Place {
+    /// The first node.
+    pub(crate) first: String,
+    /// The second node.
+    pub(crate) second: String,
+    /// The first broker.
+    pub(crate) broker: String,
     other: String,
     older: String,
     newer: String,
@@ -37,8 +40,8 @@ fn folder_with<R: Host>(rt: &R, alloc: Global, test: &str, file: &str) -> String
     folder
 }
 
-// A place with folders of the row's two segments.
-fn place_of<R: Host + Net<Listener = TcpListener, Stream = TcpStream>>(
+/// A place with folders of the row's two segments.
+pub(crate) fn place_of<R: Host + Net<Listener = TcpListener, Stream = TcpStream>>(
     rt: &R,
     alloc: Global,
     test: &str,
@@ -86,8 +89,8 @@ fn served<R: Host + Net<Listener = TcpListener, Stream = TcpStream>>(
     format!(in alloc; "{status}\n{printed}{told}").expect(rt, "memory")
 }
 
-// What the config of a place comes to.
-fn served_at<R: Host + Net<Listener = TcpListener, Stream = TcpStream>>(
+/// What the config of a place comes to.
+pub(crate) fn served_at<R: Host + Net<Listener = TcpListener, Stream = TcpStream>>(
     rt: &R,
     alloc: Global,
     place: &Place,
@@ -99,7 +102,8 @@ fn assert_told(rt: &impl Abort, told: String, wanted: &str) {
     assert!(rt; told.as_str() == wanted, "{told}");
 }
 
-fn assert_served(rt: &impl Abort, told: String) {
+/// Asserts that a cluster was served, whose first query was answered.
+pub(crate) fn assert_served(rt: &impl Abort, told: String) {
     assert!(rt; told.as_str().starts_with("0\n200\n"), "{told}");
 }
 
@@ -109,8 +113,8 @@ fn text_in<R: Host>(rt: &R, alloc: Global, folder: &str, name: &str) -> String {
     fs::read_to_string(rt, path.as_str()).expect(rt, "a file")
 }
 
-// Removes the folders of a place.
-fn clear<R: Host>(rt: &R, place: &Place) {
+/// Removes the folders of a place.
+pub(crate) fn clear<R: Host>(rt: &R, place: &Place) {
     fs::remove_dir_all(rt, place.older.as_str()).expect(rt, "a folder");
     fs::remove_dir_all(rt, place.newer.as_str()).expect(rt, "a folder");
 }

@@ -1,0 +1,70 @@
+//! Files that a node loads once it stands.
+use druid_folder::Folder;
+use druid_node::{DataNode, Incarnation, NodeState};
+use druid_serve_node::load_later;
+use druid_shard::Mark;
+use druid_store::MemoryFolder;
+use std::alloc::Global;
+use std::process::Abort;
+use std::str;
+use std::sync::Wait;
+
+// The incarnation of the node here.
+struct First;
+
+impl Incarnation for First {
+    ghost number = { 1 };
+}
+
+// The file of a segment of the source `w`, as other programs spell it: examples/vector.dsg.
+const FILE: &[u8] =
+    b"DSG1\x01w\0\0\0\0\0\0\0\0\0\0\0\0\x05\x26\x5c\0\x01v\0\0\0\x01\0\0\0\0\0\0\0\0\x01\x01d\x01\x01m\0\0\0\x01\0\0\0\0\0\0\x03\xe8\x01\0\x01x\x01\0\0\0\0\0\0\0\x05";
+
+const NAME: &str = "w_1970-01-01T00:00:00.000Z_1970-01-02T00:00:00.000Z_v.seg";
+
+// What a node tells that serves that segment alone.
+const SERVED: &str =
+    "\r\n\r\n{\"counter\":{\"counter\":1,\"hash\":1},\"from\":null,\"requests\":[{\"action\":\"load\",\"dataSource\":\"w\",\"interval\":\"1970-01-01T00:00:00.000Z/1970-01-02T00:00:00.000Z\",\"shardSpec\":{\"partitionNum\":0,\"partitions\":1,\"type\":\"numbered\"},\"size\":0,\"version\":\"v\"}],\"resetCause\":null,\"resetCounter\":false}";
+
+// A folder of that file, and of one that is no segment.
+fn folder(rt: &impl Abort, alloc: Global) -> MemoryFolder {
+    let mut folder = MemoryFolder::new(alloc);
+    folder.write("other", b"no segment").expect(rt, "a file");
+    folder.write(NAME, FILE).expect(rt, "a file");
+    folder
+}
+
+// What is to be loaded later: a file that is not there, one that is refused, and the segment's.
+fn names(rt: &impl Abort, alloc: Global) -> Vec<String> {
+    let mut names = Vec::new(alloc);
+    for name in ["none.seg", "other", NAME] {
+        let name = String::from_str(alloc, name).expect(rt, "memory");
+        names.push(name).expect(rt, "memory");
+    }
+    names
+}
+
+// A node without segments.
+fn node(rt: &impl Abort, alloc: Global) -> DataNode<First> {
+    DataNode::new(NodeState::new(alloc, 1, 10).expect(rt, "a node"))
+}
+
+// What a node tells of its segments.
+fn told<R: Wait + Abort>(rt: &R, alloc: Global, node: &DataNode<First>) -> String {
+    let mut reader = b"GET /druid-internal/v1/segments HTTP/1.1\r\n\r\n".as_slice();
+    let mut written = Vec::new(alloc);
+    let served = node.serve_one(rt, &mut reader, &mut written, &mut Mark::never());
+    assert!(rt; served.is_ok());
+    let text = str::from_utf8(&written).expect(rt, "a text");
+    String::from_str(alloc, text).expect(rt, "memory")
+}
+
+#[test]
+fn loads_later(rt: HostRuntime) {
+    let node = node(&rt, rt.alloc());
+    let names = names(&rt, rt.alloc());
+    let mut folder = folder(&rt, rt.alloc());
+    load_later(&rt, &node, &mut folder, &names, &mut Mark::never());
+    let told = told(&rt, rt.alloc(), &node);
+    assert!(rt; told.as_str().ends_with(SERVED), "{told}");
+}

@@ -1,0 +1,83 @@
+//! Servers that answer one connection while another waits, and how long they wait for one.
+use crate::host::Host;
+use crate::serve::{assert_served, clear, place_of, served_at};
+use druid_serve_node::{PEER_SECONDS, limit};
+use std::alloc::Global;
+use std::io;
+use std::io::{Read, Write};
+use std::net::{Net, TcpListener, TcpStream};
+use std::process::Abort;
+use std::time::Duration;
+
+// Asks a server how it is on a connection, and gives all that comes until the server closes it.
+fn health_on(alloc: Global, stream: &mut TcpStream) -> io::Result<Vec<u8>> {
+    stream.write_all(b"GET /status/health HTTP/1.1\r\n\r\n")?;
+    let mut bytes = Vec::new(alloc);
+    stream.read_to_end(&mut bytes)?;
+    Ok(bytes)
+}
+
+// Whether it was answered that all is well.
+fn is_answered(alloc: Global, stream: &mut TcpStream) -> bool {
+    match health_on(alloc, stream) {
+        Ok(bytes) => bytes.as_slice().ends_with(b"\r\n\r\ntrue"),
+        Err(_) => false,
+    }
+}
+
+// Whether a server of two workers answers a connection while an older one says nothing, and that one too, once it asks. A
+// single worker waits for the older one until it gives it up.
+fn answers_beside<N: Net<Stream = TcpStream> + Abort>(
+    net: &N,
+    alloc: Global,
+    address: &str,
+) -> bool {
+    let mut silent = TcpStream::connect(net, address).expect(net, "a connection");
+    let mut other = TcpStream::connect(net, address).expect(net, "a connection");
+    let is_first = is_answered(alloc, &mut other);
+    is_answered(alloc, &mut silent) && is_first
+}
+
+#[test]
+fn workers_of_a_broker(rt: HostRuntime) {
+    let place = place_of(&rt, rt.alloc(), "workers");
+    assert_served(&rt, served_at(&rt, rt.alloc(), &place));
+    assert!(rt; answers_beside(&rt, rt.alloc(), place.broker.as_str()));
+    clear(&rt, &place);
+}
+
+#[test]
+fn workers_of_nodes(rt: HostRuntime) {
+    let place = place_of(&rt, rt.alloc(), "workers");
+    assert_served(&rt, served_at(&rt, rt.alloc(), &place));
+    for address in [&place.first, &place.second] {
+        assert!(rt;
+            answers_beside(&rt, rt.alloc(), address.as_str()),
+            "{address}"
+        );
+    }
+    clear(&rt, &place);
+}
+
+// A connection to a listener of this machine.
+fn connection<N: Net<Listener = TcpListener, Stream = TcpStream> + Abort>(net: &N) -> TcpStream {
+    let listener = TcpListener::bind(net, "127.0.0.1:0").expect(net, "a listener");
+    let address = listener.local_addr().expect(net, "an address");
+    TcpStream::connect(net, address).expect(net, "a connection")
+}
+
+// Reads and writes wait for whoever connected as long as that, and no longer.
+#[test]
+fn limited_connections(rt: HostRuntime) {
+    let stream = connection(&rt);
+    assert!(rt; limit(&stream));
+    let limit = Some(Duration::from_secs(PEER_SECONDS));
+    assert!(rt;
+        stream.read_timeout().expect(&rt, "a limit") == limit,
+        "of reads"
+    );
+    assert!(rt;
+        stream.write_timeout().expect(&rt, "a limit") == limit,
+        "of writes"
+    );
+}
