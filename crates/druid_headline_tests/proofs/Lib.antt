@@ -1,0 +1,9 @@
+pub mod RequestLemmas
+pub mod ExchangeLemmas
+pub mod TurnLemmas
+pub mod NodeLemmas
+pub mod MarkLemmas
+pub mod WholeLemmas
+pub mod LawLemmas
+pub mod FollowLemmas
+pub mod ServedLemmas

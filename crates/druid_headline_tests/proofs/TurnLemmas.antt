@@ -1,0 +1,51 @@
+-- What a turn with a data node that was never synced fetches is the node's answer to an ask for all that it serves.
+use Rattle.std.proofs.Common.{◌≡◌, inl, inr, ℕ, List, Some, Result, Ok, Err, sym, ap, ◌∙◌, subst}
+use Rattle.std.specs.Prelude.{IfOk, slice_get}
+use Rattle.std.proofs.lemmas.Option.{same_Some}
+use Rattle.druid_shard.specs.Mark.{never}
+use Rattle.druid_shard.specs.declared.change.Ask.{Ask}
+use Rattle.druid_shard.specs.declared.change.Ask.TheVariants.{Whole}
+use Rattle.druid_shard.specs.declared.reply.Body.{Body}
+use Rattle.druid_inventory.specs.Entry.{Entry, ask_of}
+use Rattle.druid_link.specs.Links.{Came}
+use Rattle.druid_message.specs.Requests.{RequestValue}
+use Rattle.druid_message.specs.declared.fault.WireFault.{WireFault}
+use Rattle.druid_wire.specs.Written.{request_text}
+use Rattle.druid_node.specs.State.{State}
+use Rattle.druid_node.specs.Routes.{RespondsInTurn}
+use Rattle.druid_broker.specs.Turns.{ask_request, IsAnswerTo, Fetches, IsFetched, IsFetchedFrom}
+use Rattle.druid_broker.specs.declared.fault.TurnFault.{TurnFault}
+use Rattle.druid_headline_tests.specs.Exchanges.{IsAnswered, ExchangesWithNode}
+use Rattle.druid_headline_tests.specs.Following.{IsFirstReply}
+use Rattle.druid_headline_tests.proofs.RequestLemmas.{ask_read}
+
+no_bytes : (fault : WireFault) (bytes : List ℕ) → Path Came (Err fault) (Ok bytes) → ⊥
+no_bytes fault bytes e = cc
+
+no_reply : (fault : TurnFault) (reply : Body) → Path (Result Body TurnFault) (Ok reply) (Err fault) → ⊥
+no_reply fault reply e = cc
+
+told_by : (old : State) (came : Came) (reply : Body) → IfOk came (IsAnswered old (request_text (ask_request Whole))) → IsAnswerTo came (Ok reply) → IsFirstReply old reply
+told_by old (Err fault) reply is told = absurd (no_bytes fault told.0 told.2)
+told_by old (Ok text) reply is told = record {
+  status = is.status;
+  body = is.body;
+  responds = subst (λ (r : RequestValue). RespondsInTurn old r is.status is.body) (ask_read is.request is.rest is.read) is.responds;
+  told = subst (λ (bytes : List ℕ). IsAnswerTo (Ok bytes) (Ok reply)) is.written told;
+}
+
+-- one exchange
+fetched_once : (old new : State) (reply : Body) → Fetches ExchangesWithNode (ask_request Whole) old new (Ok reply) → (new ≡ old) × IsFirstReply old reply
+fetched_once old new reply (inl one) = (one.made.0, told_by old one.came reply one.made.1 one.told)
+fetched_once old new reply (inr none) = absurd (no_reply _ reply none.0)
+
+-- an ask for all is not followed by another
+fetched_whole : (old new : State) (reply : Body) → IsFetched ExchangesWithNode Whole old new (Ok reply) → (new ≡ old) × IsFirstReply old reply
+fetched_whole old new reply (inl (once, ends)) = fetched_once old new reply once
+fetched_whole old new reply (inr (between, first, told, again, rest)) = absurd again
+
+pub fetched_first : (inventory : List Entry) (node : ℕ) (e : Entry) (old new : State) (reply : Body) → slice_get inventory node ≡ Some e → e.mark ≡ never
+    → IsFetchedFrom ExchangesWithNode inventory node old new (Ok reply) → (new ≡ old) × IsFirstReply old reply
+fetched_first inventory node e old new reply at unsynced fetched =
+    let same : fetched.0.mark ≡ never = ap (λ (x : Entry). x.mark) (same_Some _ _ (sym fetched.1 ∙ at)) ∙ unsynced in
+    fetched_whole old new reply (subst (λ (ask : Ask). IsFetched ExchangesWithNode ask old new (Ok reply)) (ap ask_of same) fetched.2)

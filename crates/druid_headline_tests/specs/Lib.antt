@@ -1,0 +1,4 @@
+pub mod Nodes
+pub mod Exchanges
+pub mod Following
+pub mod Answers

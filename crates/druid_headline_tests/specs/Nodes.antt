@@ -1,0 +1,16 @@
+-- A data node of this process.
+use Rattle.std.specs.Prelude.{All}
+use Rattle.druid_shard.specs.Described.{IsDescribed}
+use Rattle.druid_shard.specs.Mark.{Point}
+use Rattle.druid_changes.specs.Kept.{IsKept}
+use Rattle.druid_node.specs.State.{State, IsState}
+
+-- its mark
+abbrev pub mark_of : State → Point
+mark_of state = record { incarnation = state.history.incarnation; count = state.history.count }
+
+-- what is kept of it: its history, the segments that this says, and their identifiers
+pub record IsNode (state : State) : Type 0 where
+  pub holds : IsState state
+  pub kept : IsKept state.history
+  pub described : All IsDescribed state.history.set

@@ -1,0 +1,35 @@
+//! The laws of the headline, over two data nodes.
+ghost use Rattle.std.specs.Prelude.{◌≡◌, ◌⊎◌, ℕ, List, [], ◌∷◌, map, length};
+ghost use Rattle.druid_inventory.specs.Entry.{fresh};
+ghost use Rattle.druid_query.specs.Query.{Query};
+ghost use Rattle.druid_message.specs.Requests.{RequestValue};
+ghost use Rattle.druid_node.specs.State.{State};
+ghost use Rattle.druid_published.specs.Fold.{Published};
+ghost use Rattle.druid_broker.specs.Views.{RespondsBy, AnswersUnread};
+ghost use Rattle.druid_world.specs.World.{Life, IsLife};
+ghost use Rattle.druid_headline.specs.Headline.{IsLastOf, IsPosted};
+ghost use Rattle.druid_headline_tests.specs.Exchanges.{ExchangesWithNode};
+ghost use Rattle.druid_headline_tests.specs.Nodes.{IsNode};
+ghost use Rattle.druid_headline_tests.specs.Following.{AreFollowed};
+ghost use Rattle.druid_headline_tests.specs.Answers.{IsExactOver};
+
+use crate::node_link::NodeLink;
+use druid_headline::{asks_are_answered, nodes_are_honest, queries_are_exact};
+use druid_sync::asks_are_read_back;
+
+/// What a broker answers to a query that is posted, where what its view has seen is what each of two nodes answered to an ask for
+/// all, is what is defined over the world of any lives of theirs, at their marks; or 500, where nothing was read or memory was
+/// refused.
+pub fn answers_are_exact()
+    ensures { (order : List ℕ → List ℕ) (names : List (List ℕ)) (seen now : Published) (left right : State) (new : List State)
+        (first second : Life) (request : RequestValue) (asked : Query) (status : ℕ) (body : List ℕ)
+        → length names ≡ 2 → IsNode left → IsNode right → AreFollowed left right now
+        → IsLife first → IsLife second → IsLastOf first left → IsLastOf second right → IsPosted request asked
+        → RespondsBy ExchangesWithNode order (map fresh names) seen now (left ∷ right ∷ []) new request status body
+        → IsExactOver (first ∷ second ∷ []) left right asked status body ⊎ AnswersUnread status body }
+{
+    asks_are_read_back();
+    asks_are_answered();
+    nodes_are_honest();
+    queries_are_exact::<NodeLink>();
+}

@@ -1,0 +1,15 @@
+//! The headline, met: over two data nodes, each after a link of its own, and a broker that followed them, what the broker answers to
+//! a query is what is defined over the world of their histories. No premise on what was exchanged is left.
+#![tactic(auto)]
+
+mod asking;
+mod following;
+mod laws;
+mod node_link;
+mod nodes;
+#[cfg(test)]
+mod two_nodes;
+
+pub use asking::ask_two;
+pub use laws::answers_are_exact;
+pub use node_link::NodeLink;

@@ -1,0 +1,43 @@
+//! What is known of a data node.
+ghost use Rattle.std.specs.Prelude.{◌≡◌, All, OnOk, IsTrue};
+ghost use Rattle.druid_shard.specs.Described.{IsDescribed};
+ghost use Rattle.druid_headline_tests.specs.Nodes.{IsNode};
+
+use druid_node::{NodeFault, NodeState};
+use druid_shard::{Ask, Body, Descriptor};
+
+// Each descriptor has an identifier.
+fn describe_all(segments: &[Descriptor])
+    ensures { All IsDescribed segments.now }
+{
+    for i in 0..segments.len() {
+        let _id = segments[i].id();
+    }
+}
+
+// What a node serves has identifiers, as each descriptor of its snapshot.
+fn describe(state: &NodeState) -> Result<(), NodeFault>
+    ensures { OnOk result (All IsDescribed state.now.history.set) }
+{
+    let _mark = state.mark();
+    let reply = match state.since(&Ask::Whole) {
+        Ok(reply) => reply,
+        Err(fault) => return Err(fault),
+    };
+    match reply.body() {
+        Body::Snapshot { segments, .. } => {
+            describe_all(segments.as_slice());
+            Ok(())
+        }
+        Body::Delta { .. } | Body::Reset { .. } => Err(NodeFault::Memory),
+    }
+}
+
+/// What is kept of a node, unless memory was refused.
+pub(crate) fn know(state: &NodeState) -> bool
+    ensures { IsTrue result → IsNode state.now }
+{
+    // For the proof: reading it exposes the invariant of its type.
+    let _mark = state.mark();
+    describe(state).is_ok()
+}
