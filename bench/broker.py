@@ -17,7 +17,8 @@ def times_of(lines):
 def main():
     program, _ = build('broker', ['druid_broker', 'druid_node', 'anyhow'], words=['plan'], proofs={
         'AnswerLemmas.antt': 'AnswerLemmas.antt.in', 'LinkLemmas.antt': 'LinkLemmas.antt.in',
-        'all/Invariants.antt': 'Invariants.antt.in', 'partial_in/Answers.antt': 'PartialIn.antt.in'})
+        'all/Invariants.antt': 'Invariants.antt.in', 'node/Invariants.antt': 'Node.antt.in',
+        'partial_in/Answers.antt': 'PartialIn.antt.in'})
     lines, peak = run(program, 'plan')
     for name, spent in times_of(lines):
         kind, pairs = name.split(':')
