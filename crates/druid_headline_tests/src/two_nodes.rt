@@ -1,4 +1,4 @@
-//! A query over two small nodes: no row is told twice.
+//! A query over two small nodes: no row counts twice.
 ghost use Rattle.std.specs.Prelude.{◌≡◌, ℕ, List, map, length};
 ghost use Rattle.druid_inventory.specs.Entry.{fresh};
 
@@ -103,7 +103,7 @@ fn message(rt: &impl Abort, alloc: Global, query: &str) -> String {
 }
 
 #[test]
-fn no_row_is_told_twice(rt: HostRuntime) {
+fn ample_memory(rt: HostRuntime) {
     let alloc = rt.alloc();
     let written = asked(
         &rt,
