@@ -63,7 +63,7 @@ served law order names seen now left right new bytes written after sent Stays tw
         )
     by (inr (refused, stays)) = absurd (not_refused bytes request rest done.status done.body is refused)
 
--- a view that has seen no more than two replies, which it was told of
+-- a view that has seen no more than two replies, of which it learned
 pub served_exactly : (law : ExactOverTwo) (order : List ℕ → List ℕ) (opening : List Entry) (names : List (List ℕ)) (told seen now : Published) (left right : State) (links new : List State)
     (bytes start written : List ℕ) (after : Option (List ℕ)) (sent : ℕ) (Stays : Type 0)
     → length names ≡ 2 → opening ≡ map fresh names → IsPrefix told seen → IsPrefix seen now → length now ≡ 2 → start ≡ []
