@@ -80,12 +80,25 @@ fn segment_of(rt: &impl Abort, alloc: Global, name: &str) -> Segment {
     )
 }
 
+fn bytes_of(rt: &impl Abort, alloc: Global, segment: &Segment) -> Vec<u8> {
+    let mut written = Vec::new(alloc);
+    write_segment(alloc, segment, &mut written).expect(rt, "a file");
+    written
+}
+
 /// The bytes of a file.
 pub(crate) fn file_bytes(rt: &impl Abort, alloc: Global, name: &str) -> Vec<u8> {
-    let segment = segment_of(rt, alloc, name);
-    let mut written = Vec::new(alloc);
-    write_segment(alloc, &segment, &mut written).expect(rt, "a file");
-    written
+    bytes_of(rt, alloc, &segment_of(rt, alloc, name))
+}
+
+/// The bytes of a file that has the identifier of the older segment and one row alone, outside the newer one.
+pub(crate) fn fewer_bytes(rt: &impl Abort, alloc: Global) -> Vec<u8> {
+    let day = "2024-01-01/2024-01-02";
+    bytes_of(
+        rt,
+        alloc,
+        &segment(rt, alloc, "v1", day, "2024-01-01T12:00"),
+    )
 }
 
 /// Puts a file into a folder.

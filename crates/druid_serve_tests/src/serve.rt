@@ -1,5 +1,7 @@
 //! Clusters that are served.
-use crate::folders::{LATER_FILE, NEWER_FILE, OLDER_FILE, file_bytes, fresh_folder, put};
+use crate::folders::{
+    LATER_FILE, NEWER_FILE, OLDER_FILE, fewer_bytes, file_bytes, fresh_folder, put,
+};
 use crate::host::{Host, free_address};
 use druid_link::{Link, TcpLink};
 use druid_serve::{run, serve};
@@ -62,6 +64,10 @@ pub(crate) fn place_of<R: Host + Net<Listener = TcpListener, Stream = TcpStream>
 // The row's query.
 const QUERY: &str =
     "{\"aggregations\":[{\"name\":\"n\",\"type\":\"count\"}],\"dataSource\":\"wiki\",\"granularity\":\"all\",\"intervals\":\"2024-01-01/2024-01-02\",\"queryType\":\"timeseries\"}";
+
+// The same as a member of a config.
+const QUERY_OF_BOTH: &str =
+    "\"query\":{\"aggregations\":[{\"name\":\"n\",\"type\":\"count\"}],\"dataSource\":\"wiki\",\"granularity\":\"all\",\"intervals\":\"2024-01-01/2024-01-02\",\"queryType\":\"timeseries\"}";
 
 // A config of two nodes and two brokers: the query is posted to the second, and no query to the first.
 fn config(rt: &impl Abort, alloc: Global, place: &Place, connections: u64) -> String {
@@ -152,6 +158,28 @@ fn served_cluster(rt: HostRuntime) {
     let answer = changes_of(&rt, rt.alloc(), place.second.as_str());
     let delta = "{\"counter\":{\"counter\":2,\"hash\":8},\"from\":{\"counter\":0,\"hash\":8},";
     assert!(rt; answer.as_str().contains(delta), "{answer}");
+    clear(&rt, &place);
+}
+
+// What is reported where both brokers were asked for the row's query by one worker each: the first answer of each is by the first
+// node. A second answer of one of them would be by the second node, whose copy of the older segment has one row that counts.
+const BOTH: &str =
+    "0\n200\n[{\"result\":{\"n\":5},\"timestamp\":\"2024-01-01T00:00:00.000Z\"}]\n200\n[{\"result\":{\"n\":5},\"timestamp\":\"2024-01-01T00:00:00.000Z\"}]\n";
+
+#[test]
+fn queries_to_their_brokers(rt: HostRuntime) {
+    let alloc = rt.alloc();
+    let place = place_of(&rt, alloc, "brokers");
+    let fewer = fewer_bytes(&rt, alloc);
+    put(&rt, alloc, place.newer.as_str(), OLDER_FILE, &fewer);
+    let text = config(&rt, alloc, &place, 0);
+    let text = text
+        .replace(alloc, "\"workers\":2", "\"workers\":1")
+        .expect(&rt, "memory");
+    let text = text
+        .replace(alloc, "\"query\":{}", QUERY_OF_BOTH)
+        .expect(&rt, "memory");
+    assert_told(&rt, served(&rt, alloc, text.as_str()), BOTH);
     clear(&rt, &place);
 }
 
