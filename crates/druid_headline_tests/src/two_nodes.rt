@@ -102,6 +102,14 @@ fn message(rt: &impl Abort, alloc: Global, query: &str) -> String {
     )
 }
 
+// Whether these bytes are a response of status 200 with that body.
+fn is_answer(bytes: &[u8], wanted: &[u8]) -> bool {
+    match response_of(bytes) {
+        Ok((status, body)) => status == StatusCode::OK && body == wanted,
+        Err(_) => false,
+    }
+}
+
 #[test]
 fn ample_memory(rt: HostRuntime) {
     let alloc = rt.alloc();
@@ -115,9 +123,5 @@ fn ample_memory(rt: HostRuntime) {
         message(&rt, alloc, QUERY).as_bytes(),
     )
     .expect(&rt, "an answer");
-    let (status, body) = response_of(&written).expect(&rt, "a response");
-    assert!(rt;
-        status == StatusCode::OK && body == ROWS.as_bytes(),
-        "another answer"
-    );
+    assert!(rt; is_answer(&written, ROWS.as_bytes()), "another answer");
 }
