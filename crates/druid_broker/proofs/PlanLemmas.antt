@@ -7,10 +7,6 @@ use Rattle.druid_query.specs.Query.{Query}
 use Rattle.druid_query.proofs.AskedLemmas.{all_of_each}
 use Rattle.druid_scatter.specs.Plan.{Pair, IsReplica, AreReplicas, IsPlanOf}
 use Rattle.druid_scatter.specs.Rounds.{AreLinked}
-use Rattle.druid_scatter.specs.Answer.{Answer}
-use Rattle.druid_scatter.specs.Gathered.{Exchange, AreMade, AreAsked, IsGathered}
-use Rattle.druid_link.specs.Links.{Came}
-use Rattle.druid_broker.specs.Queries.{AsksRows}
 
 module _ (inventory : List Entry) (count : ℕ) (few : length inventory ≤ count) where
   linked : (p : Pair) (node : ℕ) → IsReplica inventory p.asked.0 node → node < count
@@ -24,12 +20,3 @@ module _ (inventory : List Entry) (count : ℕ) (few : length inventory ≤ coun
       All-weaker (λ p. AreReplicas inventory p.asked.0 p.nodes) (λ p. All (λ node. node < count) p.nodes) all_linked pairs plan.paired.replicas
 
 -- ---- where memory was refused
-
-pub asks_rows : {L : Type 0} (step : L → List ℕ → Came → L → Type 0) (order : List ℕ → List ℕ) (inventory : List Entry) (query : Query) (pairs : List Pair) (old new : List L) → IsPlanOf inventory query pairs
-    → (exchanges : List Exchange) × AreMade step query exchanges old new × AreAsked order query pairs exchanges → AsksRows step order inventory query old new
-asks_rows step order inventory query pairs old new plan m = record { pairs = pairs; plan = plan; exchanges = m.0; made = m.1; asked = m.2 }
-
--- what was gathered was asked so too
-pub gathered_asks : {L : Type 0} (step : L → List ℕ → Came → L → Type 0) (order : List ℕ → List ℕ) (inventory : List Entry) (query : Query) (pairs : List Pair) (old new : List L) (answer : Answer) → IsPlanOf inventory query pairs
-    → (exchanges : List Exchange) × AreMade step query exchanges old new × IsGathered order query pairs exchanges answer.missing answer.partial.groups → AsksRows step order inventory query old new
-gathered_asks step order inventory query pairs old new answer plan m = record { pairs = pairs; plan = plan; exchanges = m.0; made = m.1; asked = m.2.asked }

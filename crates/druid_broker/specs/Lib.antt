@@ -1,6 +1,8 @@
+-- what public contracts rest on
 pub mod Queries
 pub mod Routes
 pub mod Turns
 pub mod Lent
-pub mod Rows
 pub mod Views
+-- words of private contracts
+pub mod Rows

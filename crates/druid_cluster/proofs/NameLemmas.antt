@@ -7,10 +7,6 @@ use Rattle.serde_json.specs.declared.value.Value.{Value}
 use Rattle.druid_segid.specs.Names.{IsName}
 use Rattle.druid_cluster.specs.Seen.{text_in, texts_in}
 
--- the text at a place
-pub text_there : (vs : List Value) (i : ℕ) (v : Value) (d : List ℕ) → i < length vs → get_or (texts_in vs) i d ≡ text_in (get_or vs i v)
-text_there vs i v d h = get_or-map text_in vs i v d h
-
 -- one of them is no name
 pub not_all : (vs : List Value) (i : ℕ) (v : Value) → i < length vs → (IsName (text_in (get_or vs i v)) → ⊥) → All IsName (texts_in vs) → ⊥
 not_all vs i v h bad all =

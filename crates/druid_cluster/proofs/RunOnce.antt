@@ -5,9 +5,6 @@ use Rattle.druid_cluster.specs.Answers.{line_text}
 use Rattle.druid_cluster.specs.Runs.{End, done, broken_at, NoDeviceFails, Runs}
 use Rattle.druid_cluster.proofs.AnswerOnce.{answered_once, answered_not_bad}
 
-abbrev IsOneRun : List ℕ → List ℕ → End → End → Type 0
-IsOneRun out other end last = (out ≡ other) × (end ≡ last)
-
 ended : (end : End) (n : ℕ) → NoDeviceFails end → (end ≡ done) ⊎ (end ≡ broken_at n) → end ≡ done
 ended end n whole (inl all) = all
 ended end n whole (inr broken) = absurd (whole n broken)

@@ -1,9 +1,11 @@
+-- what public contracts rest on
 pub mod Commands
-pub mod Seen
 pub mod Answers
 pub mod Serving
-pub mod Nodes
 pub mod Lines
 pub mod Runs
 pub mod Status
 pub mod Program
+-- words of private contracts
+pub mod Seen
+pub mod Nodes

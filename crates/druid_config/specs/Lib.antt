@@ -1,4 +1,6 @@
+-- what public contracts rest on
 pub mod Limits
 pub mod Configs
-pub mod Lent
 pub mod Read
+-- words of private contracts
+pub mod Lent

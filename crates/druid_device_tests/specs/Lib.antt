@@ -1,1 +1,2 @@
+-- words of private contracts
 pub mod TwoFolders

@@ -1,2 +1,3 @@
+-- what public contracts rest on
 pub mod FileName
 pub mod Folder

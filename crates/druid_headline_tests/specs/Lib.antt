@@ -1,3 +1,4 @@
+-- what public contracts rest on
 pub mod Nodes
 pub mod Exchanges
 pub mod Following

@@ -155,9 +155,6 @@ NoneOfFrom-more cs id n m c none e is other k d at l = elim (cases_order k m) [
 
 -- ---- which changes are strict
 
-true_of : (b : Bool) → IsTrue b → b ≡ true
-true_of b h = h
-
 false_of : (b : Bool) → (IsTrue b → ⊥) → b ≡ false
 false_of true h = absurd (h refl)
 false_of false h = refl

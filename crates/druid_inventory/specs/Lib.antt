@@ -1,7 +1,9 @@
+-- what public contracts rest on
 pub mod Entry
 pub mod Join
 pub mod Equality
 pub mod Step
-pub mod Judged
 pub mod Sources
 pub mod Timelines
+-- words of private contracts
+pub mod Judged

@@ -1,2 +1,3 @@
+-- what public contracts rest on
 pub mod Members
 pub mod Slots

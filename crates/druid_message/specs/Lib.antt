@@ -1,1 +1,2 @@
+-- what public contracts rest on
 pub mod Requests

@@ -1,6 +1,6 @@
 -- What pieces tell, halved and one by one, and which of them are missing.
-use Rattle.std.proofs.Common.{◌≡◌, ◌+◌, ◌<◌, ◌≤◌, ℕ, true, false, cond, List, [], ◌∷◌, ◌++◌, length, get_or, take, drop, refl, sym, ap, ◌∙◌, subst, arith, append_assoc, append-nil}
-use Rattle.std.proofs.lemmas.List.{take-append-drop, drop_all, drop_more}
+use Rattle.std.proofs.Common.{◌≡◌, ◌+◌, ◌<◌, ◌≤◌, ℕ, List, [], ◌∷◌, ◌++◌, length, get_or, take, drop, refl, sym, ap, ◌∙◌, subst, arith, append-nil}
+use Rattle.std.proofs.lemmas.List.{take-append-drop}
 use Rattle.std.proofs.lemmas.List.Concat.{flat_map-append}
 use Rattle.druid_rows.specs.Segment.{Segment}
 use Rattle.druid_query.specs.Query.{Query}
@@ -9,16 +9,13 @@ use Rattle.druid_query.specs.declared.aggregator.AggregatorKind.{AggregatorKind}
 use Rattle.druid_partial.specs.Groups.{Group, IsResult, IsMerge}
 use Rattle.druid_partial.specs.Rows.{Partial, kinds_of, IsPartialFor}
 use Rattle.druid_partial.proofs.GroupLemmas.{merge_of_results}
-use Rattle.druid_node.specs.Answers.{is_missing, missing}
+use Rattle.druid_node.specs.Answers.{missing}
 use Rattle.druid_partial.specs.Once.{told_of, told}
 
 -- a partial of the query, of these rows
 pub record IsPartialOf (query : Query) (rows : List Group) (p : Partial) : Type 0 where
   pub result : IsResult (kinds_of query) rows p.groups
   pub of_query : IsPartialFor query p
-
-pub same_kinds : (query : Query) (a b : List Group) (left right : Partial) → IsPartialOf query a left → IsPartialOf query b right → left.kinds ≡ right.kinds
-same_kinds query a b left right p q = p.of_query.kinds ∙ sym q.of_query.kinds
 
 halves_told : (query : Query) (held : List Segment) (asked front back : List Asked) (n : ℕ) → front ≡ take n asked → back ≡ drop n asked
     → told query held front ++ told query held back ≡ told query held asked
@@ -46,27 +43,3 @@ none_told query held (x ∷ more) none = absurd (omega arith)
 
 abbrev pub MissedSoFar : List Segment → List Asked → List Asked → ℕ → Type 0
 MissedSoFar held pieces asked i = pieces ++ missing held (drop i asked) ≡ missing held asked
-
-next_piece : (held : List Segment) (pieces asked : List Asked) (i : ℕ) (a : Asked) → i < length asked → a ≡ get_or asked i a → MissedSoFar held pieces asked i
-    → pieces ++ cond (is_missing held a) (a ∷ missing held (drop (i + 1) asked)) (missing held (drop (i + 1) asked)) ≡ missing held asked
-next_piece held pieces asked i a below is so_far =
-    let rest : drop i asked ≡ a ∷ drop (i + 1) asked = drop_more asked i a below ∙ (λ j. sym is j ∷ drop (i + 1) asked) in
-    ap (λ (l : List Asked). pieces ++ missing held l) (sym rest) ∙ so_far
-
-pub missed_more : (held : List Segment) (pieces asked : List Asked) (i : ℕ) (a copy : Asked) → i < length asked → a ≡ get_or asked i a → copy ≡ a → is_missing held a ≡ true → MissedSoFar held pieces asked i
-    → MissedSoFar held (pieces ++ copy ∷ []) asked (i + 1)
-missed_more held pieces asked i a copy below is same gone so_far =
-    append_assoc pieces (copy ∷ []) (missing held (drop (i + 1) asked))
-    ∙ (λ j. pieces ++ (same j ∷ missing held (drop (i + 1) asked)))
-    ∙ ap (λ b. pieces ++ cond b (a ∷ missing held (drop (i + 1) asked)) (missing held (drop (i + 1) asked))) (sym gone)
-    ∙ next_piece held pieces asked i a below is so_far
-
-pub missed_not : (held : List Segment) (pieces asked : List Asked) (i : ℕ) (a : Asked) → i < length asked → a ≡ get_or asked i a → is_missing held a ≡ false → MissedSoFar held pieces asked i
-    → MissedSoFar held pieces asked (i + 1)
-missed_not held pieces asked i a below is there so_far =
-    ap (λ b. pieces ++ cond b (a ∷ missing held (drop (i + 1) asked)) (missing held (drop (i + 1) asked))) (sym there)
-    ∙ next_piece held pieces asked i a below is so_far
-
-pub missed_all : (held : List Segment) (pieces asked : List Asked) (i : ℕ) → length asked ≤ i → MissedSoFar held pieces asked i → pieces ≡ missing held asked
-missed_all held pieces asked i all so_far =
-    sym (append-nil pieces) ∙ ap (λ (l : List Asked). pieces ++ missing held l) (sym (drop_all i asked all)) ∙ so_far

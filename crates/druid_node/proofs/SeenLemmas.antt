@@ -59,9 +59,6 @@ turned Less h e = h refl
 turned Equal h e = absurd (cc)
 turned Greater h e = absurd (cc)
 
-pub not_fallen : (found seen : Point) → IsAtLeast found seen → mark_cmp seen found ≢ Greater
-not_fallen found seen at e = turned (mark_cmp found seen) at (sym (mark_cmp-total.antisymm seen found) ∙ e)
-
 -- ---- why a change is not made
 
 set_load : (strict room end : Bool) → option_or (if not strict then Some Served else (if not room then Some Full else None)) (if end then Some CountAtEnd else None) ≡ None

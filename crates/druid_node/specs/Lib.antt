@@ -1,6 +1,8 @@
+-- what public contracts rest on
 pub mod State
-pub mod Held
 pub mod Answers
 pub mod Routes
 pub mod Files
 pub mod Seen
+-- words of private contracts
+pub mod Held

@@ -3,7 +3,6 @@ use Rattle.std.proofs.Common.{◌≡◌, ◌∙◌, ℕ, zero, suc, ◌+◌, ◌
 use Rattle.std.specs.Prelude.{IfSome, FitsSigned, All, int_lt, IsSome}
 use Rattle.druid_query.specs.declared.aggregator.AggregatorKind.{AggregatorKind}
 use Rattle.std.specs.Int.{w64}
-use Rattle.std.specs.Option.{option_to_list}
 use Rattle.std.proofs.lemmas.Int.{SFits-int_wrap}
 use Rattle.std.proofs.lemmas.List.Elements.{All-contains, All-nil, All-cons, All-head, All-tail}
 use Rattle.druid_query.specs.declared.aggregator.AggregatorKind.TheVariants.{Count, LongSum, LongMin, LongMax}
@@ -13,10 +12,10 @@ use Rattle.druid_partial.proofs.MergedLemmas.{IsWord, joined_at, joined_length, 
 use Rattle.std.specs.Ordering.{match_ordering}
 use Rattle.std.specs.declared.cmp.Ordering.{Ordering}
 use Rattle.std.specs.declared.cmp.Ordering.TheVariants.{Less, Equal, Greater}
-use Rattle.std.proofs.lemmas.List.{reverse-append, reverse-reverse, append-nil, length-map, take-append-le}
+use Rattle.std.proofs.lemmas.List.{reverse-reverse, append-nil, length-map, take-append-le}
 use Rattle.std.proofs.Math.Seq.{take-length}
 use Rattle.druid_partial.specs.Groups.{Group, AreWords, InOrder, IsMerge, key_cmp}
-use Rattle.druid_partial.specs.Joined.{joined, join_numbers, join_groups, put, merged, turn, Takes}
+use Rattle.druid_partial.specs.Joined.{joined, join_numbers, join_groups, put, merged}
 
 joined_suc : (kinds : List AggregatorKind) (xs ys : List (Option ℤ)) (i : ℕ) (k : AggregatorKind) (x y : Option ℤ) → i < length kinds → i < length xs → i < length ys → join_numbers (take (suc i) kinds) xs ys ≡ set (join_numbers (take i kinds) xs ys) i (joined (get_or kinds i k) (get_or (join_numbers (take i kinds) xs ys) i x) (get_or ys i y))
 joined_suc [] xs ys i k x y p q r = absurd (omega arith)
@@ -43,83 +42,9 @@ pub ruleset join_steps = (joined_more, joined_none, joined_all)
 
 -- ---- the walk over two lists, from their ends
 
-behind_last : (xs ys : List Group) (g : Group) → xs ≡ ys ++ option_to_list (Some g) → reverse xs ≡ g ∷ reverse ys
-behind_last xs ys g e = ap reverse e ∙ reverse-append ys (g ∷ [])
-
-pub last_none : (xs : List Group) → xs ≡ [] → reverse xs ≡ []
-last_none xs e = ap reverse e
-
-by_turn : (kinds : List AggregatorKind) (x y : Group) (xs ys : List Group) (o : Ordering) → key_cmp x.key y.key ≡ o → merged kinds (x ∷ xs) (y ∷ ys) ≡ match_ordering o (x ∷ merged kinds xs (y ∷ ys)) (join_groups kinds x y ∷ merged kinds xs ys) (y ∷ merged kinds (x ∷ xs) ys)
-by_turn kinds x y xs ys o e = ap (λ q. match_ordering q (x ∷ merged kinds xs (y ∷ ys)) (join_groups kinds x y ∷ merged kinds xs ys) (y ∷ merged kinds (x ∷ xs) ys)) e
-
-left_first : (kinds : List AggregatorKind) (x : Group) (xs ys : List Group) → turn (x ∷ xs) ys ≡ Less → merged kinds (x ∷ xs) ys ≡ x ∷ merged kinds xs ys
-left_first kinds x xs [] e = refl
-left_first kinds x xs (y ∷ ys) e = by_turn kinds x y xs ys Less e
-
-right_first : (kinds : List AggregatorKind) (xs : List Group) (y : Group) (ys : List Group) → turn xs (y ∷ ys) ≡ Greater → merged kinds xs (y ∷ ys) ≡ y ∷ merged kinds xs ys
-right_first kinds [] y ys e = refl
-right_first kinds (x ∷ xs) y ys e = by_turn kinds x y xs ys Greater e
-
 no_items : (xs : List Group) → length xs ≡ 0 → xs ≡ []
 no_items [] e = refl
 no_items (x ∷ xs) e = absurd (omega arith)
-
--- where it is the first one's turn
-less_takes : (kinds : List AggregatorKind) (g : Group) (xs more ys : List Group) → xs ≡ g ∷ more → turn xs ys ≡ Less → Takes kinds xs ys (Some g) more ys
-less_takes kinds g xs more ys e t =
-    let P : List Group → Type 0 = λ l. turn l ys ≡ Less → Takes kinds l ys (Some g) more ys in
-    subst P (sym e) (λ u. (left_first kinds g more ys u, omega arith)) t
-
-pub takes_less : (kinds : List AggregatorKind) (left new right : List Group) (r : Option Group) → turn (reverse left) (reverse right) ≡ Less → left ≡ new ++ option_to_list r → (r ≡ None → length left ≡ 0) → Takes kinds (reverse left) (reverse right) r (reverse new) (reverse right)
-takes_less kinds left new right None t e none =
-    let gone : left ≡ [] = no_items left (none refl) in
-    let u : turn (reverse left) (reverse right) ≡ Greater = ap (λ l. turn (reverse l) (reverse right)) gone in cc
-takes_less kinds left new right (Some g) t e none = less_takes kinds g (reverse left) (reverse new) (reverse right) (behind_last left new g e) t
-
-greater_takes : (kinds : List AggregatorKind) (g : Group) (xs ys more : List Group) → ys ≡ g ∷ more → turn xs ys ≡ Greater → Takes kinds xs ys (Some g) xs more
-greater_takes kinds g xs ys more e t =
-    let P : List Group → Type 0 = λ l. turn xs l ≡ Greater → Takes kinds xs l (Some g) xs more in
-    subst P (sym e) (λ u. (right_first kinds xs g more u, omega arith)) t
-
-both_empty : (kinds : List AggregatorKind) (xs : List Group) → turn xs [] ≡ Greater → merged kinds xs [] ≡ []
-both_empty kinds [] e = refl
-both_empty kinds (x ∷ xs) e = absurd (cc)
-
-pub takes_greater : (kinds : List AggregatorKind) (left right new : List Group) (r : Option Group) → turn (reverse left) (reverse right) ≡ Greater → right ≡ new ++ option_to_list r → (r ≡ None → length right ≡ 0) → Takes kinds (reverse left) (reverse right) r (reverse left) (reverse new)
-takes_greater kinds left right new None t e none =
-    let gone : right ≡ [] = no_items right (none refl) in
-    let P : List Group → Type 0 = λ l. turn (reverse left) (reverse l) ≡ Greater → merged kinds (reverse left) (reverse l) ≡ [] in
-    subst P (sym gone) (both_empty kinds (reverse left)) t
-takes_greater kinds left right new (Some g) t e none = greater_takes kinds g (reverse left) (reverse right) (reverse new) (behind_last right new g e) t
-
--- where both have a group of one key
-equal_takes : (kinds : List AggregatorKind) (g h : Group) (xs more_xs ys more_ys : List Group) → xs ≡ g ∷ more_xs → ys ≡ h ∷ more_ys → turn xs ys ≡ Equal → Takes kinds xs ys (Some (join_groups kinds g h)) more_xs more_ys
-equal_takes kinds g h xs more_xs ys more_ys e f t =
-    let P : List Group → Type 0 = λ l. turn l ys ≡ Equal → Takes kinds l ys (Some (join_groups kinds g h)) more_xs more_ys in
-    let Q : List Group → Type 0 = λ l. turn (g ∷ more_xs) l ≡ Equal → Takes kinds (g ∷ more_xs) l (Some (join_groups kinds g h)) more_xs more_ys in
-    subst P (sym e) (subst Q (sym f) (λ u. (by_turn kinds g h more_xs more_ys Equal u, omega arith))) t
-
-pub takes_equal : (kinds : List AggregatorKind) (left new right new_right : List Group) (g h : Group) → turn (reverse left) (reverse right) ≡ Equal → left ≡ new ++ option_to_list (Some g) → right ≡ new_right ++ option_to_list (Some h) → Takes kinds (reverse left) (reverse right) (Some (join_groups kinds g h)) (reverse new) (reverse new_right)
-takes_equal kinds left new right new_right g h t e f =
-    equal_takes kinds g h (reverse left) (reverse new) (reverse right) (reverse new_right) (behind_last left new g e) (behind_last right new_right h f) t
-
-equal_some : (xs ys : List Group) → turn xs ys ≡ Equal → (xs ≡ [] → ⊥) × (ys ≡ [] → ⊥)
-equal_some [] ys e = absurd (cc)
-equal_some (x ∷ xs) [] e = absurd (cc)
-equal_some (x ∷ xs) (y ∷ ys) e = ((λ z. cc), (λ z. cc))
-
-pub equal_left : (left right : List Group) → turn (reverse left) (reverse right) ≡ Equal → length left ≡ 0 → ⊥
-equal_left left right t e = (equal_some (reverse left) (reverse right) t).0 (ap reverse (no_items left e))
-
-pub equal_right : (left right : List Group) → turn (reverse left) (reverse right) ≡ Equal → length right ≡ 0 → ⊥
-equal_right left right t e = (equal_some (reverse left) (reverse right) t).1 (ap reverse (no_items right e))
-
--- which list has the next group, by their last ones
-pub turn_two : (left right new new_right : List Group) (g h : Group) (o : Ordering) → left ≡ new ++ option_to_list (Some g) → right ≡ new_right ++ option_to_list (Some h) → o ≡ key_cmp g.key h.key → o ≡ turn (reverse left) (reverse right)
-turn_two left right new new_right g h o e f k =
-    let p : reverse left ≡ g ∷ reverse new = behind_last left new g e in
-    let q : reverse right ≡ h ∷ reverse new_right = behind_last right new_right h f in
-    rw (p, q) k
 
 -- ---- words
 

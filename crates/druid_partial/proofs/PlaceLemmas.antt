@@ -1,10 +1,9 @@
 -- Fields found by their places.
-use Rattle.std.proofs.Common.{◌≡◌, ◌∙◌, ℕ, suc, ◌+◌, ◌<◌, ℤ, List, [], ◌∷◌, length, get_or, map, drop, Bool, true, false, Option, Some, None, refl, sym, ap, arith, String, Global, string_bytes}
+use Rattle.std.proofs.Common.{◌≡◌, ◌∙◌, ℕ, suc, ◌+◌, ◌<◌, ℤ, List, [], ◌∷◌, length, map, Bool, true, false, Option, Some, None, refl, sym, ap, arith}
 use Rattle.std.specs.Prelude.{IfSome, All, option_map, option_and_then, if◌then◌else◌}
 use Rattle.std.specs.Str.{bytes_eq}
-use Rattle.std.proofs.lemmas.List.{drop_more}
 use Rattle.std.proofs.lemmas.List.Elements.{All-nil, All-cons}
-use Rattle.druid_rows.specs.Rows.{Schema, Row, texts_of}
+use Rattle.druid_rows.specs.Rows.{Schema, Row}
 use Rattle.druid_filter.specs.Filters.{value_in}
 use Rattle.druid_query.specs.Query.{Query, Aggregator, Dimension}
 use Rattle.druid_query.specs.declared.aggregator.AggregatorKind.{AggregatorKind}
@@ -16,22 +15,6 @@ use Rattle.druid_partial.specs.Places.{place_in, at_place, places_of, source_at,
 moved : (p : Option ℕ) (i : ℕ) → option_map (λ k. k + i) (option_map suc p) ≡ option_map (λ k. k + (i + 1)) p
 moved None i = refl
 moved (Some k) i = ap (λ n. Some n) (omega arith)
-
--- the name at a place is another one
-pub place_later : (names : List (String Global)) (name : List ℕ) (i : ℕ) (n : String Global) → i < length names → n ≡ get_or names i n → bytes_eq (string_bytes n) name ≡ false → option_map (λ k. k + i) (place_in (texts_of (drop i names)) name) ≡ option_map (λ k. k + (i + 1)) (place_in (texts_of (drop (i + 1) names)) name)
-place_later names name i n h is other =
-    let first : bytes_eq (string_bytes (get_or names i n)) name ≡ false = ap (λ m. bytes_eq (string_bytes m) name) (sym is) ∙ other in
-    rw (drop_more names i n h, first) (moved (place_in (texts_of (drop (i + 1) names)) name) i)
-
--- it is the one
-pub place_found : (names : List (String Global)) (name : List ℕ) (i : ℕ) (n : String Global) → i < length names → n ≡ get_or names i n → bytes_eq (string_bytes n) name ≡ true → option_map (λ k. k + i) (place_in (texts_of (drop i names)) name) ≡ Some i
-place_found names name i n h is same =
-    let first : bytes_eq (string_bytes (get_or names i n)) name ≡ true = ap (λ m. bytes_eq (string_bytes m) name) (sym is) ∙ same in
-    rw (drop_more names i n h, first) (ap (λ k. Some k) (omega arith))
-
-pub from_start : (p : Option ℕ) → option_map (λ k. k + 0) p ≡ p
-from_start None = refl
-from_start (Some k) = ap (λ n. Some n) (omega arith)
 
 behind_one : {X : Type 0} (v : Option X) (values : List (Option X)) (p : Option ℕ) → at_place (v ∷ values) (option_map suc p) ≡ at_place values p
 behind_one v values None = refl

@@ -55,11 +55,6 @@ row_numbers query fields row w = record {
   words = w;
 }
 
-pub told_none : (query : Query) (groups : List Group) → groups ≡ [] → AreTold query [] groups
-told_none query groups e =
-    let P : List Group → Type 0 = λ gs. AreTold query [] gs in
-    subst P (sym e) (record { result = no_rows (kinds_of query) [] refl; numbers = All-nil (HasNumbers (kinds_of query)); each = All-nil (IsGroupFor query) })
-
 -- one group more
 pub told_and : (query : Query) (rows groups more : List Group) (g : Group) → AreTold query rows groups → HasNumbers (kinds_of query) g → IsGroupFor query g → more ≡ merged (kinds_of query) (g ∷ []) groups → AreTold query (rows ++ g ∷ []) more
 told_and query rows groups more g t n f e =

@@ -9,7 +9,6 @@ use Rattle.druid_partial.specs.declared.test.Test.{Is, Among, the_lemmas as test
 use Rattle.std.specs.Ordering.{is_eq}
 use Rattle.std.proofs.lemmas.Cmp.{nat_list_eq_equiv}
 use Rattle.std.proofs.lemmas.List.{take_more}
-use Rattle.std.proofs.Math.ListN.{get_or-eq_default}
 use Rattle.std.proofs.lemmas.Map.Text.{is_eq-slice_cmp}
 use Rattle.druid_rows.specs.Rows.{nullable_texts_of}
 use Rattle.druid_filter.specs.Filters.{same_value, passes, all_pass, any_passes, says, each_says}
@@ -99,10 +98,6 @@ any_more value values fs i f ts more t h is e was one =
     ap (λ l. any_holds l values) e ∙ any_holds_push ts t values ∙ ap (λ b. b || holds t values) was
     ∙ ap (λ b. any_passes value (each_says (take i fs)) || b) (one ∙ ap (λ g. passes value (says g)) is)
     ∙ sym (any_says_push value (take i fs) (get_or fs i f)) ∙ ap (λ l. any_passes value (each_says l)) (sym (take_more fs i f h))
-
--- a place after the last is null
-pub place_behind : (values : List (Option (List ℕ))) (place : ℕ) → length values ≤ place → at_place values (Some place) ≡ None
-place_behind values place h = get_or-eq_default values None h
 
 -- ---- one level
 

@@ -1,10 +1,12 @@
+-- what public contracts rest on
 pub mod Groups
+pub mod Rows
+pub mod Once
+-- words of private contracts
 pub mod Orders
 pub mod Joined
-pub mod Rows
 pub mod First
 pub mod Places
 pub mod Entries
 pub mod Tests
 pub mod Plans
-pub mod Once

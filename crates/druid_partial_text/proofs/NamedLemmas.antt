@@ -1,20 +1,17 @@
 -- The rows of a result, column by column.
-use Rattle.std.proofs.Common.{◌≡◌, ℤ, ℕ, ◌+◌, ◌<◌, ◌≤◌, arith, List, [], ◌∷◌, ◌++◌, length, get_or, drop, codes, Option, None, Ordering, Less, Equal, Greater, String, Global, string_bytes, string_cmp, refl, sym, ap, ◌∙◌, append_assoc, drop_of_length-le}
+use Rattle.std.proofs.Common.{◌≡◌, ℕ, ◌+◌, ◌<◌, ◌≤◌, List, [], ◌∷◌, ◌++◌, length, drop, codes, Ordering, Less, Equal, Greater, String, Global, string_bytes, string_cmp, refl, sym, ap, ◌∙◌, append_assoc}
 use Rattle.std.specs.Ordering.{match_ordering}
 use Rattle.std.specs.BTreeMap.{insert_entry}
-use Rattle.std.proofs.lemmas.List.{drop_more}
 use Rattle.json.specs.Token.{Token, begin_object, end_object, key, string}
 use Rattle.json.specs.Tree.{members_tokens}
 use Rattle.serde_json.specs.Data.{Data, object, put}
 use Rattle.serde_json.specs.Written.{members_outline}
 use Rattle.druid_query.specs.Query.{Dimension, Aggregator}
-use Rattle.druid_query.specs.Written.{value_data}
 use Rattle.druid_partial.specs.Groups.{Group}
-use Rattle.druid_partial_text.specs.Written.{number_data, with_values, with_numbers, label_data, timeseries_row, group_by_row}
+use Rattle.druid_partial_text.specs.Written.{with_values, with_numbers, label_data, timeseries_row, group_by_row}
 use Rattle.druid_partial_text.specs.Tokens.{tokens_of}
 use Rattle.druid_partial_text.specs.Named.{column_data, members_by}
 use Rattle.druid_partial_text.specs.declared.results.Column.{Column}
-use Rattle.druid_partial_text.specs.declared.results.Column.TheVariants.{Value, Number}
 
 abbrev Entry : Type 0
 Entry = String Global × Column
@@ -40,40 +37,9 @@ abbrev pub ValuesSet : List Dimension → List Entry → List Entry → ℕ → 
 ValuesSet ds first now i =
     (g : Group) → length g.key.values ≡ length ds → with_values (drop i ds) (drop i g.key.values) (members_by g now) ≡ with_values ds g.key.values (members_by g first)
 
-pub values_next : (ds : List Dimension) (first now next : List Entry) (i : ℕ) (d : Dimension) → i < length ds → d ≡ get_or ds i d
-    → ((g : Group) → members_by g next ≡ put d.output_name (column_data g (Value i)) (members_by g now)) → ValuesSet ds first now i → ValuesSet ds first next (i + 1)
-values_next ds first now next i d h is set before g many =
-    let values = g.key.values in
-    let rest = with_values (drop (i + 1) ds) (drop (i + 1) values) in
-    ap rest (set g)
-    ∙ ap (λ (e : Dimension). with_values (drop (i + 1) ds) (drop (i + 1) values) (put e.output_name (value_data (get_or values i None)) (members_by g now))) is
-    ∙ sym (ap (λ (l : List Dimension). with_values l (drop i values) (members_by g now)) (drop_more ds i d h)
-    ∙ ap (λ (l : List (Option (List ℕ))). with_values (get_or ds i d ∷ drop (i + 1) ds) l (members_by g now)) (drop_more values i None (omega arith)))
-    ∙ before g many
-
-pub values_set : (ds : List Dimension) (first now : List Entry) (i : ℕ) → length ds ≤ i → ValuesSet ds first now i → (g : Group) → length g.key.values ≡ length ds
-    → members_by g now ≡ with_values ds g.key.values (members_by g first)
-values_set ds first now i h set g many =
-    sym (ap (λ (l : List Dimension). with_values l (drop i g.key.values) (members_by g now)) (drop_of_length-le ds h)) ∙ set g many
-
 abbrev pub NumbersSet : List Aggregator → List Entry → List Entry → ℕ → Type 0
 NumbersSet all first now i =
     (g : Group) → length g.numbers ≡ length all → with_numbers (drop i all) (drop i g.numbers) (members_by g now) ≡ with_numbers all g.numbers (members_by g first)
-
-pub numbers_next : (all : List Aggregator) (first now next : List Entry) (i : ℕ) (a : Aggregator) → i < length all → a ≡ get_or all i a
-    → ((g : Group) → members_by g next ≡ put a.name (column_data g (Number i)) (members_by g now)) → NumbersSet all first now i → NumbersSet all first next (i + 1)
-numbers_next all first now next i a h is set before g many =
-    let numbers = g.numbers in
-    ap (with_numbers (drop (i + 1) all) (drop (i + 1) numbers)) (set g)
-    ∙ ap (λ (b : Aggregator). with_numbers (drop (i + 1) all) (drop (i + 1) numbers) (put b.name (number_data (get_or numbers i None)) (members_by g now))) is
-    ∙ sym (ap (λ (l : List Aggregator). with_numbers l (drop i numbers) (members_by g now)) (drop_more all i a h)
-    ∙ ap (λ (l : List (Option ℤ)). with_numbers (get_or all i a ∷ drop (i + 1) all) l (members_by g now)) (drop_more numbers i None (omega arith)))
-    ∙ before g many
-
-pub numbers_set : (all : List Aggregator) (first now : List Entry) (i : ℕ) → length all ≤ i → NumbersSet all first now i → (g : Group) → length g.numbers ≡ length all
-    → members_by g now ≡ with_numbers all g.numbers (members_by g first)
-numbers_set all first now i h set g many =
-    sym (ap (λ (l : List Aggregator). with_numbers l (drop i g.numbers) (members_by g now)) (drop_of_length-le all h)) ∙ set g many
 
 -- ---- as tokens
 

@@ -1,8 +1,10 @@
+-- what public contracts rest on
 pub mod Written
 pub mod Read
+pub mod Answers
+-- words of private contracts
 pub mod Tokens
 pub mod Lent
 pub mod Named
-pub mod Answers
 pub mod Missed
 pub mod PieceOrder

@@ -5,7 +5,7 @@ use Rattle.std.specs.Result.{IfOk, IfErr}
 use Rattle.std.proofs.lemmas.Option.{none-some}
 use Rattle.druid_shard.specs.declared.reply.Body.{Body}
 use Rattle.druid_inventory.specs.Entry.{Entry}
-use Rattle.druid_inventory.specs.Step.{RefusedAt, Tells}
+use Rattle.druid_inventory.specs.Step.{RefusedAt}
 use Rattle.druid_inventory.specs.declared.fault.ApplyFault.{ApplyFault}
 use Rattle.druid_inventory.specs.declared.fault.ApplyFault.TheVariants as apply
 use Rattle.druid_inventory.proofs.StepLemmas as steps
@@ -22,16 +22,6 @@ not_memory (apply.NotStrict index) h = refl
 not_memory apply.TooMany h = refl
 not_memory apply.Conflict h = refl
 not_memory apply.Memory h = absurd (h refl)
-
--- what the inventory says, passed on
-pub fault_on : (inventory : List Entry) (node : ℕ) (body : Body) (f : ApplyFault) → Tells inventory node body f → TellsPublish inventory node body (publish_fault f)
-fault_on inventory node body apply.UnknownNode h = (λ e. cc, h)
-fault_on inventory node body apply.OtherIncarnation h = (λ e. cc, h)
-fault_on inventory node body apply.Gap h = (λ e. cc, h)
-fault_on inventory node body (apply.NotStrict index) h = (λ e. cc, h)
-fault_on inventory node body apply.TooMany h = (λ e. cc, h)
-fault_on inventory node body apply.Conflict h = (λ e. cc, h)
-fault_on inventory node body apply.Memory h = h
 
 -- the node is unknown exactly where the fault says so
 pub unknown_exact : {X : Type 0} (r : Result X PublishFault) (inventory : List Entry) (node : ℕ) (body : Body)

@@ -90,18 +90,6 @@ merges seat v other w x views h at apart there =
 pub names_same : (b : Book) (opening : List Entry) (v : Known) (s : Shown) (w : Known) → v ≡ known b opening → Names v s w → w ≡ v
 names_same b opening v s w is h = h.2 ∙ sym (h.3 (ap (λ (k : Known). k.named) is))
 
--- and what is shown is of its list
-pub names_book : (b : Book) (opening : List Entry) (v : Known) (s : Shown) (w : Known) → v ≡ known b opening → Names v s w → s.seen.book ≡ b
-names_book b opening v s w is h =
-    let same : known s.seen.book h.0 ≡ known b opening = sym (h.3 (ap (λ (k : Known). k.named) is)) ∙ is in
-    ap book_of same
-
--- and the fold from its opening
-pub names_fold : (b : Book) (opening : List Entry) (v : Known) (s : Shown) (w : Known) → v ≡ known b opening → Names v s w → (arc_value s.inventory ≡ fold_of opening s.seen.log)
-names_fold b opening v s w is h =
-    let same : known s.seen.book h.0 ≡ known b opening = sym (h.3 (ap (λ (k : Known). k.named) is)) ∙ is in
-    subst (λ (o : List Entry). (arc_value s.inventory ≡ fold_of o s.seen.log)) (ap (λ (k : Known). k.opening) same) h.1
-
 -- with nothing published, the opening is what is shown
 pub names_first : (b : Book) (opening : List Entry) (v : Known) (s : Shown) (w : Known) → s.seen.book ≡ b → s.seen.log ≡ [] → arc_value s.inventory ≡ opening → Names v s w → w ≡ known b opening
 names_first b opening v s w book log inventory h =

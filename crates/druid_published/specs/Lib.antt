@@ -1,3 +1,4 @@
+-- what public contracts rest on
 pub mod Fold
 pub mod Rules
 pub mod Places

@@ -1,3 +1,4 @@
+-- what public contracts rest on
 pub mod Limits
 pub mod Query
 pub mod Refusal

@@ -62,10 +62,6 @@ granularity_text Minute = codes "minute"
 granularity_text Hour = codes "hour"
 granularity_text Day = codes "day"
 
-abbrev pub kind_text : QueryType → List ℕ
-kind_text Timeseries = codes "timeseries"
-kind_text GroupBy = codes "groupBy"
-
 abbrev pub interval_data : Extent → Data
 interval_data e = string (extent_text e)
 

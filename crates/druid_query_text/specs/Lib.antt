@@ -1,2 +1,3 @@
+-- words of private contracts
 pub mod Levels
 pub mod Lent

@@ -1,5 +1,5 @@
 -- Rows in pages.
-use Rattle.std.proofs.Common.{◌≡◌, ◌∙◌, ℕ, zero, suc, ◌+◌, ◌-◌, ◌*◌, ◌/◌, ◌%◌, ◌<◌, ◌≤◌, List, [], ◌∷◌, ◌++◌, length, get_or, All, arith, sym, ap, append_assoc, append-nil, length-append}
+use Rattle.std.proofs.Common.{◌≡◌, ◌∙◌, ℕ, zero, suc, ◌+◌, ◌-◌, ◌*◌, ◌/◌, ◌%◌, ◌<◌, ◌≤◌, List, [], ◌∷◌, ◌++◌, length, get_or, All, arith, sym, ap, append_assoc, length-append}
 use Rattle.std.proofs.lemmas.List.{get_or_append_left, get_or-append_right, get_or-append-add}
 use Rattle.std.proofs.lemmas.List.Elements.{All-head, All-tail}
 use Rattle.druid_rows.specs.Rows.{Row, no_row}
@@ -45,9 +45,3 @@ row_in_last full last table n i e h pages past within =
     let behind : n * 256 ≤ i = omega (arith, past, pages) in
     let left : i - n * 256 < length last.rows = omega (arith, within, ap length rows, length-append (rows_of full) last.rows, front) in
     (left, sym (get_or-append_right (rows_of full) last.rows (n * 256) i no_row front behind) ∙ ap (λ (rs : List Row). get_or rs i no_row) rows)
-
--- one more page
-pub rows_of_push : (pages : List Sheet) (page : Sheet) → rows_of (pages ++ page ∷ []) ≡ rows_of pages ++ page.rows
-rows_of_push [] page = append-nil page.rows
-rows_of_push (first ∷ pages) page =
-    ap (λ (rows : List Row). first.rows ++ rows) (rows_of_push pages page) ∙ sym (append_assoc first.rows (rows_of pages) page.rows)

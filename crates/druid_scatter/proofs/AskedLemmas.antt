@@ -204,7 +204,7 @@ module _ (query : Query) (round : ℕ) (old : State) (came : List (Option Came))
 pub asks_on : (query : Query) (round : ℕ) (old : State) (came : List (Option Came)) → Fits (wanted_of round old.waiting) 0 came → AsksOn query round old (made_from (wanted_of round old.waiting) 0 came)
 asks_on query round old came fit order pairs waits exchanges o s = asked_there query round old came fit order pairs waits exchanges o s
 
--- ---- where a round ends for want of memory
+-- ---- where a round runs out of memory
 
 -- nothing was sent
 pub unsent : {L : Type 0} (step : L → List ℕ → Came → L → Type 0) (query : Query) (round : ℕ) (old : State) (links new : List L) → new ≡ links

@@ -214,11 +214,6 @@ took_of query round node old e missing p (Err f) mine theirs a k m i = tt
 
 -- ---- one round
 
-pub took_one : (round node : ℕ) (old : State) (sub : SubQuery) (came : Came) (r : Result State GatherFault) → IfOk r (λ new. Took sub.query round node old new (exchange_of sub came node))
-    → IfOk r (λ new. TookIf round node old new (Some sub) (Some came))
-took_one round node old sub came (Ok new) t = t
-took_one round node old sub came (Err f) t = tt
-
 sub_none : (query : Query) (wanted : List Asked) → None ≡ sub_if query wanted → wanted ≡ []
 sub_none query [] e = refl
 sub_none query (a ∷ more) e = absurd (cc)
@@ -249,9 +244,6 @@ node_step query round node wanted old new (Some sub) (Some c) e m w t = λ order
 pub goes_on : (query : Query) (round a b c : ℕ) (old mid new : State) (es fs : List Exchange) → Goes query round a b old mid es → Goes query round b c mid new fs → Goes query round a c old new (es ++ fs)
 goes_on query round a b c old mid new es fs g h = λ order pairs waits exchanges o s.
     subst (λ (all : List Exchange). IsState query waits new round c all) (append_assoc exchanges es fs) (h order pairs waits (exchanges ++ es) o (g order pairs waits exchanges o s))
-
-pub goes_nowhere : (query : Query) (round node : ℕ) (state : State) → Goes query round node node state state []
-goes_nowhere query round node state = λ order pairs waits exchanges o s. subst (λ (es : List Exchange). IsState query waits state round node es) (sym (append-nil exchanges)) s
 
 -- those after are still asked for the same
 pub still_wanted : (round node : ℕ) (old new : State) (sub : Option SubQuery) (came : Option Came) → TookIf round node old new sub came → (n : ℕ) → node < n → wanted_of round new.waiting n ≡ wanted_of round old.waiting n

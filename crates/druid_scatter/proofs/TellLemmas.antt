@@ -73,9 +73,6 @@ tells_same sub bytes m n g h t u =
 
 -- ---- exchanges
 
-pub tells_answer : (sub : SubQuery) (bytes : List ℕ) (m : List Asked) (g : List Group) → Tells sub bytes m g → (node : ℕ) → Answers sub.query (exchange_of sub (Ok bytes) node) m g
-tells_answer sub bytes m g t node = record { bytes = bytes; came = refl; body = t.body; rest = t.rest; response = t.response; json = t.json; reads = t.reads; told = t.told }
-
 same_bytes : (a b : List ℕ) (came : Came) → came ≡ Ok a → came ≡ Ok b → a ≡ b
 same_bytes a b came e f = cc
 
@@ -102,26 +99,7 @@ lost_of sub bytes there came (Ok None) same is none =
 lost_of sub bytes there came (Ok (Some a)) same is none = tt
 lost_of sub bytes there came (Err f) same is none = tt
 
--- a link that failed for something else than memory
-pub failed_link : (sub : SubQuery) (fault : WireFault) (came : Came) → came ≡ Err fault → (fault ≡ wire.Memory → ⊥) → (node : ℕ) → IsLost sub.query (exchange_of sub came node)
-failed_link sub fault came is other node = record {
-  had_memory = λ e. other (same_Err (sym is ∙ e));
-  no_answer = λ m g a. not_Ok (sym is ∙ a.came);
-}
-  where
-    same_Err : {f g : WireFault} → Path Came (Err f) (Err g) → f ≡ g
-    same_Err e = cc
-
-    not_Ok : {f : WireFault} {bytes : List ℕ} → Path Came (Err f) (Ok bytes) → ⊥
-    not_Ok e = cc
-
--- ---- want of memory
-
--- memory was refused where the body of the response was read
-pub lacks_reading : (sub : SubQuery) (bytes : List ℕ) (status : ℕ) (body rest : List ℕ) (fault : PartialFault) → IsResponse bytes status body rest → status ≡ 200 → IsAnswerOf sub body (Err fault) → fault ≡ faults.Memory
-    → ReadingLacksMemory sub bytes
-lacks_reading sub bytes status body rest fault r ok a e =
-    (body, rest, subst (λ (n : ℕ). IsResponse bytes n body rest) ok r, subst (λ (f : PartialFault). IsAnswerOf sub body (Err f)) e a)
+-- ---- out of memory
 
 pub lacks_of : (sub : SubQuery) (bytes there : List ℕ) (came : Came) (r : Result (Option NodeAnswer) GatherFault) → there ≡ bytes → came ≡ Ok bytes → OnErr r (ReadingLacksMemory sub there) → OnErr r (LacksMemory sub came)
 lacks_of sub bytes there came (Ok a) same is lacks = tt

@@ -1,8 +1,10 @@
+-- what public contracts rest on
 pub mod Plan
-pub mod Planned
 pub mod Gathered
 pub mod Answer
 pub mod Rounds
-pub mod Waiting
 pub mod Order
 pub mod Exact
+-- words of private contracts
+pub mod Planned
+pub mod Waiting

@@ -1,10 +1,10 @@
 -- The front of a reader's bytes, read part by part.
-use Rattle.std.proofs.Common.{◌≡◌, ℕ, ◌+◌, ◌≤◌, List, [], ◌++◌, length, take, length-append, append-nil, Option, None, Some, IfSome, sym, ap, subst, ◌∙◌, arith}
+use Rattle.std.proofs.Common.{◌≡◌, ℕ, ◌+◌, ◌≤◌, List, [], ◌++◌, length, take, append-nil, Option, None, Some, IfSome, sym, ap, ◌∙◌, arith}
 use Rattle.std.proofs.lemmas.List.{length-take, take_all, take_at}
-use Rattle.std.proofs.KnownBytes.{Consumes-nil, Consumes-trans, Keeps-trans}
+use Rattle.std.proofs.KnownBytes.{Keeps-trans}
 use Rattle.std.specs.Io.KnownBytes.{Consumes, IsAtEnd, Keeps}
 use Rattle.druid_stream.specs.Taken.{TakesAtMost}
-use Rattle.druid_stream.proofs.TakenLemmas.{takes_front, takes_kept, takes_more}
+use Rattle.druid_stream.proofs.TakenLemmas.{takes_front, takes_more}
 use Rattle.druid_rows.specs.Segment.{max_text}
 
 -- reads that failed take nothing
@@ -22,19 +22,9 @@ pub record HasRead (bytes : List ℕ) (a b : Option (List ℕ)) : Type 0 where
   pub taken : Consumes a b bytes
   pub within : length bytes ≤ max_text + 1
 
-pub none_read : (bytes : List ℕ) (a : Option (List ℕ)) → bytes ≡ [] → HasRead bytes a a
-none_read bytes a e = record { taken = subst (Consumes a a) (sym e) (Consumes-nil a); within = omega (arith, ap length e) }
-
 -- a front of what was read into some room
 part_short : (n room : ℕ) (part : List ℕ) → n ≤ length part → length part ≡ room → length (take n part) ≤ room
 part_short n room part within e = omega (arith, within, e, length-take n part)
-
-pub part_read : (n room : ℕ) (old part new : List ℕ) (a b c : Option (List ℕ)) → HasRead old a b → Consumes b c (take n part) → n ≤ length part → length part ≡ room
-    → room + length old ≤ max_text + 1 → new ≡ old ++ take n part → HasRead new a c
-part_read n room old part new a b c h more within e fits is = record {
-  taken = subst (Consumes a c) (sym is) (Consumes-trans a b c old (take n part) h.taken more);
-  within = omega (arith, fits, part_short n room part within e, ap length is, length-append old (take n part));
-}
 
 -- ---- how much is taken
 
@@ -42,13 +32,6 @@ pub part_takes : (n room : ℕ) (old part : List ℕ) (a b c : Option (List ℕ)
     → room + length old ≤ max_text + 1 → TakesAtMost (max_text + 1) a c
 part_takes n room old part a b c h more within e fits =
     takes_more room (max_text + 1) a b c old h.taken (takes_front room b c (take n part) more (part_short n room part within e)) (omega (arith, fits))
-
-pub read_takes : (bytes : List ℕ) (a b : Option (List ℕ)) → HasRead bytes a b → TakesAtMost (max_text + 1) a b
-read_takes bytes a b h = takes_front (max_text + 1) a b bytes h.taken h.within
-
--- where the reader fails
-pub failed_takes : (bytes : List ℕ) (a b c : Option (List ℕ)) → HasRead bytes a b → Keeps b c → TakesAtMost (max_text + 1) a c
-failed_takes bytes a b c h kept = takes_kept (max_text + 1) a b c bytes h.taken h.within kept
 
 -- ---- what was read is the front
 

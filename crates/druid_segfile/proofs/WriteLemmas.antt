@@ -9,7 +9,7 @@ use Rattle.std.specs.Int.{w16, w32, w64, to_be_bytes}
 use Rattle.druid_stream.specs.Fronts.{AppendsFront}
 use Rattle.druid_time.specs.Extent.{Extent}
 use Rattle.druid_shard.specs.Described.{Described}
-use Rattle.std.proofs.lemmas.List.{append-nil, take-append-drop, take_all, take_more, flat_map_more, get_or-map, length-map}
+use Rattle.std.proofs.lemmas.List.{take-append-drop, take_all, take_more, flat_map_more, get_or-map, length-map}
 use Rattle.std.proofs.lemmas.List.Concat.{flat_map-append}
 use Rattle.druid_rows.specs.Rows.{Row, no_row, texts_of}
 use Rattle.druid_rows.specs.Segment.{Segment, row_at}
@@ -18,9 +18,6 @@ use Rattle.druid_segfile.specs.Heading.{heading}
 use Rattle.druid_segfile.proofs.HeadLemmas.{described}
 use Rattle.druid_segfile.proofs.LengthLemmas.{length_spelling}
 use Rattle.druid_segfile.specs.Written.{AppendsUpTo}
-
-pub nothing_yet : (known : Option (List ℕ)) (text : List ℕ) → AppendsUpTo known known text text
-nothing_yet known text = ([], refl, Appends-nil known)
 
 pub up_to_then : (a b c : Option (List ℕ)) (text rest more : List ℕ) → AppendsUpTo a b text rest → AppendsUpTo b c rest more → AppendsUpTo a c text more
 up_to_then a b c text rest more p q =
@@ -60,9 +57,6 @@ one_row_more s i lt =
 
 pub rows_done : (s : Segment) (i : ℕ) → length s.rows ≤ i → heading s ++ flat_map row (take i s.rows) ≡ spelling s
 rows_done s i le = ap (λ (all : List Row). heading s ++ flat_map row all) (take_all i s.rows le) ∙ heading_rows s
-
-pub no_rows_yet : (s : Segment) → heading s ≡ heading s ++ flat_map row (take 0 s.rows)
-no_rows_yet s = sym (append-nil (heading s))
 
 -- a front of the spelling that was written before a row was
 pub spelled_front : (s : Segment) (i : ℕ) (a b c : Option (List ℕ)) (rest : List ℕ) → AppendsUpTo a b (heading s ++ flat_map row (take i s.rows)) rest → AppendsFront b c rest → AppendsFront a c (spelling s)

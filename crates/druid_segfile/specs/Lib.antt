@@ -1,5 +1,7 @@
+-- what public contracts rest on
 pub mod Spelling
 pub mod Reading
+-- words of private contracts
 pub mod Written
 pub mod Building
 pub mod Heading

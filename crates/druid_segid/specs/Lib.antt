@@ -1,3 +1,4 @@
+-- what public contracts rest on
 pub mod Names
 pub mod Numbers
 pub mod Identifier

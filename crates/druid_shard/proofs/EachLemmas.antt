@@ -18,9 +18,6 @@ front_of_one : {A : Type 0} (front : List A) (x : A) (rest : Option (List A)) �
 front_of_one front x None = refl
 front_of_one front x (Some xs) = ap Some (append_assoc front (x ∷ []) xs)
 
-front_of_none : {A : Type 0} (front : List A) (rest : Option (List A)) → with_front front (None >>= λ (y : A). rest >>= λ ys. Some (y ∷ ys)) ≡ None
-front_of_none front rest = refl
-
 -- one more item was read
 pub each_of_more : {A : Type 0} (f : Data → Option A) (front : List A) (vs : List Value) (i : ℕ) (v : Value) (x : A) → i < length vs → v ≡ get_or vs i v → f (view v) ≡ Some x → with_front (front ++ x ∷ []) (each_of f (items_view (drop (i + 1) vs))) ≡ with_front front (each_of f (items_view (drop i vs)))
 each_of_more f front vs i v x h is read =

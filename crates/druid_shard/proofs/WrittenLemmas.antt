@@ -1,5 +1,5 @@
 -- JSON as it is written is read as the value that it was written for.
-use Rattle.std.proofs.Common.{◌≡◌, ℕ, ◌≤◌, List, [], ◌∷◌, map, Option, Some, option_map, option_and_then, refl, sym, ap, ◌∙◌, append-nil, arith}
+use Rattle.std.proofs.Common.{◌≡◌, ℕ, ◌≤◌, List, [], ◌∷◌, map, Option, Some, option_and_then, refl, sym, ap, ◌∙◌, append-nil, arith}
 use Rattle.std.specs.Prelude.{Contains}
 use Rattle.json.specs.Token.{Token}
 use Rattle.json.specs.Lex.{tokens}
@@ -67,9 +67,6 @@ items_back f P one (x ∷ xs) all =
 
 pub any_items_back : {A : Type 0} (f : A → Data) → ((x : A) → IsBack (f x)) → (xs : List A) → AreBack (items_of (map f xs))
 any_items_back f one xs = items_back f (λ _. Unit {0}) (λ x _. one x) xs (λ x there. tt)
-
-pub array_back : (ds : Items) → AreBack ds → IsBack (array ds)
-array_back ds back = (back.0, ap (option_map array) back.1)
 
 -- the compact text is read as the value
 pub compact_read : (d : Data) → IsBack d → depth d ≤ max_depth → read (compact_text d) ≡ Some d

@@ -58,10 +58,6 @@ module _ (old new : List Call) (call : Call) (is : new ≡ old ++ call ∷ []) w
       split : (k : ℕ) → (k ≤ length old) ⊎ (length new ≤ k)
       split k = ⊎_elim (λ (lt : length old < k). inr (omega (arith, length_pushed))) (λ (le : k ≤ length old). inl le) (cases_lt (length old) k)
 
-pub elapses_same : (old new : List Call) → new ≡ old → Elapses (length old) (length new) (LeftSince old) (LeftSince new) (IsLeft new)
-elapses_same old new is = subst (λ (l : List Call). Elapses (length old) (length l) (LeftSince old) (LeftSince l) (IsLeft l)) (sym is)
-    (record { later = omega arith; nothing_else = λ t c le since. inl since; keeps = λ t c le since. since })
-
 pub left_same : (old new : List Call) → new ≡ old → SameLeft (IsLeft old) (IsLeft new)
 left_same old new is = (λ c left. subst (λ (l : List Call). IsLeft l c) (sym is) left, λ c left. subst (λ (l : List Call). IsLeft l c) is left)
 

@@ -1,10 +1,12 @@
+-- what public contracts rest on
 pub mod Disk
 pub mod Event
 pub mod Honest
 pub mod HonestLaws
-pub mod Model
 pub mod Noted
 pub mod Record
 pub mod RecordLaws
 pub mod System
+-- words of private contracts
+pub mod Model
 pub mod Unknown

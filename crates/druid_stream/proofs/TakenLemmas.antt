@@ -1,11 +1,8 @@
 -- How much is taken of a reader, in several reads.
 use Rattle.std.proofs.Common.{ℕ, ◌+◌, ◌≤◌, List, [], ◌++◌, length, length-append, Option, arith}
-use Rattle.std.proofs.KnownBytes.{Consumes-nil, Consumes-trans, Consumes-kept}
+use Rattle.std.proofs.KnownBytes.{Consumes-trans, Consumes-kept}
 use Rattle.std.specs.Io.KnownBytes.{Consumes, Keeps}
 use Rattle.druid_stream.specs.Taken.{TakesAtMost}
-
-pub takes_none : (n : ℕ) (a b : Option (List ℕ)) → Keeps a b → TakesAtMost n a b
-takes_none n a b kept = record { front = []; taken = Consumes-kept a a b [] (Consumes-nil a) kept; within = omega arith }
 
 pub takes_front : (n : ℕ) (a b : Option (List ℕ)) (front : List ℕ) → Consumes a b front → length front ≤ n → TakesAtMost n a b
 takes_front n a b front taken within = record { front = front; taken = taken; within = within }
@@ -20,6 +17,3 @@ takes_more m n a b c front taken more fits = record {
   taken = Consumes-trans a b c front more.front taken more.taken;
   within = omega (arith, fits, more.within, length-append front more.front);
 }
-
-pub takes_wider : (m n : ℕ) (a b : Option (List ℕ)) → TakesAtMost m a b → m ≤ n → TakesAtMost n a b
-takes_wider m n a b t fits = record { front = t.front; taken = t.taken; within = omega (arith, fits, t.within) }

@@ -1,3 +1,4 @@
+-- what public contracts rest on
 pub mod Parts
 pub mod Lines
 pub mod Fronts

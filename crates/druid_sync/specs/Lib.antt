@@ -1,6 +1,8 @@
+-- what public contracts rest on
 pub mod Written
 pub mod Read
-pub mod Lent
 pub mod Asks
-pub mod Given
 pub mod Back
+-- words of private contracts
+pub mod Lent
+pub mod Given

@@ -227,10 +227,6 @@ IsInstant-instant_of c h = omega (arith, day_number_limit c h, time_of_day_limit
 pub civil_same : (a b : Civil) → a.year ≡ b.year → a.month ≡ b.month → a.day ≡ b.day → a.hour ≡ b.hour → a.minute ≡ b.minute → a.second ≡ b.second → a.milli ≡ b.milli → a ≡ b
 civil_same a b year month day hour minute second milli i = record { year = year i; month = month i; day = day i; hour = hour i; minute = minute i; second = second i; milli = milli i }
 
--- the time of day is read off by division
-abbrev IsTimeIn : ℕ → Civil → Type 0
-IsTimeIn t c = (c.hour ≡ t % day_length / 3_600_000) × (c.minute ≡ t % 3_600_000 / 60_000) × (c.second ≡ t % 60_000 / 1000) × (c.milli ≡ t % 1000)
-
 time_of_day-read : (t day h m s ms : ℕ) → t ≡ day * 86_400_000 + (((h * 60 + m) * 60 + s) * 1000 + ms) → h < 24 → m < 60 → s < 60 → ms < 1000 → (t / 86_400_000 ≡ day) × (h ≡ t % 86_400_000 / 3_600_000) × (m ≡ t % 3_600_000 / 60_000) × (s ≡ t % 60_000 / 1000) × (ms ≡ t % 1000)
 time_of_day-read t day h m s ms e hour minute second milli =
     let low : t % 1000 ≡ ms = omega arith in

@@ -1,7 +1,9 @@
+-- what public contracts rest on
 pub mod Holding
 pub mod Visible
 pub mod Pieces
 pub mod Chunks
+pub mod Overshadowed
+-- words of private contracts
 pub mod Stretches
 pub mod Active
-pub mod Overshadowed

@@ -1,6 +1,6 @@
 -- A body, read as it comes.
-use Rattle.std.proofs.Common.{◌≡◌, ℕ, ◌+◌, ◌<◌, ◌≤◌, Bool, true, false, List, [], ◌∷◌, ◌++◌, length, length-append, append-nil, Option, None, Some, IfSome, refl, sym, ap, subst, ◌∙◌, arith}
-use Rattle.std.proofs.KnownBytes.{Consumes-trans, Consumes-nil}
+use Rattle.std.proofs.Common.{◌≡◌, ℕ, ◌+◌, ◌<◌, ◌≤◌, Bool, true, false, List, [], ◌∷◌, ◌++◌, length, length-append, append-nil, Option, None, Some, IfSome, refl, ap, subst, ◌∙◌, arith}
+use Rattle.std.proofs.KnownBytes.{Consumes-trans}
 use Rattle.std.specs.Io.KnownBytes.{Consumes, IsAtEnd}
 use Rattle.druid_wire.specs.Bodies.{IsTaken, EndsBody}
 
@@ -37,21 +37,6 @@ taken_again more start old new room a b c same none w = record {
 pub record HasBody (body : List ℕ) (count : ℕ) (a b : Option (List ℕ)) : Type 0 where
   pub taken : Consumes a b body
   pub within : length body ≤ count
-
-pub no_body : (body : List ℕ) (count : ℕ) (a : Option (List ℕ)) → body ≡ [] → HasBody body count a a
-no_body body count a e = record { taken = subst (Consumes a a) (sym e) (Consumes-nil a); within = omega (arith, ap length e) }
-
-pub body_grown : (more : Bool) (old new : List ℕ) (room count : ℕ) (a b c : Option (List ℕ)) → HasBody old count a b → IsTaken more old new room b c
-    → room + length old ≤ count → HasBody new count a c
-body_grown more old new room count a b c h w fits = record {
-  taken = subst (Consumes a c) (sym w.grown) (Consumes-trans a b c old w.front h.taken w.taken);
-  within = omega (arith, fits, w.short, ap length w.grown, length-append old w.front);
-}
-
-pub body_whole : (body : List ℕ) (count : ℕ) (a b : Option (List ℕ)) → HasBody body count a b → count ≤ length body → IfSome a (λ input. EndsBody true input count body b)
-body_whole body count None b h long = tt
-body_whole body count (Some input) None h long = absurd h.taken
-body_whole body count (Some input) (Some rest) h long = (rest, refl, h.taken, omega (arith, long, h.within))
 
 pub body_cut : (more : Bool) (old new : List ℕ) (room count : ℕ) (a b c : Option (List ℕ)) → more ≡ false → HasBody old count a b → IsTaken more old new room b c
     → length old < count → IfSome a (λ input. EndsBody false input count new c)

@@ -1,9 +1,9 @@
 -- A head in bytes that are at hand, line by line.
-use Rattle.std.proofs.Common.{◌≡◌, ℕ, ◌+◌, ◌-◌, ◌<◌, ◌≤◌, List, [], ◌∷◌, ◌++◌, All, length, take, drop, get_or, length-append, append_assoc, refl, sym, ap, subst, ◌∙◌, arith}
+use Rattle.std.proofs.Common.{◌≡◌, ℕ, ◌+◌, ◌-◌, ◌<◌, ◌≤◌, List, [], ◌∷◌, ◌++◌, All, length, take, drop, get_or, length-append, append_assoc, refl, sym, ap, ◌∙◌, arith}
 use Rattle.std.proofs.lemmas.List.{take-append-drop, drop_more}
 use Rattle.std.proofs.lemmas.List.Elements.{All-nil, All-push}
 use Rattle.std.proofs.Math.Seq.{take-append_seam}
-use Rattle.druid_wire.specs.Frame.{IsPlain, IsBlank, IsTextLine, text_of, IsFramed, IsBegun, EndsInHead, IsLongHead}
+use Rattle.druid_wire.specs.Frame.{IsPlain, IsBlank, IsTextLine, text_of, IsFramed, IsBegun, IsLongHead}
 use Rattle.druid_wire.specs.Limits.{max_head}
 use Rattle.druid_wire.proofs.FrameLemmas.{text_of-push, some_of, none_of}
 
@@ -139,10 +139,3 @@ head_is_long bytes text rest line more w plain e fits above = record {
   long = omega (arith, fits, begun_length bytes text rest line more w e);
   over = above;
 }
-
-pub head_is_cut : (bytes text rest : List ℕ) → Passes bytes text rest → IsPlain rest → length bytes ≤ max_head → EndsInHead bytes
-head_is_cut bytes text rest w plain fits = (
-  text_of w.lines ++ rest,
-  subst (λ (l : List ℕ). IsBegun l (text_of w.lines ++ rest)) (sym (w.is ∙ ap (λ (l : List ℕ). text_of w.blank ++ l) w.goes)) (begun bytes text rest rest w plain),
-  fits,
-)

@@ -1,10 +1,12 @@
+-- what public contracts rest on
 pub mod Limits
 pub mod Frame
 pub mod Heads
-pub mod Parts
-pub mod Bodies
 pub mod Messages
 pub mod Grammar
-pub mod Told
 pub mod Written
 pub mod Served
+-- words of private contracts
+pub mod Parts
+pub mod Bodies
+pub mod Told

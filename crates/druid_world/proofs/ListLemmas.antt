@@ -37,11 +37,6 @@ each_replicate P (suc n) x h = (h, each_replicate P n x h)
 
 -- ---- a place
 
-pub get_set : {X : Type 0} (xs : List X) (i : ℕ) (x y : X) → slice_get xs i ≡ Some x → slice_get (set xs i y) i ≡ Some y
-get_set [] i x y e = absurd (none-some x e)
-get_set (z ∷ zs) zero x y e = refl
-get_set (z ∷ zs) (suc i) x y e = get_set zs i x y e
-
 pub get_below : {X : Type 0} (xs : List X) (i : ℕ) → i < length xs → (x : X) × (slice_get xs i ≡ Some x)
 get_below [] i l = absurd (omega arith)
 get_below (x ∷ xs) zero l = (x, refl)
@@ -89,12 +84,6 @@ pairs_set R (w ∷ xs) (z ∷ ys) (suc i) x y all e h = (all.0, pairs_set R xs y
 pub pairs_self : {A : Type 0} (R : A → A → Type 0) (xs : List A) → ((x : A) → R x x) → AllZip R xs xs
 pairs_self R [] h = tt
 pairs_self R (x ∷ xs) h = (h x, pairs_self R xs h)
-
-pub pairs_length : {A B : Type 0} (R : A → B → Type 0) (xs : List A) (ys : List B) → AllZip R xs ys → length xs ≡ length ys
-pairs_length R [] [] all = refl
-pairs_length R [] (y ∷ ys) all = absurd all
-pairs_length R (x ∷ xs) [] all = absurd all
-pairs_length R (x ∷ xs) (y ∷ ys) all = ap suc (pairs_length R xs ys all.1)
 
 -- what holds of the pairs goes over to a list whose members took the place of the first ones
 pub pairs_over : {A B : Type 0} (R : A → A → Type 0) (S : A → B → Type 0) (xs zs : List A) (ys : List B)

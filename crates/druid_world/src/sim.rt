@@ -154,7 +154,7 @@ impl Sim {
         requires some_nodes { 1 ≤ nodes }
         requires few_nodes { nodes ≤ max_nodes }
         requires some_brokers { 1 ≤ brokers }
-        requires few_brokers { brokers ≤ MAX_BROKERS }
+        requires few_brokers { brokers ≤ 64 }
         requires some_kept { 1 ≤ kept }
         requires few_kept { kept ≤ max_changes }
         ensures ok { IfOk result (λ sim. sim ≡ opening nodes brokers kept) }
