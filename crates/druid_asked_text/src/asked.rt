@@ -137,7 +137,7 @@ impl<'a> LentAsked<'a> {
         requires { source.now ≡ self.now.0.source }
         ensures { IfOk result (λ copy. copy ≡ self.now) }
     {
-        // A text that is a version makes one, unless memory is refused.
+        // A text that is a version makes one, unless memory runs out.
         let Ok(version) = Version::new(alloc, self.version) else {
             return Err(AllocError);
         };

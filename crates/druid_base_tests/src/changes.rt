@@ -110,7 +110,6 @@ fn set_after(rt: &impl Abort, alloc: Global, text: &str) -> String {
     }
 }
 
-// Loads that partition.
 fn load(
     rt: &impl Abort,
     alloc: Global,

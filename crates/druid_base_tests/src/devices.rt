@@ -90,7 +90,6 @@ fn script(name: &str) -> &'static str {
     }
 }
 
-// A value and a count.
 fn beside<T: Display>(rt: &impl Abort, alloc: Global, value: &T, count: usize) -> String {
     format!(in alloc; "{value} {count}").expect(rt, "memory")
 }

@@ -211,7 +211,6 @@ fn keep(rt: &impl Abort, plain: &mut Plain, drawn: Drawn) {
     }
 }
 
-// The partition as a bit.
 fn bit(partition: u16) -> u64 {
     1_u64.wrapping_shl(partition as u32)
 }

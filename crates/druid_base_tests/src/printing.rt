@@ -1,4 +1,4 @@
-//! Texts of values, whose types say nothing to a proof, and tables of what is reported.
+//! Prints values by way of a type parameter, so that a proof does not open their `Display`, and tables of what is reported.
 use std::alloc::Global;
 use std::fmt::Display;
 use std::process::Abort;

@@ -22,7 +22,7 @@ pub enum TurnFault {
     /// K3: the reply is not applied.
     #[error("K3: {0}")]
     Apply(ApplyFault),
-    /// K9: memory was refused.
+    /// K9: out of memory.
     #[error("K9: out of memory")]
     Memory,
 }

@@ -17,7 +17,7 @@ use druid_shard::{NodeNo, Reply};
 use std::alloc::Global;
 use std::sync::{Arc, Mutex, Wait};
 
-// What the view reads. It has no reading where memory was refused to show it one.
+// What the view reads. It has no reading where memory runs out to show it one.
 fn read_by<J: Publication>(view: &mut View<J>) -> Result<Arc<Inventory, Global>, TurnFault>
     ensures prefix { IsPrefix view.old view.new }
     ensures ok { IfOk result (λ found. arc_value found ≡ fold_of J.opening view.new) }
@@ -38,7 +38,6 @@ fn known<J: Publication, R: Wait + Drop>(publisher: &Publisher<J, R>)
     let _ = publisher.inventory();
 }
 
-// Publishes a reply of a node behind what is published.
 fn publish_behind<J: Publication, R: Wait + Drop>(
     node: NodeNo,
     reply: &Reply,

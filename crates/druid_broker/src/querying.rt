@@ -64,7 +64,6 @@ fn tell_rows(alloc: Global, query: &Query, answer: &Answer) -> Result<Response, 
     Ok(Response::made(StatusCode::SERVICE_UNAVAILABLE, text))
 }
 
-// The rows of a query.
 fn answer_rows<T: Threads + Sync, P: Pick, L: Link + Send>(
     rt: &T,
     alloc: Global,

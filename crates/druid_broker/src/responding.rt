@@ -85,7 +85,6 @@ fn sources(alloc: Global, inventory: &Inventory) -> Response
     }
 }
 
-// What is answered by what is known.
 fn answer_known<L: Link>(
     alloc: Global,
     route: &Route,
@@ -106,7 +105,7 @@ fn answer_known<L: Link>(
     }
 }
 
-// What is answered where nothing was read. A read applies no reply.
+// The response to a failed read of the view: 500. (A read applies no reply.)
 fn answer_unread(fault: PublishFault) -> Response
     ensures { AnswersUnread result.status result.body }
 {

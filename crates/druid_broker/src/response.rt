@@ -55,7 +55,7 @@ impl Response {
         Response::fixed(StatusCode::METHOD_NOT_ALLOWED, "{\"error\":\"Method\"}")
     }
 
-    /// The answer where memory was refused.
+    /// The answer where memory runs out.
     pub(crate) fn out_of_memory() -> Response
         ensures { IsOutOfMemory result.status result.body }
     {

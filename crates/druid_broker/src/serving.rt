@@ -25,7 +25,7 @@ use std::thread::Threads;
 /// `/druid/v2/datasources` with the data sources in order, on `/druid/broker/v1/loadstatus` with whether each node was synced,
 /// on `/druid-internal/v1/inventory/{node}` with what is known of the node, as a reply, or 404 with V2 or V3, and on
 /// `/status/health` with `true`. Another method there is answered 405, and another path 404. 500 and `{"error":"Memory"}` where
-/// memory was refused for the answer, and `{"error":"NoReading"}` where the view was given no reading.
+/// memory ran out for the answer, and `{"error":"NoReading"}` where the view was given no reading.
 ///
 /// X4 to X7 of the request are answered 400 with their number. X1, X2 or X9 where no request was read, and nothing was written;
 /// X3 or X9 where the writer failed, which then has some front of the answer, and not the whole. Nothing is flushed.

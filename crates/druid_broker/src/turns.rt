@@ -40,7 +40,6 @@ fn link_fault(fault: WireFault) -> TurnFault
     }
 }
 
-// The reply in these bytes.
 fn reply_in(alloc: Global, bytes: &[u8]) -> Result<Reply, TurnFault>
     ensures { IsAnswerTo (Ok bytes.now) result }
 {
@@ -117,7 +116,7 @@ fn ask_node<L: Link>(alloc: Global, ask: &Ask, link: &mut L) -> Result<Reply, Tu
 
 /// Asks a node for what changed after its mark in the inventory, or for all where it was never synced. A reset is followed: all
 /// is asked for then, once, in the same call. K1 where the link fails or what comes back is no response, K4 where its status is
-/// not 200, K2 where its body is no reply, K9 where memory was refused.
+/// not 200, K2 where its body is no reply, K9 where memory runs out.
 pub fn fetch<L: Link>(
     alloc: Global,
     inventory: &Inventory,

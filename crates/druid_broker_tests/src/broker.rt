@@ -346,7 +346,7 @@ fn passes_over<R: Handle, J: Publication>(
     counts && is_asked_once(alloc, made, 1, NOT_COUNTED)
 }
 
-// Whether the broker wants memory where the first link that it asks does, and asks no other then.
+// Whether the broker runs out of memory where the first link that it asks does, and asks no other then.
 fn lacks_memory<R: Handle, J: Publication>(alloc: Global, made: &mut Cluster<R, J>) -> bool {
     made_by_two(made);
     set(made, 0, Behind::Failing(Failure::Memory));

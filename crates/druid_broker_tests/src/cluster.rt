@@ -538,7 +538,6 @@ pub(crate) fn posted<R: Handle, J: Publication>(
     answered(alloc, cluster, turn, message.as_bytes())
 }
 
-// The link at a place.
 fn link_at<R: Handle, J: Publication>(
     cluster: &mut Cluster<R, J>,
     place: usize,

@@ -137,7 +137,6 @@ fn drawn_failing(draws: &mut Draws) -> [bool; 3] {
     failing
 }
 
-// A cluster.
 fn drawn_cluster(rt: &impl Abort, alloc: Global, draws: &mut Draws) -> Plain {
     let mut chunks = Vec::new(alloc);
     let mut segments = Vec::new(alloc);

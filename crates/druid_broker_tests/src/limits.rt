@@ -46,7 +46,6 @@ fn subquery(rt: &impl Abort, alloc: Global, filter: &str) -> String {
     ).expect(rt, "memory")
 }
 
-// What a node answers to a subquery.
 fn node_answer<R: Handle>(rt: R, alloc: Global, subquery: &str) -> String {
     let message = message_of(&rt, alloc, subquery);
     let mut setup = set_up(rt, alloc, NODE);

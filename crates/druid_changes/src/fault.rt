@@ -19,7 +19,7 @@ pub enum HistoryFault {
     /// H4: there were 2^64 - 1 changes.
     #[error("H4: too many changes")]
     CountAtEnd,
-    /// H9: memory was refused.
+    /// H9: out of memory.
     #[error("H9: out of memory")]
     Memory,
 }

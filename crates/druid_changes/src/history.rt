@@ -37,7 +37,7 @@ impl Model for History {
 }
 
 impl History {
-    /// An incarnation without changes, which keeps the last `kept` of those to come. H9 where memory was refused.
+    /// An incarnation without changes, which keeps the last `kept` of those to come. H9 where memory runs out.
     pub fn new(alloc: Global, incarnation: u64, kept: usize) -> Result<History, HistoryFault>
         requires incarnation { 1 ≤ incarnation }
         requires some { 1 ≤ kept }
@@ -90,7 +90,7 @@ impl History {
         of_set
     }
 
-    /// Whether it would record the change, if memory is had. Does not allocate.
+    /// Whether it would record the change, if memory suffices. Does not allocate.
     pub fn accepts(&self, change: &Change) -> bool
         ensures { IsTrue result ↔ (refusal self.now change.now ≡ None) }
     {
@@ -99,7 +99,7 @@ impl History {
 
     /// Records a change. For a load: H1 where a segment of that identifier is served, then H3 where 20,000 segments
     /// are. For a drop: H2 where no such segment is served. Then H4 at a count of 2^64 - 1, and for a load H9 where
-    /// memory was refused. A refused change leaves all as it was.
+    /// memory ran out. A refused change leaves all as it was.
     pub fn record(&mut self, change: Change) -> Result<(), HistoryFault>
         ensures place { OnOk result ((self.new.incarnation ≡ self.old.incarnation) × (self.new.limit ≡ self.old.limit)) }
         ensures stands { OnOk result ((history : List Event) → StandsFor self.old history

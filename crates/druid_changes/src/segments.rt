@@ -29,7 +29,6 @@ impl Model for Segments {
 }
 
 impl Segments {
-    // No segments.
     pub(crate) fn new(alloc: Global) -> Segments
         ensures { result ≡ [] }
     {
@@ -55,7 +54,6 @@ impl Segments {
         !self.entries.contains_key(segment.id())
     }
 
-    // Whether that segment is one of them.
     pub(crate) fn holds(&self, segment: &Descriptor) -> bool
         ensures { result ≡ is_strict self.now (Dropped segment.now) }
     {

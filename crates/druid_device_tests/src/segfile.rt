@@ -72,7 +72,6 @@ fn told(alloc: Global, bytes: &[u8]) -> &'static str {
     answer(read(alloc, bytes))
 }
 
-// Puts the patch in the place of the bytes there.
 fn put(bytes: &mut Vec<u8>, place: usize, patch: &[u8]) {
     for (n, byte) in patch.iter().enumerate() {
         if let Some(old) = bytes.get_mut(place.wrapping_add(n)) {

@@ -19,7 +19,7 @@ pub enum StoreFault {
     /// O4: no file can have the name.
     #[error("O4: no name of a file")]
     BadName,
-    /// O9: memory ran out.
+    /// O9: out of memory.
     #[error("O9: out of memory")]
     Memory,
 }

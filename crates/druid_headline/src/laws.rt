@@ -39,7 +39,7 @@ pub fn readers_agree()
 
 /// What `serve_one` answers to a query that is posted is what is defined over the world, at the marks of the list that its view has seen
 /// after the call, where the replies of that list are honest in the world and the broker and the world have one list of nodes; or 500,
-/// where the view was given no reading or memory was refused.
+/// where the view was given no reading or memory ran out.
 pub fn queries_are_exact<L: Link>()
     ensures { (order : List ℕ → List ℕ) (world : List Life) (names : List (List ℕ)) (seen now : Published) (request : RequestValue) (asked : Query)
         (old new : List L) (status : ℕ) (body : List ℕ)

@@ -119,7 +119,7 @@ fn ask_nodes<J: Publication, R: Threads + Wait + Sync + Copy + Drop>(
 
 /// Opens a publisher of an inventory in which neither of two nodes was synced, follows each of them once, and gives what the broker
 /// writes for a request, over the links to them: where the request posts a query, the result over the rows that are visible in the
-/// world of any lives of theirs, at their marks. `None` where memory was refused, or a turn or a write failed.
+/// world of any lives of theirs, at their marks. `None` where memory runs out, or a turn or a write failed.
 pub fn ask_two<J: Publication, R: Threads + Wait + Sync + Copy + Drop>(
     rt: &R,
     alloc: Global,

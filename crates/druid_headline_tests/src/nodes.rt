@@ -33,7 +33,7 @@ fn describe(state: &NodeState) -> Result<(), NodeFault>
     }
 }
 
-/// What is kept of a node, unless memory was refused.
+/// What is kept of a node, unless memory ran out.
 pub(crate) fn know(state: &NodeState) -> bool
     ensures { IsTrue result → IsNode state.now }
 {

@@ -64,7 +64,7 @@ pub fn one_number()
     ensures { (file : Option (List ℕ)) (m n : ℕ) → HasNumber file m → HasNumber file n → m ≡ n }
 {}
 
-// The number after one, which wants no memory.
+// The number after one, which does not allocate.
 fn number_after(before: u64) -> Result<u64, StoreFault>
     ensures next { IfOk result (λ n. n ≡ before + 1) }
     ensures at_end { IfErr result (λ e. (e ≡ StoreFault.AtEnd) × (before ≡ 2 ^ 64 - 1)) }

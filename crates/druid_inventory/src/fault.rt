@@ -19,7 +19,7 @@ pub enum InventoryFault {
     /// V3: the node was never synced.
     #[error("V3: a node that was never synced")]
     NotSynced,
-    /// V9: memory was refused.
+    /// V9: out of memory.
     #[error("V9: out of memory")]
     Memory,
 }
@@ -56,7 +56,7 @@ pub enum ApplyFault {
     /// A5: the mark is the one held, and the set is another.
     #[error("A5: a conflict")]
     Conflict,
-    /// A9: memory was refused.
+    /// A9: out of memory.
     #[error("A9: out of memory")]
     Memory,
 }
@@ -78,7 +78,7 @@ pub enum JoinFault {
     /// J2: at one mark of this node they have other sets; it is the least such node.
     #[error("J2: a conflict at node {0}")]
     Conflict(NodeNo),
-    /// J9: memory was refused.
+    /// J9: out of memory.
     #[error("J9: out of memory")]
     Memory,
 }

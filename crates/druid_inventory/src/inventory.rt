@@ -256,7 +256,6 @@ impl Inventory {
         }
     }
 
-    // What is known of a node.
     fn known(&self, node: NodeNo) -> Option<&Known>
         ensures { option_copied result ≡ slice_get self.now node }
     {

@@ -1,4 +1,4 @@
-//! What two inventories are together, judged before any memory is taken.
+//! What two inventories are together, judged before anything is allocated.
 ghost use Rattle.std.specs.Prelude.{◌≡◌, ◌≢◌, ◌↔◌, ◌≤◌, ◌<◌, ℕ, Some, IsTrue, OnOk, false, MatchOption, length, map, slice_get, slice_set, vec_len};
 ghost use Rattle.std.specs.Arc.{arc_value};
 ghost use Rattle.std.specs.Ordering.{is_lt};
@@ -14,7 +14,6 @@ use druid_shard::NodeNo;
 use std::alloc::{AllocError, Global};
 use std::sync::Arc;
 
-// The entry of a node.
 fn entry_of(entries: &[Arc<Known, Global>], node: usize) -> &Known
     requires { node < length entries.now }
     ensures { slice_get (map arc_value entries.now) node ≡ Some result.now }
@@ -84,7 +83,7 @@ pub(crate) fn has_later(a: &[Arc<Known, Global>], b: &[Arc<Known, Global>]) -> b
     false
 }
 
-// Where this entry of a node is later than the one that stands, it takes its place, and the timelines follow.
+// Replaces the entry of a node by this one if it is later, and edits the timelines.
 pub(crate) fn catch_up(
     entries: &mut Vec<Arc<Known, Global>>,
     timelines: &mut Timelines,

@@ -1,4 +1,4 @@
-//! What a reply makes of an entry, judged before any memory is taken.
+//! What a reply makes of an entry, judged before anything is allocated.
 ghost use Rattle.std.specs.Prelude.{◌≡◌, ◌↔◌, ◌+◌, ◌<◌, ◌≤◌, ◌^◌, IsTrue, IfOk, IfErr, OnOk, Some, length, option_copied, List};
 ghost use Rattle.druid_shard.specs.Described.{Described};
 ghost use Rattle.druid_shard.specs.Reply.{IsDelta, IsSnapshot, max_segments};

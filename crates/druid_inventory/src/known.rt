@@ -115,7 +115,6 @@ impl PartialEq for Known {
     }
 }
 
-// A copy of a set.
 pub(crate) fn copy_of(alloc: Global, set: &[Descriptor]) -> Result<Vec<Descriptor>, AllocError>
     ensures { IfOk result (λ copy. copy.items ≡ set.now) }
 {

@@ -134,7 +134,6 @@ pub(crate) fn replay_changes(
     Ok(())
 }
 
-// Whether a set has a segment.
 fn has_segment(set: &[Descriptor], descriptor: &Descriptor) -> bool
     requires { IsSegmentSet set.now }
     ensures { IsTrue result ↔ Contains set.now descriptor.now }

@@ -31,7 +31,7 @@ pub enum WireFault {
     /// X8: no connection.
     #[error("X8: no connection")]
     Connect,
-    /// X9: memory was refused.
+    /// X9: out of memory.
     #[error("X9: out of memory")]
     Memory,
 }

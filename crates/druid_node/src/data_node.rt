@@ -125,7 +125,6 @@ impl<I: Incarnation> DataNode<I> {
         self.state.lock(rt).respond(request, seen)
     }
 
-    // Loads a segment.
     fn load(&self, rt: &impl Wait, segment: Segment, seen: &mut Mark) -> Result<(), NodeFault>
         ensures raised { OnOk result (mark_cmp seen.old seen.new ≡ Less) }
         ensures own { OnOk result (seen.new.incarnation ≡ I.number) }
@@ -138,7 +137,7 @@ impl<I: Incarnation> DataNode<I> {
     /// Loads the segment of the file of that name, of which a folder gives no more than 16 MiB and a byte, and sees the mark
     /// after that. N1 where the device fails, N6 where there is no such file, N2 where its bytes are no segment, N3 where the
     /// file is not called by the text of the segment's identifier and `.seg`. Then N8 where the node's state is older than what was
-    /// seen, and then the refusals of `NodeState::load`. N9 where memory was refused, which the read of the folder may tell in
+    /// seen, and then the refusals of `NodeState::load`. N9 where memory runs out, which the read of the folder may tell in
     /// place of all of these, and what comes after it only where the bytes are a segment. Where it fails all is as it was.
     pub fn load_file<F: Folder>(
         &self,

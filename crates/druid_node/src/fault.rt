@@ -32,7 +32,7 @@ pub enum NodeFault {
     /// N8: its state is older than the mark that the caller has seen. It tells the state's mark.
     #[error("N8: behind what was seen")]
     Behind(Mark),
-    /// N9: memory was refused.
+    /// N9: out of memory.
     #[error("N9: out of memory")]
     Memory,
 }

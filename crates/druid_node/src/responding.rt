@@ -149,7 +149,7 @@ impl NodeState {
     /// The status and the body that it answers to a request. `GET /status/health` is answered `true`; `GET
     /// /druid-internal/v1/segments` with what `since` tells, where the parameters spell an ask; `POST /druid/v2` and `POST
     /// /druid/v2/` with what `answer` tells, where the body reads as a subquery. What is not read so is answered 400 with the
-    /// number of its fault, another method on these paths 405, and another path 404. N9 where memory was refused.
+    /// number of its fault, another method on these paths 405, and another path 404. N9 where memory runs out.
     pub fn respond(&self, request: &Request) -> Result<(StatusCode, Vec<u8>), NodeFault>
         ensures ok { IfOk result (λ r. Responds self.now request.now r.0 r.1.items) }
         ensures err { IfErr result (λ fault. fault ≡ NodeFault.Memory) }

@@ -22,7 +22,7 @@ use std::marker::{Model, PhantomData};
 #[derive(Drop)]
 pub(crate) struct Answered {
     pub(crate) status: StatusCode,
-    // None where memory was refused for the answer.
+    // None where memory runs out for the answer.
     pub(crate) body: Option<Vec<u8>>,
     pub(crate) mark: Mark,
 }

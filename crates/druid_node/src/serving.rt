@@ -73,7 +73,7 @@ impl<I: Incarnation> DataNode<I> {
     }
 
     /// Reads a request and writes the answer, and gives the status that was written: what `NodeState::respond` answers in a
-    /// state that is not older than what was seen, or 500 and `{"error":"Memory"}` where memory was refused for that; and it sees
+    /// state that is not older than what was seen, or 500 and `{"error":"Memory"}` where memory runs out for that; and it sees
     /// that state's mark. X4 to X7 of the request are answered 400 with their number, and nothing is seen.
     ///
     /// N5 of X1, X2 or X9 where no request was read, and nothing was written; then N8 where the node's state is older than what was

@@ -41,7 +41,7 @@ impl Model for NodeState {
 
 impl NodeState {
     /// A node without segments, in an incarnation without changes, which keeps the last `kept` of those to come. N9 where
-    /// memory was refused.
+    /// memory ran out.
     pub fn new(alloc: Global, incarnation: u64, kept: usize) -> Result<NodeState, NodeFault>
         requires incarnation { 1 ≤ incarnation }
         requires some { 1 ≤ kept }
@@ -107,7 +107,7 @@ impl NodeState {
     }
 
     /// Loads a segment, and records it. N4 where the history refuses that: H1 where a segment of that identifier is held, then
-    /// H3 where 20,000 segments are, then H4 at a count of 2^64 - 1. Then N9 where memory was refused. A refused load leaves
+    /// H3 where 20,000 segments are, then H4 at a count of 2^64 - 1. Then N9 where memory runs out. A refused load leaves
     /// all as it was.
     pub fn load(&mut self, segment: Segment) -> Result<(), NodeFault>
         ensures ok { OnOk result (Takes self.old self.new segment) }
@@ -121,7 +121,7 @@ impl NodeState {
     }
 
     /// Drops the segment of that identifier, and records it. N4 where the history refuses that: H2 where no such segment is
-    /// held, then H4 at a count of 2^64 - 1. Then N9 where memory was refused. A refused drop leaves all as it was.
+    /// held, then H4 at a count of 2^64 - 1. Then N9 where memory runs out. A refused drop leaves all as it was.
     pub fn drop_segment(&mut self, id: &SegmentId) -> Result<(), NodeFault>
         ensures ok { OnOk result ((s : Segment) × (segment_named id.now self.old.held ≡ Some s) × Leaves self.old self.new s) }
         ensures err { IfErr result (RefusesToDrop self.old.history (segment_named id.now self.old.held)) }
@@ -157,7 +157,7 @@ impl NodeState {
     }
 
     /// What it answers to a broker that follows it: all that it serves, or the changes after the broker's mark, or why it has
-    /// not these. N9 where memory was refused for copies.
+    /// not these. N9 where memory runs out for copies.
     pub fn since(&self, ask: &Ask) -> Result<Reply, NodeFault>
         ensures ok { IfOk result (λ reply. (history : List Event) → StandsFor self.now.history history
             → answer self.now.history.incarnation history self.now.history.limit ask.now ≡ Some reply) }

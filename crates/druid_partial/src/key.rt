@@ -86,7 +86,6 @@ impl<'a> LentKey<'a> {
         LentKey { bucket, values }
     }
 
-    // Its bucket.
     pub(crate) fn bucket(&self) -> Instant
         ensures { result ≡ self.now.bucket }
     {

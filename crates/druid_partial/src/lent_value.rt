@@ -61,7 +61,6 @@ impl<'a> Ord for LentValue<'a> {
 }
 
 impl<'a> LentValue<'a> {
-    // This value.
     pub(crate) fn new(text: Option<&'a str>) -> LentValue<'a>
         ensures { result ≡ option_map (λ text. text.now) text.entry }
     {

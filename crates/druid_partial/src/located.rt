@@ -21,7 +21,6 @@ pub(crate) enum Source {
     Metric(usize),
 }
 
-// The place of a name.
 pub(crate) fn place_of(names: &[String], name: &str) -> Option<usize>
     ensures { result ≡ place_in (texts_of names.now) name.now }
 {

@@ -10,7 +10,7 @@ use druid_query::AggregatorKind;
 use std::alloc::Global;
 use std::cmp::Ordering;
 
-/// Two partials that were not merged, since memory was refused: as they were.
+/// Two partials that were not merged, since memory ran out: as they were.
 #[derive(Debug, Drop)]
 pub struct MergeRefused {
     /// The first.

@@ -70,7 +70,6 @@ impl Partial {
         &self.kinds
     }
 
-    // Its parts.
     pub(crate) fn into_parts(self) -> (Vec<AggregatorKind>, Vec<Group>)
         ensures kinds { result.0.items ≡ self.kinds }
         ensures groups { result.1.items ≡ self.groups }

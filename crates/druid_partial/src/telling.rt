@@ -48,7 +48,6 @@ impl<'a> Model for Plan<'a> {
     ghost invariant = { λ a. IsPlan a.query.now a.segment.now a.first a.places.items a.sources.items a.kinds.items a.test };
 }
 
-// The bucket of an instant.
 fn bucket_of(query: &Query, first: Instant, time: Instant) -> Instant
     requires { first ≡ earliest query.now.intervals }
     ensures { result ≡ bucket_of query.now time }

@@ -73,7 +73,7 @@ fn answer_in(
 }
 
 /// The answer of a node that a value is: P2 where it has another shape than `node_answer_text` writes, `read_partial` refuses
-/// its rows as P2, or a piece that it lists as missing was not asked for; P9 where memory is refused, which comes before P2
+/// its rows as P2, or a piece that it lists as missing was not asked for; P9 where memory runs out, which comes before P2
 /// only where it is for two rows of one key or for a piece that was not asked for.
 #[tactic(auto, using(crate::proofs::MissedLemmas::no_lists, crate::proofs::MissedLemmas::lists_answer, crate::proofs::MissedLemmas::not_both, crate::proofs::MissedLemmas::both_told))]
 pub fn answer_of(alloc: Global, sub: &SubQuery, value: &Value) -> Result<NodeAnswer, PartialFault>

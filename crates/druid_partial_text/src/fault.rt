@@ -9,7 +9,7 @@ pub enum PartialFault {
     /// P2: another shape than what the query asks for.
     #[error("P2: another shape")]
     Shape,
-    /// P9: memory was refused.
+    /// P9: out of memory.
     #[error("P9: out of memory")]
     Memory,
 }

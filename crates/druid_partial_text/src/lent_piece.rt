@@ -70,7 +70,6 @@ impl<'a> Ord for LentPiece<'a> {
 }
 
 impl<'a> LentPiece<'a> {
-    // That piece.
     pub(crate) fn of(asked: &'a Asked) -> LentPiece<'a>
         ensures { result ≡ asked.now }
     {

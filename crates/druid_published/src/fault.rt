@@ -14,7 +14,7 @@ pub enum PublishFault {
     /// B3: there is nothing to read: the publisher is gone, or what is shown is shorter than what the view has seen.
     #[error("B3: no reading")]
     NoReading,
-    /// B9: memory was refused.
+    /// B9: out of memory.
     #[error("B9: out of memory")]
     Memory,
 }

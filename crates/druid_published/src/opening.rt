@@ -72,7 +72,6 @@ fn place_of(writer: &mut WriterPlace) -> Result<ReaderPlace, AllocError>
     Ok(place)
 }
 
-// So many views, which have seen what the receipt is for.
 fn views_of<J: Publication>(
     alloc: Global,
     writer: &mut WriterPlace,

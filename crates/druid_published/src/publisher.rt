@@ -29,7 +29,7 @@ pub type WriterPlace = Writer<Shown, Shown, Known, OneOpening>;
 // As many as are counted.
 const MOST: u64 = 1 << 62;
 
-// Shows it to the views. Where memory is refused it is left pending, and the next one is shown in its stead.
+// Shows it to the views. Where memory runs out it is left pending, and the next one is shown in its stead.
 fn show<J: Publication, R: Wait>(rt: &R, writer: WriterPlace, shown: Shown) -> (WriterPlace, ())
     requires place { view writer.desk.place ≡ known J.book J.opening }
     requires book { shown.seen.book ≡ J.book }
@@ -136,7 +136,7 @@ impl<J: Publication, R: Wait + Drop> Publisher<J, R> {
 
     /// Publishes a reply of a node, in one step: it is what was published last, and the inventory what it makes of the
     /// one before. The receipt is for all that is published then. B1 where the reply is not applied, and B9 last, where
-    /// memory is refused, or as much is published as can be counted; then all stays as it was.
+    /// memory runs out, or as much is published as can be counted; then all stays as it was.
     ///
     /// It waits for those that still read what was shown before. Room for what is shown is made by `open`; should memory be
     /// refused after the step all the same, the reply is published, and shown with the next one.

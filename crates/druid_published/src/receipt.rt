@@ -33,7 +33,6 @@ impl<J: Publication> Model for Receipt<J> {
 }
 
 impl<J: Publication> Receipt<J> {
-    // That this was seen.
     pub(crate) fn of(count: u64, seen: &Seen<Pair, u64, Counted>) -> Receipt<J>
         requires counted { count ≡ length seen.now.log }
         requires book { seen.now.book ≡ J.book }

@@ -92,7 +92,6 @@ impl<J: Publication> Model for View<J> {
 }
 
 impl<J: Publication> View<J> {
-    // The view of a place, which has seen this.
     pub(crate) fn new(place: ReaderPlace, seen: Receipt<J>) -> View<J>
         requires { view place.place ≡ known J.book J.opening }
         ensures { result ≡ seen }

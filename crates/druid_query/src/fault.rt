@@ -21,7 +21,7 @@ pub enum QueryFault {
     /// Q6: two columns of the result have one name.
     #[error("Q6: a doubled name")]
     DoubledName,
-    /// Q9: memory was refused.
+    /// Q9: out of memory.
     #[error("Q9: out of memory")]
     Memory,
 }

@@ -60,7 +60,7 @@ impl Model for Query {
 }
 
 impl Query {
-    /// The query of these parts, which some JSON reads as.
+    /// A query of these parts. Requires that some JSON reads as it.
     pub fn new(
         alloc: Global,
         kind: QueryType,

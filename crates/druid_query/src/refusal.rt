@@ -26,7 +26,7 @@ fn field_text(alloc: Global, key: &str) -> Result<String, AllocError>
 }
 
 /// The JSON that a client gets for a refused query: `{"error":"Q1"}` and so on with the number, `{"error":"Q3","field":name}`
-/// where a field has another shape, and `{"error":"Memory"}` where memory was refused.
+/// where a field has another shape, and `{"error":"Memory"}` where memory runs out.
 pub fn refusal_text(alloc: Global, fault: QueryFault) -> Result<String, AllocError>
     ensures { IfOk result (λ text. string_bytes text ≡ refusal_text fault) }
 {

@@ -134,7 +134,6 @@ pub(crate) fn spelled(rt: &impl Abort, alloc: Global, text: &str) -> Vec<u8> {
     out
 }
 
-// The status line of a status.
 fn status_line(status: u16) -> &'static str {
     match status {
         200 => "HTTP/1.1 200 OK",

@@ -1,4 +1,4 @@
-//! Texts of values, whose types say nothing to a proof.
+//! Prints values by way of a type parameter, so that a proof does not open their `Display`.
 use std::alloc::Global;
 use std::fmt::Display;
 use std::process::Abort;

@@ -1,4 +1,4 @@
-//! The parts of a query, built out of JSON that was judged before: nothing is left to refuse but memory.
+//! The parts of a query, built out of JSON that was judged before: only memory can still run out.
 ghost use Rattle.std.specs.Prelude.{◌≡◌, Ok, Some, IsOk, IsSome, IfOk, option_map};
 ghost use Rattle.serde_json.specs.View.{view, items_view};
 ghost use Rattle.druid_filter.specs.Filters.{says};
@@ -46,7 +46,6 @@ pub(crate) fn interval_list(alloc: Global, values: &[Value]) -> Result<Vec<Inter
     Ok(all)
 }
 
-// The intervals.
 pub(crate) fn intervals_of(alloc: Global, value: &Value) -> Result<Vec<Interval>, AllocError>
     requires { IsOk (intervals_at (view value.now)) }
     ensures { IfOk result (λ all. intervals_at (view value.now) ≡ Ok all.items) }
@@ -133,7 +132,6 @@ fn aggregator_list(alloc: Global, values: &[Value]) -> Result<Vec<Aggregator>, A
     Ok(all)
 }
 
-// The aggregators.
 pub(crate) fn aggregations_of(alloc: Global, value: &Value) -> Result<Vec<Aggregator>, AllocError>
     requires { IsOk (aggregations_at (view value.now)) }
     ensures { IfOk result (λ all. aggregations_at (view value.now) ≡ Ok all.items) }

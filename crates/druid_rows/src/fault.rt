@@ -19,7 +19,7 @@ pub enum RowFault {
     /// U2: a row lies outside the interval of the segment.
     #[error("U2: a row outside the interval")]
     RowOutside,
-    /// U9: memory was refused.
+    /// U9: out of memory.
     #[error("U9: out of memory")]
     Memory,
 }

@@ -47,7 +47,6 @@ impl<'a, T: AsStr> LentRow<'a, T> {
         }
     }
 
-    // Its instant.
     pub(crate) fn time(&self) -> Instant
         ensures { result ≡ self.now.time }
     {

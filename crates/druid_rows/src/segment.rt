@@ -60,7 +60,7 @@ fn room_after_head(descriptor: &Descriptor, schema: &Schema) -> Option<usize>
     schema.room_after(MAX_TEXT - FIXED_HEAD - texts)
 }
 
-// The room that rows leave of this room. None where they are longer.
+// The bytes that are left after rows; None where there are too few.
 #[tactic(auto, using(crate::proofs::LengthLemmas::sum_rows, std::proofs::lemmas::List::Sums::sum_by_more_le, std::proofs::lemmas::Grind::common_steps))]
 fn room_after_rows(rows: &[Row], mut room: usize) -> Option<usize>
     ensures value { SomeIff result (sum (map row_length rows.now) ≤ room) (room - sum (map row_length rows.now)) }

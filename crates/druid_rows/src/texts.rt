@@ -92,7 +92,6 @@ fn append_values<T: AsStr>(
 }
 
 impl Texts {
-    // No texts.
     pub(crate) fn new(alloc: Global) -> Texts
         ensures { result ≡ [] }
     {

@@ -7,7 +7,7 @@ use thiserror::Error;
 /// Why a query was not planned, or not gathered.
 #[derive(Clone, Copy, Debug, PartialEq, Eq, Drop, Error)]
 pub enum GatherFault {
-    /// G9: memory was refused.
+    /// G9: out of memory.
     #[error("G9: out of memory")]
     Memory,
 }

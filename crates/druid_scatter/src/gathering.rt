@@ -173,7 +173,6 @@ impl Gathering {
         self.settled(alloc, query, round, &subs, &came)
     }
 
-    // What was gathered.
     pub(crate) fn into_answer(self, alloc: Global) -> Result<Answer, GatherFault>
         ensures missing { IfOk result (λ answer. answer.missing ≡ pieces_of self.waiting) }
         ensures partial { IfOk result (λ answer. answer.partial ≡ self.partial) }

@@ -69,7 +69,6 @@ impl Model for Plan {
 }
 
 impl Plan {
-    // The plan of these pairs.
     pub(crate) fn new(pairs: Vec<Pair>) -> Plan
         requires { IsStrictlySortedBy place_cmp (asked_of pairs.items) }
         ensures { result ≡ pairs.items }

@@ -51,7 +51,6 @@ fn add_pairs(
     Ok(())
 }
 
-// The pairs of the pieces of a timeline.
 fn pairs_of(
     alloc: Global,
     timeline: &Timeline,

@@ -19,7 +19,6 @@ use std::thread::Threads;
 // What the nodes answered, place by place.
 pub(crate) type Came = Vec<Option<Result<Vec<u8>, WireFault>>>;
 
-// What the round asks the node for.
 fn wanted(
     alloc: Global,
     waiting: &[Waiting],

@@ -187,7 +187,6 @@ pub(crate) fn keep_missing(
     Ok(kept(alloc, waiting, round, node, &places)?)
 }
 
-// The pieces that wait.
 pub(crate) fn into_pieces(alloc: Global, waiting: Vec<Waiting>) -> Result<Vec<Asked>, AllocError>
     ensures { IfOk result (λ pieces. pieces.items ≡ pieces_of waiting.items) }
 {

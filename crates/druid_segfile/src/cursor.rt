@@ -46,7 +46,6 @@ fn utf8(bytes: &[u8]) -> Result<&str, FileFault>
 }
 
 impl<'a> Cursor<'a> {
-    // All of these bytes.
     pub(crate) fn new(bytes: &'a [u8], short: FileFault) -> Cursor<'a>
         ensures { result ≡ record { rest = bytes.now; short = short } }
     {

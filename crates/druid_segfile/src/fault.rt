@@ -31,7 +31,7 @@ pub enum FileFault {
     /// F8: the writer failed.
     #[error("F8: a write failed")]
     Write,
-    /// F9: memory was refused.
+    /// F9: out of memory.
     #[error("F9: out of memory")]
     Memory,
 }

@@ -22,7 +22,7 @@ use std::io::{Error, ErrorKind, Read};
 // How many bytes are read at once.
 const PART: usize = 16_384;
 
-// The fault of a failed read: `Memory` where it failed for lack of memory, and `Read` where it failed for anything else.
+// The fault of a failed read: `Memory` where it ran out of memory, and `Read` where it failed for anything else.
 fn read_fault(error: &Error) -> FileFault
     ensures memory { (result ≡ FileFault.Memory) ↔ (error_kind error.now ≡ ErrorKind.OutOfMemory) }
     ensures fault { (result ≡ FileFault.Read) ⊎ (result ≡ FileFault.Memory) }
@@ -173,7 +173,7 @@ fn short_of(bytes: &[u8]) -> FileFault
     }
 }
 
-/// The segment that the bytes spell, all of them. They are judged before memory is asked for: the faults are those of
+/// The segment that the bytes spell, all of them. They are judged before anything is allocated: the faults are those of
 /// `read_segment`, but `Read` and `Write`, and `Memory` only where the bytes spell a segment.
 pub fn segment_of(alloc: Global, bytes: &[u8]) -> Result<Segment, FileFault>
     ensures found { IfOk result (λ segment. bytes.now ≡ spelling segment) }
@@ -197,13 +197,13 @@ pub fn segment_of(alloc: Global, bytes: &[u8]) -> Result<Segment, FileFault>
 /// The fault is the first one from the left: `Magic` where the first four bytes are not `DSG1`, `Cut` where the input
 /// ends inside a part, `Field` where a part breaks a rule, `RowOutside` where a row's instant lies outside the
 /// interval, `TooLong` where a count or a length passes its limit or more than 16,777,216 bytes are needed, and
-/// `Trailing` where a byte follows the last row. `Read` where the reader fails, and `Memory` where memory is refused:
+/// `Trailing` where a byte follows the last row. `Read` where the reader fails, and `Memory` where memory runs out:
 /// for the bytes as they come, before they are judged, and for the segment, once they are found to spell one.
 pub fn read_segment<R: Read>(alloc: Global, reader: &mut R) -> Result<Segment, FileFault>
     // What is read is spelled so, each byte of it, and the input ends there.
     ensures found { IfOk result (λ segment. IfSome (R.remaining reader.old) (λ bytes. bytes ≡ spelling segment)) }
     ensures valid { IfOk result IsSegment }
-    // What is spelled so is read, unless the reader fails or memory is refused.
+    // What is spelled so is read, unless the reader fails or memory runs out.
     ensures only { (s : Segment) → IsSegment s → Fits s → R.remaining reader.old ≡ Some (spelling s) → GivesOfReader result (Ok s) }
     ensures taken { TakesAtMost (max_text + 1) (R.remaining reader.old) (R.remaining reader.new) }
     // Which fault it is.

@@ -161,7 +161,7 @@ impl<'a> Cursor<'a> {
     }
 }
 
-// What is reported of a fault of values that were judged: memory was refused.
+// What is reported of a fault of values that were judged: memory ran out.
 pub(crate) fn want_of_memory(fault: RowFault) -> AllocError
     requires { fault ≡ RowFault.Memory }
 {

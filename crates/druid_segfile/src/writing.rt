@@ -16,7 +16,7 @@ use std::io::{Error, ErrorKind, Write};
 // So many bytes are gathered before they are written out.
 const GATHERED: usize = 65_536;
 
-// The fault of a failed write: `Memory` where it failed for lack of memory, and `Write` where it failed for anything else.
+// The fault of a failed write: `Memory` where it ran out of memory, and `Write` where it failed for anything else.
 fn write_fault(error: &Error) -> FileFault
     ensures memory { (result ≡ FileFault.Memory) ↔ (error_kind error.now ≡ ErrorKind.OutOfMemory) }
     ensures fault { (result ≡ FileFault.Write) ⊎ (result ≡ FileFault.Memory) }
@@ -54,7 +54,7 @@ fn write_gathered<W: Write>(writer: &mut W, gathered: &mut Vec<u8>) -> Result<()
     Ok(())
 }
 
-/// Writes the spelling of a segment. `Write` where the writer fails and `Memory` where memory is refused, also to the
+/// Writes the spelling of a segment. `Write` where the writer fails and `Memory` where memory runs out, also to the
 /// writer: then it has got some front of the spelling, and not the whole. An interrupted write is retried, 1,000 times in a row at
 /// most. Nothing is flushed.
 pub fn write_segment<W: Write>(

@@ -25,7 +25,7 @@ pub enum IdFault {
     /// I6: no partition number.
     #[error("I6: not a partition number")]
     BadPartition,
-    /// I9: memory ran out.
+    /// I9: out of memory.
     #[error("I9: out of memory")]
     Memory,
 }

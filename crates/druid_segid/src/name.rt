@@ -58,7 +58,7 @@ impl Name {
         1 <= bytes.len() && bytes.len() <= MAX_NAME && are_name_bytes(bytes)
     }
 
-    /// The name of that text. I1 where the text is no name, I9 where memory ran out.
+    /// The name of that text. I1 where the text is no name, I9 where memory runs out.
     pub fn new(alloc: Global, text: &str) -> Result<Name, IdFault>
         ensures value { IfOk result (λ name. name ≡ text.now) }
         ensures names { OnOk result (IsName text.now) }

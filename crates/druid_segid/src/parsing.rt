@@ -125,7 +125,7 @@ impl SegmentId {
     ///
     /// I3 where the text does not begin with the source and `_`, then I4 where what follows has not the
     /// parts of an identifier, I5 where it has no interval in the printed form, I2 where it has no version and
-    /// I6 where it has no partition; I9 where memory ran out.
+    /// I6 where it has no partition; I9 where memory runs out.
     #[tactic(auto, unfolding(crate::specs::Parsed::identifier_at))]
     pub fn parse(alloc: Global, source: &Name, text: &str) -> Result<SegmentId, IdFault>
         ensures value { Gives result (identifier_at source.now text.now) }

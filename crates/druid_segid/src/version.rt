@@ -57,7 +57,7 @@ impl Version {
         1 <= bytes.len() && bytes.len() <= MAX_VERSION && are_version_bytes(bytes)
     }
 
-    /// The version of that text. I2 where the text is no version, I9 where memory ran out.
+    /// The version of that text. I2 where the text is no version, I9 where memory runs out.
     pub fn new(alloc: Global, text: &str) -> Result<Version, IdFault>
         ensures value { IfOk result (λ version. version ≡ text.now) }
         ensures versions { OnOk result (IsVersion text.now) }
@@ -72,7 +72,6 @@ impl Version {
         Ok(Version::copied(alloc, text)?)
     }
 
-    // The version of a text that is one.
     pub(crate) fn copied(alloc: Global, text: &str) -> Result<Version, AllocError>
         requires { IsVersion text.now }
         ensures { IfOk result (λ version. version ≡ text.now) }

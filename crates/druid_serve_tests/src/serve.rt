@@ -203,7 +203,6 @@ fn run_with<R: Host + Net<Listener = TcpListener, Stream = TcpStream>>(
     format!(in alloc; "{status}\n{printed}{reported}").expect(rt, "memory")
 }
 
-// So many spaces.
 fn spaces(rt: &impl Abort, alloc: Global, digits: &str) -> Vec<u8> {
     let count: usize = digits.parse().expect(rt, "a number");
     let mut bytes = Vec::new(alloc);

@@ -102,7 +102,6 @@ fn source_field(value: &Value) -> Option<&str>
     }
 }
 
-// The version.
 fn version_field(value: &Value) -> Option<&str>
     ensures { option_map (λ s. s.now) result ≡ version_at (view value.now) }
 {

@@ -12,7 +12,7 @@ pub enum ShardFault {
     /// S3: the field of this key is absent, or is not what it has to be.
     #[error("S3: a bad field: {0}")]
     BadField(&'static str),
-    /// S9: memory was refused.
+    /// S9: out of memory.
     #[error("S9: out of memory")]
     Memory,
 }

@@ -29,7 +29,7 @@ pub fn find_segment(segments: &[Descriptor], id: &SegmentId) -> Result<usize, us
     Err(low)
 }
 
-/// Makes a strict change of a set, in place. Where memory is refused, the set stays.
+/// Makes a strict change of a set, in place. Where memory runs out, the set stays.
 pub fn apply_change(segments: &mut Vec<Descriptor>, change: &Change) -> Result<(), AllocError>
     requires sorted { AreSorted segments.old.items }
     requires strict { IsTrue (is_strict segments.old.items change.now) }

@@ -18,7 +18,7 @@ pub enum SyncFault {
     /// Y4: an identifier stands twice in a snapshot.
     #[error("Y4: a doubled segment")]
     DoubledSegment,
-    /// Y9: memory was refused.
+    /// Y9: out of memory.
     #[error("Y9: out of memory")]
     Memory,
 }

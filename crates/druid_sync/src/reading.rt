@@ -259,7 +259,7 @@ fn follow(alloc: Global, five: &Lent) -> Result<Reply, SyncFault>
 
 /// Reads a reply: Y2 where the value has none of the three forms, then Y5 where a snapshot has more than 20,000 segments or
 /// a delta more than 1,000 changes, then Y3 where the marks of a delta are not as far apart as it has changes, then Y9
-/// where memory is refused, and Y4 where an identifier stands twice in a snapshot. The segments of a snapshot may stand in
+/// where memory runs out, and Y4 where an identifier stands twice in a snapshot. The segments of a snapshot may stand in
 /// any order, and other keys are passed over.
 #[tactic(auto, unfolding(crate::specs::Read::form_at))]
 pub fn reply_of(alloc: Global, value: &Value) -> Result<Reply, SyncFault>

@@ -19,7 +19,7 @@ use std::alloc::Global;
 use std::io::{BufRead, Error, ErrorKind};
 use std::str;
 
-// The fault of a failed read: `Memory` where it failed for lack of memory, and `Read` where it failed for anything else.
+// The fault of a failed read: `Memory` where it ran out of memory, and `Read` where it failed for anything else.
 fn read_fault(error: &Error) -> WireFault
     ensures memory { (result ≡ WireFault.Memory) ↔ (error_kind error.now ≡ ErrorKind.OutOfMemory) }
     ensures fault { (result ≡ WireFault.Read) ⊎ (result ≡ WireFault.Memory) }
@@ -59,7 +59,7 @@ fn take_body<R: BufRead>(reader: &mut R, body: &mut Vec<u8>, length: usize) -> R
     }
 }
 
-// The request of a head that was read, and a body. Nothing but memory can be lacking.
+// The request of a head that was read, and a body. Only memory can run out.
 fn request_of(
     alloc: Global,
     head: &[u8],
@@ -88,7 +88,7 @@ fn request_of(
 /// is refused, no more than the head may have and two bytes. Where it has several faults, any of them is reported: `Cut` where
 /// the input ends in it, `HeadTooLong` where its head passes a limit,
 /// `BadHead` where the head is none or names its length twice or badly, `NoLength` where its body is coded or a `POST` names
-/// no length, `BodyTooLong` where the length passes the limit. `Read` where the reader fails, `Memory` where memory is refused.
+/// no length, `BodyTooLong` where the length passes the limit. `Read` where the reader fails, `Memory` where memory runs out.
 pub fn read_request<R: BufRead>(alloc: Global, reader: &mut R) -> Result<Request, WireFault>
     ensures ok { IfOk result (λ request. IfSome (R.remaining reader.old)
         (λ input. (rest : List ℕ) × (R.remaining reader.new ≡ Some rest) × IsRequest input request rest)) }

@@ -36,7 +36,7 @@ fn write_pieces<W: Write>(writer: &mut W, pieces: &[&[u8]]) -> io::Result<()>
     Ok(())
 }
 
-// The fault of a failed write: `Memory` where it failed for lack of memory, and `Write` where it failed for anything else.
+// The fault of a failed write: `Memory` where it ran out of memory, and `Write` where it failed for anything else.
 fn write_fault(error: &Error) -> WireFault
     ensures memory { (result ≡ WireFault.Memory) ↔ (error_kind error.now ≡ ErrorKind.OutOfMemory) }
     ensures fault { (result ≡ WireFault.Write) ⊎ (result ≡ WireFault.Memory) }
@@ -134,7 +134,7 @@ pub fn request_bytes(alloc: Global, request: &Request) -> Result<Vec<u8>, AllocE
 }
 
 /// Writes a request, and does not allocate. `BodyTooLong`, and nothing is written, where its body passes the limit. `Write`
-/// where the writer fails, and `Memory` where it fails for lack of memory: then it has got some front of the request, and
+/// where the writer fails, and `Memory` where memory runs out: then it has got some front of the request, and
 /// not the whole. Nothing is flushed.
 pub fn write_request<W: Write>(request: &Request, writer: &mut W) -> Result<(), WireFault>
     ensures ok { OnOk result (Appends (W.contents writer.old) (W.contents writer.new) (request_text request.now)) }
@@ -163,7 +163,7 @@ fn write_whole<W: Write>(status: StatusCode, body: &[u8], writer: &mut W) -> Res
 }
 
 /// Writes a response, and does not allocate. In place of one whose body passes the limit, status 500 and
-/// `{"error":"TooLarge"}` are written. `Write` where the writer fails, and `Memory` where it fails for lack of memory: then
+/// `{"error":"TooLarge"}` are written. `Write` where the writer fails, and `Memory` where memory runs out: then
 /// it has got some front of the text, and not the whole. Nothing is flushed.
 pub fn write_response<W: Write>(
     status: StatusCode,

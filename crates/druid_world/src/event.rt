@@ -103,7 +103,7 @@ pub enum SimFault {
     /// with the node.
     #[error("E4: refused")]
     Refused,
-    /// E9: memory was refused.
+    /// E9: out of memory.
     #[error("E9: out of memory")]
     Memory,
 }

@@ -41,7 +41,6 @@ impl Model for Sim {
     ghost invariant = { λ a. IsReached (record { world = a.nodes.items; packets = a.packets.items; brokers = a.brokers.items }) };
 }
 
-// The name of a node.
 fn node_name(alloc: Global, node: usize) -> Result<Name, SimFault>
     requires { node < max_nodes }
     ensures ok { IfOk result (λ name. name ≡ node_name node) }
@@ -55,7 +54,6 @@ fn node_name(alloc: Global, node: usize) -> Result<Name, SimFault>
     }
 }
 
-// The names of that many nodes.
 fn node_names(alloc: Global, nodes: usize) -> Result<Vec<Name>, SimFault>
     requires { nodes ≤ max_nodes }
     ensures ok { IfOk result (λ names. names.items ≡ node_names nodes) }
@@ -116,7 +114,6 @@ fn fresh_inventories(
     Ok(made)
 }
 
-// What an inventory has of a node, as a reply.
 fn entry_of(inventory: &Inventory, node: NodeNo) -> Result<Reply, SimFault>
     requires { node < length inventory.now }
     ensures ok { IfOk result (IsEntryOf inventory.now node) }
@@ -149,7 +146,7 @@ fn applied(
 
 impl Sim {
     /// Nodes `n0`, `n1` and so on in their first incarnation, which keep the last `kept` of their changes, and brokers
-    /// that were never synced. E9 where memory was refused.
+    /// that were never synced. E9 where memory runs out.
     pub fn new(alloc: Global, nodes: usize, brokers: usize, kept: usize) -> Result<Sim, SimFault>
         requires some_nodes { 1 ≤ nodes }
         requires few_nodes { nodes ≤ max_nodes }
@@ -207,7 +204,6 @@ impl Sim {
         }
     }
 
-    // A node.
     fn node(&self, node: NodeNo) -> Option<&Node>
         ensures value { option_map (λ at. at.now) result ≡ slice_get self.now.world node }
         ensures reached { IsReached self.now }
@@ -215,7 +211,6 @@ impl Sim {
         self.nodes.get(node as usize)
     }
 
-    // A packet.
     fn packet(&self, packet: usize) -> Option<&Packet>
         ensures value { option_map (λ sent. sent.now) result ≡ slice_get self.now.packets packet }
         ensures reached { IsReached self.now }
