@@ -104,7 +104,7 @@ fold_nodes opening published =
 pub there_in_fold : (opening inventory : List Entry) (published : Published) (node : ℕ) → inventory ≡ fold_of opening published → node < length opening → node < length inventory
 there_in_fold opening inventory published node folds there = let same = ap length folds ∙ fold_nodes opening published in omega (arith, same, there)
 
--- behind what was published
+-- after what was published
 pub behind : (opening : List Entry) (node : ℕ) (reply : Body) (old new : PublisherValue) (r : Result (Outcome × Published) TurnFault) → old.inventory ≡ fold_of opening old.published
     → IfOk r (λ x. Publishes old node reply x.0 new) → IfOk r (λ x. x.1 ≡ new.published)
     → IfOk r (λ x. (before : Published) × (entry : Entry) × StepsAt (fold_of opening before) node reply x.0 entry × (x.1 ≡ before ++ (node, reply) ∷ []))

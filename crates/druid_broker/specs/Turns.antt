@@ -110,7 +110,7 @@ FailsTurn Fetched inventory node fault = Fetched (Err fault)
 
 -- ---- a turn of one of the threads that share a publisher
 
--- a view read a list, by which a reply was fetched; the reply was published behind a list that another thread may have made longer;
+-- a view read a list, by which a reply was fetched; the reply was published after a list that another thread may have made longer;
 -- and then the view has seen both lists
 pub record TakesSharedTurn {L : Type 0} (step : L → List ℕ → Came → L → Type 0) (opening : List Entry) (node : ℕ) (old new : Published) (link after : L) (outcome : Outcome) : Type 0 where
   pub read : Published

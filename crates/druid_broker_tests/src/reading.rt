@@ -47,7 +47,7 @@ fn published<R: Wait + Abort + Drop, J: Publication>(
     receipt
 }
 
-// Whether a view reads back each mark that is published and told to it: every other one from the first on.
+// Whether a view reads back each mark that is published and whose receipt it learns: every other one from the first on.
 fn reads_back<R: Wait + Abort + Drop, J: Publication>(
     rt: &R,
     alloc: Global,
@@ -67,7 +67,7 @@ fn reads_back<R: Wait + Abort + Drop, J: Publication>(
     true
 }
 
-// Whether two views that are told nothing follow two others that publish, each in a thread of its own.
+// Whether two views that learn no receipt follow two others that publish, each in a thread of its own.
 fn read_in_threads<
     R: Wait + Abort + Drop + Copy + Threads + Send + Sync + 'static,
     J: Publication + Send + Sync + 'static,

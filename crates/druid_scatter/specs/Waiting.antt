@@ -69,7 +69,7 @@ ReadingLacksMemory sub bytes = (body rest : List ℕ) × IsResponse bytes 200 bo
 abbrev pub LacksMemory : SubQuery → Came → Type 0
 LacksMemory sub came = (came ≡ Err wire.Memory) ⊎ ((bytes : List ℕ) × (came ≡ Ok bytes) × ReadingLacksMemory sub bytes)
 
--- what came may want memory: the link lacked it, or a response of status 200 came
+-- memory may have run out: the link lacked it, or a response of status 200 came
 abbrev pub MayLackMemory : Came → Type 0
 MayLackMemory came = (came ≡ Err wire.Memory) ⊎ ((bytes body rest : List ℕ) × (came ≡ Ok bytes) × IsResponse bytes 200 body rest)
 
