@@ -135,6 +135,55 @@ fn read_of<R: Wait + Abort + Drop + Copy>(rt: &R, alloc: Global) -> String {
     both_read::<R, Brand>(rt, alloc, opened, inventory)
 }
 
+// Whether each of so many views of a new publisher reads a snapshot that was published, and then as many deltas.
+fn all_read<R: Wait + Abort + Drop + Copy, J: Publication>(
+    rt: &R,
+    alloc: Global,
+    opened: Opened,
+    inventory: Inventory,
+    places: u16,
+) -> bool
+    requires book { opened ≡ J.book }
+    requires opening { inventory ≡ J.opening }
+    requires some { 1 ≤ places }
+    requires few { places ≤ 80 }
+{
+    let (publisher, mut views) = open::<J, R>(alloc, *rt, opened, inventory, places).expect(
+        rt, "memory",
+    );
+    let mut publisher = publisher;
+    for text in [SNAPSHOT, DELTA] {
+        let reply = reply(rt, alloc, &publisher, text);
+        publisher.publish(0, &reply).expect(rt, "a receipt");
+        for view in &mut views {
+            let told = read(rt, alloc, view);
+            if told.as_str() != wanted(text) {
+                return false;
+            }
+        }
+    }
+    true
+}
+
+// What is read after a reply.
+fn wanted(text: &str) -> &'static str {
+    if text == SNAPSHOT { "1 3: 1" } else { "1 4: 0" }
+}
+
+// The same of a number of views from 1 to 80.
+fn are_read<R: Wait + Abort + Drop + Copy>(rt: &R, alloc: Global, places: u16) -> bool {
+    let opened = Opened::new();
+    let inventory = one_node(rt, alloc);
+    all_read::<R, Brand>(rt, alloc, opened, inventory, places.clamp(1, 80))
+}
+
+#[test]
+fn sizes_of_publications(rt: HostRuntime) {
+    for places in [1_u16, 2, 3, 5, 17, 65, 80] {
+        assert!(rt; are_read(&rt, rt.alloc(), places), "{places} views");
+    }
+}
+
 #[test]
 fn ample_memory(rt: HostRuntime) {
     let read = read_of(&rt, rt.alloc());
