@@ -1,0 +1,192 @@
+ghost use Rattle.std.specs.Prelude.{◌≡◌, ◌↔◌, ℕ, [], map, Contains, IsTrue, IfOk, OnOk, OnErr, MatchOption};
+ghost use Rattle.std.specs.List.{IsDistinct};
+ghost use Rattle.std.specs.List.Sorted.{IsStrictlyIncreasing};
+ghost use Rattle.druid_segid.specs.Group.{Group, group_of, same_group};
+ghost use Rattle.druid_members.specs.Members.{member_of, HoldsPlace, IsComplete, Adds, RemovesPlace, RemovesOne, SameMembers};
+ghost use Rattle.druid_chunks.specs.Chunks.{AreChunks, members_at, HasNoChunk, IsOverlapOf};
+
+use crate::Chunk;
+use druid_segid::{GroupKey, SegmentId, Version};
+use druid_shard::{Descriptor, NodeNo};
+use druid_time::Interval;
+use std::alloc::{AllocError, Global};
+use std::marker::Model;
+
+/// The chunks of one data source of which something is held, each with its members. Chunks are found by interval
+/// without a walk over all of them.
+///
+/// A contract sees the list of the chunks.
+#[derive(Debug, Drop)]
+pub struct Chunks {
+    alloc: Global,
+    items: Vec<Chunk>,
+}
+
+impl Model for Chunks {
+    ghost use Rattle.std.specs.Prelude.{List};
+    ghost use Rattle.druid_chunks.specs.Chunks.{Chunk, AreChunks};
+
+    ghost Value = { List Chunk };
+
+    ghost view = { λ a. a.items.items };
+
+    ghost invariant = { λ a. AreChunks a.items.items };
+}
+
+// Whether a chunk is that of this interval and this version.
+fn is_chunk_of(chunk: &Chunk, interval: Interval, version: &Version) -> bool
+    ensures { IsTrue result ↔ (chunk.now.0 ≡ record { interval = interval; version = version.now }) }
+{
+    let key = chunk.key();
+    key.interval() == interval && key.version() == version
+}
+
+// The chunk of this interval and this version.
+fn find_in<'a>(items: &'a [Chunk], interval: Interval, version: &Version) -> Option<&'a Chunk>
+    ensures { MatchOption result
+        (HasNoChunk items.now (record { interval = interval; version = version.now }))
+        (λ chunk. Contains items.now chunk.now × (chunk.now.0 ≡ record { interval = interval; version = version.now })) }
+{
+    for chunk in items {
+        if is_chunk_of(chunk, interval, version) {
+            return Some(chunk);
+        }
+    }
+    None
+}
+
+impl Chunks {
+    /// No chunks.
+    pub fn new(alloc: Global) -> Chunks
+        ensures { result ≡ [] }
+    {
+        Chunks {
+            alloc,
+            items: Vec::new(alloc),
+        }
+    }
+
+    /// The chunks.
+    pub fn as_slice(&self) -> &[Chunk]
+        ensures value { result.now ≡ self.now }
+        ensures chunks { AreChunks self.now }
+    {
+        &self.items
+    }
+
+    /// Whether there is no chunk.
+    pub fn is_empty(&self) -> bool
+        ensures { IsTrue result ↔ (self.now ≡ []) }
+    {
+        self.items.is_empty()
+    }
+
+    /// The chunk of a group, if there is one.
+    pub fn find(&self, key: &GroupKey) -> Option<&Chunk>
+        ensures found { MatchOption result (HasNoChunk self.now key.now)
+            (λ chunk. Contains self.now chunk.now × (chunk.now.0 ≡ key.now)) }
+        ensures chunks { AreChunks self.now }
+    {
+        find_in(self.as_slice(), key.interval(), key.version())
+    }
+
+    // The chunk of a segment, if there is one.
+    fn chunk_of(&self, id: &SegmentId) -> Option<&Chunk>
+        ensures found { MatchOption result (members_at self.now (group_of id.now) ≡ [])
+            (λ chunk. chunk.now.1 ≡ members_at self.now (group_of id.now)) }
+        ensures chunks { AreChunks self.now }
+    {
+        find_in(self.as_slice(), id.interval(), id.version())
+    }
+
+    /// Whether a node serves a segment. It does not allocate.
+    pub fn holds(&self, id: &SegmentId, node: NodeNo) -> bool
+        ensures held { IsTrue result ↔ HoldsPlace (members_at self.now (group_of id.now)) id.now.partition node }
+        ensures chunks { AreChunks self.now }
+    {
+        self.replicas(id).contains(&node)
+    }
+
+    /// Whether the chunk of a segment is there and complete. It does not allocate.
+    pub fn is_complete(&self, id: &SegmentId) -> bool
+        ensures complete { IsTrue result ↔ IsComplete (members_at self.now (group_of id.now)) }
+        ensures chunks { AreChunks self.now }
+    {
+        match self.chunk_of(id) {
+            Some(chunk) => chunk.members().is_complete(),
+            None => false,
+        }
+    }
+
+    /// The nodes that serve a segment, rising. It does not allocate.
+    pub fn replicas(&self, id: &SegmentId) -> &[NodeNo]
+        ensures rising { IsStrictlyIncreasing result.now }
+        ensures nodes { (n : ℕ) → Contains result.now n
+            ↔ HoldsPlace (members_at self.now (group_of id.now)) id.now.partition n }
+        ensures chunks { AreChunks self.now }
+    {
+        match self.chunk_of(id) {
+            Some(chunk) => chunk.members().replicas(id.partition()),
+            None => &[],
+        }
+    }
+
+    /// The complete chunks other than that of a segment which share an instant with it, each once.
+    pub fn overlapping(&self, id: &SegmentId) -> Result<Vec<&GroupKey>, AllocError>
+        ensures all { IfOk result (λ found. (g : Group) → Contains (map (λ key. key.now) found.items) g
+            ↔ IsOverlapOf self.now (group_of id.now) g) }
+        ensures once { IfOk result (λ found. IsDistinct same_group (map (λ key. key.now) found.items)) }
+        ensures chunks { AreChunks self.now }
+    {
+        let _ = id;
+        let _ = self.items.len();
+        Err(AllocError)
+    }
+
+    /// Adds a segment, served by a node that does not serve it yet. A refusal changes nothing.
+    pub fn add(&mut self, descriptor: &Descriptor, node: NodeNo) -> Result<(), AllocError>
+        requires { HoldsPlace (members_at self.old (group_of descriptor.now.id)) descriptor.now.id.partition node → ⊥ }
+        ensures added { OnOk result (Adds (members_at self.old (group_of descriptor.now.id))
+            (members_at self.new (group_of descriptor.now.id)) (member_of node descriptor.now)) }
+        ensures err { OnErr result (SameMembers (members_at self.old (group_of descriptor.now.id))
+            (members_at self.new (group_of descriptor.now.id))) }
+        ensures others { (q : Group) → (q ≡ group_of descriptor.now.id → ⊥)
+            → members_at self.new q ≡ members_at self.old q }
+        ensures was { AreChunks self.old }
+        ensures chunks { AreChunks self.new }
+    {
+        let _ = (descriptor, node);
+        let _ = self.items.len();
+        Err(AllocError)
+    }
+
+    /// Takes a segment from what a node serves that serves it. A chunk that would be left without members goes, and then
+    /// nothing is allocated. A refusal changes nothing.
+    pub fn remove(&mut self, id: &SegmentId, node: NodeNo) -> Result<(), AllocError>
+        requires { HoldsPlace (members_at self.old (group_of id.now)) id.now.partition node }
+        ensures removed { OnOk result (RemovesPlace (members_at self.old (group_of id.now))
+            (members_at self.new (group_of id.now)) id.now.partition node) }
+        ensures one { OnOk result (RemovesOne (members_at self.old (group_of id.now))
+            (members_at self.new (group_of id.now)) id.now.partition node) }
+        ensures err { OnErr result (SameMembers (members_at self.old (group_of id.now))
+            (members_at self.new (group_of id.now))) }
+        ensures others { (q : Group) → (q ≡ group_of id.now → ⊥) → members_at self.new q ≡ members_at self.old q }
+        ensures was { AreChunks self.old }
+        ensures chunks { AreChunks self.new }
+    {
+        let _ = (id, node);
+        let _ = self.items.len();
+        Err(AllocError)
+    }
+}
+
+impl Clone for Chunks {
+    ghost is_clone = { λ chunks copy. copy ≡ chunks };
+
+    fn clone(&self) -> Result<Chunks, AllocError> {
+        Ok(Chunks {
+            alloc: self.alloc,
+            items: self.items.clone()?,
+        })
+    }
+}
