@@ -2,7 +2,7 @@
 use Rattle.std.proofs.Common.{◌≡◌, ◌⊎◌, ◌↔◌, ◌&&◌, ℕ, Bool, true, false, List, [], ◌∷◌, Option, Some, None, refl, sym, ap, ◌∙◌, subst, inl, inr, arith, cond}
 use Rattle.std.specs.Bool.{IsTrue}
 use Rattle.std.specs.Cmp.{IsEquivalence}
-use Rattle.std.specs.List.{Contains, IsDistinct, AllByRecursion}
+use Rattle.std.specs.List.{Contains, IsDistinct, AllByRecursion, list_any}
 use Rattle.std.specs.Map.{keys_of}
 use Rattle.std.specs.Option.{MatchOption}
 use Rattle.std.specs.Str.{bytes_eq}
@@ -117,3 +117,26 @@ one_chunk chunks once g ms ns here there = sym (members_at-found chunks once g m
 pub members_at-of : (chunks : List Chunk) → AreChunks chunks → (g : Group) (c : Chunk) → Contains chunks c → c.0 ≡ g → c.1 ≡ members_at chunks g
 members_at-of chunks are g c there e =
     sym (members_at-found chunks are.once g c.1 (subst (λ (k : Group). Contains chunks (k, c.1)) e there))
+
+pub AreChunks-nil : AreChunks []
+unfolding IsDistinct
+AreChunks-nil = record { once = tt; inhabited = λ k d l. absurd (omega arith) }
+
+-- a test of the nodes that are borrowed
+pub any-Contains : (ns : List ℕ) (n : ℕ) → IsTrue (list_any (λ y. eqb y n) ns) ↔ Contains ns n
+any-Contains [] n = (λ e. absurd (false≢true e), λ there. absurd (Contains-nil n there))
+any-Contains (x ∷ ns) n = by_test (eqb x n) refl (any-Contains ns n) where
+  by_test : (b : Bool) → eqb x n ≡ b → IsTrue (list_any (λ y. eqb y n) ns) ↔ Contains ns n → IsTrue (list_any (λ y. eqb y n) (x ∷ ns)) ↔ Contains (x ∷ ns) n
+  by_test true e rest = (λ _. (0, omega arith, eqb-true x n e), λ _. rw e refl)
+  by_test false e rest = (
+    λ t. Contains-later x ns n (rest.0 (rw e at t)),
+    λ there. elim (Contains-cons x ns n there) [
+      | inl here ↦ absurd (false≢true (sym e ∙ eq-eqb x n here))
+      | inr later ↦ rw e (rest.1 later)
+    ],
+  )
+
+-- what is told of an option by another way
+pub of_option : {X : Type 0} (o : Option X) (N M : Type 0) (P Q : X → Type 0) → (N → M) → ((x : X) → P x → Q x) → MatchOption o N P → MatchOption o M Q
+of_option None N M P Q f g h = f h
+of_option (Some x) N M P Q f g h = g x h

@@ -155,7 +155,8 @@ impl Chunks {
         ensures was { AreChunks self.old }
         ensures chunks { AreChunks self.new }
     {
-        let _ = (descriptor, node);
+        let _ = descriptor;
+        let _ = node;
         let _ = self.items.len();
         Err(AllocError)
     }
@@ -174,7 +175,8 @@ impl Chunks {
         ensures was { AreChunks self.old }
         ensures chunks { AreChunks self.new }
     {
-        let _ = (id, node);
+        let _ = id;
+        let _ = node;
         let _ = self.items.len();
         Err(AllocError)
     }
