@@ -1,8 +1,8 @@
-ghost use Rattle.std.specs.Prelude.{◌≡◌, ◌↔◌, ℕ, [], map, Contains, IsTrue, IfOk, OnOk, OnErr, MatchOption};
+ghost use Rattle.std.specs.Prelude.{◌≡◌, ◌↔◌, ℕ, [], map, Contains, IsTrue, IsOk, IfOk, OnOk, OnErr, MatchOption};
 ghost use Rattle.std.specs.List.{IsDistinct};
 ghost use Rattle.std.specs.List.Sorted.{IsStrictlyIncreasing};
 ghost use Rattle.druid_segid.specs.Group.{Group, group_of, same_group};
-ghost use Rattle.druid_members.specs.Members.{member_of, HoldsPlace, IsComplete, Adds, RemovesPlace, RemovesOne, SameMembers};
+ghost use Rattle.druid_members.specs.Members.{member_of, HoldsPlace, IsComplete, Adds, RemovesPlace, RemovesOne, AllAt, SameMembers};
 ghost use Rattle.druid_chunks.specs.Chunks.{AreChunks, members_at, HasNoChunk, IsOverlapOf};
 ghost use Rattle.druid_chunks.specs.Places.{AreInOrder};
 
@@ -166,6 +166,7 @@ impl Chunks {
             (members_at self.new (group_of id.now)) id.now.partition node) }
         ensures err { OnErr result (SameMembers (members_at self.old (group_of id.now))
             (members_at self.new (group_of id.now))) }
+        ensures whole { AllAt (members_at self.old (group_of id.now)) id.now.partition node → IsOk result }
         ensures others { (q : Group) → (q ≡ group_of id.now → ⊥) → members_at self.new q ≡ members_at self.old q }
         ensures was { AreChunks self.old }
         ensures chunks { AreChunks self.new }

@@ -164,6 +164,21 @@ returns-clause-err c =
     let now = written_members cs c.in-Ok.i new g ordered.are within (c.remove-2.ensures.key ∙ at) in
     subst (λ (p : List Member × List Member). OnErr c.remove-2.result (SameMembers p.0 p.1)) (λ i. (old i, now i)) c.remove-2.ensures.err
 
+pub returns-clause-whole : goal.returns-clause-whole
+returns-clause-whole c all =
+    let cs = c.self.inside.items.items in
+    let g : Group = group_of c.args.id.now in
+    let own = c.index_mut-chunk.result.now in
+    let within : c.in-Ok.i < length cs = subst (λ (xs : List Chunk). c.in-Ok.i < length xs) c.deref.ensures.value c.in-Ok.ensures.within in
+    let here : get_or cs c.in-Ok.i own ≡ own = sym c.index_mut-chunk.ensures.value in
+    let named : record { interval = c.interval.result; version = c.version.result.now } ≡ g = λ i. record { interval = c.interval.ensures.value i; version = c.version.ensures.value i } in
+    let at : own.0 ≡ g = ap (λ (x : Chunk). x.0) (sym here) ∙ subst (λ (xs : List Chunk). (get_or xs c.in-Ok.i own).0 ≡ record { interval = c.interval.result; version = c.version.result.now }) c.deref.ensures.value (c.in-Ok.ensures.found own) ∙ named in
+    let old = found_members cs c.args.self.now c.in-Ok.i own g c.self.invariant.are c.self.view_is within here at in
+    let new = c.remove-2.new.self in
+    let first : c.index.result.now ≡ own = c.index.ensures ∙ get_or_default cs c.in-Ok.i c.index.result.now own within ∙ here in
+    let not : (AllAt own.1 c.partition-2.result c.args.node → ⊥) = λ all. false≢true (sym c.if-only.false ∙ c.is_only-only.ensures.only.1 (subst (λ (p : Chunk × ℕ). AllAt p.0.1 p.1 c.args.node) (λ i. (sym first i, (c.partition-2.ensures.value ∙ sym c.partition.ensures.value) i)) all)) in
+    absurd (not (subst (λ (p : List Member × ℕ). AllAt p.0 p.1 c.args.node) (λ i. (sym old i, sym c.partition-2.ensures.value i)) all))
+
 pub returns-clause-others : goal.returns-clause-others
 returns-clause-others c q other =
     let cs = c.self.inside.items.items in
