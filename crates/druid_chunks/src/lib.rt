@@ -1,0 +1,11 @@
+//! The chunks of one data source, found by interval, each with its members.
+#![tactic(auto)]
+
+mod chunk;
+mod chunks;
+mod order;
+mod overlap;
+mod place;
+
+pub use chunk::Chunk;
+pub use chunks::Chunks;
