@@ -1,2 +1,3 @@
+-- what public contracts rest on
 pub mod Chunks
 pub mod Places
