@@ -64,14 +64,7 @@ fn serve_file<
         + 'static,
     W: Write,
     E: Write,
->(
-    rt: &R,
-    alloc: Global,
-    path: &str,
-    writer: &mut W,
-    errors: &mut E,
-    explain: bool,
-) -> Ending
+>(rt: &R, alloc: Global, path: &str, writer: &mut W, errors: &mut E, explain: bool) -> Ending
 where
     R::Dir: Send,
     ensures { (end : Result ⊤ ServeFault) × (result.status ≡ exit_status end)

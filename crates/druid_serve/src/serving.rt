@@ -40,12 +40,7 @@ fn start_nodes<
         + Send
         + Sync
         + 'static,
->(
-    rt: &R,
-    alloc: Global,
-    nodes: &[NodeConfig],
-    kept: usize,
-) -> Result<Vec<JoinHandle<()>>, Stop>
+>(rt: &R, alloc: Global, nodes: &[NodeConfig], kept: usize) -> Result<Vec<JoinHandle<()>>, Stop>
 where
     R::Dir: Send,
     requires some { 1 ≤ kept }
@@ -283,14 +278,7 @@ pub fn serve<
         + 'static,
     W: Write,
     E: Write,
->(
-    rt: &R,
-    alloc: Global,
-    config: &[u8],
-    out: &mut W,
-    errors: &mut E,
-    explain: bool,
-) -> Ending
+>(rt: &R, alloc: Global, config: &[u8], out: &mut W, errors: &mut E, explain: bool) -> Ending
 where
     R::Dir: Send,
     ensures served { (end : Result ⊤ ServeFault) × ServesAs config.now end

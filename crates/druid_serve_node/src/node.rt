@@ -129,7 +129,13 @@ fn first_state<F: Folder>(
         let cause = Cause::Incarnation(StoreFault::Device);
         return Err(StartFault::device(cause));
     }
-    Ok(NodeState::new(alloc, incarnation, kept)?)
+    match NodeState::new(alloc, incarnation, kept) {
+        Ok(state) => Ok(state),
+        Err(fault) => Err(StartFault {
+            fault: fault.into(),
+            cause: Some(Cause::Memory),
+        }),
+    }
 }
 
 // A node that goes on from that state, with the segments of a folder.
