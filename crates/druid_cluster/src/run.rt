@@ -107,7 +107,10 @@ pub fn replay_explained<R: BufRead, W: Write>(
     match end {
         Ok(count) if flushed.is_err() => Err(Stop::device(count.saturating_add(1), Reason::Output)),
         Ok(_) => Ok(()),
-        Err(stop) if flushed.is_err() => Err(Stop::device(stop.fault.line(), Reason::Output)),
+        Err(stop) if flushed.is_err() => Err(Stop {
+            fault: ReplayFault::Device(stop.fault.line()),
+            reason: Reason::Output,
+        }),
         Err(stop) => Err(stop),
     }
 }
