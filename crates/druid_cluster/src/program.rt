@@ -83,7 +83,7 @@ fn replay_all<R: BufRead, W: Write, E: Write>(
 
 /// The program but for `serve`, over its arguments, standard input, standard output and standard error. `replay` alone answers
 /// the commands of the input, and reports a fault on the error writer; where `explain` is set, what ended the run stands below
-/// it, in a line that is indented, unless memory was refused for it. Any other words get the usage line there, with status
+/// it, in a line that is indented, unless memory ran out for it. Any other words get the usage line there, with status
 /// 2, and arguments that could not be read end with status 3 as a device that fails at line 1: then nothing is read or written.
 pub fn run_program<R: BufRead, W: Write, E: Write>(
     alloc: Global,

@@ -119,7 +119,7 @@ pub fn replay_explained<R: BufRead, W: Write>(
 /// was written is flushed at the end, whatever it is. No more than one line of the input is kept.
 ///
 /// `BadCommand` where a line is longer than 16 MiB, no JSON or no command, and `Device` where a read or a write fails,
-/// memory is refused or there are more than 2^64 - 1 lines: then the lines before are answered, and of the answer to that
+/// memory runs out or there are more than 2^64 - 1 lines: then the lines before are answered, and of the answer to that
 /// line a front may be written, which is not the whole. Where the flush fails, `Device` tells the line that ended the run.
 pub fn replay<R: BufRead, W: Write>(
     alloc: Global,

@@ -8,7 +8,7 @@ use std::fmt::Display;
 use std::io;
 use std::io::Write;
 
-/// The text of a reason, on one line; None where memory was refused, and then the reason is left out.
+/// The text of a reason, on one line; None where memory runs out, and then the reason is left out.
 pub fn reason_text<T: Display>(alloc: Global, reason: &T) -> Option<String> {
     let Ok(text) = format!(in alloc; "{reason}") else {
         return None;

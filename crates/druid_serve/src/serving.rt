@@ -82,7 +82,7 @@ fn fresh(alloc: Global, nodes: &[NodeConfig]) -> Result<Inventory, DeviceFailed>
 {
     match Inventory::new(alloc, names_in(alloc, nodes)?) {
         Ok(inventory) => Ok(inventory),
-        // No name stands twice, so memory was refused.
+        // No name stands twice, so memory ran out.
         Err(_) => Err(DeviceFailed),
     }
 }
@@ -262,7 +262,7 @@ where
 
 /// Serves the cluster of a config, prints the answers to its queries, and ends once each broker answered the connections from
 /// outside that the config asks for. It ends with status 0, or with that of the fault that it reports on the error writer; where `explain`
-/// is set, what kept the cluster stands below it, in a line that is indented, unless memory was refused for it. The
+/// is set, what kept the cluster stands below it, in a line that is indented, unless memory ran out for it. The
 /// threads that still wait for connections are left. Status 0 only where the bytes are a config; where they are none, nothing is
 /// printed.
 pub fn serve<

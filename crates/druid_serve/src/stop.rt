@@ -53,16 +53,13 @@ impl Stop {
     /// The output was not written or flushed.
     pub(crate) fn at_output(alloc: Global, error: &io::Error) -> Stop {
         let text = if error.kind() == ErrorKind::OutOfMemory {
-            MEMORY
+            "out of memory"
         } else {
             "standard output: a write failed"
         };
         Stop::device(String::from_str(alloc, text).ok())
     }
 }
-
-// What is said where it is not known whether memory was refused or a thread.
-const MEMORY: &str = "memory, or a thread";
 
 // What kept the node at a place from its start.
 fn node_reason(alloc: Global, place: usize, node: &NodeConfig, cause: &Cause) -> Option<String> {
@@ -76,7 +73,7 @@ fn node_reason(alloc: Global, place: usize, node: &NodeConfig, cause: &Cause) ->
         }
         Cause::Names(fault) => format!(in alloc; "nodes[{place}].folder: {folder}: {fault}"),
         Cause::Listener => format!(in alloc; "nodes[{place}].address: listening on {address}"),
-        Cause::Memory => format!(in alloc; "nodes[{place}]: {MEMORY}"),
+        Cause::Memory => format!(in alloc; "nodes[{place}]: out of memory, or no thread"),
     };
     text.ok()
 }

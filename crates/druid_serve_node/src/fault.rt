@@ -12,7 +12,7 @@ use std::alloc::{AllocError, AllocFailed, Global};
 pub enum ClusterFault {
     /// A segment file or an incarnation file is refused at the start.
     BadFolder,
-    /// A device failed, or memory was refused.
+    /// A device failed, or memory ran out.
     Device,
 }
 
@@ -67,7 +67,7 @@ impl From<NodeFault> for ClusterFault {
     }
 }
 
-/// A device failed, or memory was refused: all that can keep threads and sockets from their start.
+/// A device failed, or memory ran out: all that can keep threads and sockets from their start.
 #[derive(Clone, Copy, Drop)]
 pub struct DeviceFailed;
 
