@@ -181,7 +181,14 @@ fn assert_ended(
     let list = words_of(rt, alloc, words);
     let mut written = Vec::new(alloc);
     let mut errors = Vec::new(alloc);
-    let end = run_program(alloc, Ok(list), &mut input, &mut written, &mut errors);
+    let end = run_program(
+        alloc,
+        Ok(list),
+        &mut input,
+        &mut written,
+        &mut errors,
+        false,
+    );
     let (status, printed, reported) = ending;
     assert!(rt;
         end.status == status && end.reported.is_ok(),
@@ -270,6 +277,7 @@ fn failing_streams(rt: HostRuntime) {
         &mut b"".as_slice(),
         &mut written,
         &mut errors,
+        false,
     );
     assert!(&rt; end.status == 3 && errors.as_slice() == b"line 1: device\n".as_slice());
     let input = PlannedReader {
@@ -278,7 +286,14 @@ fn failing_streams(rt: HostRuntime) {
     };
     let mut reader = BufReader::with_capacity(alloc, 16, input).expect(&rt, "memory");
     let replay = words_of(&rt, alloc, "replay");
-    let end = run_program(alloc, Ok(replay), &mut reader, &mut written, &mut errors);
+    let end = run_program(
+        alloc,
+        Ok(replay),
+        &mut reader,
+        &mut written,
+        &mut errors,
+        false,
+    );
     assert!(&rt; end.status == 3 && written.as_slice() == b"{\"brokers\":1}\n".as_slice());
     assert!(&rt; errors.as_slice() == b"line 1: device\nline 2: device\n".as_slice());
     let mut nothing = PlannedWriter {
@@ -294,6 +309,7 @@ fn failing_streams(rt: HostRuntime) {
         &mut b"".as_slice(),
         &mut written,
         &mut nothing,
+        false,
     );
     assert!(&rt; end.status == 2 && end.reported.is_err());
 }

@@ -1,6 +1,6 @@
 //! What no contract says of the crates from instants to inventories, of `replay` and of `druid_world`: worked examples and
 //! runs, printed texts, devices that fail, that calls succeed with ample memory, and drawn runs against a plain replay. A
-//! module has the name of the crate that it tests; `devices`, `following` and `joining` are of `replay`, and `drawn` of
+//! module has the name of the crate that it tests; `devices`, `explaining`, `following` and `joining` are of `replay`, and `drawn` of
 //! `druid_world`.
 #![tactic(auto)]
 
@@ -12,6 +12,8 @@ mod cluster;
 mod devices;
 #[cfg(test)]
 mod drawn;
+#[cfg(test)]
+mod explaining;
 #[cfg(test)]
 mod following;
 #[cfg(test)]

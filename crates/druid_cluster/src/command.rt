@@ -1,6 +1,7 @@
 //! Commands, read out of JSON.
-ghost use Rattle.std.specs.Prelude.{◌≡◌, ◌≤◌, length, option_map, is_some, IsTrue, IfSome};
+ghost use Rattle.std.specs.Prelude.{◌≡◌, ◌≤◌, length, option_map, is_none, is_some, nat_lt, IfNone, IfOk, IfSome};
 ghost use Rattle.std.specs.List.{list_all};
+ghost use Rattle.std.specs.Result.{result_ok};
 ghost use Rattle.serde_json.specs.Find.{as_str};
 ghost use Rattle.serde_json.specs.View.{view, items_view};
 ghost use Rattle.druid_inventory.specs.Entry.{max_nodes};
@@ -8,6 +9,7 @@ ghost use Rattle.druid_shard.specs.Each.{each_of};
 ghost use Rattle.druid_cluster.specs.Commands.{brokers_at, opening_at, reply_at, lookup_at, marks_at, join_at, equal_at, asked_at, is_among, command_at};
 ghost use Rattle.druid_cluster.specs.Seen.{text_in, texts_in, command_seen, opening_seen, AreAmong};
 
+use crate::reason::{BadLine, BrokerKey};
 use druid_inventory::MAX_NODES;
 use druid_shard::{limited_field, number_field, text_field};
 use serde_json::Value;
@@ -95,44 +97,56 @@ fn texts_of(values: &[Value]) -> Option<&[Value]>
 
 // 1 to 64 brokers, over 1 to 64 names.
 #[tactic(auto, unfolding(crate::specs::Commands::brokers_at))]
-fn brokers_of(value: &Value) -> Option<Opening<'_>>
-    ensures value { option_map opening_seen result ≡ brokers_at (view value.now) }
-    ensures some { IfSome result (λ opening. 1 ≤ length opening.nodes.now) }
-    ensures few { IfSome result (λ opening. length opening.nodes.now ≤ max_nodes) }
+fn brokers_of(value: &Value) -> Result<Opening<'_>, BadLine>
+    ensures value { option_map opening_seen (result_ok result) ≡ brokers_at (view value.now) }
+    ensures some { IfOk result (λ opening. 1 ≤ length opening.nodes.now) }
+    ensures few { IfOk result (λ opening. length opening.nodes.now ≤ max_nodes) }
 {
-    let count = number_field(value, "count")?;
-    let names = value.get("nodes").and_then(Value::as_array)?;
-    let nodes = texts_of(names)?;
+    let Some(count) = number_field(value, "count") else {
+        return Err(BadLine::Count);
+    };
+    let Some(names) = value.get("nodes").and_then(Value::as_array) else {
+        return Err(BadLine::Nodes);
+    };
+    let Some(nodes) = texts_of(names) else {
+        return Err(BadLine::Nodes);
+    };
     if 1 <= count && count <= MAX_BROKERS && 1 <= nodes.len() && nodes.len() <= MAX_NODES {
-        Some(Opening { count, nodes })
+        Ok(Opening { count, nodes })
     } else {
-        None
+        Err(BadLine::OutOfRange)
     }
 }
 
 /// The brokers that the value asks for: the first command does, and no other. Does not allocate.
 #[tactic(auto, unfolding(crate::specs::Commands::opening_at))]
-pub fn opening_of(value: &Value) -> Option<Opening<'_>>
-    ensures value { option_map opening_seen result ≡ opening_at (view value.now) }
-    ensures some { IfSome result (λ opening. 1 ≤ length opening.nodes.now) }
-    ensures few { IfSome result (λ opening. length opening.nodes.now ≤ max_nodes) }
+pub fn opening_of(value: &Value) -> Result<Opening<'_>, BadLine>
+    ensures value { option_map opening_seen (result_ok result) ≡ opening_at (view value.now) }
+    ensures some { IfOk result (λ opening. 1 ≤ length opening.nodes.now) }
+    ensures few { IfOk result (λ opening. length opening.nodes.now ≤ max_nodes) }
 {
     if text_field(value, "do") == Some("brokers") {
         brokers_of(value)
     } else {
-        None
+        Err(BadLine::NotBrokers)
     }
 }
 
 // That a broker takes a reply.
 #[tactic(auto, unfolding(crate::specs::Commands::reply_at))]
-fn reply_asked(value: &Value) -> Option<Command<'_>>
-    ensures { option_map command_seen result ≡ reply_at (view value.now) }
+fn reply_asked(value: &Value) -> Result<Command<'_>, BadLine>
+    ensures { option_map command_seen (result_ok result) ≡ reply_at (view value.now) }
 {
-    let broker = number_field(value, "broker")?;
-    let node = limited_field(value, "node", u16::MAX)?;
-    let reply = value.get("reply")?;
-    Some(Command::Reply {
+    let Some(broker) = number_field(value, "broker") else {
+        return Err(BadLine::NoNumber(BrokerKey::Broker));
+    };
+    let Some(node) = limited_field(value, "node", u16::MAX) else {
+        return Err(BadLine::Node);
+    };
+    let Some(reply) = value.get("reply") else {
+        return Err(BadLine::Reply);
+    };
+    Ok(Command::Reply {
         broker,
         node,
         reply,
@@ -141,13 +155,19 @@ fn reply_asked(value: &Value) -> Option<Command<'_>>
 
 // A lookup.
 #[tactic(auto, unfolding(crate::specs::Commands::lookup_at))]
-fn lookup_asked(value: &Value) -> Option<Command<'_>>
-    ensures { option_map command_seen result ≡ lookup_at (view value.now) }
+fn lookup_asked(value: &Value) -> Result<Command<'_>, BadLine>
+    ensures { option_map command_seen (result_ok result) ≡ lookup_at (view value.now) }
 {
-    let broker = number_field(value, "broker")?;
-    let interval = text_field(value, "interval")?;
-    let source = text_field(value, "source")?;
-    Some(Command::Lookup {
+    let Some(broker) = number_field(value, "broker") else {
+        return Err(BadLine::NoNumber(BrokerKey::Broker));
+    };
+    let Some(interval) = text_field(value, "interval") else {
+        return Err(BadLine::Interval);
+    };
+    let Some(source) = text_field(value, "source") else {
+        return Err(BadLine::Source);
+    };
+    Ok(Command::Lookup {
         broker,
         interval,
         source,
@@ -156,37 +176,47 @@ fn lookup_asked(value: &Value) -> Option<Command<'_>>
 
 // A broker's marks.
 #[tactic(auto, unfolding(crate::specs::Commands::marks_at))]
-fn marks_asked(value: &Value) -> Option<Command<'_>>
-    ensures { option_map command_seen result ≡ marks_at (view value.now) }
+fn marks_asked(value: &Value) -> Result<Command<'_>, BadLine>
+    ensures { option_map command_seen (result_ok result) ≡ marks_at (view value.now) }
 {
-    let broker = number_field(value, "broker")?;
-    Some(Command::Marks { broker })
+    let Some(broker) = number_field(value, "broker") else {
+        return Err(BadLine::NoNumber(BrokerKey::Broker));
+    };
+    Ok(Command::Marks { broker })
 }
 
 // A join.
 #[tactic(auto, unfolding(crate::specs::Commands::join_at))]
-fn join_asked(value: &Value) -> Option<Command<'_>>
-    ensures { option_map command_seen result ≡ join_at (view value.now) }
+fn join_asked(value: &Value) -> Result<Command<'_>, BadLine>
+    ensures { option_map command_seen (result_ok result) ≡ join_at (view value.now) }
 {
-    let from = number_field(value, "from")?;
-    let into = number_field(value, "into")?;
-    Some(Command::Join { from, into })
+    let Some(from) = number_field(value, "from") else {
+        return Err(BadLine::NoNumber(BrokerKey::From));
+    };
+    let Some(into) = number_field(value, "into") else {
+        return Err(BadLine::NoNumber(BrokerKey::Into));
+    };
+    Ok(Command::Join { from, into })
 }
 
 // A comparison.
 #[tactic(auto, unfolding(crate::specs::Commands::equal_at))]
-fn equal_asked(value: &Value) -> Option<Command<'_>>
-    ensures { option_map command_seen result ≡ equal_at (view value.now) }
+fn equal_asked(value: &Value) -> Result<Command<'_>, BadLine>
+    ensures { option_map command_seen (result_ok result) ≡ equal_at (view value.now) }
 {
-    let left = number_field(value, "left")?;
-    let right = number_field(value, "right")?;
-    Some(Command::Equal { left, right })
+    let Some(left) = number_field(value, "left") else {
+        return Err(BadLine::NoNumber(BrokerKey::Left));
+    };
+    let Some(right) = number_field(value, "right") else {
+        return Err(BadLine::NoNumber(BrokerKey::Right));
+    };
+    Ok(Command::Equal { left, right })
 }
 
 // The command that a value asks for, whether its brokers stand or not.
 #[tactic(auto, unfolding(crate::specs::Commands::asked_at))]
-fn command_asked(value: &Value) -> Option<Command<'_>>
-    ensures { option_map command_seen result ≡ asked_at (view value.now) }
+fn command_asked(value: &Value) -> Result<Command<'_>, BadLine>
+    ensures { option_map command_seen (result_ok result) ≡ asked_at (view value.now) }
 {
     match text_field(value, "do") {
         Some("reply") => reply_asked(value),
@@ -194,35 +224,58 @@ fn command_asked(value: &Value) -> Option<Command<'_>>
         Some("marks") => marks_asked(value),
         Some("join") => join_asked(value),
         Some("equal") => equal_asked(value),
-        _ => None,
+        _ => Err(BadLine::NoCommand),
     }
 }
 
-// Whether a command is of brokers that stand, of which there are this many.
-fn is_among(command: &Command<'_>, count: u64) -> bool
-    ensures test { result ≡ is_among count (command_seen command.now) }
-    ensures among { IsTrue result → AreAmong count (command_seen command.now) }
+// The broker at a key, where it is not one of this many.
+fn missing(key: BrokerKey, broker: u64, count: u64) -> Option<BadLine>
+    ensures { is_none result ≡ nat_lt broker count }
+{
+    if broker < count {
+        None
+    } else {
+        Some(BadLine::NoBroker(key))
+    }
+}
+
+// The first broker of a command that is not one of this many that stand.
+fn missing_broker(command: &Command<'_>, count: u64) -> Option<BadLine>
+    ensures test { is_none result ≡ is_among count (command_seen command.now) }
+    ensures among { IfNone result (AreAmong count (command_seen command.now)) }
 {
     match command {
-        Command::Reply { broker, .. } => *broker < count,
-        Command::Lookup { broker, .. } => *broker < count,
-        Command::Marks { broker } => *broker < count,
-        Command::Join { from, into } => *from < count && *into < count,
-        Command::Equal { left, right } => *left < count && *right < count,
+        Command::Reply { broker, .. } => missing(BrokerKey::Broker, *broker, count),
+        Command::Lookup { broker, .. } => missing(BrokerKey::Broker, *broker, count),
+        Command::Marks { broker } => missing(BrokerKey::Broker, *broker, count),
+        Command::Join { from, into } => {
+            if let Some(bad) = missing(BrokerKey::From, *from, count) {
+                return Some(bad);
+            }
+            missing(BrokerKey::Into, *into, count)
+        }
+        Command::Equal { left, right } => {
+            if let Some(bad) = missing(BrokerKey::Left, *left, count) {
+                return Some(bad);
+            }
+            missing(BrokerKey::Right, *right, count)
+        }
     }
 }
 
-/// The command that a value asks for once that many brokers stand; None where it is none, or of a broker that is not
-/// there.
+/// The command that a value asks for once that many brokers stand; where it is none, or of a broker that is not there, the first
+/// field that is wrong.
 #[tactic(auto, unfolding(crate::specs::Commands::command_at))]
-pub fn command_of(value: &Value, count: u64) -> Option<Command<'_>>
-    ensures value { option_map command_seen result ≡ command_at count (view value.now) }
-    ensures among { IfSome result (λ command. AreAmong count (command_seen command)) }
+pub fn command_of(value: &Value, count: u64) -> Result<Command<'_>, BadLine>
+    ensures value { option_map command_seen (result_ok result) ≡ command_at count (view value.now) }
+    ensures among { IfOk result (λ command. AreAmong count (command_seen command)) }
 {
-    let command = command_asked(value)?;
-    if is_among(&command, count) {
-        Some(command)
-    } else {
-        None
+    let command = match command_asked(value) {
+        Ok(command) => command,
+        Err(bad) => return Err(bad),
+    };
+    match missing_broker(&command, count) {
+        Some(bad) => Err(bad),
+        None => Ok(command),
     }
 }

@@ -10,7 +10,7 @@ use std::fmt;
 pub enum ReplayFault {
     /// The line is no command there.
     BadCommand(u64),
-    /// A read or a write failed, or memory was refused.
+    /// A read or a write failed, or memory ran out.
     Device(u64),
 }
 

@@ -1,14 +1,16 @@
 //! The program: what it does with its arguments, its input and its two outputs.
 ghost use Rattle.std.specs.Prelude.{◌≡◌, ◌∷◌, ◌++◌, ℕ, List, [], ⊤, Option, Result, map, codes, string_bytes, IfOk, OnOk, OnErr};
 ghost use Rattle.std.specs.Io.KnownBytes.{Appends, Keeps};
+ghost use Rattle.druid_command_line.specs.Reasons.{Reports};
 ghost use Rattle.druid_command_line.specs.Words.{AsksForReplay};
 ghost use Rattle.druid_cluster.specs.Program.{usage_line, Replays, exit_status, fault_line};
 ghost use Rattle.druid_cluster.specs.Status.{status_of, fault_text};
 ghost use Rattle.druid_cluster.specs.declared.fault.ReplayFault.{ReplayFault};
 
 use crate::fault::ReplayFault;
-use crate::run::replay;
-use druid_command_line::{Ending, Exit, asks_for_replay};
+use crate::reason::Stop;
+use crate::run::replay_explained;
+use druid_command_line::{Ending, Exit, asks_for_replay, reason_text, write_below};
 use std::alloc::Global;
 use std::io;
 use std::io::{BufRead, Write};
@@ -22,6 +24,23 @@ fn report_fault<E: Write>(errors: &mut E, fault: ReplayFault) -> Ending
     Ending {
         status: fault.status(),
         reported: writeln!(errors, "{fault}"),
+    }
+}
+
+// Ends with the status of a fault, and reports it with what ended the run below, if that is asked for.
+fn report_stop<E: Write>(alloc: Global, errors: &mut E, stop: Stop, explain: bool) -> Ending
+    ensures status { result.status ≡ status_of stop.fault }
+    ensures reported { OnOk result.reported
+        (Reports explain (E.contents errors.old) (E.contents errors.new) (fault_text stop.fault ++ 10 ∷ [])) }
+{
+    let ending = report_fault(errors, stop.fault);
+    if !explain {
+        return ending;
+    }
+    let reason = reason_text(alloc, &stop.reason);
+    Ending {
+        status: ending.status,
+        reported: write_below(errors, ending.reported, reason),
     }
 }
 
@@ -46,23 +65,25 @@ fn replay_all<R: BufRead, W: Write, E: Write>(
     reader: &mut R,
     writer: &mut W,
     errors: &mut E,
+    explain: bool,
 ) -> Ending
     ensures { (end : Result ⊤ ReplayFault)
         × Replays (R.remaining reader.old) (W.contents writer.old) (W.contents writer.new) end
         × (result.status ≡ exit_status end)
-        × OnOk result.reported (Appends (E.contents errors.old) (E.contents errors.new) (fault_line end)) }
+        × OnOk result.reported (Reports explain (E.contents errors.old) (E.contents errors.new) (fault_line end)) }
 {
-    match replay(alloc, reader, writer) {
+    match replay_explained(alloc, reader, writer) {
         Ok(()) => Ending {
             status: Exit::Done.status(),
             reported: Ok(()),
         },
-        Err(fault) => report_fault(errors, fault),
+        Err(stop) => report_stop(alloc, errors, stop, explain),
     }
 }
 
 /// The program but for `serve`, over its arguments, standard input, standard output and standard error. `replay` alone answers
-/// the commands of the input, and reports a fault on the error writer. Any other words get the usage line there, with status
+/// the commands of the input, and reports a fault on the error writer; where `explain` is set, what ended the run stands below
+/// it, in a line that is indented, unless memory ran out for it. Any other words get the usage line there, with status
 /// 2, and arguments that could not be read end with status 3 as a device that fails at line 1: then nothing is read or written.
 pub fn run_program<R: BufRead, W: Write, E: Write>(
     alloc: Global,
@@ -70,6 +91,7 @@ pub fn run_program<R: BufRead, W: Write, E: Write>(
     reader: &mut R,
     writer: &mut W,
     errors: &mut E,
+    explain: bool,
 ) -> Ending
     ensures unread { OnErr words ((result.status ≡ 3)
         × Keeps (R.remaining reader.old) (R.remaining reader.new)
@@ -83,10 +105,12 @@ pub fn run_program<R: BufRead, W: Write, E: Write>(
     ensures replayed { IfOk words (λ list. AsksForReplay (map string_bytes list.items) → (end : Result ⊤ ReplayFault)
         × Replays (R.remaining reader.old) (W.contents writer.old) (W.contents writer.new) end
         × (result.status ≡ exit_status end)
-        × OnOk result.reported (Appends (E.contents errors.old) (E.contents errors.new) (fault_line end))) }
+        × OnOk result.reported (Reports explain (E.contents errors.old) (E.contents errors.new) (fault_line end))) }
 {
     match words {
-        Ok(words) if asks_for_replay(&words) => replay_all(alloc, reader, writer, errors),
+        Ok(words) if asks_for_replay(&words) => {
+            replay_all(alloc, reader, writer, errors, explain)
+        }
         Ok(_) => report_usage(errors),
         Err(_) => report_fault(errors, ReplayFault::Device(1)),
     }

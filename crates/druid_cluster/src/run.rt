@@ -8,14 +8,25 @@ ghost use Rattle.druid_cluster.specs.declared.answer.Answer.{Answer};
 
 use crate::brokers::Brokers;
 use crate::fault::ReplayFault;
+use crate::reason::{BadLine, Reason, Stop};
 use crate::serving::serve_line;
 use crate::writing::write_answer;
 use druid_stream::{Next, next_line};
 use std::alloc::Global;
-use std::io::{BufRead, Write};
+use std::io;
+use std::io::{BufRead, ErrorKind, Write};
 
 // The most bytes of a line, its line feed left out.
 const MAX_LINE: usize = 16_777_216;
+
+// What failed where an answer was not written.
+fn of_write(error: &io::Error) -> Reason {
+    if error.kind() == ErrorKind::OutOfMemory {
+        Reason::Memory
+    } else {
+        Reason::Output
+    }
+}
 
 // Writes the answer to a line, and gives the brokers that stand after it.
 #[tactic(auto, using(crate::proofs::RunLemmas::told_front, crate::proofs::RunLemmas::told_nothing))]
@@ -25,23 +36,23 @@ fn answer_to<W: Write>(
     line: &[u8],
     number: u64,
     writer: &mut W,
-) -> Result<Option<Brokers>, ReplayFault>
+) -> Result<Option<Brokers>, Stop>
     requires { length line.now ≤ max_line }
     ensures ok { IfOk result (λ next. (answer : Answer) × IsAnswered state line.now answer next
         × Appends (W.contents writer.old) (W.contents writer.new) (line_text answer)) }
     ensures err { IfErr result
-        (TellsLine state line.now number (W.contents writer.old) (W.contents writer.new)) }
+        (λ stop. TellsLine state line.now number (W.contents writer.old) (W.contents writer.new) stop.fault) }
 {
-    let device = ReplayFault::Device(number);
     let Ok(served) = serve_line(alloc, state, line) else {
-        return Err(device);
+        return Err(Stop::device(number, Reason::Memory));
     };
-    let Some((answer, next)) = served else {
-        return Err(ReplayFault::BadCommand(number));
+    let (answer, next) = match served {
+        Ok(served) => served,
+        Err(bad) => return Err(Stop::bad(number, bad)),
     };
     match write_answer(alloc, &answer, writer) {
         Ok(()) => Ok(next),
-        Err(_) => Err(device),
+        Err(error) => Err(Stop::device(number, of_write(&error))),
     }
 }
 
@@ -51,31 +62,56 @@ fn answer_lines<R: BufRead, W: Write>(
     alloc: Global,
     reader: &mut R,
     writer: &mut W,
-) -> Result<u64, ReplayFault>
+) -> Result<u64, Stop>
     ensures ok { IfOk result (λ count.
         Writes (R.remaining reader.old) (W.contents writer.old) (W.contents writer.new) done
         × Writes (R.remaining reader.old) (W.contents writer.old) (W.contents writer.new)
         (broken_at (count + 1))) }
     ensures err { IfErr result
-        (EndsBy (R.remaining reader.old) (W.contents writer.old) (W.contents writer.new)) }
+        (λ stop. EndsBy (R.remaining reader.old) (W.contents writer.old) (W.contents writer.new) stop.fault) }
 {
     let mut state = None;
     let mut line = Vec::new(alloc);
     for count in 0..u64::MAX {
         match next_line(reader, &mut line, MAX_LINE) {
             Ok(Next::Line) => {}
-            Ok(Next::TooLong) => return Err(ReplayFault::BadCommand(count + 1)),
+            Ok(Next::TooLong) => return Err(Stop::bad(count + 1, BadLine::TooLong)),
             Ok(Next::End) => return Ok(count),
-            Err(_) => return Err(ReplayFault::Device(count + 1)),
+            Err(_) => return Err(Stop::device(count + 1, Reason::Input)),
         }
         match answer_to(alloc, state, &line, count + 1, writer) {
             Ok(next) => state = next,
-            Err(fault) => return Err(fault),
+            Err(stop) => return Err(stop),
         }
     }
     match next_line(reader, &mut line, MAX_LINE) {
         Ok(Next::End) => Ok(u64::MAX),
-        _ => Err(ReplayFault::Device(u64::MAX)),
+        _ => Err(Stop::device(u64::MAX, Reason::TooManyLines)),
+    }
+}
+
+/// As `replay`, and says what ended the run too: of a bad line what is wrong with it, of a device which it was.
+#[tactic(auto, using(crate::proofs::RunLemmas::flushed))]
+pub fn replay_explained<R: BufRead, W: Write>(
+    alloc: Global,
+    reader: &mut R,
+    writer: &mut W,
+) -> Result<(), Stop>
+    ensures ok { OnOk result
+        (Writes (R.remaining reader.old) (W.contents writer.old) (W.contents writer.new) done) }
+    ensures err { IfErr result
+        (λ stop. EndsBy (R.remaining reader.old) (W.contents writer.old) (W.contents writer.new) stop.fault) }
+{
+    let end = answer_lines(alloc, reader, writer);
+    let flushed = writer.flush();
+    match end {
+        Ok(count) if flushed.is_err() => Err(Stop::device(count.saturating_add(1), Reason::Output)),
+        Ok(_) => Ok(()),
+        Err(stop) if flushed.is_err() => Err(Stop {
+            fault: ReplayFault::Device(stop.fault.line()),
+            reason: Reason::Output,
+        }),
+        Err(stop) => Err(stop),
     }
 }
 
@@ -83,9 +119,8 @@ fn answer_lines<R: BufRead, W: Write>(
 /// was written is flushed at the end, whatever it is. No more than one line of the input is kept.
 ///
 /// `BadCommand` where a line is longer than 16 MiB, no JSON or no command, and `Device` where a read or a write fails,
-/// memory is refused or there are more than 2^64 - 1 lines: then the lines before are answered, and of the answer to that
+/// memory runs out or there are more than 2^64 - 1 lines: then the lines before are answered, and of the answer to that
 /// line a front may be written, which is not the whole. Where the flush fails, `Device` tells the line that ended the run.
-#[tactic(auto, using(crate::proofs::RunLemmas::flushed))]
 pub fn replay<R: BufRead, W: Write>(
     alloc: Global,
     reader: &mut R,
@@ -96,12 +131,8 @@ pub fn replay<R: BufRead, W: Write>(
     ensures err { IfErr result
         (EndsBy (R.remaining reader.old) (W.contents writer.old) (W.contents writer.new)) }
 {
-    let end = answer_lines(alloc, reader, writer);
-    let flushed = writer.flush();
-    match end {
-        Ok(count) if flushed.is_err() => Err(ReplayFault::Device(count.saturating_add(1))),
-        Ok(_) => Ok(()),
-        Err(fault) if flushed.is_err() => Err(ReplayFault::Device(fault.line())),
-        Err(fault) => Err(fault),
+    match replay_explained(alloc, reader, writer) {
+        Ok(()) => Ok(()),
+        Err(stop) => Err(stop.fault),
     }
 }

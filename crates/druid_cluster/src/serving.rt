@@ -1,5 +1,5 @@
 //! Commands, carried out.
-ghost use Rattle.std.specs.Prelude.{◌≡◌, ◌↔◌, ◌≤◌, ◌<◌, ℕ, List, All, Some, None, get_or, length, map, unwrap_or, IsTrue, IsUtf8, IfOk, OnErr, IfSome, IfNone};
+ghost use Rattle.std.specs.Prelude.{◌≡◌, ◌↔◌, ◌≤◌, ◌<◌, ℕ, List, All, Some, None, get_or, length, map, unwrap_or, IsTrue, IsUtf8, IfOk, OnErr};
 ghost use Rattle.druid_segid.specs.Names.{IsName};
 ghost use Rattle.druid_inventory.specs.Entry.{HaveOwnNames, max_nodes};
 ghost use Rattle.serde_json.specs.View.{view};
@@ -9,7 +9,8 @@ ghost use Rattle.druid_cluster.specs.Serving.{TakesBrokers, unread, not_applied,
 
 use crate::answer::{Answer, Marks, Pieces, Refusal};
 use crate::brokers::Brokers;
-use crate::command::{Command, Opening, command_of, opening_of, text_of};
+use crate::command::{Command, command_of, opening_of, text_of};
+use crate::reason::BadLine;
 use druid_inventory::{ApplyFault, Inventory, InventoryFault, JoinFault};
 use druid_segid::Name;
 use druid_sync::{SyncFault, reply_of};
@@ -298,52 +299,46 @@ fn do_command(
     }
 }
 
+/// What is answered, and the brokers that stand after it; or what is wrong with a line that is no command.
+pub(crate) type Served = Result<(Answer, Option<Brokers>), BadLine>;
+
 // What a value is answered, once brokers stand.
-fn answer_command(
-    alloc: Global,
-    brokers: Brokers,
-    value: &Value,
-) -> Result<Option<(Answer, Option<Brokers>)>, AllocError>
+fn answer_command(alloc: Global, brokers: Brokers, value: &Value) -> Result<Served, AllocError>
     ensures answered { IfOk result (λ found.
-        IfSome found (λ r. Answers (Some brokers) (view value.now) r.0 r.1)) }
+        IfOk found (λ r. Answers (Some brokers) (view value.now) r.0 r.1)) }
     ensures none { IfOk result (λ found.
-        IfNone found (IsNoCommand (Some brokers) (view value.now))) }
+        OnErr found (IsNoCommand (Some brokers) (view value.now))) }
     ensures memory { OnErr result (WantsMemory (Some brokers) (view value.now)) }
 {
-    let Some(command) = command_of(value, brokers.count()) else {
-        return Ok(None);
+    let command = match command_of(value, brokers.count()) {
+        Ok(command) => command,
+        Err(bad) => return Ok(Err(bad)),
     };
     let (answer, next) = do_command(alloc, brokers, command)?;
-    Ok(Some((answer, Some(next))))
+    Ok(Ok((answer, Some(next))))
 }
 
 // The first command, which asks for brokers.
-fn answer_opening(
-    alloc: Global,
-    value: &Value,
-) -> Result<Option<(Answer, Option<Brokers>)>, AllocError>
+fn answer_opening(alloc: Global, value: &Value) -> Result<Served, AllocError>
     ensures answered { IfOk result (λ found.
-        IfSome found (λ r. Answers None (view value.now) r.0 r.1)) }
-    ensures none { IfOk result (λ found. IfNone found (IsNoCommand None (view value.now))) }
+        IfOk found (λ r. Answers None (view value.now) r.0 r.1)) }
+    ensures none { IfOk result (λ found. OnErr found (IsNoCommand None (view value.now))) }
     ensures memory { OnErr result (WantsMemory None (view value.now)) }
 {
-    let Some(Opening { count, nodes }) = opening_of(value) else {
-        return Ok(None);
+    let opening = match opening_of(value) {
+        Ok(opening) => opening,
+        Err(bad) => return Ok(Err(bad)),
     };
-    Ok(Some(take_brokers(alloc, count, nodes)?))
+    Ok(Ok(take_brokers(alloc, opening.count, opening.nodes)?))
 }
 
-/// What a line is answered, and the brokers that stand after it; None where the line is no JSON or no command. Memory may be
+/// What a line is answered, and the brokers that stand after it; where the line is no JSON or no command, what is wrong with it. Memory may be
 /// refused only for a line in UTF-8, while its JSON is read or where no refusal that is seen without allocating holds.
-pub fn serve_line(
-    alloc: Global,
-    state: Option<Brokers>,
-    line: &[u8],
-) -> Result<Option<(Answer, Option<Brokers>)>, AllocError>
+pub fn serve_line(alloc: Global, state: Option<Brokers>, line: &[u8]) -> Result<Served, AllocError>
     requires { length line.now ≤ max_line }
     ensures answered { IfOk result (λ found.
-        IfSome found (λ r. IsAnswered state line.now r.0 r.1)) }
-    ensures bad { IfOk result (λ found. IfNone found (IsBad state line.now)) }
+        IfOk found (λ r. IsAnswered state line.now r.0 r.1)) }
+    ensures bad { IfOk result (λ found. OnErr found (IsBad state line.now)) }
     ensures memory { OnErr result (IsUtf8 line.now) }
 {
     let value = match Value::from_slice(alloc, line) {
@@ -352,7 +347,7 @@ pub fn serve_line(
             if error.is_memory() && str::from_utf8(line).is_ok() {
                 return Err(AllocError);
             }
-            return Ok(None);
+            return Ok(Err(BadLine::NotJson));
         }
     };
     match state {

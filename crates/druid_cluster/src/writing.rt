@@ -58,7 +58,7 @@ fn write_pieces<W: Write>(alloc: Global, pieces: &[Piece], writer: &mut W) -> io
     write_text(writer, b"]}\n")
 }
 
-/// Writes the line of an answer. Where the writer fails or memory is refused, the writer has got some front of the line,
+/// Writes the line of an answer. Where the writer fails or memory runs out, the writer has got some front of the line,
 /// and not the whole.
 pub fn write_answer<W: Write>(alloc: Global, answer: &Answer, writer: &mut W) -> io::Result<()>
     ensures ok { OnOk result

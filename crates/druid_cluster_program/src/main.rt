@@ -2,7 +2,7 @@
 //! serves the cluster of a config.
 #![tactic(auto)]
 
-use druid_command_line::Exit;
+use druid_command_line::{Exit, asks_for_explanation};
 use druid_serve::run;
 use std::io::{BufReader, BufWriter};
 use std::process::ExitCode;
@@ -17,6 +17,14 @@ fn words(rt: &HostRuntime) -> io::Result<Vec<String>> {
         words.push(word)?;
     }
     Ok(words)
+}
+
+// Whether the environment asks for what was wrong, below what is reported.
+fn explains(rt: &HostRuntime) -> bool {
+    match env::var(rt, "DRUID_CLUSTER_EXPLAIN") {
+        Ok(value) => asks_for_explanation(value.as_str()),
+        Err(_) => false,
+    }
 }
 
 fn main(rt: HostRuntime) -> ExitCode {
@@ -34,6 +42,7 @@ fn main(rt: HostRuntime) -> ExitCode {
         &mut reader,
         &mut writer,
         &mut errors,
+        explains(&rt),
     );
     ExitCode::from(ending.status)
 }

@@ -1,3 +1,4 @@
 -- what public contracts rest on
 pub mod Exits
 pub mod Words
+pub mod Reasons

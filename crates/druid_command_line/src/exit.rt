@@ -12,7 +12,7 @@ pub enum Exit {
     Refused,
     /// The words ask for nothing that the program does.
     Usage,
-    /// A device failed, or memory was refused.
+    /// A device failed, or memory ran out.
     Device,
 }
 

@@ -2,7 +2,9 @@
 #![tactic(auto)]
 
 mod exit;
+mod reason;
 mod words;
 
 pub use exit::{Ending, Exit};
-pub use words::{asks_for_replay, asks_for_serve};
+pub use reason::{reason_text, write_below};
+pub use words::{asks_for_explanation, asks_for_replay, asks_for_serve};

@@ -1,5 +1,5 @@
 ghost use Rattle.std.specs.Prelude.{◌≡◌, ◌↔◌, IsTrue, length, map, string_bytes};
-ghost use Rattle.druid_command_line.specs.Words.{AsksForReplay, AsksForServe};
+ghost use Rattle.druid_command_line.specs.Words.{AsksForReplay, AsksForServe, AsksForExplanation};
 
 /// Whether there is the one word `replay`.
 pub fn asks_for_replay(words: &[String]) -> bool
@@ -17,4 +17,11 @@ pub fn asks_for_serve(words: &[String]) -> bool
     ensures asked { IsTrue result ↔ AsksForServe (map string_bytes words.now) }
 {
     words.len() == 2 && words[0].as_str() == "serve"
+}
+
+/// Whether the value of the variable `DRUID_CLUSTER_EXPLAIN` is `1`.
+pub fn asks_for_explanation(value: &str) -> bool
+    ensures { IsTrue result ↔ AsksForExplanation value.now }
+{
+    value == "1"
 }

@@ -99,7 +99,7 @@ names_next d (Some node) None names all one more read = absurd cc
 names_next d (Some node) (Some nodes) names all one more read =
     ap (λ n. n ∷ names) (one node refl) ∙ ap (λ ns. node.name ∷ ns) (more nodes refl) ∙ ap names_of (same_Some (node ∷ nodes) all read)
 
-names_back : (vs : List Value) (nodes : List Node) → each_of node_at (items_view vs) ≡ Some nodes → names_in vs ≡ names_of nodes
+pub names_back : (vs : List Value) (nodes : List Node) → each_of node_at (items_view vs) ≡ Some nodes → names_in vs ≡ names_of nodes
 names_back [] nodes read = ap names_of (same_Some [] nodes read)
 names_back (v ∷ vs) nodes read =
     names_next (view v) (node_at (view v)) (each_of node_at (items_view vs)) (names_in vs) nodes (name_back (view v)) (names_back vs) read

@@ -3,3 +3,4 @@ pub mod DepthLemmas
 pub mod FormLemmas
 pub mod LimitLemmas
 pub mod PartLemmas
+pub mod BadLemmas

@@ -2,5 +2,6 @@
 pub mod Limits
 pub mod Configs
 pub mod Read
+pub mod BadFields
 -- words of private contracts
 pub mod Lent

@@ -1,4 +1,4 @@
-//! A config, built out of JSON that was judged before: nothing is left to refuse but memory.
+//! A config, built out of JSON that was judged before: only memory can still run out.
 ghost use Rattle.std.specs.Prelude.{◌≡◌, ◌≤◌, Some, IsSome, IfOk, map, string_bytes};
 ghost use Rattle.serde_json.specs.Data.{depth, items_depth};
 ghost use Rattle.serde_json.specs.Find.{as_str};

@@ -1,12 +1,16 @@
-//! Whether JSON is a config, judged without allocating.
-ghost use Rattle.std.specs.Prelude.{◌≡◌, ◌+◌, ◌<◌, [], is_some, option_map, length, drop, slice_index_or};
+//! Which field of JSON is wrong, so that it is no config, found without allocating.
+ghost use Rattle.std.specs.Prelude.{◌≡◌, ◌+◌, ◌<◌, ℕ, [], Some, IfSome, IfErr, true, codes, is_some, is_none, option_map, length, drop, slice_index_or};
 ghost use Rattle.std.specs.List.{list_all, list_any};
+ghost use Rattle.std.specs.Result.{result_ok};
 ghost use Rattle.std.specs.Str.{bytes_eq};
+ghost use Rattle.serde_json.specs.Data.{Data, Items};
 ghost use Rattle.serde_json.specs.View.{view, items_view};
-ghost use Rattle.serde_json.specs.Find.{as_str};
-ghost use Rattle.druid_config.specs.Configs.{name_at, loads_at, node_at, broker_at, query_at, are_few, are_distinct, nodes_in, brokers_in, nodes_at, brokers_at, queries_at, config_at};
+ghost use Rattle.serde_json.specs.Find.{as_str, get_item};
+ghost use Rattle.druid_config.specs.BadFields.{BreaksNode, BreaksBroker, BreaksQuery, IsWrong};
+ghost use Rattle.druid_config.specs.Configs.{Broker, name_at, loads_at, node_at, broker_at, query_at, are_few, are_distinct, nodes_in, brokers_in, list_at, nodes_at, brokers_at, queries_at, config_at};
 ghost use Rattle.druid_config.specs.Lent.{text_or, names_in};
 
+use crate::bad_field::{BadField, BrokerRule, NodeRule, QueryRule, WholeRule};
 use crate::fields::{
     address_field, count_field, list_field, name_field, object_field, place_field, some_field,
 };
@@ -32,46 +36,61 @@ fn has_loads(value: &Value) -> bool
     }
 }
 
-// Whether a value is a node.
+// The first field of a value that is no node's.
 #[tactic(auto, unfolding(crate::specs::Configs::node_at))]
-fn is_node(value: &Value) -> bool
-    ensures { result ≡ is_some (node_at (view value.now)) }
+fn node_rule(value: &Value) -> Option<NodeRule>
+    ensures test { is_none result ≡ is_some (node_at (view value.now)) }
+    ensures broken { (items : Items) (place : ℕ) → get_item place items ≡ Some (view value.now)
+        → IfSome result (λ rule. BreaksNode items place rule) }
 {
     if name_field(value).is_none() {
-        return false;
+        return Some(NodeRule::Name);
     }
     if address_field(value).is_none() {
-        return false;
+        return Some(NodeRule::Address);
     }
     if text_field(value, "folder").is_none() {
-        return false;
+        return Some(NodeRule::Folder);
     }
     if !has_loads(value) {
-        return false;
+        return Some(NodeRule::Loads);
     }
-    some_field(value, "workers", MAX_WORKERS).is_some()
+    if some_field(value, "workers", MAX_WORKERS).is_none() {
+        return Some(NodeRule::Workers);
+    }
+    None
 }
 
-// Whether a value is a broker.
+// The first field of a value that is no broker's.
 #[tactic(auto, unfolding(crate::specs::Configs::broker_at))]
-fn is_broker(value: &Value) -> bool
-    ensures { result ≡ is_some (broker_at (view value.now)) }
+fn broker_rule(value: &Value) -> Option<BrokerRule>
+    ensures test { is_none result ≡ is_some (broker_at (view value.now)) }
+    ensures broken { (items : Items) (place : ℕ) → get_item place items ≡ Some (view value.now)
+        → IfSome result (λ rule. BreaksBroker items place rule) }
 {
     if address_field(value).is_none() {
-        return false;
+        return Some(BrokerRule::Address);
     }
-    some_field(value, "workers", MAX_WORKERS).is_some()
+    if some_field(value, "workers", MAX_WORKERS).is_none() {
+        return Some(BrokerRule::Workers);
+    }
+    None
 }
 
-// Whether a value is a query to one of so many brokers.
+// The first field of a value that is not one of a query to one of so many brokers.
 #[tactic(auto, unfolding(crate::specs::Configs::query_at))]
-fn is_query(value: &Value, brokers: usize) -> bool
-    ensures { result ≡ is_some (query_at brokers (view value.now)) }
+fn query_rule(value: &Value, brokers: usize) -> Option<QueryRule>
+    ensures test { is_none result ≡ is_some (query_at brokers (view value.now)) }
+    ensures broken { (items : Items) (place : ℕ) → get_item place items ≡ Some (view value.now)
+        → IfSome result (λ rule. BreaksQuery brokers items place rule) }
 {
     if place_field(value, brokers).is_none() {
-        return false;
+        return Some(QueryRule::Broker);
     }
-    object_field(value).is_some()
+    if object_field(value).is_none() {
+        return Some(QueryRule::Query);
+    }
+    None
 }
 
 // The name of a node, empty where it has none.
@@ -106,16 +125,18 @@ fn stands_later(nodes: &[Value], place: usize) -> bool
     false
 }
 
-// Whether no name of a node stands twice.
-fn have_own_names(nodes: &[Value]) -> bool
-    ensures { result ≡ are_distinct (names_in nodes.now) }
+// The place of the first node whose name stands at a later one.
+fn doubled_name(nodes: &[Value]) -> Option<usize>
+    ensures test { is_none result ≡ are_distinct (names_in nodes.now) }
+    ensures doubled { IfSome result (λ place.
+        list_any (bytes_eq (slice_index_or (names_in nodes.now) place [])) (drop (place + 1) (names_in nodes.now)) ≡ true) }
 {
     for place in 0..nodes.len() {
         if stands_later(nodes, place) {
-            return false;
+            return Some(place);
         }
     }
-    true
+    None
 }
 
 // Whether there may be so many servers.
@@ -125,104 +146,142 @@ fn are_few(count: usize) -> bool
     1 <= count && count <= MAX_SERVERS
 }
 
-// Whether each value is a node.
-fn are_all_nodes(values: &[Value]) -> bool
-    ensures { result ≡ list_all (λ value. is_some (node_at (view value))) values.now }
+// The first value that is no node, and its first field that is not.
+fn bad_node(values: &[Value]) -> Option<(usize, NodeRule)>
+    ensures test { is_none result ≡ list_all (λ value. is_some (node_at (view value))) values.now }
+    ensures broken { IfSome result (λ r. BreaksNode (items_view values.now) r.0 r.1) }
 {
-    values.iter().all(|value| is_node(value))
+    for place in 0..values.len() {
+        if let Some(rule) = node_rule(&values[place]) {
+            return Some((place, rule));
+        }
+    }
+    None
 }
 
-// Whether values are the nodes of a cluster.
-#[tactic(auto, using(crate::proofs::FormLemmas::nodes_none, crate::proofs::FormLemmas::nodes_many, crate::proofs::FormLemmas::nodes_few))]
-fn are_nodes(values: &[Value]) -> bool
-    ensures { result ≡ is_some (nodes_in (items_view values.now)) }
+// What is wrong with values that are not the nodes of a cluster.
+#[tactic(auto, using(crate::proofs::FormLemmas::nodes_none, crate::proofs::FormLemmas::nodes_many, crate::proofs::FormLemmas::nodes_few, crate::proofs::BadLemmas::nodes_counted, crate::proofs::BadLemmas::name_twice))]
+fn bad_in_nodes(values: &[Value]) -> Option<BadField>
+    ensures test { is_none result ≡ is_some (nodes_in (items_view values.now)) }
+    ensures wrong { (d : Data) → list_at (codes "nodes") d ≡ Some (items_view values.now)
+        → IfSome result (λ bad. IsWrong bad d) }
 {
-    if !are_all_nodes(values) {
-        return false;
+    if let Some((place, rule)) = bad_node(values) {
+        return Some(BadField::Node(place, rule));
     }
     if !are_few(values.len()) {
-        return false;
+        return Some(BadField::Whole(WholeRule::NodeCount));
     }
-    have_own_names(values)
-}
-
-// Whether each value is a broker.
-fn are_all_brokers(values: &[Value]) -> bool
-    ensures { result ≡ list_all (λ value. is_some (broker_at (view value))) values.now }
-{
-    values.iter().all(|value| is_broker(value))
-}
-
-// Whether values are the brokers of a cluster.
-#[tactic(auto, using(crate::proofs::FormLemmas::brokers_none, crate::proofs::FormLemmas::brokers_some))]
-fn are_brokers(values: &[Value]) -> bool
-    ensures { result ≡ is_some (brokers_in (items_view values.now)) }
-{
-    if !are_all_brokers(values) {
-        return false;
+    match doubled_name(values) {
+        Some(place) => Some(BadField::Node(place, NodeRule::OwnName)),
+        None => None,
     }
-    are_few(values.len())
 }
 
-// Whether values are queries to so many brokers.
-fn are_queries(values: &[Value], brokers: usize) -> bool
-    ensures { result ≡ list_all (λ value. is_some (query_at brokers (view value))) values.now }
+// The first value that is no broker, and its first field that is not.
+fn bad_broker(values: &[Value]) -> Option<(usize, BrokerRule)>
+    ensures test { is_none result ≡ list_all (λ value. is_some (broker_at (view value))) values.now }
+    ensures broken { IfSome result (λ r. BreaksBroker (items_view values.now) r.0 r.1) }
 {
-    values.iter().all(|value| is_query(value, brokers))
+    for place in 0..values.len() {
+        if let Some(rule) = broker_rule(&values[place]) {
+            return Some((place, rule));
+        }
+    }
+    None
 }
 
-// Whether the nodes are there.
-fn has_nodes(value: &Value) -> bool
-    ensures { result ≡ is_some (nodes_at (view value.now)) }
+// What is wrong with values that are not the brokers of a cluster.
+#[tactic(auto, using(crate::proofs::FormLemmas::brokers_none, crate::proofs::FormLemmas::brokers_some, crate::proofs::BadLemmas::brokers_other))]
+fn bad_in_brokers(values: &[Value]) -> Option<BadField>
+    ensures test { is_none result ≡ is_some (brokers_in (items_view values.now)) }
+    ensures wrong { (d : Data) → list_at (codes "brokers") d ≡ Some (items_view values.now)
+        → IfSome result (λ bad. IsWrong bad d) }
+{
+    if let Some((place, rule)) = bad_broker(values) {
+        return Some(BadField::Broker(place, rule));
+    }
+    if !are_few(values.len()) {
+        return Some(BadField::Whole(WholeRule::BrokerCount));
+    }
+    None
+}
+
+// The first value that is no query to one of so many brokers, and its first field that is not.
+fn bad_query(values: &[Value], brokers: usize) -> Option<(usize, QueryRule)>
+    ensures test { is_none result ≡ list_all (λ value. is_some (query_at brokers (view value))) values.now }
+    ensures broken { IfSome result (λ r. BreaksQuery brokers (items_view values.now) r.0 r.1) }
+{
+    for place in 0..values.len() {
+        if let Some(rule) = query_rule(&values[place], brokers) {
+            return Some((place, rule));
+        }
+    }
+    None
+}
+
+// What is wrong with the nodes.
+fn wrong_nodes(value: &Value) -> Option<BadField>
+    ensures test { is_none result ≡ is_some (nodes_at (view value.now)) }
+    ensures wrong { IfSome result (λ bad. IsWrong bad (view value.now)) }
 {
     match list_field(value, "nodes") {
-        Some(values) => are_nodes(values),
-        None => false,
+        Some(values) => bad_in_nodes(values),
+        None => Some(BadField::Whole(WholeRule::Nodes)),
     }
 }
 
-// Whether the queries are there, to so many brokers.
-fn has_queries(value: &Value, brokers: usize) -> bool
-    ensures { result ≡ is_some (queries_at brokers (view value.now)) }
+// What is wrong with the queries to so many brokers.
+fn wrong_queries(value: &Value, brokers: usize) -> Option<BadField>
+    ensures test { is_none result ≡ is_some (queries_at brokers (view value.now)) }
+    ensures wrong { option_map length (brokers_at (view value.now)) ≡ Some brokers
+        → IfSome result (λ bad. IsWrong bad (view value.now)) }
 {
-    match list_field(value, "queries") {
-        Some(values) => are_queries(values, brokers),
-        None => false,
+    let Some(values) = list_field(value, "queries") else {
+        return Some(BadField::Whole(WholeRule::Queries));
+    };
+    match bad_query(values, brokers) {
+        Some((place, rule)) => Some(BadField::Query(place, rule)),
+        None => None,
     }
 }
 
-// How many brokers there are, where they are there.
+// How many brokers there are, or what is wrong with them.
 #[tactic(auto, using(crate::proofs::FormLemmas::brokers_counted, crate::proofs::FormLemmas::no_brokers_counted))]
-fn count_brokers(value: &Value) -> Option<usize>
-    ensures { result ≡ option_map length (brokers_at (view value.now)) }
+fn count_brokers(value: &Value) -> Result<usize, BadField>
+    ensures count { result_ok result ≡ option_map length (brokers_at (view value.now)) }
+    ensures wrong { IfErr result (λ bad. IsWrong bad (view value.now)) }
 {
-    let values = list_field(value, "brokers")?;
-    if are_brokers(values) {
-        Some(values.len())
-    } else {
-        None
+    let Some(values) = list_field(value, "brokers") else {
+        return Err(BadField::Whole(WholeRule::Brokers));
+    };
+    match bad_in_brokers(values) {
+        Some(bad) => Err(bad),
+        None => Ok(values.len()),
     }
 }
 
-// Whether a value is a config.
+/// The first field of a value that is wrong, in the order `connections`, `kept`, `turns`, `nodes`, `brokers`, `queries`: None
+/// exactly where the value is a config. Does not allocate.
 #[tactic(auto, unfolding(crate::specs::Configs::config_at))]
-pub(crate) fn is_config(value: &Value) -> bool
-    ensures { result ≡ is_some (config_at (view value.now)) }
+pub fn bad_field_of(value: &Value) -> Option<BadField>
+    ensures test { is_none result ≡ is_some (config_at (view value.now)) }
+    ensures wrong { IfSome result (λ bad. IsWrong bad (view value.now)) }
 {
     if count_field(value, "connections").is_none() {
-        return false;
+        return Some(BadField::Whole(WholeRule::Connections));
     }
     if some_field(value, "kept", MAX_KEPT).is_none() {
-        return false;
+        return Some(BadField::Whole(WholeRule::Kept));
     }
     if count_field(value, "turns").is_none() {
-        return false;
+        return Some(BadField::Whole(WholeRule::Turns));
     }
-    if !has_nodes(value) {
-        return false;
+    if let Some(bad) = wrong_nodes(value) {
+        return Some(bad);
     }
     match count_brokers(value) {
-        Some(brokers) => has_queries(value, brokers),
-        None => false,
+        Ok(brokers) => wrong_queries(value, brokers),
+        Err(bad) => Some(bad),
     }
 }

@@ -1,6 +1,7 @@
 //! The config of a cluster, read out of JSON.
 #![tactic(auto)]
 
+mod bad_field;
 mod building;
 mod config;
 mod fault;
@@ -9,10 +10,12 @@ mod judging;
 mod laws;
 mod reading;
 
+pub use bad_field::{BadField, BrokerRule, NodeRule, QueryRule, WholeRule};
 pub use config::{
     BrokerConfig, Config, MAX_COUNT, MAX_KEPT, MAX_PORT, MAX_SERVERS, MAX_WORKERS, NodeConfig,
     QueryConfig, names_in,
 };
 pub use fault::ConfigFault;
+pub use judging::bad_field_of;
 pub use laws::{addresses_name_ports, configs_are_within_limits};
-pub use reading::{config_of, read_config};
+pub use reading::{bad_field_in, config_of, read_config};

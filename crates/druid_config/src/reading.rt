@@ -1,14 +1,14 @@
 //! Configs, read.
-ghost use Rattle.std.specs.Prelude.{◌≤◌};
+ghost use Rattle.std.specs.Prelude.{◌≤◌, IfOk, OnErr, IsUtf8};
 ghost use Rattle.serde_json.specs.Data.{depth};
 ghost use Rattle.serde_json.specs.Read.{max_depth};
 ghost use Rattle.serde_json.specs.View.{view};
 ghost use Rattle.druid_config.specs.Configs.{config_at};
-ghost use Rattle.druid_config.specs.Read.{Gives, IsReadOf};
+ghost use Rattle.druid_config.specs.Read.{Gives, IsReadOf, IsFoundIn};
 
 use crate::building::built;
-use crate::judging::is_config;
-use crate::{Config, ConfigFault};
+use crate::judging::bad_field_of;
+use crate::{BadField, Config, ConfigFault};
 use serde_json::Value;
 use std::alloc::{AllocError, Global};
 use std::str;
@@ -19,7 +19,7 @@ pub fn config_of(alloc: Global, value: &Value) -> Result<Config, ConfigFault>
     requires { depth (view value.now) ≤ max_depth }
     ensures { Gives result (config_at (view value.now)) }
 {
-    if !is_config(value) {
+    if bad_field_of(value).is_some() {
         return Err(ConfigFault::Refused);
     }
     match built(alloc, value) {
@@ -40,6 +40,24 @@ pub fn read_config(alloc: Global, bytes: &[u8]) -> Result<Config, ConfigFault>
                 Err(ConfigFault::Memory)
             } else {
                 Err(ConfigFault::Refused)
+            }
+        }
+    }
+}
+
+/// The first field of bytes that is wrong, None exactly where they are a config. Reading JSON allocates, so memory may be refused,
+/// of bytes in UTF-8 alone.
+pub fn bad_field_in(alloc: Global, bytes: &[u8]) -> Result<Option<BadField>, AllocError>
+    ensures found { IfOk result (IsFoundIn bytes.now) }
+    ensures memory { OnErr result (IsUtf8 bytes.now) }
+{
+    match Value::from_slice(alloc, bytes) {
+        Ok(value) => Ok(bad_field_of(&value)),
+        Err(error) => {
+            if error.is_memory() && str::from_utf8(bytes).is_ok() {
+                Err(AllocError)
+            } else {
+                Ok(Some(BadField::Json))
             }
         }
     }

@@ -6,7 +6,6 @@ ghost use Rattle.druid_serve.specs.Printed.{number_of, answer_lines, fault_lines
 
 use druid_link::{Link, TcpLink};
 use druid_message::{Request, WireFault};
-use druid_serve_node::DeviceFailed;
 use druid_wire::{request_bytes, response_of};
 use http::{Method, StatusCode};
 use std::alloc::Global;
@@ -75,21 +74,18 @@ fn print<W: Write>(answer: &Result<Vec<u8>, WireFault>, out: &mut W) -> io::Resu
 }
 
 /// Posts a query to the broker at an address, and prints the answer: its status and its body, or the number of its fault and
-/// an empty line. What cannot be printed is a failed device.
+/// an empty line. An error where it cannot be printed, or memory runs out for the address.
 pub(crate) fn ask<R: Net + Clock + Copy, W: Write>(
     rt: &R,
     alloc: Global,
     query: &str,
     address: &str,
     out: &mut W,
-) -> Result<(), DeviceFailed>
+) -> io::Result<()>
     ensures { OnOk result ((came : Came) × (text : List ℕ) × IsPrinted came text
         × Appends (W.contents out.old) (W.contents out.new) text) }
 {
     let mut link = TcpLink::new(*rt, String::from_str(alloc, address)?);
     let answer = posted(alloc, query, &mut link);
-    match print(&answer, out) {
-        Ok(()) => Ok(()),
-        Err(_) => Err(DeviceFailed),
-    }
+    print(&answer, out)
 }

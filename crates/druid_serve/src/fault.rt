@@ -14,7 +14,7 @@ pub enum ServeFault {
     BadConfig,
     /// A segment file or an incarnation file is refused at the start.
     BadFolder,
-    /// A device failed, or memory was refused.
+    /// A device failed, or memory ran out.
     Device,
 }
 

@@ -7,6 +7,7 @@ mod fault;
 mod gate;
 mod program;
 mod serving;
+mod stop;
 
 pub use druid_serve_node::PEER_SECONDS;
 pub use fault::ServeFault;

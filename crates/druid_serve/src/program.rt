@@ -1,6 +1,7 @@
 //! What the program does with its words.
 ghost use Rattle.std.specs.Prelude.{◌≡◌, ◌∷◌, ◌++◌, [], ⊤, ℕ, List, Result, IfOk, OnOk, OnErr, map, string_bytes};
 ghost use Rattle.std.specs.Io.KnownBytes.{Appends, Keeps};
+ghost use Rattle.druid_command_line.specs.Reasons.{Reports};
 ghost use Rattle.druid_command_line.specs.Words.{AsksForReplay, AsksForServe};
 ghost use Rattle.druid_cluster.specs.Program.{Replays, usage_line, exit_status as replay_status, fault_line as replay_line};
 ghost use Rattle.druid_cluster.specs.Status.{fault_text as replay_fault_text};
@@ -9,7 +10,8 @@ ghost use Rattle.druid_serve.specs.Program.{exit_status, fault_line};
 ghost use Rattle.druid_serve.specs.declared.fault.ServeFault.{ServeFault};
 
 use crate::ServeFault;
-use crate::serving::{report, serve};
+use crate::serving::{report_end, serve};
+use crate::stop::Ended;
 use druid_cluster::run_program;
 use druid_command_line::{Ending, asks_for_serve};
 use std::alloc::Global;
@@ -34,12 +36,16 @@ fn front_of<R: Files>(rt: &R, alloc: Global, path: &str) -> io::Result<Vec<u8>> 
 }
 
 // The config at a path.
-fn config_at<R: Files>(rt: &R, alloc: Global, path: &str) -> Result<Vec<u8>, ServeFault> {
+fn config_at<R: Files>(rt: &R, alloc: Global, path: &str) -> Result<Vec<u8>, Ended> {
     let Ok(bytes) = front_of(rt, alloc, path) else {
-        return Err(ServeFault::Device);
+        return Err(Ended {
+            fault: ServeFault::Device,
+            reason: format!(in alloc; "{path}: not read").ok(),
+        });
     };
     if MAX_CONFIG < bytes.len() {
-        return Err(ServeFault::BadConfig);
+        let text = "the config: more than 16777216 bytes";
+        return Err(Ended::new(alloc, ServeFault::BadConfig, text));
     }
     Ok(bytes)
 }
@@ -58,20 +64,20 @@ fn serve_file<
         + 'static,
     W: Write,
     E: Write,
->(rt: &R, alloc: Global, path: &str, writer: &mut W, errors: &mut E) -> Ending
+>(rt: &R, alloc: Global, path: &str, writer: &mut W, errors: &mut E, explain: bool) -> Ending
 where
     R::Dir: Send,
     ensures { (end : Result ⊤ ServeFault) × (result.status ≡ exit_status end)
-        × OnOk result.reported (Appends (E.contents errors.old) (E.contents errors.new) (fault_line end)) }
+        × OnOk result.reported (Reports explain (E.contents errors.old) (E.contents errors.new) (fault_line end)) }
 {
     match config_at(rt, alloc, path) {
-        Ok(config) => serve(rt, alloc, &config, writer, errors),
-        Err(fault) => report(errors, fault),
+        Ok(config) => serve(rt, alloc, &config, writer, errors, explain),
+        Err(ended) => report_end(alloc, errors, ended, explain),
     }
 }
 
 /// The whole program, over its arguments, standard input, standard output and standard error. `serve CONFIG` serves the
-/// cluster of the config at that path, and reports a fault on the error writer; all else is up to
+/// cluster of the config at that path, and reports a fault on the error writer, and below it, where `explain` is set, what was wrong; all else is up to
 /// `druid_cluster::run_program`.
 pub fn run<
     R: Files<File = File>
@@ -94,6 +100,7 @@ pub fn run<
     reader: &mut I,
     writer: &mut W,
     errors: &mut E,
+    explain: bool,
 ) -> Ending
 where
     R::Dir: Send,
@@ -109,18 +116,18 @@ where
         × OnOk result.reported (Appends (E.contents errors.old) (E.contents errors.new) usage_line)) }
     ensures served { IfOk words (λ list. AsksForServe (map string_bytes list.items)
         → (end : Result ⊤ ServeFault) × (result.status ≡ exit_status end)
-        × OnOk result.reported (Appends (E.contents errors.old) (E.contents errors.new) (fault_line end))) }
+        × OnOk result.reported (Reports explain (E.contents errors.old) (E.contents errors.new) (fault_line end))) }
     ensures replayed { IfOk words (λ list. AsksForReplay (map string_bytes list.items)
         → (end : Result ⊤ ReplayFault)
         × Replays (I.remaining reader.old) (W.contents writer.old) (W.contents writer.new) end
         × (result.status ≡ replay_status end)
-        × OnOk result.reported (Appends (E.contents errors.old) (E.contents errors.new) (replay_line end))) }
+        × OnOk result.reported (Reports explain (E.contents errors.old) (E.contents errors.new) (replay_line end))) }
 {
     match words {
         Ok(words) if asks_for_serve(&words) => {
-            serve_file(rt, alloc, words[1].as_str(), writer, errors)
+            serve_file(rt, alloc, words[1].as_str(), writer, errors, explain)
         }
-        Ok(words) => run_program(alloc, Ok(words), reader, writer, errors),
-        Err(error) => run_program(alloc, Err(error), reader, writer, errors),
+        Ok(words) => run_program(alloc, Ok(words), reader, writer, errors, explain),
+        Err(error) => run_program(alloc, Err(error), reader, writer, errors, explain),
     }
 }

@@ -1,6 +1,7 @@
 //! A cluster, from its config to its end.
-ghost use Rattle.std.specs.Prelude.{◌≡◌, ◌<◌, ◌≤◌, ◌∷◌, ◌++◌, [], ⊤, Result, All, IfOk, OnOk, length};
+ghost use Rattle.std.specs.Prelude.{◌≡◌, ◌<◌, ◌≤◌, ◌∷◌, ◌++◌, [], ⊤, Result, Err, All, IfOk, IfErr, OnOk, length};
 ghost use Rattle.std.specs.Io.KnownBytes.{Appends};
+ghost use Rattle.druid_command_line.specs.Reasons.{Reports};
 ghost use Rattle.druid_shard.specs.Reply.{max_changes};
 ghost use Rattle.druid_inventory.specs.Entry.{max_nodes};
 ghost use Rattle.druid_serve.specs.Faults.{status_of, fault_text};
@@ -11,11 +12,12 @@ use crate::ServeFault;
 use crate::asking::ask;
 use crate::broker::{Broker, Opening, start_broker};
 use crate::gate::Gate;
-use druid_command_line::{Ending, Exit};
+use crate::stop::{Ended, Stop};
+use druid_command_line::{Ending, Exit, reason_text, write_below};
 use druid_config::{BrokerConfig, Config, NodeConfig, QueryConfig, names_in, read_config};
 use druid_inventory::Inventory;
 use druid_published::Opened;
-use druid_serve_node::{ClusterFault, DeviceFailed, listen, start_node};
+use druid_serve_node::{DeviceFailed, listen, start_node};
 use std::alloc::Global;
 use std::fs::File;
 use std::io::Write;
@@ -38,20 +40,19 @@ fn start_nodes<
         + Send
         + Sync
         + 'static,
->(
-    rt: &R,
-    alloc: Global,
-    nodes: &[NodeConfig],
-    kept: usize,
-) -> Result<Vec<JoinHandle<()>>, ClusterFault>
+>(rt: &R, alloc: Global, nodes: &[NodeConfig], kept: usize) -> Result<Vec<JoinHandle<()>>, Stop>
 where
     R::Dir: Send,
     requires some { 1 ≤ kept }
     requires few { kept ≤ max_changes }
 {
     let mut loaders = Vec::new(alloc);
-    for node in nodes {
-        loaders.push(start_node::<R, Brand, Brand>(rt, alloc, node, kept)?)?;
+    for place in 0..nodes.len() {
+        let node = &nodes[place];
+        match start_node::<R, Brand, Brand>(rt, alloc, node, kept) {
+            Ok(loader) => loaders.push(loader)?,
+            Err(start) => return Err(Stop::at_node(alloc, place, node, start)),
+        }
     }
     Ok(loaders)
 }
@@ -61,10 +62,14 @@ fn listen_all<R: Net<Listener = TcpListener, Stream = TcpStream>>(
     rt: &R,
     alloc: Global,
     brokers: &[BrokerConfig],
-) -> Result<Vec<Arc<TcpListener, Global>>, DeviceFailed> {
+) -> Result<Vec<Arc<TcpListener, Global>>, Stop> {
     let mut listeners = Vec::with_capacity(alloc, brokers.len())?;
-    for broker in brokers {
-        listeners.push(Arc::new(alloc, listen(rt, broker.address())?)?)?;
+    for place in 0..brokers.len() {
+        let broker = &brokers[place];
+        let Ok(listener) = listen(rt, broker.address()) else {
+            return Err(Stop::at_broker(alloc, place, broker));
+        };
+        listeners.push(Arc::new(alloc, listener)?)?;
     }
     Ok(listeners)
 }
@@ -77,7 +82,7 @@ fn fresh(alloc: Global, nodes: &[NodeConfig]) -> Result<Inventory, DeviceFailed>
 {
     match Inventory::new(alloc, names_in(alloc, nodes)?) {
         Ok(inventory) => Ok(inventory),
-        // No name stands twice, so memory was refused.
+        // No name stands twice, so memory ran out.
         Err(_) => Err(DeviceFailed),
     }
 }
@@ -120,7 +125,7 @@ fn start_brokers<
     brokers: &[BrokerConfig],
     turns: u64,
     nodes: &[NodeConfig],
-) -> Result<Vec<Broker>, DeviceFailed>
+) -> Result<Vec<Broker>, Stop>
     requires some { 1 ≤ length nodes.now }
     requires few { length nodes.now ≤ max_nodes }
 {
@@ -169,12 +174,14 @@ fn ask_all<R: Net + Clock + Copy, W: Write>(
     queries: &[QueryConfig],
     brokers: &[BrokerConfig],
     out: &mut W,
-) -> Result<(), DeviceFailed>
+) -> Result<(), Stop>
     requires { All (λ q. q.broker < length brokers.now) queries.now }
 {
     for query in queries {
         let broker = &brokers[query.broker()];
-        ask(rt, alloc, query.text(), broker.address(), out)?;
+        if let Err(error) = ask(rt, alloc, query.text(), broker.address(), out) {
+            return Err(Stop::at_output(alloc, &error));
+        }
     }
     Ok(())
 }
@@ -182,15 +189,16 @@ fn ask_all<R: Net + Clock + Copy, W: Write>(
 // Waits until each broker answered so many connections from outside. What was printed is there before.
 fn wait_for_others<R: Wait, W: Write>(
     rt: &R,
+    alloc: Global,
     gates: &[Arc<Gate, Global>],
     connections: u64,
     out: &mut W,
-) -> Result<(), DeviceFailed> {
+) -> Result<(), Stop> {
     for gate in gates {
         gate.open(rt);
     }
-    if out.flush().is_err() {
-        return Err(DeviceFailed);
+    if let Err(error) = out.flush() {
+        return Err(Stop::at_output(alloc, &error));
     }
     for gate in gates {
         gate.wait(rt, connections);
@@ -211,7 +219,7 @@ fn serve_cluster<
         + Sync
         + 'static,
     W: Write,
->(rt: &R, alloc: Global, config: &Config, out: &mut W) -> Result<(), ClusterFault>
+>(rt: &R, alloc: Global, config: &Config, out: &mut W) -> Result<(), Stop>
 where
     R::Dir: Send,
 {
@@ -219,7 +227,7 @@ where
     let standing = start_brokers(rt, alloc, config.brokers(), config.turns(), config.nodes())?;
     let gates = settled(rt, alloc, loaders, standing)?;
     ask_all(rt, alloc, config.queries(), config.brokers(), out)?;
-    Ok(wait_for_others(rt, &gates, config.connections(), out)?)
+    wait_for_others(rt, alloc, &gates, config.connections(), out)
 }
 
 // Serves the cluster of a config to its end.
@@ -235,18 +243,26 @@ fn serve_config<
         + Sync
         + 'static,
     W: Write,
->(rt: &R, alloc: Global, bytes: &[u8], out: &mut W) -> Result<(), ServeFault>
+>(rt: &R, alloc: Global, bytes: &[u8], out: &mut W) -> Result<(), Ended>
 where
     R::Dir: Send,
-    ensures judged { ServesAs bytes.now result }
+    ensures ok { OnOk result (IsConfig bytes.now) }
+    ensures err { IfErr result (λ ended. ServesAs bytes.now (Err ended.fault)) }
     ensures nothing { (IsConfig bytes.now → ⊥) → W.contents out.new ≡ W.contents out.old }
 {
-    let config = read_config(alloc, bytes)?;
-    Ok(serve_cluster(rt, alloc, &config, out)?)
+    let config = match read_config(alloc, bytes) {
+        Ok(config) => config,
+        Err(fault) => return Err(Ended::unread(alloc, bytes, fault)),
+    };
+    match serve_cluster(rt, alloc, &config, out) {
+        Ok(()) => Ok(()),
+        Err(stop) => Err(stop.into()),
+    }
 }
 
 /// Serves the cluster of a config, prints the answers to its queries, and ends once each broker answered the connections from
-/// outside that the config asks for. It ends with status 0, or with that of the fault that it reports on the error writer. The
+/// outside that the config asks for. It ends with status 0, or with that of the fault that it reports on the error writer; where `explain`
+/// is set, what kept the cluster stands below it, in a line that is indented, unless memory ran out for it. The
 /// threads that still wait for connections are left. Status 0 only where the bytes are a config; where they are none, nothing is
 /// printed.
 pub fn serve<
@@ -262,12 +278,12 @@ pub fn serve<
         + 'static,
     W: Write,
     E: Write,
->(rt: &R, alloc: Global, config: &[u8], out: &mut W, errors: &mut E) -> Ending
+>(rt: &R, alloc: Global, config: &[u8], out: &mut W, errors: &mut E, explain: bool) -> Ending
 where
     R::Dir: Send,
     ensures served { (end : Result ⊤ ServeFault) × ServesAs config.now end
         × (result.status ≡ exit_status end)
-        × OnOk result.reported (Appends (E.contents errors.old) (E.contents errors.new) (fault_line end)) }
+        × OnOk result.reported (Reports explain (E.contents errors.old) (E.contents errors.new) (fault_line end)) }
     ensures nothing { (IsConfig config.now → ⊥) → W.contents out.new ≡ W.contents out.old }
 {
     match serve_config(rt, alloc, config, out) {
@@ -275,12 +291,12 @@ where
             status: Exit::Done.status(),
             reported: Ok(()),
         },
-        Err(fault) => report(errors, fault),
+        Err(ended) => report_end(alloc, errors, ended, explain),
     }
 }
 
-/// Ends with the status of a fault, and reports it.
-pub(crate) fn report<E: Write>(errors: &mut E, fault: ServeFault) -> Ending
+// Ends with the status of a fault, and reports it.
+fn report<E: Write>(errors: &mut E, fault: ServeFault) -> Ending
     ensures status { result.status ≡ status_of fault }
     ensures reported { OnOk result.reported
         (Appends (E.contents errors.old) (E.contents errors.new) (fault_text fault ++ 10 ∷ [])) }
@@ -288,5 +304,30 @@ pub(crate) fn report<E: Write>(errors: &mut E, fault: ServeFault) -> Ending
     Ending {
         status: fault.status(),
         reported: writeln!(errors, "{fault}"),
+    }
+}
+
+/// Ends with the status of a fault, and reports it with what kept the cluster below, if that is asked for.
+pub(crate) fn report_end<E: Write>(
+    alloc: Global,
+    errors: &mut E,
+    ended: Ended,
+    explain: bool,
+) -> Ending
+    ensures status { result.status ≡ status_of ended.fault }
+    ensures reported { OnOk result.reported
+        (Reports explain (E.contents errors.old) (E.contents errors.new) (fault_text ended.fault ++ 10 ∷ [])) }
+{
+    let ending = report(errors, ended.fault);
+    if !explain {
+        return ending;
+    }
+    let reason = match ended.reason {
+        Some(text) => reason_text(alloc, &text),
+        None => None,
+    };
+    Ending {
+        status: ending.status,
+        reported: write_below(errors, ending.reported, reason),
     }
 }

@@ -5,14 +5,14 @@ ghost use Rattle.druid_serve_node.specs.declared.fault.ClusterFault.TheVariants.
 
 use druid_folder::StoreFault;
 use druid_node::NodeFault;
-use std::alloc::{AllocError, AllocFailed};
+use std::alloc::{AllocError, AllocFailed, Global};
 
 /// Why a cluster whose config was read is not served.
 #[derive(Clone, Copy, Debug, PartialEq, Eq, Drop)]
 pub enum ClusterFault {
     /// A segment file or an incarnation file is refused at the start.
     BadFolder,
-    /// A device failed, or memory was refused.
+    /// A device failed, or memory ran out.
     Device,
 }
 
@@ -67,7 +67,7 @@ impl From<NodeFault> for ClusterFault {
     }
 }
 
-/// A device failed, or memory was refused: all that can keep threads and sockets from their start.
+/// A device failed, or memory ran out: all that can keep threads and sockets from their start.
 #[derive(Clone, Copy, Drop)]
 pub struct DeviceFailed;
 
@@ -84,5 +84,89 @@ impl<T: Drop> From<AllocFailed<T>> for DeviceFailed {
 
     fn from(_error: AllocFailed<T>) -> DeviceFailed {
         DeviceFailed
+    }
+}
+
+/// What kept a data node from its start.
+#[derive(Debug, Drop)]
+pub enum Cause {
+    /// The segment file of that name.
+    File(String, NodeFault),
+    /// The file that keeps the incarnation.
+    Incarnation(StoreFault),
+    /// The names of the folder's files.
+    Names(StoreFault),
+    /// The socket that listens.
+    Listener,
+    /// Memory, or a thread.
+    Memory,
+}
+
+/// Why a data node does not start: its fault, and what kept it, where memory was there to say it.
+#[derive(Debug, Drop)]
+pub struct StartFault {
+    /// The fault.
+    pub fault: ClusterFault,
+    /// What kept the node from its start.
+    pub cause: Option<Cause>,
+}
+
+impl StartFault {
+    // The fault of a device.
+    pub(crate) fn device(cause: Cause) -> StartFault
+        ensures { result.fault ≡ Device }
+    {
+        StartFault {
+            fault: ClusterFault::Device,
+            cause: Some(cause),
+        }
+    }
+
+    // The fault of a call on a folder.
+    pub(crate) fn of_store(fault: StoreFault, cause: Cause) -> StartFault
+        ensures { result.fault ≡ of_store fault }
+    {
+        StartFault {
+            fault: fault.into(),
+            cause: Some(cause),
+        }
+    }
+
+    // The fault of a segment file.
+    pub(crate) fn of_file(alloc: Global, name: &str, fault: NodeFault) -> StartFault
+        ensures { result.fault ≡ of_node fault }
+    {
+        let cause = match String::from_str(alloc, name) {
+            Ok(name) => Some(Cause::File(name, fault)),
+            Err(_) => None,
+        };
+        StartFault {
+            fault: fault.into(),
+            cause,
+        }
+    }
+}
+
+impl From<AllocError> for StartFault {
+    ghost from_gives = { λ _ start. start.fault ≡ Device };
+
+    fn from(_error: AllocError) -> StartFault {
+        StartFault::device(Cause::Memory)
+    }
+}
+
+impl<T: Drop> From<AllocFailed<T>> for StartFault {
+    ghost from_gives = { λ _ start. start.fault ≡ Device };
+
+    fn from(_error: AllocFailed<T>) -> StartFault {
+        StartFault::device(Cause::Memory)
+    }
+}
+
+impl From<DeviceFailed> for StartFault {
+    ghost from_gives = { λ _ start. start.fault ≡ Device };
+
+    fn from(_failed: DeviceFailed) -> StartFault {
+        StartFault::device(Cause::Memory)
     }
 }

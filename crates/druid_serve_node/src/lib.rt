@@ -5,6 +5,6 @@ mod fault;
 mod node;
 mod outside;
 
-pub use fault::{ClusterFault, DeviceFailed};
+pub use fault::{Cause, ClusterFault, DeviceFailed, StartFault};
 pub use node::{load_later, start_node};
 pub use outside::{PEER_SECONDS, REST_MILLISECONDS, limit, listen};

@@ -1,17 +1,19 @@
 //! A data node: its folder, its sockets and its threads.
-ghost use Rattle.std.specs.Prelude.{◌≡◌, ◌≢◌, ◌≤◌, [], All, Some, IfOk, OnOk, map, string_bytes};
+ghost use Rattle.std.specs.Prelude.{◌≡◌, ◌≢◌, ◌≤◌, [], All, Some, Ok, IfOk, OnOk, map, string_bytes};
 ghost use Rattle.std.specs.declared.cmp.Ordering.TheVariants.{Greater};
 ghost use Rattle.druid_shard.specs.Mark.{mark_cmp};
 ghost use Rattle.druid_shard.specs.Reply.{max_changes};
 ghost use Rattle.druid_changes.specs.Kept.{StandsFor};
-ghost use Rattle.druid_folder.specs.Folder.{names_of};
+ghost use Rattle.druid_rows.specs.Segment.{Segment};
+ghost use Rattle.druid_folder.specs.Folder.{names_of, read_part};
+ghost use Rattle.druid_node.specs.Files.{file_at};
 ghost use Rattle.druid_incarnation.specs.Incarnation.{number_file, number_text};
 ghost use Rattle.druid_serve_node.specs.Files.{is_segment_file, IsTaken, HoldsSegments, IsStarted};
 
-use crate::fault::{ClusterFault, DeviceFailed};
+use crate::fault::{Cause, DeviceFailed, StartFault};
 use crate::outside::{REST_MILLISECONDS, limit, listen};
 use druid_config::NodeConfig;
-use druid_folder::Folder;
+use druid_folder::{Folder, StoreFault};
 use druid_incarnation::next_incarnation;
 use druid_node::{DataNode, Incarnation, NodeState};
 use druid_shard::Mark;
@@ -48,21 +50,42 @@ fn is_segment_file(name: &str) -> bool
     name.as_bytes().ends_with(SEGMENT_END)
 }
 
+// Loads a segment file.
+fn load_one<R: Wait, F: Folder, I: Incarnation>(
+    rt: &R,
+    alloc: Global,
+    node: &DataNode<I>,
+    folder: &mut F,
+    name: &str,
+    seen: &mut Mark,
+) -> Result<(), StartFault>
+    ensures ok { F.is_honest folder.new
+        → OnOk result ((s : Segment) × (file_at name.now (read_part (F.content folder.old name.now)) ≡ Ok s)) }
+    ensures content { F.is_honest folder.new → F.content folder.new ≡ F.content folder.old }
+    ensures honest { F.is_honest folder.new → F.is_honest folder.old }
+{
+    match node.load_file(rt, folder, name, seen) {
+        Ok(()) => Ok(()),
+        Err(fault) => Err(StartFault::of_file(alloc, name, fault)),
+    }
+}
+
 // Loads the segment files among these.
 fn load_named<R: Wait, F: Folder, I: Incarnation>(
     rt: &R,
+    alloc: Global,
     node: &DataNode<I>,
     folder: &mut F,
     names: &[String],
     seen: &mut Mark,
-) -> Result<(), ClusterFault>
+) -> Result<(), StartFault>
     ensures ok { F.is_honest folder.new → OnOk result (All (IsTaken (F.content folder.old)) (names_of names.now)) }
     ensures content { F.is_honest folder.new → F.content folder.new ≡ F.content folder.old }
     ensures honest { F.is_honest folder.new → F.is_honest folder.old }
 {
     for name in names {
         if is_segment_file(name.as_str()) {
-            node.load_file(rt, folder, name.as_str(), seen)?;
+            load_one(rt, alloc, node, folder, name.as_str(), seen)?;
         }
     }
     Ok(())
@@ -74,11 +97,14 @@ fn load_files<R: Wait, F: Folder, I: Incarnation>(
     alloc: Global,
     node: &DataNode<I>,
     folder: &mut F,
-) -> Result<(), ClusterFault>
+) -> Result<(), StartFault>
     ensures { F.is_honest folder.new → OnOk result (HoldsSegments (F.content folder.new)) }
 {
-    let names = folder.list(alloc)?;
-    load_named(rt, node, folder, &names, &mut Mark::never())
+    let names = match folder.list(alloc) {
+        Ok(names) => names,
+        Err(fault) => return Err(StartFault::of_store(fault, Cause::Names(fault))),
+    };
+    load_named(rt, alloc, node, folder, &names, &mut Mark::never())
 }
 
 // The state in which a node of a folder starts: it raises the incarnation, and reads no segment.
@@ -86,7 +112,7 @@ fn first_state<F: Folder>(
     alloc: Global,
     folder: &mut F,
     kept: usize,
-) -> Result<NodeState, ClusterFault>
+) -> Result<NodeState, StartFault>
     requires some { 1 ≤ kept }
     requires few { kept ≤ max_changes }
     ensures next { F.is_honest folder.new
@@ -94,12 +120,22 @@ fn first_state<F: Folder>(
     ensures kept { IfOk result (λ state. state.history.limit ≡ kept) }
     ensures nothing { IfOk result (λ state. StandsFor state.history [] × (state.held ≡ [])) }
 {
-    let incarnation = next_incarnation(alloc, folder)?;
+    let incarnation = match next_incarnation(alloc, folder) {
+        Ok(incarnation) => incarnation,
+        Err(fault) => return Err(StartFault::of_store(fault, Cause::Incarnation(fault))),
+    };
     // A device that lies may give anything.
     if incarnation < 1 {
-        return Err(ClusterFault::Device);
+        let cause = Cause::Incarnation(StoreFault::Device);
+        return Err(StartFault::device(cause));
     }
-    Ok(NodeState::new(alloc, incarnation, kept)?)
+    match NodeState::new(alloc, incarnation, kept) {
+        Ok(state) => Ok(state),
+        Err(fault) => Err(StartFault {
+            fault: fault.into(),
+            cause: Some(Cause::Memory),
+        }),
+    }
 }
 
 // A node that goes on from that state, with the segments of a folder.
@@ -108,7 +144,7 @@ fn loaded<R: Wait, F: Folder, I: Incarnation>(
     alloc: Global,
     folder: &mut F,
     state: NodeState,
-) -> Result<DataNode<I>, ClusterFault>
+) -> Result<DataNode<I>, StartFault>
     requires { state.history.incarnation ≡ I.number }
     ensures { F.is_honest folder.new → OnOk result (HoldsSegments (F.content folder.new)) }
 {
@@ -253,14 +289,17 @@ fn start_from<
     config: &NodeConfig,
     folder: &mut F,
     state: NodeState,
-) -> Result<JoinHandle<()>, ClusterFault>
+) -> Result<JoinHandle<()>, StartFault>
 where
     R::Dir: Send,
     requires own { state.history.incarnation ≡ I.number }
     requires has { F.is_honest folder.old → F.content folder.old number_file ≡ Some (number_text state.history.incarnation) }
 {
     let node: Arc<DataNode<I>, Global> = Arc::new(alloc, loaded(rt, alloc, folder, state)?)?;
-    let listener = Arc::new(alloc, listen(rt, config.address())?)?;
+    let Ok(listener) = listen(rt, config.address()) else {
+        return Err(StartFault::device(Cause::Listener));
+    };
+    let listener = Arc::new(alloc, listener)?;
     let path = String::from_str(alloc, config.folder())?;
     let loads = copies_of(alloc, config.loads())?;
     let loader = start_loader::<R, L, I>(rt, &node, path, loads)?;
@@ -286,7 +325,7 @@ pub fn start_node<
         + 'static,
     D: Device,
     L: Device + Send + Sync + 'static,
->(rt: &R, alloc: Global, config: &NodeConfig, kept: usize) -> Result<JoinHandle<()>, ClusterFault>
+>(rt: &R, alloc: Global, config: &NodeConfig, kept: usize) -> Result<JoinHandle<()>, StartFault>
 where
     R::Dir: Send,
     requires some { 1 ≤ kept }

@@ -8,8 +8,8 @@ fn whole() -> &'static str {
     "{\"brokers\":[{\"address\":\"127.0.0.1:9001\",\"workers\":16}],\"connections\":0,\"kept\":1000,\"nodes\":[{\"address\":\"127.0.0.1:65535\",\"folder\":\"f\",\"loads\":[\"a.seg\"],\"name\":\"n0\",\"workers\":1}],\"queries\":[{\"broker\":0,\"query\":{}}],\"turns\":1000000}"
 }
 
-// What stands before the first such text, and what after it.
-fn halves<'a>(rt: &impl Abort, text: &'a str, between: &str) -> (&'a str, &'a str) {
+/// What stands before the first such text, and what after it.
+pub(crate) fn halves<'a>(rt: &impl Abort, text: &'a str, between: &str) -> (&'a str, &'a str) {
     text.split_once(between).expect(rt, "no such text")
 }
 
@@ -21,8 +21,8 @@ fn told_of(alloc: Global, text: String) -> &'static str {
     }
 }
 
-// The config in which a text stands in the place of another.
-fn changed(rt: &impl Abort, alloc: Global, from: &str, to: &str) -> String {
+/// The config in which a text stands in the place of another.
+pub(crate) fn changed(rt: &impl Abort, alloc: Global, from: &str, to: &str) -> String {
     let (front, back) = halves(rt, whole(), from);
     format!(in alloc; "{front}{to}{back}").expect(rt, "memory")
 }
@@ -152,8 +152,8 @@ fn numbers_of_brokers_and_queries(rt: HostRuntime) {
     }
 }
 
-// A config of two nodes of one name.
-fn with_doubled(rt: &impl Abort, alloc: Global) -> String {
+/// A config of two nodes of one name.
+pub(crate) fn with_doubled(rt: &impl Abort, alloc: Global) -> String {
     let text = with_nodes(rt, alloc, 2);
     let (front, back) = halves(rt, text.as_str(), "n1");
     format!(in alloc; "{front}n0{back}").expect(rt, "memory")

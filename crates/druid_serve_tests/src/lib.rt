@@ -5,6 +5,8 @@
 #[cfg(test)]
 mod config;
 #[cfg(test)]
+mod explaining;
+#[cfg(test)]
 mod folders;
 #[cfg(test)]
 mod host;

@@ -24,8 +24,10 @@ pub(crate) struct Place {
     /// The first broker.
     pub(crate) broker: String,
     other: String,
-    older: String,
-    newer: String,
+    /// The folder of the first node.
+    pub(crate) older: String,
+    /// The folder of the second node.
+    pub(crate) newer: String,
 }
 
 // A new folder of a test with this file.
@@ -69,8 +71,8 @@ const QUERY: &str =
 const QUERY_OF_BOTH: &str =
     "\"query\":{\"aggregations\":[{\"name\":\"n\",\"type\":\"count\"}],\"dataSource\":\"wiki\",\"granularity\":\"all\",\"intervals\":\"2024-01-01/2024-01-02\",\"queryType\":\"timeseries\"}";
 
-// A config of two nodes and two brokers: the query is posted to the second, and no query to the first.
-fn config(rt: &impl Abort, alloc: Global, place: &Place, connections: u64) -> String {
+/// A config of two nodes and two brokers: the query is posted to the second, and no query to the first.
+pub(crate) fn config(rt: &impl Abort, alloc: Global, place: &Place, connections: u64) -> String {
     let (first, second) = (&place.first, &place.second);
     let (broker, other) = (&place.broker, &place.other);
     let (older, newer) = (&place.older, &place.newer);
@@ -87,7 +89,7 @@ fn served<R: Host + Net<Listener = TcpListener, Stream = TcpStream>>(
 ) -> String {
     let mut out = Vec::new(alloc);
     let mut errors = Vec::new(alloc);
-    let ending = serve(rt, alloc, config.as_bytes(), &mut out, &mut errors);
+    let ending = serve(rt, alloc, config.as_bytes(), &mut out, &mut errors, false);
     assert!(rt; ending.reported.is_ok());
     let status = ending.status;
     let printed = str::from_utf8(&out).expect(rt, "a text");
@@ -196,7 +198,15 @@ fn run_with<R: Host + Net<Listener = TcpListener, Stream = TcpStream>>(
     }
     let (mut out, mut errors) = (Vec::new(alloc), Vec::new(alloc));
     let mut input = b"".as_slice();
-    let ending = run(rt, alloc, Ok(words), &mut input, &mut out, &mut errors);
+    let ending = run(
+        rt,
+        alloc,
+        Ok(words),
+        &mut input,
+        &mut out,
+        &mut errors,
+        false,
+    );
     let status = ending.status;
     let printed = str::from_utf8(&out).expect(rt, "a text");
     let reported = str::from_utf8(&errors).expect(rt, "a text");
@@ -232,10 +242,11 @@ fn configs_of_paths(rt: HostRuntime) {
     clear(&rt, &place);
 }
 
-// A writer that takes nothing, or all and does not flush.
+/// A writer that takes nothing, or all and does not flush.
 #[derive(Drop)]
-struct Full {
-    takes: bool,
+pub(crate) struct Full {
+    /// Whether it takes all.
+    pub(crate) takes: bool,
 }
 
 impl Write for Full {
@@ -259,7 +270,14 @@ fn full_output(rt: HostRuntime) {
         let config = config(&rt, rt.alloc(), &place, 0);
         let mut errors = Vec::new(rt.alloc());
         let mut out = Full { takes };
-        let ending = serve(&rt, rt.alloc(), config.as_bytes(), &mut out, &mut errors);
+        let ending = serve(
+            &rt,
+            rt.alloc(),
+            config.as_bytes(),
+            &mut out,
+            &mut errors,
+            false,
+        );
         assert!(rt; ending.status == 3 && errors.as_slice() == b"device\n".as_slice());
         clear(&rt, &place);
     }

@@ -5,17 +5,17 @@ use Rattle.druid_folder.specs.Folder.{names_of}
 use Rattle.druid_serve_node.specs.Files.{is_segment_file, IsTaken}
 use Rattle.druid_serve_node.proofs.FolderLemmas.{named_more, taken}
 use Rattle.druid_serve_node.proofs.node.load_named.Goals as goal
-use Rattle.druid_serve_node.proofs.node.load_named.Goals.{then-is_segment_file+in_ok-load_file, else-is_segment_file}
+use Rattle.druid_serve_node.proofs.node.load_named.Goals.{then-is_segment_file+in_ok-load_one, else-is_segment_file}
 
 pub loop-name-preserved : goal.loop-name-preserved
 loop-name-preserved g c = elim c.if-is_segment_file.branch [
-  | then-is_segment_file+in_ok-load_file w ↦ λ honest.
+  | then-is_segment_file+in_ok-load_one w ↦ λ honest.
       let up = subst g.F.Folder.is_honest w.folder-is honest in
-      let before = c.loop-name.invariant (w.load_file.ensures.honest up) in (
+      let before = c.loop-name.invariant (w.load_one.ensures.honest up) in (
         before.0,
-        ap g.F.Folder.content w.folder-is ∙ w.load_file.ensures.content up ∙ before.1,
+        ap g.F.Folder.content w.folder-is ∙ w.load_one.ensures.content up ∙ before.1,
         named_more (IsTaken (g.F.Folder.content c.args.folder.now)) c.args.names.now c.loop-name.name-index c.name-item.result c.loop-name-test.true c.name-item.is before.2
-            (taken (g.F.Folder.content c.loop-name.folder) (g.F.Folder.content c.args.folder.now) _ _ before.1 w.as_str-then-is_segment_file.ensures.value (w.in_ok-load_file.ensures.ok up)),
+            (taken (g.F.Folder.content c.loop-name.folder) (g.F.Folder.content c.args.folder.now) _ _ before.1 w.as_str-then-is_segment_file.ensures.value (w.in_ok-load_one.ensures.ok up)),
       )
   | else-is_segment_file w ↦ λ honest.
       let up = subst g.F.Folder.is_honest w.folder-is honest in

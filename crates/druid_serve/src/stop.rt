@@ -1,0 +1,151 @@
+//! Why a cluster is not served, and what kept it.
+ghost use Rattle.std.specs.Prelude.{◌≡◌};
+ghost use Rattle.druid_serve.specs.Faults.{of_cluster, of_config};
+
+use crate::ServeFault;
+use druid_command_line::reason_text;
+use druid_config::{BrokerConfig, ConfigFault, NodeConfig, bad_field_in};
+use druid_serve_node::{Cause, ClusterFault, DeviceFailed, StartFault};
+use std::alloc::{AllocError, AllocFailed, Global};
+use std::io;
+use std::io::ErrorKind;
+
+/// Why a cluster whose config was read is not served: its fault, and the text of what kept it, where memory was there for it.
+#[derive(Drop)]
+pub(crate) struct Stop {
+    /// The fault.
+    pub(crate) fault: ClusterFault,
+    /// What kept the cluster.
+    pub(crate) reason: Option<String>,
+}
+
+impl Stop {
+    // A device failed, and this says which.
+    fn device(reason: Option<String>) -> Stop {
+        Stop {
+            fault: ClusterFault::Device,
+            reason,
+        }
+    }
+
+    /// The node at a place does not start.
+    pub(crate) fn at_node(
+        alloc: Global,
+        place: usize,
+        node: &NodeConfig,
+        start: StartFault,
+    ) -> Stop {
+        Stop {
+            fault: start.fault,
+            reason: match start.cause {
+                Some(cause) => node_reason(alloc, place, node, &cause),
+                None => None,
+            },
+        }
+    }
+
+    /// The broker at a place does not listen.
+    pub(crate) fn at_broker(alloc: Global, place: usize, broker: &BrokerConfig) -> Stop {
+        let address = broker.address();
+        Stop::device(format!(in alloc; "brokers[{place}].address: listening on {address}").ok())
+    }
+
+    /// The output was not written or flushed.
+    pub(crate) fn at_output(alloc: Global, error: &io::Error) -> Stop {
+        let text = if error.kind() == ErrorKind::OutOfMemory {
+            "out of memory"
+        } else {
+            "standard output: a write failed"
+        };
+        Stop::device(String::from_str(alloc, text).ok())
+    }
+}
+
+// What kept the node at a place from its start.
+fn node_reason(alloc: Global, place: usize, node: &NodeConfig, cause: &Cause) -> Option<String> {
+    let (folder, address) = (node.folder(), node.address());
+    let text = match cause {
+        Cause::File(name, fault) => {
+            format!(in alloc; "nodes[{place}].folder: {folder}/{name}: {fault}")
+        }
+        Cause::Incarnation(fault) => {
+            format!(in alloc; "nodes[{place}].folder: {folder}/incarnation: {fault}")
+        }
+        Cause::Names(fault) => format!(in alloc; "nodes[{place}].folder: {folder}: {fault}"),
+        Cause::Listener => format!(in alloc; "nodes[{place}].address: listening on {address}"),
+        Cause::Memory => format!(in alloc; "nodes[{place}]: out of memory, or no thread"),
+    };
+    text.ok()
+}
+
+impl From<AllocError> for Stop {
+    fn from(_error: AllocError) -> Stop {
+        Stop::device(None)
+    }
+}
+
+impl<T: Drop> From<AllocFailed<T>> for Stop {
+    fn from(_error: AllocFailed<T>) -> Stop {
+        Stop::device(None)
+    }
+}
+
+impl From<DeviceFailed> for Stop {
+    fn from(_failed: DeviceFailed) -> Stop {
+        Stop::device(None)
+    }
+}
+
+/// Why a config is not served: its fault, and the text of what kept it, where memory was there for it.
+#[derive(Drop)]
+pub(crate) struct Ended {
+    /// The fault.
+    pub(crate) fault: ServeFault,
+    /// What kept the cluster.
+    pub(crate) reason: Option<String>,
+}
+
+impl Ended {
+    /// Of a fault, and a text that says why.
+    pub(crate) fn new(alloc: Global, fault: ServeFault, text: &str) -> Ended
+        ensures { result.fault ≡ fault }
+    {
+        Ended {
+            fault,
+            reason: String::from_str(alloc, text).ok(),
+        }
+    }
+
+    /// Of bytes that were not read as a config.
+    pub(crate) fn unread(alloc: Global, bytes: &[u8], fault: ConfigFault) -> Ended
+        ensures { result.fault ≡ of_config fault }
+    {
+        let reason = match fault {
+            ConfigFault::Refused => config_reason(alloc, bytes),
+            ConfigFault::Memory => String::from_str(alloc, "the config: out of memory").ok(),
+        };
+        Ended {
+            fault: fault.into(),
+            reason,
+        }
+    }
+}
+
+impl From<Stop> for Ended {
+    ghost from_gives = { λ stop ended. ended.fault ≡ of_cluster stop.fault };
+
+    fn from(stop: Stop) -> Ended {
+        Ended {
+            fault: stop.fault.into(),
+            reason: stop.reason,
+        }
+    }
+}
+
+// Which field of bytes is wrong, that are no config.
+fn config_reason(alloc: Global, bytes: &[u8]) -> Option<String> {
+    match bad_field_in(alloc, bytes) {
+        Ok(Some(bad)) => reason_text(alloc, &bad),
+        _ => None,
+    }
+}

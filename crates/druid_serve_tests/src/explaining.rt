@@ -1,0 +1,230 @@
+//! What is said of a cluster that is not served, below its fault.
+use crate::config::{changed, halves, with_doubled};
+use crate::folders::put;
+use crate::host::Host;
+use crate::serve::{Full, Place, clear, config, place_of};
+use druid_config::bad_field_in;
+use druid_serve::{run, serve};
+use std::alloc::Global;
+use std::net::{Net, TcpListener, TcpStream};
+use std::process::Abort;
+use std::str;
+
+// What is said of the field of a config that is wrong.
+fn field_of(rt: &impl Abort, alloc: Global, text: &str) -> String {
+    match bad_field_in(alloc, text.as_bytes()).expect(rt, "memory") {
+        Some(bad) => format!(in alloc; "{bad}").expect(rt, "memory"),
+        None => String::new(alloc),
+    }
+}
+
+// Asserts what is said of the config in which the second text of a row stands in the place of the first.
+fn assert_field(rt: &impl Abort, alloc: Global, row: &str) {
+    let (from, rest) = halves(rt, row, " = ");
+    let (to, wanted) = halves(rt, rest, " -> ");
+    let told = field_of(rt, alloc, changed(rt, alloc, from, to).as_str());
+    assert!(rt; told.as_str() == wanted, "{row}: {told}");
+}
+
+#[test]
+fn fields(rt: HostRuntime) {
+    let rows = "\"turns\":1000000} = \"turns\":1000000 -> the config: not JSON in UTF-8
+\"turns\":1000000 = \"turn\":1 -> turns: not a number from 0 to 1000000
+\"connections\":0 = \"connections\":1000001 -> connections: not a number from 0 to 1000000
+\"kept\":1000 = \"kept\":0 -> kept: not a number from 1 to 1000
+\"kept\":1000,\"nodes\" = \"kept\":0,\"node\" -> kept: not a number from 1 to 1000
+\"nodes\" = \"node\" -> nodes: not a list
+\"n0\" = \"n 0\" -> nodes[0].name: not a name of 1 to 100 letters, digits, '_', '-' and '.'
+:65535 = :65536 -> nodes[0].address: not 127.0.0.1: and a port from 1 to 65535
+\"f\" = 1 -> nodes[0].folder: not a text
+[\"a.seg\"] = [\"a.seg\",1] -> nodes[0].loads: not a list of texts
+\"workers\":1} = \"workers\":0} -> nodes[0].workers: not a number from 1 to 16
+\"brokers\" = \"broker\" -> brokers: not a list
+[{\"address\":\"127.0.0.1:9001\",\"workers\":16}] = [] -> brokers: not 1 to 64 of them
+[{\"address\" = [{\"addres\" -> brokers[0].address: not 127.0.0.1: and a port from 1 to 65535
+\"workers\":16} = \"workers\":17} -> brokers[0].workers: not a number from 1 to 16
+\"workers\":16} = \"workers\":16},{} -> brokers[1].address: not 127.0.0.1: and a port from 1 to 65535
+\"queries\" = \"query\" -> queries: not a list
+\"broker\":0 = \"broker\":1 -> queries[0].broker: not the place of a broker, which count from 0
+{\"broker\":0,\"query\":{}} = {\"broker\":0,\"query\":{}},{\"broker\":0} -> queries[1].query: not an object
+\"kept\" = \"kept\" -> ";
+    for row in rows.lines() {
+        assert_field(&rt, rt.alloc(), row);
+    }
+}
+
+#[test]
+fn nodes(rt: HostRuntime) {
+    let told = field_of(&rt, rt.alloc(), with_doubled(&rt, rt.alloc()).as_str());
+    assert!(rt;
+        told.as_str() == "nodes[0].name: a later node has it too",
+        "{told}"
+    );
+    let none = "{\"connections\":0,\"kept\":1,\"turns\":0,\"nodes\":[]}";
+    let told = field_of(&rt, rt.alloc(), none);
+    assert!(rt; told.as_str() == "nodes: not 1 to 64 of them", "{told}");
+}
+
+// What is reported of a config: its status, a line feed, and what was written to the error writer.
+fn reported<R: Host + Net<Listener = TcpListener, Stream = TcpStream>>(
+    rt: &R,
+    alloc: Global,
+    config: &str,
+    explain: bool,
+) -> String {
+    let (mut out, mut errors) = (Vec::new(alloc), Vec::new(alloc));
+    let bytes = config.as_bytes();
+    let ending = serve(rt, alloc, bytes, &mut out, &mut errors, explain);
+    assert!(rt; ending.reported.is_ok());
+    let status = ending.status;
+    let told = str::from_utf8(&errors).expect(rt, "a text");
+    format!(in alloc; "{status}\n{told}").expect(rt, "memory")
+}
+
+#[test]
+fn configs(rt: HostRuntime) {
+    let told = reported(&rt, rt.alloc(), "{}", true);
+    let wanted = "1\nbad config\n  connections: not a number from 0 to 1000000\n";
+    assert!(&rt; told.as_str() == wanted, "{told}");
+    let told = reported(&rt, rt.alloc(), "{}", false);
+    assert!(&rt; told.as_str() == "1\nbad config\n", "{told}");
+}
+
+// A text in which words stand for what is of the place alone.
+fn placeless(rt: &impl Abort, alloc: Global, place: &Place, text: String) -> String {
+    let text = text.replace(alloc, place.older.as_str(), "OLDER");
+    let text = text.expect(rt, "memory");
+    let text = text.replace(alloc, place.newer.as_str(), "NEWER");
+    let text = text.expect(rt, "memory");
+    let text = text.replace(alloc, place.first.as_str(), "FIRST");
+    let text = text.expect(rt, "memory");
+    let text = text.replace(alloc, place.broker.as_str(), "BROKER");
+    text.expect(rt, "memory")
+}
+
+// What is reported of the config of a place.
+fn reported_at<R: Host + Net<Listener = TcpListener, Stream = TcpStream>>(
+    rt: &R,
+    alloc: Global,
+    place: &Place,
+) -> String {
+    let config = config(rt, alloc, place, 0);
+    let text = reported(rt, alloc, config.as_str(), true);
+    placeless(rt, alloc, place, text)
+}
+
+// Asserts what is reported of a place, once a file of a row has the row's bytes: the file is the first node's where its name
+// begins with a slash.
+fn assert_file<R: Host + Net<Listener = TcpListener, Stream = TcpStream>>(
+    rt: &R,
+    alloc: Global,
+    row: &str,
+) {
+    let (file, wanted) = halves(rt, row, " -> ");
+    let (name, text) = halves(rt, file, " = ");
+    let place = place_of(rt, alloc, "explained");
+    match name.strip_prefix('/') {
+        Some(name) => put(rt, alloc, place.older.as_str(), name, text.as_bytes()),
+        None => put(rt, alloc, place.newer.as_str(), name, text.as_bytes()),
+    }
+    let told = reported_at(rt, alloc, &place);
+    clear(rt, &place);
+    let wanted = format!(in alloc; "1\nbad folder\n  {wanted}\n").expect(rt, "memory");
+    assert!(rt; told.as_str() == wanted.as_str(), "{row}: {told}");
+}
+
+#[test]
+fn files(rt: HostRuntime) {
+    let rows = "z.seg = no segment -> nodes[1].folder: NEWER/z.seg: N2: F1: not a segment file
+z.seg = DSG1 -> nodes[1].folder: NEWER/z.seg: N2: F2: a cut file
+/incarnation = x -> nodes[0].folder: OLDER/incarnation: O2: a bad incarnation number";
+    for row in rows.lines() {
+        assert_file(&rt, rt.alloc(), row);
+    }
+}
+
+// A line feed in a name is a space in the line.
+#[test]
+fn file_of_two_lines(rt: HostRuntime) {
+    let place = place_of(&rt, rt.alloc(), "lines");
+    put(
+        &rt,
+        rt.alloc(),
+        place.older.as_str(),
+        "a\nb.seg",
+        b"no segment",
+    );
+    let told = reported_at(&rt, rt.alloc(), &place);
+    clear(&rt, &place);
+    assert!(rt;
+        told.as_str()
+            == "1\nbad folder\n  nodes[0].folder: OLDER/a b.seg: N2: F1: not a segment file\n",
+        "{told}"
+    );
+}
+
+// Asserts that a device failed, and what is said of it.
+fn assert_device(rt: &impl Abort, alloc: Global, told: String, wanted: &str) {
+    let wanted = format!(in alloc; "3\ndevice\n  {wanted}\n").expect(rt, "memory");
+    assert!(rt; told.as_str() == wanted.as_str(), "{told}");
+}
+
+// A port of a node that is taken, one of a broker, and a folder that is not there.
+#[test]
+fn devices(rt: HostRuntime) {
+    let alloc = rt.alloc();
+    let place = place_of(&rt, alloc, "taken");
+    let taken = TcpListener::bind(&rt, place.broker.as_str()).expect(&rt, "a listener");
+    let told = reported_at(&rt, alloc, &place);
+    assert_device(&rt, alloc, told, "brokers[0].address: listening on BROKER");
+    drop(taken);
+    clear(&rt, &place);
+    let place = place_of(&rt, alloc, "held");
+    let _taken = TcpListener::bind(&rt, place.first.as_str()).expect(&rt, "a listener");
+    let told = reported_at(&rt, alloc, &place);
+    assert_device(&rt, alloc, told, "nodes[0].address: listening on FIRST");
+    clear(&rt, &place);
+    let told = reported_at(&rt, alloc, &place);
+    assert_device(
+        &rt,
+        alloc,
+        told,
+        "nodes[0].folder: OLDER/incarnation: O1: the device failed",
+    );
+}
+
+#[test]
+fn outputs(rt: HostRuntime) {
+    let place = place_of(&rt, rt.alloc(), "outputs");
+    let config = config(&rt, rt.alloc(), &place, 0);
+    let (mut out, mut errors) = (Full { takes: false }, Vec::new(rt.alloc()));
+    let bytes = config.as_bytes();
+    let ending = serve(&rt, rt.alloc(), bytes, &mut out, &mut errors, true);
+    clear(&rt, &place);
+    let wanted = b"device\n  standard output: a write failed\n".as_slice();
+    assert!(rt; ending.status == 3 && errors.as_slice() == wanted);
+}
+
+// A config that is not there.
+#[test]
+fn paths(rt: HostRuntime) {
+    let alloc = rt.alloc();
+    let mut words = Vec::new(alloc);
+    for word in ["serve", "no folder/none"] {
+        let word = String::from_str(alloc, word).expect(&rt, "memory");
+        words.push(word).expect(&rt, "memory");
+    }
+    let (mut out, mut errors) = (Vec::new(alloc), Vec::new(alloc));
+    let mut input = b"".as_slice();
+    let ending = run(
+        &rt,
+        alloc,
+        Ok(words),
+        &mut input,
+        &mut out,
+        &mut errors,
+        true,
+    );
+    let wanted = b"device\n  no folder/none: not read\n".as_slice();
+    assert!(&rt; ending.status == 3 && errors.as_slice() == wanted);
+}
