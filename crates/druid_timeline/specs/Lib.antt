@@ -2,6 +2,9 @@ pub mod Holding
 pub mod Visible
 pub mod Pieces
 pub mod Chunks
+pub mod Candidates
 pub mod Stretches
 pub mod Active
+pub mod Edited
+pub mod Known
 pub mod Overshadowed
