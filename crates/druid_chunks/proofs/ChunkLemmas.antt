@@ -2,7 +2,7 @@
 use Rattle.std.proofs.Common.{◌≡◌, ◌⊎◌, ◌↔◌, ◌&&◌, ℕ, Bool, true, false, List, [], ◌∷◌, Option, Some, None, refl, sym, ap, ◌∙◌, subst, inl, inr, arith, cond}
 use Rattle.std.specs.Bool.{IsTrue}
 use Rattle.std.specs.Cmp.{IsEquivalence}
-use Rattle.std.specs.List.{Contains, IsDistinct, AllByRecursion, list_any}
+use Rattle.std.specs.List.{Contains, IsDistinct, list_any}
 use Rattle.std.specs.Map.{keys_of}
 use Rattle.std.specs.Option.{MatchOption}
 use Rattle.std.specs.Str.{bytes_eq}

@@ -1,2 +1,5 @@
 pub mod ChunkLemmas
+pub mod EditLemmas
+pub mod OrderLemmas
+pub mod OverlapLemmas
 pub mod PlaceLemmas

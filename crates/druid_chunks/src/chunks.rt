@@ -1,14 +1,16 @@
-ghost use Rattle.std.specs.Prelude.{◌≡◌, ◌↔◌, ℕ, [], map, Contains, IsTrue, IfOk, OnOk, OnErr, MatchOption};
+ghost use Rattle.std.specs.Prelude.{◌≡◌, ◌↔◌, ℕ, [], map, Contains, IsTrue, IsOk, IfOk, OnOk, OnErr, MatchOption};
 ghost use Rattle.std.specs.List.{IsDistinct};
 ghost use Rattle.std.specs.List.Sorted.{IsStrictlyIncreasing};
 ghost use Rattle.druid_segid.specs.Group.{Group, group_of, same_group};
-ghost use Rattle.druid_members.specs.Members.{member_of, HoldsPlace, IsComplete, Adds, RemovesPlace, RemovesOne, SameMembers};
+ghost use Rattle.druid_members.specs.Members.{member_of, HoldsPlace, IsComplete, Adds, RemovesPlace, RemovesOne, AllAt, SameMembers};
 ghost use Rattle.druid_chunks.specs.Chunks.{AreChunks, members_at, HasNoChunk, IsOverlapOf};
+ghost use Rattle.druid_chunks.specs.Places.{AreInOrder};
 
 use crate::Chunk;
-use druid_segid::{GroupKey, SegmentId, Version};
+use crate::order::{find_in, seek};
+use crate::overlap::overlaps_in;
+use druid_segid::{GroupKey, SegmentId};
 use druid_shard::{Descriptor, NodeNo};
-use druid_time::Interval;
 use std::alloc::{AllocError, Global};
 use std::marker::Model;
 
@@ -24,35 +26,14 @@ pub struct Chunks {
 
 impl Model for Chunks {
     ghost use Rattle.std.specs.Prelude.{List};
-    ghost use Rattle.druid_chunks.specs.Chunks.{Chunk, AreChunks};
+    ghost use Rattle.druid_chunks.specs.Chunks.{Chunk};
+    ghost use Rattle.druid_chunks.specs.Places.{AreInOrder};
 
     ghost Value = { List Chunk };
 
     ghost view = { λ a. a.items.items };
 
-    ghost invariant = { λ a. AreChunks a.items.items };
-}
-
-// Whether a chunk is that of this interval and this version.
-fn is_chunk_of(chunk: &Chunk, interval: Interval, version: &Version) -> bool
-    ensures { IsTrue result ↔ (chunk.now.0 ≡ record { interval = interval; version = version.now }) }
-{
-    let key = chunk.key();
-    key.interval() == interval && key.version() == version
-}
-
-// The chunk of this interval and this version.
-fn find_in<'a>(items: &'a [Chunk], interval: Interval, version: &Version) -> Option<&'a Chunk>
-    ensures { MatchOption result
-        (HasNoChunk items.now (record { interval = interval; version = version.now }))
-        (λ chunk. Contains items.now chunk.now × (chunk.now.0 ≡ record { interval = interval; version = version.now })) }
-{
-    for chunk in items {
-        if is_chunk_of(chunk, interval, version) {
-            return Some(chunk);
-        }
-    }
-    None
+    ghost invariant = { λ a. AreInOrder a.items.items };
 }
 
 impl Chunks {
@@ -81,13 +62,21 @@ impl Chunks {
         self.items.is_empty()
     }
 
+    // The chunks, in the order of their places.
+    fn ordered(&self) -> &[Chunk]
+        ensures value { result.now ≡ self.now }
+        ensures ordered { AreInOrder self.now }
+    {
+        &self.items
+    }
+
     /// The chunk of a group, if there is one.
     pub fn find(&self, key: &GroupKey) -> Option<&Chunk>
         ensures found { MatchOption result (HasNoChunk self.now key.now)
             (λ chunk. Contains self.now chunk.now × (chunk.now.0 ≡ key.now)) }
         ensures chunks { AreChunks self.now }
     {
-        find_in(self.as_slice(), key.interval(), key.version())
+        find_in(self.ordered(), key.interval(), key.version())
     }
 
     // The chunk of a segment, if there is one.
@@ -96,7 +85,7 @@ impl Chunks {
             (λ chunk. chunk.now.1 ≡ members_at self.now (group_of id.now)) }
         ensures chunks { AreChunks self.now }
     {
-        find_in(self.as_slice(), id.interval(), id.version())
+        find_in(self.ordered(), id.interval(), id.version())
     }
 
     /// Whether a node serves a segment. It does not allocate.
@@ -138,9 +127,7 @@ impl Chunks {
         ensures once { IfOk result (λ found. IsDistinct same_group (map (λ key. key.now) found.items)) }
         ensures chunks { AreChunks self.now }
     {
-        let _ = id;
-        let _ = self.items.len();
-        Err(AllocError)
+        overlaps_in(self.alloc, self.ordered(), id)
     }
 
     /// Adds a segment, served by a node that does not serve it yet. A refusal changes nothing.
@@ -155,10 +142,18 @@ impl Chunks {
         ensures was { AreChunks self.old }
         ensures chunks { AreChunks self.new }
     {
-        let _ = descriptor;
-        let _ = node;
-        let _ = self.items.len();
-        Err(AllocError)
+        let id = descriptor.id();
+        match seek(&self.items, id.interval(), id.version()) {
+            Ok(i) => {
+                let chunk = &mut self.items[i];
+                chunk.add(descriptor, node)
+            }
+            Err(i) => {
+                let chunk = Chunk::with_first(self.alloc, descriptor, node)?;
+                self.items.insert(i, chunk)?;
+                Ok(())
+            }
+        }
     }
 
     /// Takes a segment from what a node serves that serves it. A chunk that would be left without members goes, and then
@@ -171,14 +166,21 @@ impl Chunks {
             (members_at self.new (group_of id.now)) id.now.partition node) }
         ensures err { OnErr result (SameMembers (members_at self.old (group_of id.now))
             (members_at self.new (group_of id.now))) }
+        ensures whole { AllAt (members_at self.old (group_of id.now)) id.now.partition node → IsOk result }
         ensures others { (q : Group) → (q ≡ group_of id.now → ⊥) → members_at self.new q ≡ members_at self.old q }
         ensures was { AreChunks self.old }
         ensures chunks { AreChunks self.new }
     {
-        let _ = id;
-        let _ = node;
-        let _ = self.items.len();
-        Err(AllocError)
+        let Ok(i) = seek(&self.items, id.interval(), id.version()) else {
+            unreachable!()
+        };
+        let only = self.items[i].is_only(id.partition(), node);
+        if only {
+            self.items.remove(i);
+            return Ok(());
+        }
+        let chunk = &mut self.items[i];
+        chunk.remove(id.partition(), node)
     }
 }
 

@@ -3,6 +3,9 @@
 
 mod chunk;
 mod chunks;
+mod order;
+mod overlap;
+mod place;
 
 pub use chunk::Chunk;
 pub use chunks::Chunks;

@@ -1,2 +1,3 @@
+pub mod CountLemmas
 mod PairLemmas
 pub mod SlotLemmas

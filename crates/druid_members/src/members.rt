@@ -1,8 +1,8 @@
-ghost use Rattle.std.specs.Prelude.{◌≡◌, ℕ, ◌↔◌, ◌≤◌, ◌⊎◌, [], List, IsTrue, IfOk, IsOkAnd, OnErr, Contains, unwrap_or, map, Some};
+ghost use Rattle.std.specs.Prelude.{◌≡◌, ℕ, ◌↔◌, ◌≤◌, ◌⊎◌, [], List, IsTrue, is_some, IfOk, IsOkAnd, OnErr, Contains, unwrap_or, map, Some};
 ghost use Rattle.std.specs.Ordering.{nat_cmp};
 ghost use Rattle.std.specs.BTreeMap as tree;
 ghost use Rattle.std.specs.List.Sorted.{IsStrictlyIncreasing};
-ghost use Rattle.druid_members.specs.Slots.{NoneEmpty, members_in};
+ghost use Rattle.druid_members.specs.Slots.{NoneEmpty, SlotMap, members_in, kept_below};
 ghost use Rattle.druid_members.specs.Members.{Member, member_of, core_count, IsComplete, HasMember, HoldsPlace, HasPartition, Adds, RemovesPlace, RemovesOne, AllAt, SameMembers, ServedOnce};
 
 use crate::slot::Slot;
@@ -18,13 +18,15 @@ pub struct Members {
     alloc: Global,
     slots: BTreeMap<u16, Slot>,
     core: u16,
+    // How many of the core partitions are there.
+    within: u16,
     has_member: bool,
 }
 
 impl Model for Members {
     ghost use Rattle.std.specs.Prelude.{List, ◌≡◌, ◌↔◌, IsTrue};
     ghost use Rattle.druid_members.specs.Members.{Member, HasMember, core_count};
-    ghost use Rattle.druid_members.specs.Slots.{members_in, NoneEmpty};
+    ghost use Rattle.druid_members.specs.Slots.{members_in, NoneEmpty, kept_below};
 
     ghost Value = { List Member };
 
@@ -32,7 +34,8 @@ impl Model for Members {
 
     ghost invariant = { λ a. (a.core ≡ core_count (members_in a.slots.entries))
         × (IsTrue a.has_member ↔ HasMember (members_in a.slots.entries))
-        × NoneEmpty a.slots };
+        × NoneEmpty a.slots
+        × (a.within ≡ kept_below a.slots a.core) };
 }
 
 // Adds a node with its core count to a partition. False where it is there already.
@@ -112,6 +115,57 @@ fn core_of(slots: &BTreeMap<u16, Slot>, bound: u16) -> u16
     core
 }
 
+// How many of the partitions below a bound are there.
+fn count_below(slots: &BTreeMap<u16, Slot>, bound: u16) -> u16
+    ensures { result ≡ kept_below slots.now bound }
+{
+    let mut count: u16 = 0;
+    for (partition, _) in slots.iter() {
+        if *partition < bound {
+            count = count.saturating_add(1);
+        }
+    }
+    count
+}
+
+// How many of the core partitions are there after a change of one partition, which `was` there or not, where as many
+// as `within` were there of those below the core count `before`. All are counted only where the core count changed.
+fn within_after(
+    slots: &BTreeMap<u16, Slot>,
+    partition: u16,
+    was: bool,
+    within: u16,
+    before: u16,
+    core: u16,
+) -> u16
+    ensures { (old : SlotMap) → ((q : ℕ) → (q ≡ partition → ⊥) → tree.get nat_cmp slots.now q ≡ tree.get nat_cmp old q)
+        → was ≡ is_some (tree.get nat_cmp old partition) → within ≡ kept_below old before
+        → result ≡ kept_below slots.now core }
+{
+    if before != core {
+        return count_below(slots, core);
+    }
+    let is = slots.contains_key(&partition);
+    if is == was {
+        return within;
+    }
+    if partition >= core {
+        return within;
+    }
+    if is {
+        within.saturating_add(1)
+    } else {
+        within.saturating_sub(1)
+    }
+}
+
+// A copy of the slots.
+fn copy_of(slots: &BTreeMap<u16, Slot>) -> Result<BTreeMap<u16, Slot>, AllocError>
+    ensures { IfOk result (tree.IsUnchanged slots.now) }
+{
+    slots.clone()
+}
+
 // The keys of a map, in order.
 fn keys_of(alloc: Global, slots: &BTreeMap<u16, Slot>) -> Result<Vec<u16>, AllocError>
     ensures { IfOk result (λ v. v.items ≡ tree.keys slots.now) }
@@ -128,6 +182,7 @@ impl Members {
             alloc,
             slots: BTreeMap::new(alloc),
             core: 0,
+            within: 0,
             has_member: false,
         }
     }
@@ -143,9 +198,12 @@ impl Members {
     {
         let partition = descriptor.id().partition();
         let core = descriptor.core();
+        let was = self.slots.contains_key(&partition);
         let added = add_member(self.alloc, &mut self.slots, partition, node, core)?;
         if added {
+            let before = self.core;
             self.core = self.core.max(core);
+            self.within = within_after(&self.slots, partition, was, self.within, before, self.core);
             self.has_member = true;
         }
         Ok(added)
@@ -159,9 +217,12 @@ impl Members {
         ensures one { IsTrue result → RemovesOne self.old self.new partition node }
         ensures same { IsTrue result ⊎ SameMembers self.old self.new }
     {
+        let was = self.slots.contains_key(&partition);
         let removed = remove_member(&mut self.slots, partition, node);
         if removed {
-            self.core = core_of(&self.slots, self.core);
+            let before = self.core;
+            self.core = core_of(&self.slots, before);
+            self.within = within_after(&self.slots, partition, was, self.within, before, self.core);
             self.has_member = !self.slots.is_empty();
         }
         removed
@@ -218,14 +279,14 @@ impl Members {
         Ok(keys)
     }
 
-    /// Whether there is a member and each core partition is some member's.
+    /// Whether there is a member and each core partition is some member's. It looks at no partition.
     pub fn is_complete(&self) -> bool
         ensures { IsTrue result ↔ IsComplete self.now }
     {
-        for partition in 0..self.core {
-            if self.replicas(partition).is_empty() {
-                return false;
-            }
+        // For the proof: reading it exposes the invariant of its type.
+        let _ = self.slots.len();
+        if self.within != self.core {
+            return false;
         }
         self.has_member
     }
@@ -237,8 +298,9 @@ impl Clone for Members {
     fn clone(&self) -> Result<Members, AllocError> {
         Ok(Members {
             alloc: self.alloc,
-            slots: self.slots.clone()?,
+            slots: copy_of(&self.slots)?,
             core: self.core,
+            within: self.within,
             has_member: self.has_member,
         })
     }

@@ -8,4 +8,4 @@ use Rattle.druid_chunks.proofs.chunks.Chunks.find.Goals as goal
 pub returns-clause-found : goal.returns-clause-found
 returns-clause-found c =
     subst (λ (p : List Chunk × Group). MatchOption c.find_in.result (HasNoChunk p.0 p.1) (λ chunk. Contains p.0 chunk.now × (chunk.now.0 ≡ p.1)))
-    (λ i. (c.as_slice.ensures.value i, record { interval = c.interval.ensures.value i; version = c.version.ensures.value i })) c.find_in.ensures
+    (λ i. (c.ordered.ensures.value i, record { interval = c.interval.ensures.value i; version = c.version.ensures.value i })) c.find_in.ensures

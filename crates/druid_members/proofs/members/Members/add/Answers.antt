@@ -6,6 +6,7 @@ use Rattle.druid_segid.specs.Identifier.{Identifier}
 use Rattle.std.proofs.lemmas.Bool.{false≢true}
 use Rattle.druid_members.specs.Members.{Member, HoldsPlace, Adds, SameMembers, member_of}
 use Rattle.druid_members.specs.Slots.{members_in}
+use Rattle.druid_members.proofs.CountLemmas.{kept_below-same}
 use Rattle.druid_members.proofs.SlotLemmas.{Adds-slot, SameMembers-slot, HoldsPlace-slot, core_count-adds, core_count-same, HasMember-same}
 use Rattle.druid_members.proofs.members.Members.add.Goals as goal
 
@@ -25,7 +26,7 @@ pub invariant_of-self : goal.invariant_of-self
 invariant_of-self c =
     let e = c.add_member.ensures in
     let same = SameMembers-slot c.self.inside.slots c.add_member.new.slots c.partition-partition.result e.was_ordered e.ordered e.others c.in_err-added.ensures.err in
-    (c.self.invariant.0 ∙ sym (core_count-same _ _ same), HasMember-same _ _ _ same c.self.invariant.1, c.add_member.ensures.none_empty c.self.invariant.2)
+    (c.self.invariant.0 ∙ sym (core_count-same _ _ same), HasMember-same _ _ _ same c.self.invariant.1, e.none_empty c.self.invariant.2, c.self.invariant.3 ∙ sym (kept_below-same c.self.inside.slots c.add_member.new.slots c.self.inside.core e.was_ordered e.ordered c.self.invariant.2 (e.none_empty c.self.invariant.2) same))
 
 pub returns-in_err-added-clause-err : goal.returns-in_err-added-clause-err
 returns-in_err-added-clause-err c =
@@ -37,7 +38,7 @@ pub invariant_of-self-then-added : goal.invariant_of-self-then-added
 invariant_of-self-then-added c =
     let e = c.add_member.ensures in
     let adds = Adds-slot c.self.inside.slots c.add_member.new.slots c.partition-partition.result c.args.node c.core-core.result e.was_ordered e.ordered e.others (c.in_ok-added.ensures.added c.if-added.true) in
-    (c.max-self-inside.ensures ∙ ap (λ (k : ℕ). max k c.core-core.result) c.self.invariant.0 ∙ sym (core_count-adds _ _ _ adds), (λ _. (record { node = c.args.node; partition = c.partition-partition.result; core = c.core-core.result }, (adds _).1 (inl refl)), λ _. refl), c.add_member.ensures.none_empty c.self.invariant.2)
+    (c.max-self-inside.ensures ∙ ap (λ (k : ℕ). max k c.core-core.result) c.self.invariant.0 ∙ sym (core_count-adds _ _ _ adds), (λ _. (record { node = c.args.node; partition = c.partition-partition.result; core = c.core-core.result }, (adds _).1 (inl refl)), λ _. refl), e.none_empty c.self.invariant.2, c.within_after-self-inside.ensures c.self.inside.slots e.others c.contains_key-was.ensures c.self.invariant.3)
 
 -- where nothing was added the slot is as before
 unchanged : (added : Bool) (P : Type 0) → added ≡ false → (IsTrue added ⊎ P) → P
@@ -48,7 +49,7 @@ pub invariant_of-self-else-added : goal.invariant_of-self-else-added
 invariant_of-self-else-added c =
     let e = c.add_member.ensures in
     let same = SameMembers-slot c.self.inside.slots c.add_member.new.slots c.partition-partition.result e.was_ordered e.ordered e.others (unchanged c.in_ok-added.added _ c.if-added.false c.in_ok-added.ensures.same) in
-    (c.self.invariant.0 ∙ sym (core_count-same _ _ same), HasMember-same _ _ _ same c.self.invariant.1, c.add_member.ensures.none_empty c.self.invariant.2)
+    (c.self.invariant.0 ∙ sym (core_count-same _ _ same), HasMember-same _ _ _ same c.self.invariant.1, e.none_empty c.self.invariant.2, c.self.invariant.3 ∙ sym (kept_below-same c.self.inside.slots c.add_member.new.slots c.self.inside.core e.was_ordered e.ordered c.self.invariant.2 (e.none_empty c.self.invariant.2) same))
 
 pub returns-then-added-clause-held : goal.returns-then-added-clause-held
 returns-then-added-clause-held c =

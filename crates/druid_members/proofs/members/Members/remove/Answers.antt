@@ -4,6 +4,7 @@ use Rattle.std.specs.List.{Contains}
 use Rattle.std.proofs.lemmas.Bool.{false≢true}
 use Rattle.druid_members.specs.Members.{Member, HoldsPlace, RemovesPlace, RemovesOne, SameMembers}
 use Rattle.druid_members.specs.Slots.{members_in}
+use Rattle.druid_members.proofs.CountLemmas.{kept_below-same}
 use Rattle.druid_members.proofs.SlotLemmas.{RemovesOne-slot, RemovesPlace-slot, RemovesPlace-none, HoldsPlace-slot, HasMember-kept, HasMember-same, core_count-removes, core_count-same}
 use Rattle.druid_members.proofs.members.Members.remove.Goals as goal
 
@@ -22,7 +23,7 @@ pub invariant_of-self : goal.invariant_of-self
 invariant_of-self c =
     let e = c.remove_member-removed.ensures in
     let none = e.none_empty c.self.invariant.2 in
-    (c.core_of-self-inside.ensures, some_left c.is_empty.result _ _ c.is_empty.ensures (HasMember-kept c.remove_member-removed.new.slots e.ordered none), none)
+    (c.core_of-self-inside.ensures, some_left c.is_empty.result _ _ c.is_empty.ensures (HasMember-kept c.remove_member-removed.new.slots e.ordered none), none, c.within_after-self-inside.ensures c.self.inside.slots e.others c.contains_key-was.ensures c.self.invariant.3)
 
 pub invariant_of-self-else-removed : goal.invariant_of-self-else-removed
 invariant_of-self-else-removed c =
@@ -30,7 +31,7 @@ invariant_of-self-else-removed c =
     let removes = RemovesPlace-slot c.self.inside.slots c.remove_member-removed.new.slots c.args.partition c.args.node e.was_ordered e.ordered e.others e.removed in
     let held = HoldsPlace-slot c.self.inside.slots c.args.partition c.args.node e.was_ordered in
     let same = RemovesPlace-none _ _ c.args.partition c.args.node removes (λ there. false≢true (sym c.if-removed.false ∙ e.held.1 (held.0 there))) in
-    (c.self.invariant.0 ∙ sym (core_count-same _ _ same), HasMember-same _ _ _ same c.self.invariant.1, e.none_empty c.self.invariant.2)
+    (c.self.invariant.0 ∙ sym (core_count-same _ _ same), HasMember-same _ _ _ same c.self.invariant.1, e.none_empty c.self.invariant.2, c.self.invariant.3 ∙ sym (kept_below-same c.self.inside.slots c.remove_member-removed.new.slots c.self.inside.core e.was_ordered e.ordered c.self.invariant.2 (e.none_empty c.self.invariant.2) same))
 
 -- what holds of the members in the slots holds of the value
 of_value : (told : Bool) (members value : List Member) (slot : List ℕ) (p n : ℕ) → members ≡ value → HoldsPlace members p n ↔ Contains slot n → IsTrue told ↔ Contains slot n → IsTrue told ↔ HoldsPlace value p n
