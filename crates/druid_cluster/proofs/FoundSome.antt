@@ -16,13 +16,14 @@ use Rattle.druid_shard.proofs.MemberLemmas.{Contains-cons, Contains-later, Conta
 use Rattle.druid_timeline.specs.Holding.{Held, held_of, members_of}
 use Rattle.druid_timeline.specs.Visible.{IsCandidate, IsVisible}
 use Rattle.druid_timeline.specs.Pieces.{Told, Shown, shown_of, AreRuns, Shows, ArePiecesIn, ArePartitions}
-use Rattle.druid_timeline.proofs.ChunkLemmas.{same_group-exact, same_group-same}
+use Rattle.druid_chunks.proofs.ChunkLemmas.{same_group-exact, same_group-same}
 use Rattle.druid_timeline.proofs.RunsLemmas.{Shows-first, AreRuns-first}
 use Rattle.druid_inventory.specs.Entry.{Entry}
 use Rattle.druid_inventory.specs.Sources.{Serves, HasSource, IsHoldingOf}
 use Rattle.druid_cluster.specs.Serving.{IsFound}
 use Rattle.druid_cluster.proofs.OrderOnce.{by_number}
 use Rattle.druid_timeline.proofs.HoldingLemmas.{in_filter, from_filter}
+use Rattle.druid_timeline.proofs.VisibleLemmas.{visible_at}
 use Rattle.druid_cluster.proofs.Decided.{Decided, by_test}
 
 -- ---- what is held of a source
@@ -240,7 +241,7 @@ pieces_on held to (suc n) from e =
     let rest = pieces_on held to n (from + 1) (omega (arith, e)) in
     elim (visible_at held from) [
       | inl at ↦ one_at held from to at.0 (omega (arith, e)) at.1 rest
-      | inr none ↦ nothing_at held from to none rest
+      | inr none ↦ nothing_at held from to (λ g v. none g v.candidate) rest
     ]
 
 pieces_in : (held : List Held) (asked : Extent) → PiecesOn held asked.start asked.end

@@ -3,7 +3,7 @@ use Rattle.std.proofs.Common.{◌≡◌, ◌⊎◌, ◌↔◌, ◌++◌, ℕ, Bo
 use Rattle.std.specs.Bool.{IsTrue}
 use Rattle.std.specs.List.{Contains, All, IsDistinct}
 use Rattle.std.specs.Map.{keys_of}
-use Rattle.std.specs.Result.{IsOk, OnOk, OnErr}
+use Rattle.std.specs.Result.{OnOk}
 use Rattle.std.proofs.lemmas.Bool.{false≢true}
 use Rattle.std.proofs.lemmas.List.Elements.{filter-append, All-head}
 use Rattle.std.proofs.lemmas.Map.Keys.{IsDistinct-tail}
@@ -40,7 +40,7 @@ IsHeld-chunk cs are node id = (forth, back) where
   back : HoldsPlace (members_at cs (group_of id)) id.partition node → IsHeld (held_in cs) node id
   back (x, there, partition, at) = let h : Held = held_at (group_of id) x in (h, of_chunk cs h there, refl, partition, at)
 
--- what is told of the place is told of the segment
+-- an answer about the place is one about the segment
 pub holds_held : (cs : List Chunk) → AreChunks cs → (node : ℕ) (id other : Identifier) (b : Bool) → other ≡ id → IsTrue b ↔ HoldsPlace (members_at cs (group_of other)) other.partition node → IsTrue b ↔ IsHeld (held_in cs) node id
 holds_held cs are node id other b same told =
     let at = subst (λ (i : Identifier). IsTrue b ↔ HoldsPlace (members_at cs (group_of i)) i.partition node) same told in
@@ -127,20 +127,9 @@ RemovesOneHeld-chunk old new node id are now kept (one, place, adds) =
 
 -- ---- results
 
-pub was_ok : {T E : Type 0} {r : Result T E} {x : T} → r ≡ Ok x → IsOk r
-was_ok {T} {E} {r} {x} e = subst (λ (s : Result T E). IsOk s) (sym e) refl
-
-pub always_err : {T E : Type 0} (r : Result T E) (P : Type 0) → P → OnErr r P
-always_err (Ok x) P p = tt
-always_err (Err e) P p = p
-
 pub on_ok : {T E : Type 0} (r : Result T E) (P Q : Type 0) → (P → Q) → OnOk r P → OnOk r Q
 on_ok (Ok x) P Q f p = f p
 on_ok (Err e) P Q f p = tt
-
-pub on_err : {T E : Type 0} (r : Result T E) (P Q : Type 0) → (P → Q) → OnErr r P → OnErr r Q
-on_err (Ok x) P Q f p = tt
-on_err (Err e) P Q f p = f p
 
 -- ---- the members of a chunk
 

@@ -22,10 +22,6 @@ use Rattle.druid_timeline.proofs.SweepLemmas.{Run, AreRuns-stretch, drop_next}
 
 -- ---- results
 
-pub if_ok : {T E : Type 0} (r : Result T E) (P Q : T → Type 0) → IfOk r P → ((x : T) → P x → Q x) → IfOk r Q
-if_ok (Ok x) P Q p f = f x p
-if_ok (Err e) P Q p f = tt
-
 pub if_both : {T E : Type 0} (r : Result T E) (P Q S : T → Type 0) → IfOk r P → IfOk r Q → ((x : T) → P x → Q x → S x) → IfOk r S
 if_both (Ok x) P Q S p q f = f x p q
 if_both (Err e) P Q S p q f = tt

@@ -158,17 +158,17 @@ turns_from old new g false true alike before after other = record {
   own = inr (λ c. false≢true (before.1 c), after.0 refl);
 }
 
-pub turned_test : (is was : Bool) → not (beq is was) ≡ true → was ≡ is → ⊥
-turned_test true true e same = false≢true e
-turned_test true false e same = false≢true same
-turned_test false true e same = false≢true (sym same)
-turned_test false false e same = false≢true e
+pub turned_test : (is was : Bool) → IsTrue (not (beq is was)) ↔ (was ≡ is → ⊥)
+turned_test true true = (λ e. absurd (false≢true e), λ other. absurd (other refl))
+turned_test true false = (λ e same. false≢true same, λ other. refl)
+turned_test false true = (λ e same. false≢true (sym same), λ other. refl)
+turned_test false false = (λ e. absurd (false≢true e), λ other. absurd (other refl))
 
-pub unturned_test : (is was : Bool) → not (beq is was) ≡ false → was ≡ is
-unturned_test true true e = refl
-unturned_test true false e = absurd (false≢true (sym e))
-unturned_test false true e = absurd (false≢true (sym e))
-unturned_test false false e = refl
+pub level_unless : (was is : Bool) → ((was ≡ is → ⊥) → ⊥) → was ≡ is
+level_unless true true not = refl
+level_unless false false not = refl
+level_unless true false not = absurd (not (λ same. false≢true (sym same)))
+level_unless false true not = absurd (not (λ same. false≢true same))
 
 -- ---- how many others there are
 

@@ -83,7 +83,14 @@ fn prepared(
     Ok(edit)
 }
 
-// Replaces the runs if the completeness of a segment's chunk has turned: it was as it is said.
+// Whether the completeness of a chunk has turned.
+fn has_turned(is_complete: bool, was_complete: bool) -> bool
+    ensures { IsTrue result ↔ (was_complete ≡ is_complete → ⊥) }
+{
+    is_complete != was_complete
+}
+
+// Replaces the runs if the completeness of a segment's chunk has turned.
 fn settle(
     chunks: &Chunks,
     runs: &mut Vec<(Interval, GroupKey)>,
@@ -100,7 +107,7 @@ fn settle(
         → AreAlikeBut old (held_in chunks.now) (group_of id.now)
         → ArePieces (held_in chunks.now) (map shown_at runs.new.items) }
 {
-    if chunks.is_complete(id) != was_complete {
+    if has_turned(chunks.is_complete(id), was_complete) {
         splice(runs, edit);
     }
 }

@@ -1,11 +1,12 @@
 use Rattle.std.proofs.Common.{◌↔◌, List, map, sym, subst}
 use Rattle.std.specs.Bool.{IsTrue}
 use Rattle.druid_segid.specs.Group.{group_of}
+use Rattle.druid_chunks.proofs.EditLemmas.{always_err}
 use Rattle.druid_timeline.specs.Chunks.{held_in}
 use Rattle.druid_timeline.specs.Edited.{ArePiecesTurned, spliced}
 use Rattle.druid_timeline.specs.Holding.{IsCompleteIn, SameHeld}
 use Rattle.druid_timeline.specs.Pieces.{ArePieces, shown_at}
-use Rattle.druid_timeline.proofs.ChunkLemmas.{IsCompleteIn-at, SameHeld-chunk, always_err, RemovesHeld-chunk, RemovesOneHeld-chunk}
+use Rattle.druid_timeline.proofs.ChunkLemmas.{IsCompleteIn-at, SameHeld-chunk, RemovesHeld-chunk, RemovesOneHeld-chunk}
 use Rattle.druid_timeline.proofs.SweepLemmas.{Run}
 use Rattle.druid_timeline.proofs.TurnLemmas.{alike_chunks, pieces_same}
 use Rattle.druid_timeline.proofs.turn.remove_segment.Goals as goal

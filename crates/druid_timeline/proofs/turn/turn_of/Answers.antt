@@ -11,7 +11,7 @@ use Rattle.druid_timeline.specs.Pieces.{shown_at}
 use Rattle.druid_timeline.specs.Stretches.{HaveBounds}
 use Rattle.druid_timeline.proofs.ActiveLemmas.{lent}
 use Rattle.druid_timeline.proofs.ChunkLemmas.{IsCompleteIn-at}
-use Rattle.druid_timeline.proofs.LookupLemmas.{if_ok}
+use Rattle.druid_chunks.proofs.EditLemmas.{if_ok_weaker}
 use Rattle.druid_timeline.proofs.TurnLemmas.{pieces_turned, bounds_own, bound_from, few_others}
 use Rattle.druid_timeline.proofs.turn.turn_of.Goals as goal
 
@@ -32,7 +32,7 @@ returns-clause-turned c =
     let all =
     subst (λ (own : Group). (h : Group) → Contains (lent c.in_ok-candidates.candidates.items) h ↔ (Contains (lent c.in_ok-others.others.items) h ⊎ ((h ≡ own) × (c.is_complete.result ≡ false)))) c.in_ok-own.ensures
     (subst (λ (xs : List (Bor Group)). (h : Group) → Contains (lent c.in_ok-candidates.candidates.items) h ↔ (Contains (lent xs) h ⊎ ((h ≡ c.in_ok-own.own) × (c.is_complete.result ≡ false)))) c.deref.ensures.value c.in_ok-candidates.ensures.candidates) in
-    if_ok c.edit_in.result _ _ c.edit_in.ensures.edited (λ edit edited.
+    if_ok_weaker c.edit_in.result _ _ c.edit_in.ensures.edited (λ edit edited.
     pieces_turned c.args.chunks.now g (lent c.in_ok-others.others.items) (lent c.in_ok-candidates.candidates.items) c.is_complete.result (map shown_at c.args.runs.now) (map shown_at (spliced c.args.runs.now edit.from edit.to edit.runs.items)) c.overlapping.ensures.chunks was
     (record { overlap = c.in_ok-others.ensures.all; all = all }) c.requires
     (subst (λ (x : Extent). AreRunsEdited x (lent c.in_ok-candidates.candidates.items) (map shown_at c.args.runs.now) (map shown_at (spliced c.args.runs.now edit.from edit.to edit.runs.items))) c.interval-2.ensures.value

@@ -5,7 +5,8 @@ use Rattle.std.proofs.lemmas.Bool.{false≢true}
 use Rattle.druid_timeline.specs.Chunks.{held_in}
 use Rattle.druid_timeline.specs.Holding.{Held, Serving, held_of, IsHeld, AddsHeld, SameHeld}
 use Rattle.druid_timeline.specs.declared.fault.TimelineFault.TheVariants as faults
-use Rattle.druid_timeline.proofs.ChunkLemmas.{holds_held, always_err}
+use Rattle.druid_timeline.proofs.ChunkLemmas.{holds_held}
+use Rattle.druid_chunks.proofs.EditLemmas.{always_err}
 use Rattle.druid_timeline.proofs.timeline.Timeline.add.Goals as goal
 
 pub returns-then-holds-clause-there : goal.returns-then-holds-clause-there
