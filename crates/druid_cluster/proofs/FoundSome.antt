@@ -8,13 +8,13 @@ use Rattle.std.proofs.lemmas.Option.{same_Some, slice_get_within}
 use Rattle.std.proofs.lemmas.Slice.Eq.{bytes_eq-Decides}
 use Rattle.std.proofs.lemmas.List.Elements.{All-nil, All-cons, Contains-append_cases, Contains-append_left, Contains-append_right, Contains-get_or}
 use Rattle.druid_time.specs.Extent.{Extent, Has}
-use Rattle.druid_segid.specs.Group.{Group, same_group, Outranks}
-use Rattle.druid_segid.proofs.GroupLemmas.{Outranks-cases, Outranks-one_way, Outranks-onward}
+use Rattle.druid_segid.specs.Group.{Group, same_group}
+use Rattle.druid_segid.proofs.GroupLemmas.{Outranks-one_way}
 use Rattle.druid_shard.specs.Described.{Described}
-use Rattle.druid_members.specs.Members.{Member, HasPartition, IsComplete, core_count}
+use Rattle.druid_members.specs.Members.{Member, HasPartition}
 use Rattle.druid_shard.proofs.MemberLemmas.{Contains-cons, Contains-later, Contains-nil, Contains-map, Contains-map_back}
 use Rattle.druid_timeline.specs.Holding.{Held, held_of, members_of}
-use Rattle.druid_timeline.specs.Visible.{IsCandidate, IsVisible}
+use Rattle.druid_timeline.specs.Visible.{IsVisible}
 use Rattle.druid_timeline.specs.Pieces.{Told, Shown, shown_of, AreRuns, Shows, ArePiecesIn, ArePartitions}
 use Rattle.druid_chunks.proofs.ChunkLemmas.{same_group-exact, same_group-same}
 use Rattle.druid_timeline.proofs.RunsLemmas.{Shows-first, AreRuns-first}

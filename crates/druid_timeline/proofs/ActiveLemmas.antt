@@ -6,12 +6,12 @@ use Rattle.std.proofs.lemmas.List.{map-append, drop_all, length-map, get_or-map}
 use Rattle.std.proofs.lemmas.List.Elements.{Contains-push, Contains-push_cases, Contains-append_left}
 use Rattle.std.specs.List.Sorted.{IsPermutation, IsNonDecreasingBy}
 use Rattle.std.proofs.lemmas.List.Sorted.{Contains-permutation, IsNonDecreasingBy-drop}
-use Rattle.druid_time.specs.Extent.{Extent, Has}
+use Rattle.druid_time.specs.Extent.{Has}
 use Rattle.druid_segid.specs.Group.{Group}
 use Rattle.druid_shard.proofs.MemberLemmas.{Contains-nil, Contains-cons, Contains-later, Contains-map, Contains-map_back}
 use Rattle.druid_timeline.specs.Candidates.{IsCandidateOf, IsBestOf}
 use Rattle.druid_timeline.specs.Pieces.{Shown, Shows}
-use Rattle.druid_timeline.specs.Active.{StartInOrder, StartBehind, AreSplit}
+use Rattle.druid_timeline.specs.Active.{StartInOrder, StartLater, AreSplit}
 use Rattle.druid_timeline.specs.Stretches.{NoBoundWithin}
 use Rattle.druid_timeline.proofs.SweepLemmas.{IsBestOf-same, drop_next}
 
@@ -170,25 +170,25 @@ AreSplit-kept chunks rest old new t kept h =
       ];
     })
 
-behind_first : (first : Group) (later : List Group) (t : ℕ) → StartInOrder (first ∷ later) → t < first.interval.start → StartBehind (first ∷ later) t
+behind_first : (first : Group) (later : List Group) (t : ℕ) → StartInOrder (first ∷ later) → t < first.interval.start → StartLater (first ∷ later) t
 behind_first first later t order below e (i, l, at) =
     let up : first.interval.start ≤ (get_or (first ∷ later) i e).interval.start = order 0 i e (omega arith) l in
     let same : (get_or (first ∷ later) i e).interval.start ≡ e.interval.start = ap (λ (x : Group). x.interval.start) at in
     omega (arith, up, same, below)
 
 -- where the first of the rest starts after the instant, all of them do
-pub StartBehind-first : (chunks : List Group) (place t : ℕ) (first : Group) → StartInOrder chunks → place < length chunks → first ≡ get_or chunks place first → t < first.interval.start → StartBehind (drop place chunks) t
-StartBehind-first chunks place t first order l at below =
+pub StartLater-first : (chunks : List Group) (place t : ℕ) (first : Group) → StartInOrder chunks → place < length chunks → first ≡ get_or chunks place first → t < first.interval.start → StartLater (drop place chunks) t
+StartLater-first chunks place t first order l at below =
     let e = drop_next chunks place first l at in
-    subst (λ (xs : List Group). StartBehind xs t) (sym e)
+    subst (λ (xs : List Group). StartLater xs t) (sym e)
     (behind_first first (drop (place + 1) chunks) t (subst StartInOrder e (IsNonDecreasingBy-drop (λ (x : Group). x.interval.start) place chunks order)) below)
 
-pub StartBehind-end : (chunks : List Group) (place t : ℕ) → length chunks ≤ place → StartBehind (drop place chunks) t
-StartBehind-end chunks place t done e there =
+pub StartLater-end : (chunks : List Group) (place t : ℕ) → length chunks ≤ place → StartLater (drop place chunks) t
+StartLater-end chunks place t done e there =
     absurd (Contains-nil e (subst (λ (xs : List Group). Contains xs e) (drop_all place chunks done) there))
 
 -- each that has the instant is active
-pub AreSplit-all : (chunks rest active : List Group) (t : ℕ) → AreSplit chunks rest active t → StartBehind rest t → (e : Group) → Contains chunks e → Has e.interval t → Contains active e
+pub AreSplit-all : (chunks rest active : List Group) (t : ℕ) → AreSplit chunks rest active t → StartLater rest t → (e : Group) → Contains chunks e → Has e.interval t → Contains active e
 AreSplit-all chunks rest active t h behind e there has = elim (h.all e there) [
   | inl left ↦ let later = behind e left in let began : e.interval.start ≤ t = has.0 in absurd (omega (arith, later, began))
   | inr (inl at) ↦ at

@@ -4,7 +4,6 @@ use Rattle.std.specs.Bool.{IsTrue}
 use Rattle.std.specs.List.{Contains, All, IsDistinct}
 use Rattle.std.specs.Map.{keys_of}
 use Rattle.std.specs.Result.{OnOk}
-use Rattle.std.proofs.lemmas.Bool.{false≢true}
 use Rattle.std.proofs.lemmas.List.Elements.{filter-append, All-head}
 use Rattle.std.proofs.lemmas.Map.Keys.{IsDistinct-tail}
 use Rattle.druid_segid.specs.Identifier.{Identifier}
@@ -12,7 +11,7 @@ use Rattle.druid_segid.specs.Group.{Group, group_of, same_group}
 use Rattle.druid_members.specs.Members.{Member, IsComplete, HasMember, HoldsPlace, Adds, RemovesPlace, RemovesOne, SameMembers}
 use Rattle.druid_shard.proofs.MemberLemmas.{Contains-nil, Contains-later, Contains-map, Contains-map_back, Contains-flat_map, Contains-flat_map_back}
 use Rattle.druid_chunks.specs.Chunks.{Chunk, AreChunks, members_at, IsCompleteOf}
-use Rattle.druid_chunks.proofs.ChunkLemmas.{same_group-exact, same_group-same, same_group-other, cases_group, at_head, at_tail, head_alone, members_at-found, members_at-entry}
+use Rattle.druid_chunks.proofs.ChunkLemmas.{same_group-same, same_group-other, cases_group, at_head, at_tail, head_alone, members_at-found, members_at-entry}
 use Rattle.druid_timeline.specs.Holding.{Held, members_of, HoldsNothing, IsHeld, IsPlaceOf, IsCompleteIn, AddsHeld, RemovesHeld, RemovesOneHeld, SameHeld}
 use Rattle.druid_timeline.specs.Chunks.{held_at, held_in}
 

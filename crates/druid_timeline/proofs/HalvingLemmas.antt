@@ -1,5 +1,5 @@
 -- Runs that are found by halving.
-use Rattle.std.proofs.Common.{◌≡◌, ◌+◌, ◌<◌, ◌≤◌, ◌⊎◌, ℕ, zero, suc, Bool, true, false, List, [], ◌∷◌, length, get_or, take, drop, map, add-one, nat_cmp, nat_lt, refl, sym, ◌∙◌, subst, inl, inr, arith}
+use Rattle.std.proofs.Common.{◌≡◌, ◌+◌, ◌<◌, ◌≤◌, ◌⊎◌, ℕ, zero, suc, true, false, List, [], ◌∷◌, length, get_or, take, drop, map, add-one, nat_cmp, nat_lt, refl, sym, ◌∙◌, subst, inl, inr, arith}
 use Rattle.std.proofs.lemmas.Bool.Decides.{nat_tests}
 use Rattle.std.specs.List.{Contains, AllWithin}
 use Rattle.std.specs.List.Sorted.{IsNonDecreasingBy, IsPartitionedBy, IsPartitionPoint}
@@ -7,11 +7,10 @@ use Rattle.std.specs.Ordering.{is_le}
 use Rattle.std.proofs.lemmas.Bool.{cases_lt, ltb-true, ltb-false}
 use Rattle.std.proofs.lemmas.List.{get_or_default, get_or-take, get_or-drop, length-take, length-drop, drop_all}
 use Rattle.std.proofs.lemmas.List.Elements.{Contains-get_or}
-use Rattle.std.proofs.lemmas.List.Sorted.{IsNonDecreasingBy-from_all_adjacent, IsPartitionedBy-ltb}
+use Rattle.std.proofs.lemmas.List.Sorted.{IsNonDecreasingBy-from_all_adjacent}
 use Rattle.druid_time.specs.Extent.{Has}
 use Rattle.druid_time.proofs.ExtentLemmas.{at_most, above}
 use Rattle.druid_segid.specs.Group.{Group}
-use Rattle.druid_shard.proofs.MemberLemmas.{Contains-nil}
 use Rattle.druid_timeline.specs.Pieces.{shown_at, AreRuns, Shows}
 use Rattle.druid_timeline.proofs.RunsLemmas.{Shows-behind}
 use Rattle.druid_timeline.proofs.SpliceLemmas.{Shows-member, split_at, runs_drop}

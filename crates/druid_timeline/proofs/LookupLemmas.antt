@@ -7,7 +7,6 @@ use Rattle.std.specs.Result.{IfOk}
 use Rattle.std.proofs.lemmas.Bool.{cases_lt, lt-ltb, false≢true}
 use Rattle.std.proofs.lemmas.List.{map-append}
 use Rattle.druid_time.specs.Extent.{Extent, common}
-use Rattle.druid_segid.specs.Group.{Group}
 use Rattle.druid_shard.proofs.MemberLemmas.{Contains-nil, Contains-cons, Contains-later}
 use Rattle.druid_members.specs.Members.{Member}
 use Rattle.druid_chunks.specs.Chunks.{Chunk, AreChunks, members_at}
@@ -65,9 +64,9 @@ pub cut_before : (part : Extent) (rs : List Run) (i : ℕ) → part.start < part
 cut_before part rs i order runs before =
     let off = none_cut part (take i rs) (λ r there. let e = before r there in omega (arith, e)) in
     sym (
-      ap (filter_map (cut_piece part)) (sym (split_at rs i))
-      ∙ filter_map-append (cut_piece part) (map shown_at (take i rs)) (map shown_at (drop i rs))
-      ∙ ap (λ (xs : List Shown). xs ++ cut_runs part (drop i rs)) off
+    ap (filter_map (cut_piece part)) (sym (split_at rs i))
+    ∙ filter_map-append (cut_piece part) (map shown_at (take i rs)) (map shown_at (drop i rs))
+    ∙ ap (λ (xs : List Shown). xs ++ cut_runs part (drop i rs)) off
     )
 
 -- a run that overlaps the part gives a piece

@@ -9,7 +9,7 @@ use Rattle.druid_segid.specs.Group.{Group}
 use Rattle.druid_shard.proofs.MemberLemmas.{Contains-nil, Contains-cons, Contains-later}
 use Rattle.druid_timeline.specs.Candidates.{IsBestOf}
 use Rattle.druid_timeline.specs.Edited.{AreRunsEdited, spliced}
-use Rattle.druid_timeline.specs.Pieces.{Shown, shown_at, IsStretch, AreRuns, Shows}
+use Rattle.druid_timeline.specs.Pieces.{Shown, shown_at, AreRuns, Shows}
 use Rattle.druid_timeline.proofs.CutLemmas.{AreRuns-cons}
 use Rattle.druid_timeline.proofs.RunsLemmas.{AreRuns-first, AreRuns-rest, Shows-from_start, Shows-behind, Shows-at_end}
 use Rattle.druid_timeline.proofs.SweepLemmas.{Run, Shows-left, Shows-right, Shows-cases, Shows-push, ShowsOne, AreRuns-last, drop_next}
@@ -338,10 +338,12 @@ front_unpushed rs from u r front l at runs not e t g =
     let next = drop_next rs from r l at in
     let tail = subst (λ (xs : List Run). AreRuns (map shown_at xs)) next (runs_drop rs from runs) in
     subst (λ (xs : List Run). Shows (map shown_at xs) t g ↔ (Shows (map shown_at (drop from rs)) t g × (t < u))) (sym e)
-    (subst (λ (xs : List Run). Shows (map shown_at []) t g ↔ (Shows (map shown_at xs) t g × (t < u))) (sym next)
-    (λ none. absurd none, λ h.
-    let low : r.0.start ≤ t = Shows-from_start (shown_at r) (map shown_at (drop (from + 1) rs)) t g tail h.0 in
-    absurd (not (omega (arith, low, h.1)))))
+    (subst (λ (xs : List Run). Shows (map shown_at []) t g ↔ (Shows (map shown_at xs) t g × (t < u))) (sym next) (
+      λ none. absurd none,
+      λ h.
+          let low : r.0.start ≤ t = Shows-from_start (shown_at r) (map shown_at (drop (from + 1) rs)) t g tail h.0 in
+          absurd (not (omega (arith, low, h.1))),
+    ))
 
 pub front_none : (rs : List Run) (from u : ℕ) (front : List Run) → length rs ≤ from → front ≡ [] → (t : ℕ) (g : Group) → Shows (map shown_at front) t g ↔ (Shows (map shown_at (drop from rs)) t g × (t < u))
 front_none rs from u front past e t g =

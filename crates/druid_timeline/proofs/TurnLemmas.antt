@@ -11,7 +11,7 @@ use Rattle.druid_segid.specs.Group.{Group, same_group}
 use Rattle.druid_members.specs.Members.{IsComplete}
 use Rattle.druid_chunks.specs.Chunks.{Chunk, AreChunks, IsOverlapOf}
 use Rattle.druid_chunks.proofs.ChunkLemmas.{cases_group, same_group-equiv, same_group-exact, same_group-same}
-use Rattle.druid_timeline.specs.Candidates.{IsCandidateOf, IsBestOf}
+use Rattle.druid_timeline.specs.Candidates.{IsCandidateOf}
 use Rattle.druid_timeline.specs.Chunks.{held_in}
 use Rattle.druid_timeline.specs.Edited.{AreAlikeBut, AreRunsEdited, ArePiecesTurned, HasOthers, Turns}
 use Rattle.druid_timeline.specs.Holding.{Held, IsCompleteIn, SameHeld}
@@ -82,10 +82,13 @@ pieces_edited old new g chunks ps qs h edited alike found = record {
 
   by_place : (t : ℕ) (k : Group) → Has g.interval t ⊎ (Has g.interval t → ⊥) → Shows qs t k ↔ (Unit {0} × IsVisible new t k)
   by_place t k (inl has) = (
-    λ s. (tt, let best = (edited.inside t k has).0 s in record {
-      candidate = (found t has k).0 best.candidate;
-      greatest = λ other c. best.greatest other ((found t has other).1 c);
-    }),
+    λ s. (
+      tt,
+      let best = (edited.inside t k has).0 s in record {
+        candidate = (found t has k).0 best.candidate;
+        greatest = λ other c. best.greatest other ((found t has other).1 c);
+      },
+    ),
     λ v. (edited.inside t k has).1 (record {
       candidate = (found t has k).1 v.1.candidate;
       greatest = λ other c. v.1.greatest other ((found t has other).0 c);

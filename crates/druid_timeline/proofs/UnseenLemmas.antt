@@ -1,5 +1,5 @@
 -- Chunks that no run shows, as a walk over all chunks gathers them.
-use Rattle.std.proofs.Common.{◌≡◌, ◌+◌, ◌<◌, ◌≤◌, ◌⊎◌, ◌↔◌, ◌++◌, ℕ, Bool, true, false, List, [], ◌∷◌, length, get_or, take, map, cond, refl, sym, ap, ◌∙◌, subst, inl, inr, arith}
+use Rattle.std.proofs.Common.{◌≡◌, ◌+◌, ◌<◌, ◌⊎◌, ◌↔◌, ◌++◌, ℕ, Bool, true, false, List, [], ◌∷◌, length, get_or, take, map, cond, refl, sym, ap, ◌∙◌, subst, inl, inr, arith}
 use Rattle.std.specs.Bool.{IsTrue}
 use Rattle.std.specs.List.{Contains, IsDistinct, AllByRecursion}
 use Rattle.std.specs.Map.{keys_of}

@@ -8,8 +8,8 @@ abbrev pub StartInOrder : List Group → Type 0
 StartInOrder chunks = IsNonDecreasingBy (λ (g : Group). g.interval.start) chunks
 
 -- each starts after the instant
-abbrev pub StartBehind : List Group → ℕ → Type 0
-StartBehind chunks t = (g : Group) → Contains chunks g → t < g.interval.start
+abbrev pub StartLater : List Group → ℕ → Type 0
+StartLater chunks t = (g : Group) → Contains chunks g → t < g.interval.start
 
 -- each of the chunks is one of the rest, or is active, or has ended at the instant
 pub record AreSplit (chunks rest active : List Group) (t : ℕ) : Type 0 where

@@ -1,10 +1,10 @@
 -- One edit of a timeline.
-use Rattle.std.specs.Prelude.{◌≡◌, ◌≢◌, ℕ, List, take, drop, ◌++◌, map, ◌⊎◌, ◌↔◌, Contains}
+use Rattle.std.specs.Prelude.{◌≢◌, ℕ, List, take, drop, ◌++◌, ◌⊎◌, ◌↔◌, Contains}
 use Rattle.druid_time.specs.Extent.{Extent, Has, Share}
 use Rattle.druid_segid.specs.Group.{Group}
 use Rattle.druid_timeline.specs.Candidates.{IsBestOf}
 use Rattle.druid_timeline.specs.Holding.{Held, IsCompleteIn}
-use Rattle.druid_timeline.specs.Pieces.{Shown, shown_at, AreRuns, Shows, ArePieces}
+use Rattle.druid_timeline.specs.Pieces.{Shown, AreRuns, Shows, ArePieces}
 
 -- the list has each other complete chunk whose interval overlaps that of g
 abbrev pub HasOthers : List Held → Group → List Group → Type 0

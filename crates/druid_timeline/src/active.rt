@@ -3,7 +3,7 @@ ghost use Rattle.std.specs.Prelude.{◌≡◌, ◌≤◌, ◌<◌, ◌+◌, ◌�
 ghost use Rattle.druid_time.specs.Extent.{Has};
 ghost use Rattle.druid_segid.specs.Group.{Group, Outranks};
 ghost use Rattle.druid_timeline.specs.Candidates.{IsBest};
-ghost use Rattle.druid_timeline.specs.Active.{StartInOrder, StartBehind, AreSplit};
+ghost use Rattle.druid_timeline.specs.Active.{StartInOrder, StartLater, AreSplit};
 
 use druid_segid::{GroupKey, Meter};
 use druid_time::Instant;
@@ -21,12 +21,7 @@ fn beats(key: &GroupKey, best: Option<&GroupKey>, meter: &mut Meter) -> bool
 }
 
 // Whether a chunk has the instant and outranks the best one so far, if there is one.
-fn is_better(
-    key: &GroupKey,
-    instant: Instant,
-    best: Option<&GroupKey>,
-    meter: &mut Meter,
-) -> bool
+fn is_better(key: &GroupKey, instant: Instant, best: Option<&GroupKey>, meter: &mut Meter) -> bool
     ensures answer { IsTrue result
         ↔ (Has key.now.interval instant × MatchOption (option_copied best.entry) (Unit {0}) (Outranks key.now)) }
     ensures counted { (meter.old ≤ meter.new) × (meter.new ≤ meter.old + 1) }
@@ -65,7 +60,7 @@ fn take_started<'a>(
     requires few { (length active.old.items ≤ start) × (start ≤ length sorted.now) }
     ensures split { IfOk result (λ place. AreSplit (map (λ c. c.now) sorted.now)
         (drop place (map (λ c. c.now) sorted.now)) (map (λ c. c.now) active.new.items) to) }
-    ensures behind { IfOk result (λ place. StartBehind (drop place (map (λ c. c.now) sorted.now)) to) }
+    ensures later { IfOk result (λ place. StartLater (drop place (map (λ c. c.now) sorted.now)) to) }
     ensures few { IfOk result (λ place. (length active.new.items ≤ place) × (place ≤ length sorted.now)) }
 {
     let mut place = start;

@@ -76,7 +76,7 @@ fn add_back(
     requires runs { AreRuns (map shown_at runs.now) }
     requires before { (run : Extent × Group) → Contains (take to runs.now) run → run.0.start ≤ instant }
     requires middle { AreRuns (map shown_at middle.old.items) }
-    requires behind { EndBy (map shown_at middle.old.items) instant }
+    requires ends { EndBy (map shown_at middle.old.items) instant }
     ensures runs { OnOk result (AreRuns (map shown_at middle.new.items)) }
     ensures shows { OnOk result ((t : ℕ) (g : Group) → Shows (map shown_at middle.new.items) t g
         ↔ (Shows (map shown_at middle.old.items) t g ⊎ (Shows (map shown_at (take to runs.now)) t g × (instant ≤ t)))) }

@@ -41,11 +41,7 @@ pub(crate) fn chunk_at(runs: &[(Interval, GroupKey)], instant: Instant) -> Optio
 }
 
 // The partitions of a chunk, rising. None where nothing is held of it.
-fn partitions_of(
-    alloc: Global,
-    chunks: &Chunks,
-    key: &GroupKey,
-) -> Result<Partitions, AllocError>
+fn partitions_of(alloc: Global, chunks: &Chunks, key: &GroupKey) -> Result<Partitions, AllocError>
     ensures { IfOk result (λ parts. ArePartitions (members_at chunks.now key.now) parts) }
 {
     match chunks.find(key) {

@@ -16,10 +16,7 @@ use std::cmp::Ordering;
 use std::collections::HashSet;
 
 // The chunks that runs show.
-fn shown_in(
-    alloc: Global,
-    runs: &[(Interval, GroupKey)],
-) -> Result<HashSet<GroupKey>, AllocError>
+fn shown_in(alloc: Global, runs: &[(Interval, GroupKey)]) -> Result<HashSet<GroupKey>, AllocError>
     ensures { IfOk result (λ shown. (g : Group) → IsTrue (set.contains same_group shown g)
         ↔ ((run : Extent × Group) × Contains runs.now run × (run.1 ≡ g))) }
 {

@@ -45,8 +45,8 @@ fn unsorted_bounds(
         let own = candidate.interval();
         let first = own.start();
         push_inside(&mut bounds, part, first)?;
-        let behind = own.end();
-        push_inside(&mut bounds, part, behind)?;
+        let last = own.end();
+        push_inside(&mut bounds, part, last)?;
     }
     Ok(bounds)
 }
@@ -75,7 +75,7 @@ fn goes_on(last: &(Interval, GroupKey), stretch: Interval, key: &GroupKey) -> bo
 }
 
 // The run with the end of a stretch that goes on where it ends.
-fn extended(last: (Interval, GroupKey), stretch: Interval) -> (Interval, GroupKey)
+fn extend_run(last: (Interval, GroupKey), stretch: Interval) -> (Interval, GroupKey)
     requires { last.0.end ≡ stretch.start }
     ensures { result ≡ (record { start = last.0.start; end = stretch.end }, last.1) }
 {
@@ -90,7 +90,7 @@ pub(crate) fn push_run(
     key: &GroupKey,
 ) -> Result<(), AllocError>
     requires runs { AreRuns (map shown_at runs.old.items) }
-    requires behind { EndBy (map shown_at runs.old.items) stretch.start }
+    requires ends { EndBy (map shown_at runs.old.items) stretch.start }
     ensures runs { OnOk result (AreRuns (map shown_at runs.new.items)) }
     ensures shows { OnOk result ((t : ℕ) (g : Group) → Shows (map shown_at runs.new.items) t g
         ↔ (Shows (map shown_at runs.old.items) t g ⊎ ((key.now ≡ g) × Has stretch t))) }
@@ -100,7 +100,7 @@ pub(crate) fn push_run(
         return Ok(());
     };
     if goes_on(&last, stretch, key) {
-        runs.push(extended(last, stretch))?;
+        runs.push(extend_run(last, stretch))?;
         return Ok(());
     }
     runs.push(last)?;
@@ -117,7 +117,7 @@ fn add_stretch(
 ) -> Result<(), AllocError>
     requires level { NoBoundWithin (map (λ c. c.now) active.now) stretch.start stretch.end }
     requires runs { AreRuns (map shown_at runs.old.items) }
-    requires behind { EndBy (map shown_at runs.old.items) stretch.start }
+    requires ends { EndBy (map shown_at runs.old.items) stretch.start }
     ensures runs { OnOk result (AreRuns (map shown_at runs.new.items)) }
     ensures shows { OnOk result ((t : ℕ) (g : Group) → Shows (map shown_at runs.new.items) t g
         ↔ (Shows (map shown_at runs.old.items) t g ⊎ (Has stretch t × IsBestOf (map (λ c. c.now) active.now) t g))) }
@@ -143,7 +143,7 @@ pub(crate) fn add_part(
     requires bounds { HaveBounds part (map (λ c. c.now) candidates.now) bounds.now }
     requires sorted { IsNonDecreasing bounds.now }
     requires runs { AreRuns (map shown_at runs.old.items) }
-    requires behind { EndBy (map shown_at runs.old.items) part.start }
+    requires ends { EndBy (map shown_at runs.old.items) part.start }
     ensures runs { OnOk result (AreRuns (map shown_at runs.new.items)) }
     ensures shows { OnOk result ((t : ℕ) (g : Group) → Shows (map shown_at runs.new.items) t g
         ↔ (Shows (map shown_at runs.old.items) t g ⊎ (Has part t × IsBestOf (map (λ c. c.now) candidates.now) t g))) }

@@ -61,7 +61,7 @@ fn turn_of(
 }
 
 // The same, with room for what it adds. Nothing else allocates where the chunk's completeness turns.
-fn prepared(
+fn prepare_edit(
     alloc: Global,
     chunks: &Chunks,
     runs: &mut Vec<(Interval, GroupKey)>,
@@ -102,7 +102,7 @@ fn settle(
     requires room { vec_len runs.old + vec_len edit.runs ≤ vec_capacity runs.old }
     ensures { (old : List Held) → ArePieces old (map shown_at runs.old.items)
         → ArePiecesTurned old (group_of id.now)
-            (map shown_at (spliced runs.old.items edit.from edit.to edit.runs.items))
+        (map shown_at (spliced runs.old.items edit.from edit.to edit.runs.items))
         → (IsTrue was_complete ↔ IsCompleteIn old (group_of id.now))
         → AreAlikeBut old (held_in chunks.now) (group_of id.now)
         → ArePieces (held_in chunks.now) (map shown_at runs.new.items) }
@@ -132,7 +132,7 @@ pub(crate) fn add_segment(
 {
     let id = descriptor.id();
     let was_complete = chunks.is_complete(id);
-    let edit = prepared(alloc, chunks, runs, id, meter)?;
+    let edit = prepare_edit(alloc, chunks, runs, id, meter)?;
     chunks.add(descriptor, node)?;
     settle(chunks, runs, id, was_complete, edit);
     Ok(())
@@ -158,7 +158,7 @@ pub(crate) fn remove_segment(
         → meter.new ≤ meter.old + (2 * length others + 1) * (length others + 1) }
 {
     let was_complete = chunks.is_complete(id);
-    let edit = prepared(alloc, chunks, runs, id, meter)?;
+    let edit = prepare_edit(alloc, chunks, runs, id, meter)?;
     chunks.remove(id, node)?;
     settle(chunks, runs, id, was_complete, edit);
     Ok(())

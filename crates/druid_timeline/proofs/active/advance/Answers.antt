@@ -10,4 +10,4 @@ pub returns-clause-all : goal.returns-clause-all
 returns-clause-all c =
     AreSplit-all (lent c.args.sorted.now) (drop c.in_ok-place.place (lent c.args.sorted.now)) (lent c.let_go.new.active.items) c.args.to
     (AreSplit-kept (lent c.args.sorted.now) (drop c.in_ok-place.place (lent c.args.sorted.now)) (lent c.take_started.new.active.items) (lent c.let_go.new.active.items) c.args.to c.let_go.ensures.kept c.in_ok-place.ensures.split)
-    c.in_ok-place.ensures.behind
+    c.in_ok-place.ensures.later

@@ -1,11 +1,11 @@
 use Rattle.std.proofs.Common.{◌<◌, arith, rules}
-use Rattle.druid_timeline.proofs.ActiveLemmas.{lent, lent_at, lent_within, few_pushed, StartBehind-first, AreSplit-take}
+use Rattle.druid_timeline.proofs.ActiveLemmas.{lent, lent_at, lent_within, few_pushed, StartLater-first, AreSplit-take}
 use Rattle.druid_timeline.proofs.active.take_started.Goals as goal
 
-pub returns-then-lt-clause-behind : goal.returns-then-lt-clause-behind
-returns-then-lt-clause-behind c =
+pub returns-then-lt-clause-later : goal.returns-then-lt-clause-later
+returns-then-lt-clause-later c =
     let below : c.args.to < c.index-sorted-place.result.now.interval.start = search rules in
-    StartBehind-first (lent c.args.sorted.now) c.loop-place.place c.args.to c.index-sorted-place.result.now c.requires.order (lent_within c.args.sorted.now c.loop-place.place c.loop-place-test.true) (lent_at c.args.sorted.now c.loop-place.place c.index-sorted-place.result c.loop-place-test.true c.index-sorted-place.is) below
+    StartLater-first (lent c.args.sorted.now) c.loop-place.place c.args.to c.index-sorted-place.result.now c.requires.order (lent_within c.args.sorted.now c.loop-place.place c.loop-place-test.true) (lent_at c.args.sorted.now c.loop-place.place c.index-sorted-place.result c.loop-place-test.true c.index-sorted-place.is) below
 
 pub loop-place-preserved : goal.loop-place-preserved
 loop-place-preserved c = record {

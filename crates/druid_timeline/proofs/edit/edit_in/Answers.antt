@@ -1,4 +1,4 @@
-use Rattle.std.proofs.Common.{◌<◌, ◌≤◌, ◌⊎◌, ◌↔◌, ℕ, List, map, take, drop, subst}
+use Rattle.std.proofs.Common.{◌<◌, ◌≤◌, ◌⊎◌, ◌↔◌, ℕ, map, take, drop, subst}
 use Rattle.std.specs.List.{Contains}
 use Rattle.druid_segid.specs.Group.{Group}
 use Rattle.druid_timeline.specs.Pieces.{Shows, shown_at}

@@ -1,5 +1,4 @@
 use Rattle.std.proofs.Common.{◌≡◌, ◌<◌, ℕ, List, [], ◌∷◌, ◌++◌, subst, sym, ◌∙◌, ap}
-use Rattle.druid_time.specs.Extent.{Extent}
 use Rattle.druid_timeline.proofs.SpliceLemmas.{front_pushed, front_unpushed, front_none}
 use Rattle.druid_timeline.proofs.SweepLemmas.{Run}
 use Rattle.druid_timeline.proofs.edit.front_of.Goals as goal

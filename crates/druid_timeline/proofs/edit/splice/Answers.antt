@@ -1,6 +1,5 @@
-use Rattle.std.proofs.Common.{◌≡◌, ◌-◌, ◌++◌, ℕ, Bool, List, length, cond, refl, ap, ◌∙◌, rules}
+use Rattle.std.proofs.Common.{◌≡◌, ◌-◌, ◌++◌, ℕ, Bool, length, cond, refl, ap, ◌∙◌, rules}
 use Rattle.druid_timeline.proofs.MoveLemmas.{spliced_by_moves}
-use Rattle.druid_timeline.proofs.SweepLemmas.{Run}
 use Rattle.druid_timeline.proofs.edit.splice.Goals as goal
 
 pub returns : goal.returns

@@ -1,4 +1,4 @@
-use Rattle.std.proofs.Common.{◌≡◌, ◌+◌, ◌<◌, ◌≤◌, ◌++◌, ℕ, List, Some, None, map, take, drop, sym, ap, ◌∙◌, subst, rules}
+use Rattle.std.proofs.Common.{◌≡◌, ◌+◌, ◌<◌, ◌≤◌, ◌++◌, ℕ, List, None, map, take, drop, sym, ap, ◌∙◌, subst, rules}
 use Rattle.std.specs.List.{Contains}
 use Rattle.druid_chunks.specs.Chunks.{members_at}
 use Rattle.druid_time.specs.Extent.{common}

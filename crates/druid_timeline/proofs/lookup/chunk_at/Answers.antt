@@ -1,6 +1,5 @@
-use Rattle.std.proofs.Common.{◌<◌, length, sym, ◌∙◌}
+use Rattle.std.proofs.Common.{sym, ◌∙◌}
 use Rattle.std.proofs.lemmas.Bool.{false≢true}
-use Rattle.druid_shard.proofs.MemberLemmas.{Contains-nil}
 use Rattle.druid_timeline.proofs.HalvingLemmas.{at_place, shown_beyond, shown_nowhere}
 use Rattle.druid_timeline.proofs.SpliceLemmas.{member-Shows}
 use Rattle.druid_timeline.proofs.lookup.chunk_at.Goals as goal

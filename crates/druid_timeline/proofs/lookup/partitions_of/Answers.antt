@@ -1,8 +1,5 @@
-use Rattle.std.proofs.Common.{◌≡◌, ℕ, List, [], sym, subst, ◌∙◌, arith}
-use Rattle.std.specs.List.{Contains}
-use Rattle.druid_members.specs.Members.{Member, HasPartition}
-use Rattle.druid_shard.proofs.MemberLemmas.{Contains-nil}
-use Rattle.druid_chunks.specs.Chunks.{members_at}
+use Rattle.std.proofs.Common.{List, [], sym, subst, ◌∙◌}
+use Rattle.druid_members.specs.Members.{Member}
 use Rattle.druid_chunks.proofs.ChunkLemmas.{members_at-of, members_at-none}
 use Rattle.druid_timeline.specs.Pieces.{ArePartitions}
 use Rattle.druid_chunks.proofs.EditLemmas.{if_ok_weaker}

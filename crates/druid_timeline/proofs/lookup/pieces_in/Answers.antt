@@ -1,4 +1,4 @@
-use Rattle.std.proofs.Common.{List, map, drop, ap, ◌∙◌, sym, refl}
+use Rattle.std.proofs.Common.{List, map, drop, ap}
 use Rattle.std.proofs.lemmas.List.{drop_all}
 use Rattle.druid_time.specs.Extent.{Extent}
 use Rattle.druid_timeline.specs.Pieces.{cut, shown_at}

@@ -1,4 +1,4 @@
-use Rattle.std.proofs.Common.{◌∙◌, ◌↔◌, List, subst}
+use Rattle.std.proofs.Common.{◌↔◌, List, subst}
 use Rattle.std.specs.Bool.{IsTrue}
 use Rattle.std.specs.HashSet as set
 use Rattle.std.proofs.lemmas.List.{take_all}

@@ -44,10 +44,10 @@ add_stretch-requires-clause-level c =
 pub add_stretch-requires-clause-runs : goal.add_stretch-requires-clause-runs
 add_stretch-requires-clause-runs c = c.loop-bound.invariant.swept.runs
 
-pub add_stretch-requires-clause-behind : goal.add_stretch-requires-clause-behind
-add_stretch-requires-clause-behind c =
+pub add_stretch-requires-clause-ends : goal.add_stretch-requires-clause-ends
+add_stretch-requires-clause-ends c =
     subst (λ (x : Extent). EndBy (map shown_at c.loop-bound.runs.items) x.start) (sym c.in-Some.ensures.value.1)
-    (IsSwept-behind c.args.part (lent c.args.candidates.now) c.args.bounds.now c.args.runs.now.items c.loop-bound.runs.items c.loop-bound.bound-index c.loop-bound.from c.loop-bound.invariant.swept c.requires.behind)
+    (IsSwept-behind c.args.part (lent c.args.candidates.now) c.args.bounds.now c.args.runs.now.items c.loop-bound.runs.items c.loop-bound.bound-index c.loop-bound.from c.loop-bound.invariant.swept c.requires.ends)
 
 pub returns-in_err-add_stretch-clause-counted : goal.returns-in_err-add_stretch-clause-counted
 returns-in_err-add_stretch-clause-counted c =

@@ -1,5 +1,4 @@
-use Rattle.std.proofs.Common.{sym}
-use Rattle.std.proofs.lemmas.List.Sorted.{Contains-permutation, IsPermutation-sym, IsNonDecreasingBy-from_sort, length_permutation}
+use Rattle.std.proofs.lemmas.List.Sorted.{Contains-permutation, IsPermutation-sym, IsNonDecreasingBy-from_sort}
 use Rattle.druid_timeline.proofs.ActiveLemmas.{lent}
 use Rattle.druid_timeline.proofs.SweepLemmas.{HaveBounds-same}
 use Rattle.druid_timeline.proofs.sweep.bounds_in.Goals as goal

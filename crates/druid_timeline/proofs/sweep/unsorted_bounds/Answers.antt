@@ -14,7 +14,7 @@ loop-candidate-preserved c =
     let one = c.in_ok-push_inside.ensures in
     let two = c.in_ok-push_inside-2.ensures in
     let start = c.start-first.ensures.value ∙ ap (λ (x : Extent). x.start) c.interval-own.ensures.value in
-    let end = c.end-behind.ensures.value ∙ ap (λ (x : Extent). x.end) c.interval-own.ensures.value in
+    let end = c.end-last.ensures.value ∙ ap (λ (x : Extent). x.end) c.interval-own.ensures.value in
     record {
       far =
           AreBoundsSoFar-more c.args.part (lent c.args.candidates.now) (lent (drop (c.loop-candidate.candidate-index + 1) c.args.candidates.now)) c.candidate-item.result.now c.loop-candidate.bounds.items c.push_inside.new.bounds.items c.push_inside-in-loop-candidate.new.bounds.items far

@@ -1,6 +1,5 @@
-use Rattle.std.proofs.Common.{◌≡◌, ◌⊎◌, ◌↔◌, List, [], ◌∷◌, ◌++◌, Bool, false, inl, inr, ap, sym, subst, ◌∙◌, rules, Bor}
+use Rattle.std.proofs.Common.{◌≡◌, ◌⊎◌, ◌↔◌, List, [], ◌∷◌, ◌++◌, false, ap, ◌∙◌, rules, Bor}
 use Rattle.std.specs.List.{Contains}
-use Rattle.std.proofs.lemmas.Bool.{false≢true}
 use Rattle.std.proofs.lemmas.List.Sorted.{IsPermutation-sym, IsNonDecreasingBy-from_sort_by_key}
 use Rattle.druid_segid.specs.Group.{Group}
 use Rattle.druid_timeline.proofs.ActiveLemmas.{lent, lent_moved, lent_order, joined_candidates, other_candidates}

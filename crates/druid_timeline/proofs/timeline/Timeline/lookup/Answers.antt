@@ -1,4 +1,4 @@
-use Rattle.std.proofs.Common.{◌≡◌, List, map, ap, sym, subst, ◌∙◌}
+use Rattle.std.proofs.Common.{List, map, ap, sym, subst}
 use Rattle.std.specs.List.{All}
 use Rattle.druid_time.specs.Extent.{Extent, AnyHas, AreParts}
 use Rattle.druid_timeline.specs.Chunks.{held_in}

@@ -1,4 +1,4 @@
-use Rattle.std.proofs.Common.{◌≡◌, ◌↔◌, ℕ, List, ap, sym, subst}
+use Rattle.std.proofs.Common.{◌↔◌, ℕ, List, ap, sym, subst}
 use Rattle.std.specs.List.{Contains}
 use Rattle.druid_segid.specs.Group.{group_of}
 use Rattle.druid_members.specs.Members.{HoldsPlace}

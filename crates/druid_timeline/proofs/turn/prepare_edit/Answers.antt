@@ -4,7 +4,7 @@ use Rattle.druid_timeline.specs.Chunks.{held_in}
 use Rattle.druid_timeline.specs.Edited.{ArePiecesTurned, spliced}
 use Rattle.druid_timeline.specs.Pieces.{shown_at}
 use Rattle.druid_timeline.proofs.SweepLemmas.{Run}
-use Rattle.druid_timeline.proofs.turn.prepared.Goals as goal
+use Rattle.druid_timeline.proofs.turn.prepare_edit.Goals as goal
 
 pub returns-clause-turned : goal.returns-clause-turned
 returns-clause-turned c =
