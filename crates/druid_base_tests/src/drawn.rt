@@ -21,13 +21,17 @@ const PARTITIONS: u16 = 6;
 
 // Numbers that look random, the same in each run of the test.
 #[derive(Drop)]
-struct Draws {
+pub(crate) struct Draws {
     state: u64,
 }
 
 impl Draws {
+    pub(crate) fn new(seed: u64) -> Draws {
+        Draws { state: seed }
+    }
+
     // A number below a bound.
-    fn below(&mut self, bound: u64) -> u64
+    pub(crate) fn below(&mut self, bound: u64) -> u64
         requires { 0 < bound }
         ensures { result < bound }
     {
@@ -339,7 +343,7 @@ impl Entries {
 
 // Whether all is true after a drawn run; counts how much brokers came to know.
 fn drawn_run(rt: &impl Abort, alloc: Global, seed: u64, entries: &mut Entries) -> bool {
-    let mut draws = Draws { state: seed };
+    let mut draws = Draws::new(seed);
     let mut sim = Sim::new(alloc, 3, 4, 5).expect(rt, "memory");
     let mut plain = Plain {
         told: Vec::new(alloc),

@@ -1,11 +1,13 @@
 //! What no contract says of the crates from instants to inventories, of `replay` and of `druid_world`: worked examples and
 //! runs, printed texts, devices that fail, that calls succeed with ample memory, and drawn runs against a plain replay. A
-//! module has the name of the crate that it tests; `devices`, `explaining`, `following` and `joining` are of `replay`, and `drawn` of
-//! `druid_world`.
+//! module has the name of the crate that it tests; `devices`, `following` and `joining` are of `replay`, `drawn` is of
+//! `druid_world`, and `edits` of `druid_timeline`.
 #![tactic(auto)]
 
 #[cfg(test)]
 mod changes;
+#[cfg(test)]
+mod chunks;
 #[cfg(test)]
 mod cluster;
 #[cfg(test)]
@@ -13,7 +15,7 @@ mod devices;
 #[cfg(test)]
 mod drawn;
 #[cfg(test)]
-mod explaining;
+mod edits;
 #[cfg(test)]
 mod following;
 #[cfg(test)]

@@ -56,7 +56,7 @@ const COPIES: &str =
 - 2024-01-01/2024-01-02 v1 0 2 = v1 2024-01-01T00:00:00.000Z/2024-01-02T00:00:00.000Z [0, 1]; then |";
 
 // A segment of the source `wiki`, as a case has it.
-fn descriptor(rt: &impl Abort, alloc: Global, row: &str) -> Descriptor {
+pub(crate) fn descriptor(rt: &impl Abort, alloc: Global, row: &str) -> Descriptor {
     let (chunk, row) = row.split_once(' ').expect(rt, "no interval");
     let (version, row) = row.split_once(' ').expect(rt, "no version");
     let (partition, core) = row.split_once(' ').expect(rt, "no partition");
@@ -110,7 +110,7 @@ fn pieces(rt: &impl Abort, alloc: Global, timeline: &Timeline) -> Vec<Piece> {
     timeline.lookup(&set).expect(rt, "memory")
 }
 
-fn push_version(rt: &impl Abort, alloc: Global, told: &mut String, key: &GroupKey) {
+pub(crate) fn push_version(rt: &impl Abort, alloc: Global, told: &mut String, key: &GroupKey) {
     let version = key.version().text(alloc).expect(rt, "memory");
     told.push_str(version.as_str()).expect(rt, "memory");
 }

@@ -23,7 +23,7 @@ use Rattle.druid_timeline.specs.Holding.{Held, held_of, members_of}
 use Rattle.druid_timeline.specs.Visible.{IsVisible}
 use Rattle.druid_timeline.specs.Pieces.{Shown, AreRuns, Shows}
 use Rattle.druid_timeline.proofs.HoldingLemmas.{in_filter, from_filter, IsVisible-same}
-use Rattle.druid_timeline.proofs.ChunkLemmas.{same_group-same}
+use Rattle.druid_chunks.proofs.ChunkLemmas.{same_group-same}
 use Rattle.druid_timeline.proofs.RunsLemmas.{AreRuns-rest, Shows-behind}
 use Rattle.druid_rows.specs.Rows.{Row}
 use Rattle.druid_filter.specs.Filters.{value_in}

@@ -18,7 +18,7 @@ use Rattle.druid_timeline.specs.Holding.{Held, SameHeld}
 use Rattle.druid_timeline.specs.Pieces.{Shown, AreRuns, IsStretch, Shows}
 use Rattle.druid_timeline.proofs.RunsLemmas.{AreRuns-first, AreRuns-rest}
 use Rattle.druid_timeline.proofs.HoldingLemmas.{from_filter, SameHeld-members, ArePiecesIn-same}
-use Rattle.druid_timeline.proofs.ChunkLemmas.{same_group-exact}
+use Rattle.druid_chunks.proofs.ChunkLemmas.{same_group-exact}
 use Rattle.druid_inventory.specs.Entry.{Entry}
 use Rattle.druid_inventory.specs.Sources.{Serves, IsHoldingOf}
 use Rattle.druid_query.specs.Query.{Query}

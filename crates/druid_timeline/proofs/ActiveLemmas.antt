@@ -1,39 +1,39 @@
 -- The chunks that a sweep has at hand.
 use Rattle.std.proofs.Common.{◌≡◌, ◌+◌, ◌<◌, ◌≤◌, ◌⊎◌, ◌↔◌, ◌++◌, ℕ, Bool, true, false, cond, nat_lt, List, [], ◌∷◌, length, get_or, drop, map, refl, sym, ap, ◌∙◌, subst, inl, inr, arith, Bor}
 use Rattle.std.specs.List.{Contains, filter}
-use Rattle.std.specs.List.Sorted.{IsPermutation}
-use Rattle.std.proofs.lemmas.Bool.{ltb-false}
-use Rattle.std.proofs.lemmas.List.{map-append, drop_all}
+use Rattle.std.proofs.lemmas.Bool.{ltb-false, false≢true}
+use Rattle.std.proofs.lemmas.List.{map-append, drop_all, length-map, get_or-map}
 use Rattle.std.proofs.lemmas.List.Elements.{Contains-push, Contains-push_cases, Contains-append_left}
-use Rattle.std.proofs.lemmas.List.Sorted.{Contains-permutation, IsPermutation-sym, IsNonDecreasingBy-drop}
-use Rattle.druid_time.specs.Extent.{Extent, Has}
+use Rattle.std.specs.List.Sorted.{IsPermutation, IsNonDecreasingBy}
+use Rattle.std.proofs.lemmas.List.Sorted.{Contains-permutation, IsNonDecreasingBy-drop}
+use Rattle.druid_time.specs.Extent.{Has}
 use Rattle.druid_segid.specs.Group.{Group}
-use Rattle.druid_shard.proofs.MemberLemmas.{Contains-nil, Contains-cons, Contains-later}
-use Rattle.druid_timeline.specs.Chunks.{Chunk, IsBestOf}
+use Rattle.druid_shard.proofs.MemberLemmas.{Contains-nil, Contains-cons, Contains-later, Contains-map, Contains-map_back}
+use Rattle.druid_timeline.specs.Candidates.{IsCandidateOf, IsBestOf}
 use Rattle.druid_timeline.specs.Pieces.{Shown, Shows}
-use Rattle.druid_timeline.specs.Active.{StartInOrder, StartBehind, AreSplit}
-use Rattle.druid_timeline.specs.Stretches.{AreCandidatesIn, NoBoundWithin}
-use Rattle.druid_timeline.proofs.SweepLemmas.{IsBestOf-within, drop_next}
+use Rattle.druid_timeline.specs.Active.{StartInOrder, StartLater, AreSplit}
+use Rattle.druid_timeline.specs.Stretches.{NoBoundWithin}
+use Rattle.druid_timeline.proofs.SweepLemmas.{IsBestOf-same, drop_next}
 
 -- ---- borrowed items
 
-abbrev pub lent : List (Bor Chunk) → List Chunk
-lent items = map (λ (c : Bor Chunk). c.now) items
+abbrev pub lent : List (Bor Group) → List Group
+lent items = map (λ (c : Bor Group). c.now) items
 
-lent_push : (items : List (Bor Chunk)) (item : Bor Chunk) → lent (items ++ item ∷ []) ≡ lent items ++ item.now ∷ []
-lent_push items item = map-append (λ (c : Bor Chunk). c.now) items (item ∷ [])
+lent_push : (items : List (Bor Group)) (item : Bor Group) → lent (items ++ item ∷ []) ≡ lent items ++ item.now ∷ []
+lent_push items item = map-append (λ (c : Bor Group). c.now) items (item ∷ [])
 
-pub lent_filter : (p : Chunk → Bool) (items : List (Bor Chunk)) → lent (filter (λ (c : Bor Chunk). p c.now) items) ≡ filter p (lent items)
+pub lent_filter : (p : Group → Bool) (items : List (Bor Group)) → lent (filter (λ (c : Bor Group). p c.now) items) ≡ filter p (lent items)
 lent_filter p [] = refl
 lent_filter p (x ∷ xs) = by_test (lent_filter p xs) (p x.now) where
-  by_test : lent (filter (λ (c : Bor Chunk). p c.now) xs) ≡ filter p (lent xs) → (b : Bool)
-      → lent (cond b (x ∷ filter (λ (c : Bor Chunk). p c.now) xs) (filter (λ (c : Bor Chunk). p c.now) xs)) ≡ cond b (x.now ∷ filter p (lent xs)) (filter p (lent xs))
-  by_test rest true = ap (λ (ys : List Chunk). x.now ∷ ys) rest
+  by_test : lent (filter (λ (c : Bor Group). p c.now) xs) ≡ filter p (lent xs) → (b : Bool)
+      → lent (cond b (x ∷ filter (λ (c : Bor Group). p c.now) xs) (filter (λ (c : Bor Group). p c.now) xs)) ≡ cond b (x.now ∷ filter p (lent xs)) (filter p (lent xs))
+  by_test rest true = ap (λ (ys : List Group). x.now ∷ ys) rest
   by_test rest false = rest
 
 -- ---- what a filter keeps
 
-Contains-of_filter : (p : Chunk → Bool) (xs : List Chunk) (e : Chunk) → Contains (filter p xs) e → Contains xs e
+Contains-of_filter : (p : Group → Bool) (xs : List Group) (e : Group) → Contains (filter p xs) e → Contains xs e
 Contains-of_filter p [] e there = there
 Contains-of_filter p (x ∷ xs) e there = by_test (λ h. Contains-of_filter p xs e h) (p x) there where
   by_test : (Contains (filter p xs) e → Contains xs e) → (b : Bool) → Contains (cond b (x ∷ filter p xs) (filter p xs)) e → Contains (x ∷ xs) e
@@ -43,12 +43,12 @@ Contains-of_filter p (x ∷ xs) e there = by_test (λ h. Contains-of_filter p xs
   ]
   by_test rest false h = Contains-later x xs e (rest h)
 
-Contains-filter_cases : (p : Chunk → Bool) (xs : List Chunk) (e : Chunk) → Contains xs e → Contains (filter p xs) e ⊎ (p e ≡ false)
+Contains-filter_cases : (p : Group → Bool) (xs : List Group) (e : Group) → Contains xs e → Contains (filter p xs) e ⊎ (p e ≡ false)
 Contains-filter_cases p [] e there = absurd (Contains-nil e there)
 Contains-filter_cases p (x ∷ xs) e there = by_test (λ h. Contains-filter_cases p xs e h) (p x) refl (Contains-cons x xs e there) where
   by_test : (Contains xs e → Contains (filter p xs) e ⊎ (p e ≡ false)) → (b : Bool) → p x ≡ b → (x ≡ e) ⊎ Contains xs e → Contains (cond b (x ∷ filter p xs) (filter p xs)) e ⊎ (p e ≡ false)
   by_test rest true is (inl same) = inl (0, omega arith, same)
-  by_test rest false is (inl same) = inr (subst (λ (y : Chunk). p y ≡ false) same is)
+  by_test rest false is (inl same) = inr (subst (λ (y : Group). p y ≡ false) same is)
   by_test rest true is (inr later) = elim (rest later) [
     | inl kept ↦ inl (Contains-later x (filter p xs) e kept)
     | inr not ↦ inr not
@@ -57,13 +57,13 @@ Contains-filter_cases p (x ∷ xs) e there = by_test (λ h. Contains-filter_case
 
 -- ---- one instant after another
 
-pub AreSplit-start : (chunks rest active : List Chunk) (t : ℕ) → rest ≡ chunks → active ≡ [] → AreSplit chunks rest active t
+pub AreSplit-start : (chunks rest active : List Group) (t : ℕ) → rest ≡ chunks → active ≡ [] → AreSplit chunks rest active t
 AreSplit-start chunks rest active t whole none = record {
-  among = λ e there. absurd (Contains-nil e (subst (λ (xs : List Chunk). Contains xs e) none there));
-  all = λ e there. inl (subst (λ (xs : List Chunk). Contains xs e) (sym whole) there);
+  among = λ e there. absurd (Contains-nil e (subst (λ (xs : List Group). Contains xs e) none there));
+  all = λ e there. inl (subst (λ (xs : List Group). Contains xs e) (sym whole) there);
 }
 
-pub AreSplit-later : (chunks rest active : List Chunk) (t u : ℕ) → AreSplit chunks rest active t → t ≤ u → AreSplit chunks rest active u
+pub AreSplit-later : (chunks rest active : List Group) (t u : ℕ) → AreSplit chunks rest active t → t ≤ u → AreSplit chunks rest active u
 AreSplit-later chunks rest active t u h le = record {
   among = h.among;
   all = λ e there. elim (h.all e there) [
@@ -73,17 +73,79 @@ AreSplit-later chunks rest active t u h le = record {
   ];
 }
 
+pub lent_within : (items : List (Bor Group)) (place : ℕ) → place < length items → place < length (lent items)
+lent_within items place l = subst (λ (n : ℕ). place < n) (sym (length-map items (λ (c : Bor Group). c.now))) l
+
+pub lent_at : (items : List (Bor Group)) (place : ℕ) (item : Bor Group) → place < length items → item ≡ get_or items place item → item.now ≡ get_or (lent items) place item.now
+lent_at items place item l at = ap (λ (c : Bor Group). c.now) at ∙ sym (get_or-map (λ (c : Bor Group). c.now) items place item item.now l)
+
+-- a list in another order has the same chunks
+pub lent_moved : (xs ys : List (Bor Group)) → IsPermutation xs ys → (g : Group) → Contains (lent xs) g → Contains (lent ys) g
+lent_moved xs ys moved g there =
+    let found = Contains-map (λ (c : Bor Group). c.now) xs g there in
+    subst (Contains (lent ys)) found.2 (Contains-map_back (λ (c : Bor Group). c.now) ys found.0 (Contains-permutation xs ys found.0 moved found.1))
+
+pub lent_order : (xs : List (Bor Group)) → IsNonDecreasingBy (λ (c : Bor Group). c.now.interval.start) xs → StartInOrder (lent xs)
+lent_order [] up i j d le l = absurd (omega (arith, l))
+lent_order (x ∷ xs) up i j d le l =
+    let below : j < length (x ∷ xs) = subst (λ (n : ℕ). j < n) (length-map (x ∷ xs) (λ (c : Bor Group). c.now)) l in
+    let at_i = get_or-map (λ (c : Bor Group). c.now) (x ∷ xs) i x d (omega (arith, le, below)) in
+    let at_j = get_or-map (λ (c : Bor Group). c.now) (x ∷ xs) j x d below in
+    let rises = up i j x le below in
+    let start_i = ap (λ (g : Group). g.interval.start) at_i in
+    let start_j = ap (λ (g : Group). g.interval.start) at_j in
+    omega (arith, rises, start_i, start_j)
+
+pub lent_more : (xs : List (Bor Group)) (x : Bor Group) (g : Group) → Contains (lent (xs ++ x ∷ [])) g ↔ (Contains (lent xs) g ⊎ (x.now ≡ g))
+lent_more xs x g = (
+  λ there. Contains-push_cases (lent xs) x.now g (subst (λ (ys : List Group). Contains ys g) (lent_push xs x) there),
+  λ either. subst (λ (ys : List Group). Contains ys g) (sym (lent_push xs x)) (back either),
+) where
+  back : Contains (lent xs) g ⊎ (x.now ≡ g) → Contains (lent xs ++ x.now ∷ []) g
+  back (inl before) = Contains-append_left (lent xs) (x.now ∷ []) g before
+  back (inr same) = subst (Contains (lent xs ++ x.now ∷ [])) same (Contains-push (lent xs) x.now)
+
+-- the others, and with them the chunk's own where it is not complete
+pub joined_candidates : (found others : List (Bor Group)) (own : Bor Group) (whole : Bool) → found ≡ others ++ own ∷ [] → whole ≡ false → (g : Group) → Contains (lent found) g ↔ (Contains (lent others) g ⊎ ((g ≡ own.now) × (whole ≡ false)))
+joined_candidates found others own whole e not g = (
+  λ there. forth ((lent_more others own g).0 (subst (λ (xs : List (Bor Group)). Contains (lent xs) g) e there)),
+  λ either. subst (λ (xs : List (Bor Group)). Contains (lent xs) g) (sym e) ((lent_more others own g).1 (back either)),
+) where
+  forth : Contains (lent others) g ⊎ (own.now ≡ g) → Contains (lent others) g ⊎ ((g ≡ own.now) × (whole ≡ false))
+  forth (inl other) = inl other
+  forth (inr same) = inr (sym same, not)
+
+  back : Contains (lent others) g ⊎ ((g ≡ own.now) × (whole ≡ false)) → Contains (lent others) g ⊎ (own.now ≡ g)
+  back (inl other) = inl other
+  back (inr same) = inr (sym same.0)
+
+pub other_candidates : (found others : List (Bor Group)) (own : Group) (whole : Bool) → found ≡ others → whole ≡ true → (g : Group) → Contains (lent found) g ↔ (Contains (lent others) g ⊎ ((g ≡ own) × (whole ≡ false)))
+other_candidates found others own whole e is g = (
+  λ there. inl (subst (λ (xs : List (Bor Group)). Contains (lent xs) g) e there),
+  λ either. subst (λ (xs : List (Bor Group)). Contains (lent xs) g) (sym e) (back either),
+) where
+  back : Contains (lent others) g ⊎ ((g ≡ own) × (whole ≡ false)) → Contains (lent others) g
+  back (inl other) = other
+  back (inr same) = absurd (false≢true (sym same.1 ∙ is))
+
+length_push : (items : List (Bor Group)) (item : Bor Group) → length (items ++ item ∷ []) ≡ length items + 1
+length_push [] item = refl
+length_push (x ∷ xs) item = let e = length_push xs item in omega (arith, e)
+
+pub few_pushed : (old new : List (Bor Group)) (item : Bor Group) (place : ℕ) → new ≡ old ++ item ∷ [] → length old ≤ place → length new ≤ place + 1
+few_pushed old new item place e few = let l = ap length e ∙ length_push old item in omega (arith, l, few)
+
 -- the first of the rest becomes active
-pub AreSplit-take : (chunks : List Chunk) (place t : ℕ) (old new : List (Bor Chunk)) (item : Bor Chunk) → place < length chunks → item.now ≡ get_or chunks place item.now → new ≡ old ++ item ∷ []
+pub AreSplit-take : (chunks : List Group) (place t : ℕ) (old new : List (Bor Group)) (item : Bor Group) → place < length chunks → item.now ≡ get_or chunks place item.now → new ≡ old ++ item ∷ []
     → AreSplit chunks (drop place chunks) (lent old) t → AreSplit chunks (drop (place + 1) chunks) (lent new) t
 AreSplit-take chunks place t old new item l at e h =
-    subst (λ (active : List Chunk). AreSplit chunks (drop (place + 1) chunks) active t) (sym (ap lent e ∙ lent_push old item)) (record {
+    subst (λ (active : List Group). AreSplit chunks (drop (place + 1) chunks) active t) (sym (ap lent e ∙ lent_push old item)) (record {
       among = λ x there. elim (Contains-push_cases (lent old) item.now x there) [
         | inl before ↦ h.among x before
-        | inr same ↦ (place, l, sym (subst (λ (y : Chunk). y ≡ get_or chunks place y) same at))
+        | inr same ↦ (place, l, sym (subst (λ (y : Group). y ≡ get_or chunks place y) same at))
       ];
       all = λ x there. elim (h.all x there) [
-        | inl left ↦ elim (Contains-cons item.now (drop (place + 1) chunks) x (subst (λ (xs : List Chunk). Contains xs x) (drop_next chunks place item.now l at) left)) [
+        | inl left ↦ elim (Contains-cons item.now (drop (place + 1) chunks) x (subst (λ (xs : List Group). Contains xs x) (drop_next chunks place item.now l at) left)) [
           | inl same ↦ inr (inl (subst (Contains (lent old ++ item.now ∷ [])) same (Contains-push (lent old) item.now)))
           | inr later ↦ inl later
         ]
@@ -93,80 +155,77 @@ AreSplit-take chunks place t old new item l at e h =
     })
 
 -- those that have ended are let go of
-pub AreSplit-kept : (chunks rest old new : List Chunk) (t : ℕ) → new ≡ filter (λ (e : Chunk). nat_lt t e.0.interval.end) old → AreSplit chunks rest old t → AreSplit chunks rest new t
+pub AreSplit-kept : (chunks rest old new : List Group) (t : ℕ) → new ≡ filter (λ (e : Group). nat_lt t e.interval.end) old → AreSplit chunks rest old t → AreSplit chunks rest new t
 AreSplit-kept chunks rest old new t kept h =
-    let ends_later : Chunk → Bool = λ e. nat_lt t e.0.interval.end in
-    subst (λ (active : List Chunk). AreSplit chunks rest active t) (sym kept) (record {
+    let ends_later : Group → Bool = λ e. nat_lt t e.interval.end in
+    subst (λ (active : List Group). AreSplit chunks rest active t) (sym kept) (record {
       among = λ e there. h.among e (Contains-of_filter ends_later old e there);
       all = λ e there. elim (h.all e there) [
         | inl left ↦ inl left
         | inr (inl at) ↦ elim (Contains-filter_cases ends_later old e at) [
           | inl stays ↦ inr (inl stays)
-          | inr not ↦ inr (inr (ltb-false t e.0.interval.end not))
+          | inr not ↦ inr (inr (ltb-false t e.interval.end not))
         ]
         | inr (inr ended) ↦ inr (inr ended)
       ];
     })
 
-behind_first : (first : Chunk) (later : List Chunk) (t : ℕ) → StartInOrder (first ∷ later) → t < first.0.interval.start → StartBehind (first ∷ later) t
+behind_first : (first : Group) (later : List Group) (t : ℕ) → StartInOrder (first ∷ later) → t < first.interval.start → StartLater (first ∷ later) t
 behind_first first later t order below e (i, l, at) =
-    let up : first.0.interval.start ≤ (get_or (first ∷ later) i e).0.interval.start = order 0 i e (omega arith) l in
-    let same : (get_or (first ∷ later) i e).0.interval.start ≡ e.0.interval.start = ap (λ (x : Chunk). x.0.interval.start) at in
+    let up : first.interval.start ≤ (get_or (first ∷ later) i e).interval.start = order 0 i e (omega arith) l in
+    let same : (get_or (first ∷ later) i e).interval.start ≡ e.interval.start = ap (λ (x : Group). x.interval.start) at in
     omega (arith, up, same, below)
 
 -- where the first of the rest starts after the instant, all of them do
-pub StartBehind-first : (chunks : List Chunk) (place t : ℕ) (first : Chunk) → StartInOrder chunks → place < length chunks → first ≡ get_or chunks place first → t < first.0.interval.start → StartBehind (drop place chunks) t
-StartBehind-first chunks place t first order l at below =
+pub StartLater-first : (chunks : List Group) (place t : ℕ) (first : Group) → StartInOrder chunks → place < length chunks → first ≡ get_or chunks place first → t < first.interval.start → StartLater (drop place chunks) t
+StartLater-first chunks place t first order l at below =
     let e = drop_next chunks place first l at in
-    subst (λ (xs : List Chunk). StartBehind xs t) (sym e)
-    (behind_first first (drop (place + 1) chunks) t (subst StartInOrder e (IsNonDecreasingBy-drop (λ (x : Chunk). x.0.interval.start) place chunks order)) below)
+    subst (λ (xs : List Group). StartLater xs t) (sym e)
+    (behind_first first (drop (place + 1) chunks) t (subst StartInOrder e (IsNonDecreasingBy-drop (λ (x : Group). x.interval.start) place chunks order)) below)
 
-pub StartBehind-end : (chunks : List Chunk) (place t : ℕ) → length chunks ≤ place → StartBehind (drop place chunks) t
-StartBehind-end chunks place t done e there =
-    absurd (Contains-nil e (subst (λ (xs : List Chunk). Contains xs e) (drop_all place chunks done) there))
+pub StartLater-end : (chunks : List Group) (place t : ℕ) → length chunks ≤ place → StartLater (drop place chunks) t
+StartLater-end chunks place t done e there =
+    absurd (Contains-nil e (subst (λ (xs : List Group). Contains xs e) (drop_all place chunks done) there))
 
 -- each that has the instant is active
-pub AreSplit-all : (chunks rest active : List Chunk) (t : ℕ) → AreSplit chunks rest active t → StartBehind rest t → (e : Chunk) → Contains chunks e → Has e.0.interval t → Contains active e
+pub AreSplit-all : (chunks rest active : List Group) (t : ℕ) → AreSplit chunks rest active t → StartLater rest t → (e : Group) → Contains chunks e → Has e.interval t → Contains active e
 AreSplit-all chunks rest active t h behind e there has = elim (h.all e there) [
-  | inl left ↦ let later = behind e left in let began : e.0.interval.start ≤ t = has.0 in absurd (omega (arith, later, began))
+  | inl left ↦ let later = behind e left in let began : e.interval.start ≤ t = has.0 in absurd (omega (arith, later, began))
   | inr (inl at) ↦ at
-  | inr (inr ended) ↦ let stops : t < e.0.interval.end = has.1 in absurd (omega (arith, ended, stops))
+  | inr (inr ended) ↦ let stops : t < e.interval.end = has.1 in absurd (omega (arith, ended, stops))
 ]
 
 -- ---- between two bounds
 
-pub NoBoundWithin-among : (chunks active : List Chunk) (from to : ℕ) → ((e : Chunk) → Contains active e → Contains chunks e) → NoBoundWithin chunks from to → NoBoundWithin active from to
+pub NoBoundWithin-among : (chunks active : List Group) (from to : ℕ) → ((e : Group) → Contains active e → Contains chunks e) → NoBoundWithin chunks from to → NoBoundWithin active from to
 NoBoundWithin-among chunks active from to among none = record {
   starts = λ e there. none.starts e (among e there);
   ends = λ e there. none.ends e (among e there);
 }
 
-abbrev between : ℕ → ℕ → Extent
-between from to = record { start = from; end = to }
-
-active_between : (chunks active : List Chunk) (from to : ℕ) → NoBoundWithin chunks from to → ((e : Chunk) → Contains active e → Contains chunks e)
-    → ((e : Chunk) → Contains chunks e → Has e.0.interval from → Contains active e) → AreCandidatesIn (between from to) chunks active
-active_between chunks active from to none among all = record {
-  among = among;
-  all = λ e there whole (t, inside, has).
-      let low : from ≤ t = inside.0 in
-      let high : t < to = inside.1 in
-      let began : e.0.interval.start ≤ t = has.0 in
-      let stops : t < e.0.interval.end = has.1 in
-      all e there (
-        elim (none.starts e there) [ inl before ↦ before | inr behind ↦ let b : to ≤ e.0.interval.start = behind in absurd (omega arith) ],
-        omega arith,
-      );
-}
+same_between : (chunks active : List Group) (from to t : ℕ) → NoBoundWithin chunks from to → ((e : Group) → Contains active e → Contains chunks e)
+    → ((e : Group) → Contains chunks e → Has e.interval from → Contains active e) → from ≤ t → t < to → (g : Group) → IsCandidateOf active t g ↔ IsCandidateOf chunks t g
+same_between chunks active from to t none among all low high g = (
+  λ h. (among g h.0, h.1),
+  λ h.
+      let began : g.interval.start ≤ t = h.1.0 in
+      let stops : t < g.interval.end = h.1.1 in (
+        all g h.0 (
+          elim (none.starts g h.0) [ inl before ↦ before | inr behind ↦ let b : to ≤ g.interval.start = behind in absurd (omega arith) ],
+          omega arith,
+        ),
+        h.1,
+      ),
+)
 
 -- what is shown of the active chunks is what is shown of all
-pub active_shows : (chunks active : List Chunk) (from to : ℕ) (old new : List Shown) → NoBoundWithin chunks from to → ((e : Chunk) → Contains active e → Contains chunks e)
-    → ((e : Chunk) → Contains chunks e → Has e.0.interval from → Contains active e)
+pub active_shows : (chunks active : List Group) (from to : ℕ) (old new : List Shown) → NoBoundWithin chunks from to → ((e : Group) → Contains active e → Contains chunks e)
+    → ((e : Group) → Contains chunks e → Has e.interval from → Contains active e)
     → ((t : ℕ) (g : Group) → Shows new t g ↔ (Shows old t g ⊎ (((from ≤ t) × (t < to)) × IsBestOf active t g)))
     → (t : ℕ) (g : Group) → Shows new t g ↔ (Shows old t g ⊎ (((from ≤ t) × (t < to)) × IsBestOf chunks t g))
 active_shows chunks active from to old new none among all shows t g = (λ s. forth ((shows t g).0 s), λ s. (shows t g).1 (back s)) where
   same : (from ≤ t) × (t < to) → IsBestOf active t g ↔ IsBestOf chunks t g
-  same inside = IsBestOf-within (between from to) chunks active (active_between chunks active from to none among all) t inside g
+  same inside = IsBestOf-same active chunks t t (same_between chunks active from to t none among all inside.0 inside.1) g
 
   forth : Shows old t g ⊎ (((from ≤ t) × (t < to)) × IsBestOf active t g) → Shows old t g ⊎ (((from ≤ t) × (t < to)) × IsBestOf chunks t g)
   forth (inl before) = inl before
@@ -175,11 +234,3 @@ active_shows chunks active from to old new none among all shows t g = (λ s. for
   back : Shows old t g ⊎ (((from ≤ t) × (t < to)) × IsBestOf chunks t g) → Shows old t g ⊎ (((from ≤ t) × (t < to)) × IsBestOf active t g)
   back (inl before) = inl before
   back (inr here) = inr (here.0, (same here.0).1 here.1)
-
--- ---- in another order
-
-pub AreCandidatesIn-sorted : (part : Extent) (chunks old new : List Chunk) → IsPermutation old new → AreCandidatesIn part chunks old → AreCandidatesIn part chunks new
-AreCandidatesIn-sorted part chunks old new moved h = record {
-  among = λ e there. h.among e (Contains-permutation new old e (IsPermutation-sym old new moved) there);
-  all = λ e there whole shared. Contains-permutation old new e moved (h.all e there whole shared);
-}

@@ -10,7 +10,7 @@ use Rattle.druid_timeline.proofs.RunsLemmas.{AreRuns-first, AreRuns-rest, Shows-
 use Rattle.druid_timeline.proofs.SweepLemmas.{Shows-left, Shows-right, Shows-cases}
 
 -- a run before others, seen by what they show
-AreRuns-cons : (a : Shown) (xs : List Shown) → IsStretch a → AreRuns xs → ((t : ℕ) (g : Group) → Shows xs t g → a.interval.end ≤ t) → ((g : Group) → Shows xs a.interval.end g → a.group ≢ g) → AreRuns (a ∷ xs)
+pub AreRuns-cons : (a : Shown) (xs : List Shown) → IsStretch a → AreRuns xs → ((t : ℕ) (g : Group) → Shows xs t g → a.interval.end ≤ t) → ((g : Group) → Shows xs a.interval.end g → a.group ≢ g) → AreRuns (a ∷ xs)
 AreRuns-cons a [] st runs behind changes = st
 AreRuns-cons a (b ∷ more) st runs behind changes =
     let first = Shows-first b more runs in
@@ -20,7 +20,7 @@ AreRuns-cons a (b ∷ more) st runs behind changes =
 abbrev both : Extent → Shown → Shown
 both part s = record { interval = record { start = max part.start s.interval.start; end = min part.end s.interval.end }; group = s.group }
 
-cut_cases : (part : Extent) (s : Shown) → ((max part.start s.interval.start < min part.end s.interval.end) × (cut_piece part s ≡ Some (both part s))) ⊎ ((min part.end s.interval.end ≤ max part.start s.interval.start) × (cut_piece part s ≡ None))
+pub cut_cases : (part : Extent) (s : Shown) → ((max part.start s.interval.start < min part.end s.interval.end) × (cut_piece part s ≡ Some (both part s))) ⊎ ((min part.end s.interval.end ≤ max part.start s.interval.start) × (cut_piece part s ≡ None))
 cut_cases part s = elim (cases_lt (max part.start s.interval.start) (min part.end s.interval.end)) [
   | inl lt ↦ inl (lt, rw (lt-ltb (max part.start s.interval.start) (min part.end s.interval.end) lt) refl)
   | inr le ↦ inr (le, rw (le-ltb (max part.start s.interval.start) (min part.end s.interval.end) le) refl)

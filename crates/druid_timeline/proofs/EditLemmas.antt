@@ -6,7 +6,7 @@ use Rattle.druid_segid.specs.Identifier.{Identifier}
 use Rattle.druid_segid.specs.Group.{group_of}
 use Rattle.druid_shard.specs.Described.{Described}
 use Rattle.druid_timeline.specs.Holding.{Held, held_of, IsHeld, IsPlaceOf, OnePerPlace, AddsHeld, RemovesHeld, SameHeld}
-use Rattle.druid_timeline.proofs.ChunkLemmas.{cases_group}
+use Rattle.druid_chunks.proofs.ChunkLemmas.{cases_group}
 
 -- one is of the place or not
 pub IsPlaceOf-cases : (node : ℕ) (id : Identifier) (x : Held) → IsPlaceOf node id x ⊎ (IsPlaceOf node id x → ⊥)

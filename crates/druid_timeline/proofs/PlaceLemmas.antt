@@ -15,7 +15,7 @@ use Rattle.druid_segid.specs.Group.{Group, same_group, rank_cmp, Outranks}
 use Rattle.druid_segid.proofs.GroupLemmas.{group_same, rank_cmp-total, Outranks-cases}
 use Rattle.druid_segid.proofs.OrderLemmas.{both-Equal, nat_cmp-Equal, slice_cmp-Equal}
 use Rattle.druid_timeline.specs.Overshadowed.{place_cmp}
-use Rattle.druid_timeline.proofs.ChunkLemmas.{same_group-exact, same_group-same}
+use Rattle.druid_chunks.proofs.ChunkLemmas.{same_group-exact, same_group-same}
 
 pub place_cmp-total : IsTotalOrder place_cmp
 place_cmp-total =

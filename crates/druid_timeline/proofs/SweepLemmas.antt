@@ -1,5 +1,5 @@
 -- The sweep over the bounds of a part, and runs that grow at their end.
-use Rattle.std.proofs.Common.{◌≡◌, ◌≢◌, ◌+◌, ◌-◌, ◌<◌, ◌≤◌, ◌⊎◌, ◌↔◌, ◌++◌, ℕ, suc, List, [], ◌∷◌, length, get_or, map, refl, sym, ap, ◌∙◌, subst, inl, inr, arith}
+use Rattle.std.proofs.Common.{◌≡◌, ◌≢◌, ◌+◌, ◌*◌, ◌-◌, ◌<◌, ◌≤◌, ◌⊎◌, ◌↔◌, ◌++◌, ℕ, suc, List, [], ◌∷◌, length, get_or, map, refl, sym, ap, ◌∙◌, subst, inl, inr, arith}
 use Rattle.std.specs.List.{Contains}
 use Rattle.std.specs.List.Sorted.{IsNonDecreasing}
 use Rattle.std.proofs.Common.{drop, add-one}
@@ -7,15 +7,14 @@ use Rattle.std.proofs.Math.Seq.{drop-cons}
 use Rattle.druid_timeline.proofs.RunsLemmas.{AreRuns-first, AreRuns-rest}
 use Rattle.std.proofs.lemmas.Bool.{cases_order}
 use Rattle.std.proofs.lemmas.List.{map-append, get_or_default}
-use Rattle.std.proofs.lemmas.List.Elements.{Contains-push, Contains-push_cases, Contains-append_left}
-use Rattle.druid_time.specs.Extent.{Extent, IsExtent, Has, Share}
+use Rattle.std.proofs.lemmas.Nat.{row_fits}
+use Rattle.druid_time.specs.Extent.{Extent, IsExtent, Has}
 use Rattle.druid_segid.specs.Group.{Group}
 use Rattle.druid_segid.proofs.GroupLemmas.{Outranks-one_way}
-use Rattle.druid_members.specs.Members.{IsComplete}
-use Rattle.druid_shard.proofs.MemberLemmas.{Contains-nil, Contains-cons, Contains-later}
-use Rattle.druid_timeline.specs.Pieces.{Shown, IsStretch, AreRuns, Shows}
-use Rattle.druid_timeline.specs.Chunks.{Chunk, IsCandidateOf, NoneOf, IsBestOf}
-use Rattle.druid_timeline.specs.Stretches.{Stretch, shown_by, chunk_by, AreOf, EndBy, AreCandidatesIn, IsBoundIf, HaveBounds, NoBoundWithin}
+use Rattle.druid_shard.proofs.MemberLemmas.{Contains-nil, Contains-cons}
+use Rattle.druid_timeline.specs.Pieces.{Shown, shown_at, IsStretch, AreRuns, Shows}
+use Rattle.druid_timeline.specs.Candidates.{IsCandidateOf, NoneOf, IsBestOf}
+use Rattle.druid_timeline.specs.Stretches.{EndBy, IsBoundIf, HaveBounds, NoBoundWithin}
 
 -- ---- what joined lists of runs show
 
@@ -40,7 +39,7 @@ Shows-cases (x ∷ xs) ys t g (inr later) = elim (Shows-cases xs ys t g later) [
 abbrev pub ShowsOne : Shown → ℕ → Group → Type 0
 ShowsOne s t g = (s.group ≡ g) × Has s.interval t
 
-Shows-push : (xs : List Shown) (s : Shown) (t : ℕ) (g : Group) → Shows (xs ++ s ∷ []) t g ↔ (Shows xs t g ⊎ ShowsOne s t g)
+pub Shows-push : (xs : List Shown) (s : Shown) (t : ℕ) (g : Group) → Shows (xs ++ s ∷ []) t g ↔ (Shows xs t g ⊎ ShowsOne s t g)
 Shows-push xs s t g = (λ h. forth (Shows-cases xs (s ∷ []) t g h), back) where
   forth : Shows xs t g ⊎ Shows (s ∷ []) t g → Shows xs t g ⊎ ShowsOne s t g
   forth (inl front) = inl front
@@ -53,7 +52,7 @@ Shows-push xs s t g = (λ h. forth (Shows-cases xs (s ∷ []) t g h), back) wher
 
 -- ---- runs that grow at their end
 
-AreRuns-last : (front : List Shown) (a : Shown) → AreRuns (front ++ a ∷ []) → IsStretch a
+pub AreRuns-last : (front : List Shown) (a : Shown) → AreRuns (front ++ a ∷ []) → IsStretch a
 AreRuns-last [] a h = h
 AreRuns-last (x ∷ []) a h = h.3
 AreRuns-last (x ∷ y ∷ front) a h = AreRuns-last (y ∷ front) a h.3
@@ -106,102 +105,85 @@ Shows-until front a b t g sta stb touch same =
 
 -- ---- a run after others
 
+-- a run, as a timeline keeps it
+abbrev pub Run : Type 0
+Run = Extent × Group
+
 -- new is old with the run after it, where that is joined to the last if it goes on
-pub record IsPushed (old new : List Stretch) (run : Stretch) : Type 0 where
-  pub runs : AreRuns (map shown_by new)
-  pub shows : (t : ℕ) (g : Group) → Shows (map shown_by new) t g ↔ (Shows (map shown_by old) t g ⊎ ((run.shown.group ≡ g) × Has run.shown.interval t))
-  pub members : (chunks : List Chunk) → AreOf chunks old → Contains chunks (chunk_by run) → AreOf chunks new
+pub record IsPushed (old new : List Run) (run : Run) : Type 0 where
+  pub runs : AreRuns (map shown_at new)
+  pub shows : (t : ℕ) (g : Group) → Shows (map shown_at new) t g ↔ (Shows (map shown_at old) t g ⊎ ((run.1 ≡ g) × Has run.0 t))
 
-map_push : (xs : List Stretch) (r : Stretch) → map shown_by (xs ++ r ∷ []) ≡ map shown_by xs ++ r.shown ∷ []
-map_push xs r = map-append shown_by xs (r ∷ [])
+map_push : (xs : List Run) (r : Run) → map shown_at (xs ++ r ∷ []) ≡ map shown_at xs ++ shown_at r ∷ []
+map_push xs r = map-append shown_at xs (r ∷ [])
 
-first : (run : Stretch) → IsStretch run.shown → IsPushed [] (run ∷ []) run
+first : (run : Run) → IsStretch (shown_at run) → IsPushed [] (run ∷ []) run
 first run st = record {
   runs = st;
-  shows = λ t g. Shows-push [] run.shown t g;
-  members = λ chunks of_old there r h. elim (Contains-cons run [] r h) [
-    | inl same ↦ subst (λ (q : Stretch). Contains chunks (chunk_by q)) same there
-    | inr none ↦ absurd (Contains-nil r none)
-  ];
+  shows = λ t g. Shows-push [] (shown_at run) t g;
 }
 
-pub IsPushed-first : (old rest new : List Stretch) (run : Stretch) → old ≡ rest ++ [] → rest ≡ [] → new ≡ rest ++ run ∷ [] → IsStretch run.shown → IsPushed old new run
+pub IsPushed-first : (old rest new : List Run) (run : Run) → old ≡ rest ++ [] → rest ≡ [] → new ≡ rest ++ run ∷ [] → IsStretch (shown_at run) → IsPushed old new run
 IsPushed-first old rest new run e none f st =
-    let e' : old ≡ [] = e ∙ ap (λ (xs : List Stretch). xs ++ []) none in
-    let f' : new ≡ run ∷ [] = f ∙ ap (λ (xs : List Stretch). xs ++ run ∷ []) none in
-    subst (λ (xs : List Stretch). IsPushed xs new run) (sym e') (subst (λ (xs : List Stretch). IsPushed [] xs run) (sym f') (first run st))
+    let e' : old ≡ [] = e ∙ ap (λ (xs : List Run). xs ++ []) none in
+    let f' : new ≡ run ∷ [] = f ∙ ap (λ (xs : List Run). xs ++ run ∷ []) none in
+    subst (λ (xs : List Run). IsPushed xs new run) (sym e') (subst (λ (xs : List Run). IsPushed [] xs run) (sym f') (first run st))
 
 -- the run that two make
-abbrev pub joined : Stretch → Stretch → Stretch
-joined a b = record {
-  shown = record { interval = record { start = a.shown.interval.start; end = b.shown.interval.end }; group = a.shown.group };
-  members = a.members;
-}
+abbrev pub joined : Run → Run → Run
+joined a b = (record { start = a.0.start; end = b.0.end }, a.1)
 
-pub IsPushed-joined : (old rest new : List Stretch) (last run : Stretch) → old ≡ rest ++ last ∷ [] → new ≡ rest ++ joined last run ∷ [] → AreRuns (map shown_by old) → IsStretch run.shown
-    → last.shown.interval.end ≡ run.shown.interval.start → last.shown.group ≡ run.shown.group → IsPushed old new run
+pub IsPushed-joined : (old rest new : List Run) (last run : Run) → old ≡ rest ++ last ∷ [] → new ≡ rest ++ joined last run ∷ [] → AreRuns (map shown_at old) → IsStretch (shown_at run)
+    → last.0.end ≡ run.0.start → last.1 ≡ run.1 → IsPushed old new run
 IsPushed-joined old rest new last run e f runs st touch same = record {
   runs =
-      let stretch : run.shown.interval.start < run.shown.interval.end = st in
-      subst AreRuns (sym new_shown) (AreRuns-until (map shown_by rest) last.shown run.shown.interval.end were (omega arith));
+      let stretch : run.0.start < run.0.end = st in
+      subst AreRuns (sym new_shown) (AreRuns-until (map shown_at rest) (shown_at last) run.0.end were (omega arith));
   shows = λ t g.
-      let now = Shows-until (map shown_by rest) last.shown run.shown t g (AreRuns-last (map shown_by rest) last.shown were) st touch same in
-      subst (λ (xs : List Shown). Shows xs t g ↔ (Shows (map shown_by old) t g ⊎ ShowsOne run.shown t g)) (sym new_shown)
-      (subst (λ (xs : List Shown). Shows (map shown_by rest ++ until last.shown run.shown.interval.end ∷ []) t g ↔ (Shows xs t g ⊎ ShowsOne run.shown t g)) (sym old_shown) now);
-  members = λ chunks of_old there r h. elim (Contains-push_cases rest (joined last run) r (subst (λ (xs : List Stretch). Contains xs r) f h)) [
-    | inl before ↦ of_old r (subst (λ (xs : List Stretch). Contains xs r) (sym e) (Contains-append_left rest (last ∷ []) r before))
-    | inr at ↦ subst (λ (q : Stretch). Contains chunks (chunk_by q)) at (of_old last (subst (λ (xs : List Stretch). Contains xs last) (sym e) (Contains-push rest last)))
-  ];
+      let now = Shows-until (map shown_at rest) (shown_at last) (shown_at run) t g (AreRuns-last (map shown_at rest) (shown_at last) were) st touch same in
+      subst (λ (xs : List Shown). Shows xs t g ↔ (Shows (map shown_at old) t g ⊎ ShowsOne (shown_at run) t g)) (sym new_shown)
+      (subst (λ (xs : List Shown). Shows (map shown_at rest ++ until (shown_at last) run.0.end ∷ []) t g ↔ (Shows xs t g ⊎ ShowsOne (shown_at run) t g)) (sym old_shown) now);
 } where
-  old_shown : map shown_by old ≡ map shown_by rest ++ last.shown ∷ []
-  old_shown = ap (map shown_by) e ∙ map_push rest last
+  old_shown : map shown_at old ≡ map shown_at rest ++ shown_at last ∷ []
+  old_shown = ap (map shown_at) e ∙ map_push rest last
 
-  new_shown : map shown_by new ≡ map shown_by rest ++ until last.shown run.shown.interval.end ∷ []
-  new_shown = ap (map shown_by) f ∙ map_push rest (joined last run)
+  new_shown : map shown_at new ≡ map shown_at rest ++ until (shown_at last) run.0.end ∷ []
+  new_shown = ap (map shown_at) f ∙ map_push rest (joined last run)
 
-  were : AreRuns (map shown_by rest ++ last.shown ∷ [])
+  were : AreRuns (map shown_at rest ++ shown_at last ∷ [])
   were = subst AreRuns old_shown runs
 
-pub IsPushed-behind : (old rest new : List Stretch) (last run : Stretch) → old ≡ rest ++ last ∷ [] → new ≡ (rest ++ last ∷ []) ++ run ∷ [] → AreRuns (map shown_by old) → IsStretch run.shown
-    → EndBy (map shown_by old) run.shown.interval.start → ((last.shown.interval.end ≡ run.shown.interval.start) × (last.shown.group ≡ run.shown.group) → ⊥) → IsPushed old new run
+pub IsPushed-behind : (old rest new : List Run) (last run : Run) → old ≡ rest ++ last ∷ [] → new ≡ (rest ++ last ∷ []) ++ run ∷ [] → AreRuns (map shown_at old) → IsStretch (shown_at run)
+    → EndBy (map shown_at old) run.0.start → ((last.0.end ≡ run.0.start) × (last.1 ≡ run.1) → ⊥) → IsPushed old new run
 IsPushed-behind old rest new last run e f runs st behind apart = record {
   runs =
-      let at = EndBy-last (map shown_by rest) last.shown run.shown.interval.start (subst (λ (xs : List Shown). EndBy xs run.shown.interval.start) old_shown behind) (AreRuns-last (map shown_by rest) last.shown were) in
-      subst AreRuns (sym new_shown) (AreRuns-push (map shown_by rest) last.shown run.shown were at (λ touch same. apart (touch, same)) st);
+      let at = EndBy-last (map shown_at rest) (shown_at last) run.0.start (subst (λ (xs : List Shown). EndBy xs run.0.start) old_shown behind) (AreRuns-last (map shown_at rest) (shown_at last) were) in
+      subst AreRuns (sym new_shown) (AreRuns-push (map shown_at rest) (shown_at last) (shown_at run) were at (λ touch same. apart (touch, same)) st);
   shows = λ t g.
-      subst (λ (xs : List Shown). Shows xs t g ↔ (Shows (map shown_by old) t g ⊎ ShowsOne run.shown t g)) (sym (more ∙ ap (λ (xs : List Shown). xs ++ run.shown ∷ []) (sym old_shown)))
-      (Shows-push (map shown_by old) run.shown t g);
-  members = λ chunks of_old there r h. elim (Contains-push_cases (rest ++ last ∷ []) run r (subst (λ (xs : List Stretch). Contains xs r) f h)) [
-    | inl before ↦ of_old r (subst (λ (xs : List Stretch). Contains xs r) (sym e) before)
-    | inr at ↦ subst (λ (q : Stretch). Contains chunks (chunk_by q)) at there
-  ];
+      subst (λ (xs : List Shown). Shows xs t g ↔ (Shows (map shown_at old) t g ⊎ ShowsOne (shown_at run) t g)) (sym (new_shown ∙ ap (λ (xs : List Shown). xs ++ shown_at run ∷ []) (sym old_shown)))
+      (Shows-push (map shown_at old) (shown_at run) t g);
 } where
-  old_shown : map shown_by old ≡ map shown_by rest ++ last.shown ∷ []
-  old_shown = ap (map shown_by) e ∙ map_push rest last
+  old_shown : map shown_at old ≡ map shown_at rest ++ shown_at last ∷ []
+  old_shown = ap (map shown_at) e ∙ map_push rest last
 
-  new_shown : map shown_by new ≡ (map shown_by rest ++ last.shown ∷ []) ++ run.shown ∷ []
-  new_shown = ap (map shown_by) f ∙ map_push (rest ++ last ∷ []) run ∙ ap (λ (xs : List Shown). xs ++ run.shown ∷ []) (map_push rest last)
+  new_shown : map shown_at new ≡ (map shown_at rest ++ shown_at last ∷ []) ++ shown_at run ∷ []
+  new_shown = ap (map shown_at) f ∙ map_push (rest ++ last ∷ []) run ∙ ap (λ (xs : List Shown). xs ++ shown_at run ∷ []) (map_push rest last)
 
-  more : map shown_by new ≡ (map shown_by rest ++ last.shown ∷ []) ++ run.shown ∷ []
-  more = new_shown
-
-  were : AreRuns (map shown_by rest ++ last.shown ∷ [])
+  were : AreRuns (map shown_at rest ++ shown_at last ∷ [])
   were = subst AreRuns old_shown runs
 
 -- ---- between two bounds
 
-IsCandidateOf-level : (cs : List Chunk) (from to t : ℕ) → NoBoundWithin cs from to → from ≤ t → t < to → (g : Group) → IsCandidateOf cs from g ↔ IsCandidateOf cs t g
+IsCandidateOf-level : (cs : List Group) (from to t : ℕ) → NoBoundWithin cs from to → from ≤ t → t < to → (g : Group) → IsCandidateOf cs from g ↔ IsCandidateOf cs t g
 IsCandidateOf-level cs from to t none low high g = (forth, back) where
   forth : IsCandidateOf cs from g → IsCandidateOf cs t g
-  forth (ms, there, whole, has) =
+  forth (there, has) =
       let began : g.interval.start ≤ from = has.0 in
       let runs_on : from < g.interval.end = has.1 in (
-        ms,
         there,
-        whole,
         (
           omega arith,
-          elim (none.ends (g, ms) there) [
+          elim (none.ends g there) [
             | inl before ↦ let b : g.interval.end ≤ from = before in absurd (omega arith)
             | inr behind ↦ let b : to ≤ g.interval.end = behind in omega arith
           ],
@@ -209,14 +191,12 @@ IsCandidateOf-level cs from to t none low high g = (forth, back) where
       )
 
   back : IsCandidateOf cs t g → IsCandidateOf cs from g
-  back (ms, there, whole, has) =
+  back (there, has) =
       let began : g.interval.start ≤ t = has.0 in
       let runs_on : t < g.interval.end = has.1 in (
-        ms,
         there,
-        whole,
         (
-          elim (none.starts (g, ms) there) [
+          elim (none.starts g there) [
             | inl before ↦ before
             | inr behind ↦ let b : to ≤ g.interval.start = behind in absurd (omega arith)
           ],
@@ -224,14 +204,17 @@ IsCandidateOf-level cs from to t none low high g = (forth, back) where
         ),
       )
 
-IsBestOf-level : (cs : List Chunk) (from to t : ℕ) → NoBoundWithin cs from to → from ≤ t → t < to → (g : Group) → IsBestOf cs from g ↔ IsBestOf cs t g
-IsBestOf-level cs from to t none low high g =
-    let same = IsCandidateOf-level cs from to t none low high in (
-      λ b. record { candidate = (same g).0 b.candidate; greatest = λ other h. b.greatest other ((same other).1 h) },
-      λ b. record { candidate = (same g).1 b.candidate; greatest = λ other h. b.greatest other ((same other).0 h) },
-    )
+-- where the candidates are the same, so is the best of them
+pub IsBestOf-same : (xs ys : List Group) (t u : ℕ) → ((h : Group) → IsCandidateOf xs t h ↔ IsCandidateOf ys u h) → (g : Group) → IsBestOf xs t g ↔ IsBestOf ys u g
+IsBestOf-same xs ys t u same g = (
+  λ b. record { candidate = (same g).0 b.candidate; greatest = λ other h. b.greatest other ((same other).1 h) },
+  λ b. record { candidate = (same g).1 b.candidate; greatest = λ other h. b.greatest other ((same other).0 h) },
+)
 
-IsBestOf-one : (cs : List Chunk) (t : ℕ) (g h : Group) → IsBestOf cs t g → IsBestOf cs t h → g ≡ h
+IsBestOf-level : (cs : List Group) (from to t : ℕ) → NoBoundWithin cs from to → from ≤ t → t < to → (g : Group) → IsBestOf cs from g ↔ IsBestOf cs t g
+IsBestOf-level cs from to t none low high = IsBestOf-same cs cs from t (IsCandidateOf-level cs from to t none low high)
+
+IsBestOf-one : (cs : List Group) (t : ℕ) (g h : Group) → IsBestOf cs t g → IsBestOf cs t h → g ≡ h
 IsBestOf-one cs t g h bg bh =
     elim (bg.greatest h bh.candidate) [
       | inl same ↦ sym same
@@ -242,7 +225,7 @@ IsBestOf-one cs t g h bg bh =
     ]
 
 -- what is shown where one chunk is the best at the first instant
-pub level_shows : (cs : List Chunk) (from to : ℕ) (best : Group) (old new : List Shown) (t : ℕ) (g : Group) → NoBoundWithin cs from to → from < to → IsBestOf cs from best
+pub level_shows : (cs : List Group) (from to : ℕ) (best : Group) (old new : List Shown) (t : ℕ) (g : Group) → NoBoundWithin cs from to → from < to → IsBestOf cs from best
     → Shows new t g ↔ (Shows old t g ⊎ ((best ≡ g) × ((from ≤ t) × (t < to)))) → Shows new t g ↔ (Shows old t g ⊎ (((from ≤ t) × (t < to)) × IsBestOf cs t g))
 level_shows cs from to best old new t g none order is_best h = (λ s. forth (h.0 s), λ s. h.1 (back s)) where
   forth : Shows old t g ⊎ ((best ≡ g) × ((from ≤ t) × (t < to))) → Shows old t g ⊎ (((from ≤ t) × (t < to)) × IsBestOf cs t g)
@@ -256,7 +239,7 @@ level_shows cs from to best old new t g none order is_best h = (λ s. forth (h.0
       inr (IsBestOf-one cs from best g is_best ((IsBestOf-level cs from to t none here.0.0 here.0.1 g).1 here.1), here.0)
 
 -- what is shown where no chunk has the first instant
-pub level_shows_none : (cs : List Chunk) (from to : ℕ) (old : List Shown) (t : ℕ) (g : Group) → NoBoundWithin cs from to → NoneOf cs from
+pub level_shows_none : (cs : List Group) (from to : ℕ) (old : List Shown) (t : ℕ) (g : Group) → NoBoundWithin cs from to → NoneOf cs from
     → Shows old t g ↔ (Shows old t g ⊎ (((from ≤ t) × (t < to)) × IsBestOf cs t g))
 level_shows_none cs from to old t g none nothing = (λ s. inl s, back) where
   back : Shows old t g ⊎ (((from ≤ t) × (t < to)) × IsBestOf cs t g) → Shows old t g
@@ -266,15 +249,14 @@ level_shows_none cs from to old t g none nothing = (λ s. inl s, back) where
 -- ---- the sweep over the bounds
 
 -- what is visible from the start of the part to an instant is added to the runs: i of the bounds are passed
-pub record IsSwept (part : Extent) (cs : List Chunk) (bounds : List ℕ) (old new : List Stretch) (i from : ℕ) : Type 0 where
+pub record IsSwept (part : Extent) (cs : List Group) (bounds : List ℕ) (old new : List Run) (i from : ℕ) : Type 0 where
   pub low : part.start ≤ from
   pub high : from ≤ part.end
   pub passed : (k : ℕ) → k < i → get_or bounds k 0 ≤ from
-  pub runs : AreRuns (map shown_by new)
-  pub shows : (t : ℕ) (g : Group) → Shows (map shown_by new) t g ↔ (Shows (map shown_by old) t g ⊎ (((part.start ≤ t) × (t < from)) × IsBestOf cs t g))
-  pub members : (chunks : List Chunk) → AreOf chunks old → ((e : Chunk) → Contains cs e → Contains chunks e) → AreOf chunks new
+  pub runs : AreRuns (map shown_at new)
+  pub shows : (t : ℕ) (g : Group) → Shows (map shown_at new) t g ↔ (Shows (map shown_at old) t g ⊎ (((part.start ≤ t) × (t < from)) × IsBestOf cs t g))
 
-pub IsSwept-start : (part : Extent) (cs : List Chunk) (bounds : List ℕ) (old : List Stretch) → IsExtent part → AreRuns (map shown_by old) → IsSwept part cs bounds old old 0 part.start
+pub IsSwept-start : (part : Extent) (cs : List Group) (bounds : List ℕ) (old : List Run) → IsExtent part → AreRuns (map shown_at old) → IsSwept part cs bounds old old 0 part.start
 IsSwept-start part cs bounds old whole runs =
     let order : part.start < part.end = whole.0 in
     record {
@@ -283,9 +265,8 @@ IsSwept-start part cs bounds old whole runs =
       passed = λ k l. absurd (omega arith);
       runs = runs;
       shows = λ t g. (λ s. inl s, λ s. by_place t g s);
-      members = λ chunks of_old all. of_old;
     } where
-      by_place : (t : ℕ) (g : Group) → Shows (map shown_by old) t g ⊎ (((part.start ≤ t) × (t < part.start)) × IsBestOf cs t g) → Shows (map shown_by old) t g
+      by_place : (t : ℕ) (g : Group) → Shows (map shown_at old) t g ⊎ (((part.start ≤ t) × (t < part.start)) × IsBestOf cs t g) → Shows (map shown_at old) t g
       by_place t g (inl before) = before
       by_place t g (inr here) =
           let low : part.start ≤ t = here.0.0 in
@@ -299,19 +280,18 @@ below_next bounds i to k below at l = elim (cases_order k i) [
   | inr (inr behind) ↦ let b : i < k = behind in absurd (omega arith)
 ]
 
-pub IsSwept-skip : (part : Extent) (cs : List Chunk) (bounds : List ℕ) (old new : List Stretch) (i from : ℕ) → IsSwept part cs bounds old new i from → get_or bounds i 0 ≤ from → IsSwept part cs bounds old new (i + 1) from
+pub IsSwept-skip : (part : Extent) (cs : List Group) (bounds : List ℕ) (old new : List Run) (i from : ℕ) → IsSwept part cs bounds old new i from → get_or bounds i 0 ≤ from → IsSwept part cs bounds old new (i + 1) from
 IsSwept-skip part cs bounds old new i from h le = record {
   low = h.low;
   high = h.high;
   passed = λ k l. below_next bounds i from k h.passed le l;
   runs = h.runs;
   shows = h.shows;
-  members = h.members;
 }
 
-pub IsSwept-behind : (part : Extent) (cs : List Chunk) (bounds : List ℕ) (old new : List Stretch) (i from : ℕ) → IsSwept part cs bounds old new i from → EndBy (map shown_by old) part.start → EndBy (map shown_by new) from
+pub IsSwept-behind : (part : Extent) (cs : List Group) (bounds : List ℕ) (old new : List Run) (i from : ℕ) → IsSwept part cs bounds old new i from → EndBy (map shown_at old) part.start → EndBy (map shown_at new) from
 IsSwept-behind part cs bounds old new i from h behind t g s = by_place ((h.shows t g).0 s) where
-  by_place : Shows (map shown_by old) t g ⊎ (((part.start ≤ t) × (t < from)) × IsBestOf cs t g) → t < from
+  by_place : Shows (map shown_at old) t g ⊎ (((part.start ≤ t) × (t < from)) × IsBestOf cs t g) → t < from
   by_place (inl before) = let b = behind t g before in let low = h.low in omega arith
   by_place (inr here) = here.0.1
 
@@ -337,21 +317,20 @@ not_within part bounds i from t up passed low high bound = elim (cases_order t f
         | inr (inr behind) ↦ let l : i < there.0 = behind in let p = up i there.0 0 (omega arith) there.1 in omega arith
       ]
 
-pub IsSwept-level : (part : Extent) (cs : List Chunk) (bounds : List ℕ) (old new : List Stretch) (i from : ℕ) → IsSwept part cs bounds old new i from → HaveBounds part cs bounds → IsNonDecreasing bounds → i < length bounds
+pub IsSwept-level : (part : Extent) (cs : List Group) (bounds : List ℕ) (old new : List Run) (i from : ℕ) → IsSwept part cs bounds old new i from → HaveBounds part cs bounds → IsNonDecreasing bounds → i < length bounds
     → NoBoundWithin cs from (get_or bounds i 0)
 IsSwept-level part cs bounds old new i from h have up l =
     let high : get_or bounds i 0 ≤ part.end = have.within (get_or bounds i 0) (i, l, get_or_default bounds i (get_or bounds i 0) 0 l) in
     record {
-      starts = λ e there. not_within part bounds i from e.0.interval.start up h.passed h.low high (have.starts e there);
-      ends = λ e there. not_within part bounds i from e.0.interval.end up h.passed h.low high (have.ends e there);
+      starts = λ e there. not_within part bounds i from e.interval.start up h.passed h.low high (have.starts e there);
+      ends = λ e there. not_within part bounds i from e.interval.end up h.passed h.low high (have.ends e there);
     }
 
-pub IsSwept-add : (part : Extent) (cs : List Chunk) (bounds : List ℕ) (old new newer : List Stretch) (i from to : ℕ) → IsSwept part cs bounds old new i from → HaveBounds part cs bounds → i < length bounds → get_or bounds i 0 ≡ to → from < to
-    → AreRuns (map shown_by newer)
-    → ((t : ℕ) (g : Group) → Shows (map shown_by newer) t g ↔ (Shows (map shown_by new) t g ⊎ (((from ≤ t) × (t < to)) × IsBestOf cs t g)))
-    → ((chunks : List Chunk) → AreOf chunks new → ((e : Chunk) → Contains cs e → Contains chunks e) → AreOf chunks newer)
+pub IsSwept-add : (part : Extent) (cs : List Group) (bounds : List ℕ) (old new newer : List Run) (i from to : ℕ) → IsSwept part cs bounds old new i from → HaveBounds part cs bounds → i < length bounds → get_or bounds i 0 ≡ to → from < to
+    → AreRuns (map shown_at newer)
+    → ((t : ℕ) (g : Group) → Shows (map shown_at newer) t g ↔ (Shows (map shown_at new) t g ⊎ (((from ≤ t) × (t < to)) × IsBestOf cs t g)))
     → IsSwept part cs bounds old newer (i + 1) to
-IsSwept-add part cs bounds old new newer i from to h have l at order runs shows members =
+IsSwept-add part cs bounds old new newer i from to h have l at order runs shows =
     let high : get_or bounds i 0 ≤ part.end = have.within (get_or bounds i 0) (i, l, get_or_default bounds i (get_or bounds i 0) 0 l) in
     let low = h.low in
     record {
@@ -360,17 +339,16 @@ IsSwept-add part cs bounds old new newer i from to h have l at order runs shows 
       passed = λ k lk. below_next bounds i to k (λ j lj. let p = h.passed j lj in omega arith) (omega arith) lk;
       runs = runs;
       shows = λ t g. (λ s. forth t g ((shows t g).0 s), λ s. (shows t g).1 (back t g s));
-      members = λ chunks of_old all. members chunks (h.members chunks of_old all) all;
     } where
-      before_to : (t : ℕ) (g : Group) → Shows (map shown_by old) t g ⊎ (((part.start ≤ t) × (t < from)) × IsBestOf cs t g) → Shows (map shown_by old) t g ⊎ (((part.start ≤ t) × (t < to)) × IsBestOf cs t g)
+      before_to : (t : ℕ) (g : Group) → Shows (map shown_at old) t g ⊎ (((part.start ≤ t) × (t < from)) × IsBestOf cs t g) → Shows (map shown_at old) t g ⊎ (((part.start ≤ t) × (t < to)) × IsBestOf cs t g)
       before_to t g (inl before) = inl before
       before_to t g (inr here) = let high : t < from = here.0.1 in inr ((here.0.0, omega arith), here.1)
 
-      forth : (t : ℕ) (g : Group) → Shows (map shown_by new) t g ⊎ (((from ≤ t) × (t < to)) × IsBestOf cs t g) → Shows (map shown_by old) t g ⊎ (((part.start ≤ t) × (t < to)) × IsBestOf cs t g)
+      forth : (t : ℕ) (g : Group) → Shows (map shown_at new) t g ⊎ (((from ≤ t) × (t < to)) × IsBestOf cs t g) → Shows (map shown_at old) t g ⊎ (((part.start ≤ t) × (t < to)) × IsBestOf cs t g)
       forth t g (inl before) = before_to t g ((h.shows t g).0 before)
       forth t g (inr here) = let low : from ≤ t = here.0.0 in let start = h.low in inr ((omega arith, here.0.1), here.1)
 
-      back : (t : ℕ) (g : Group) → Shows (map shown_by old) t g ⊎ (((part.start ≤ t) × (t < to)) × IsBestOf cs t g) → Shows (map shown_by new) t g ⊎ (((from ≤ t) × (t < to)) × IsBestOf cs t g)
+      back : (t : ℕ) (g : Group) → Shows (map shown_at old) t g ⊎ (((part.start ≤ t) × (t < to)) × IsBestOf cs t g) → Shows (map shown_at new) t g ⊎ (((from ≤ t) × (t < to)) × IsBestOf cs t g)
       back t g (inl before) = inl ((h.shows t g).1 (inl before))
       back t g (inr here) = elim (cases_order t from) [
         | inl level ↦ inr ((let l : t ≡ from = level in omega arith, here.0.1), here.1)
@@ -378,8 +356,8 @@ IsSwept-add part cs bounds old new newer i from to h have l at order runs shows 
         | inr (inr above) ↦ inr ((let l : from < t = above in omega arith, here.0.1), here.1)
       ]
 
-pub IsSwept-end : (part : Extent) (cs : List Chunk) (bounds : List ℕ) (old new : List Stretch) (i from : ℕ) → IsSwept part cs bounds old new i from → HaveBounds part cs bounds → length bounds ≤ i
-    → (t : ℕ) (g : Group) → Shows (map shown_by new) t g ↔ (Shows (map shown_by old) t g ⊎ (Has part t × IsBestOf cs t g))
+pub IsSwept-end : (part : Extent) (cs : List Group) (bounds : List ℕ) (old new : List Run) (i from : ℕ) → IsSwept part cs bounds old new i from → HaveBounds part cs bounds → length bounds ≤ i
+    → (t : ℕ) (g : Group) → Shows (map shown_at new) t g ↔ (Shows (map shown_at old) t g ⊎ (Has part t × IsBestOf cs t g))
 IsSwept-end part cs bounds old new i from h have done t g =
     let there = have.last in
     let below : there.0 < length bounds = there.1 in
@@ -387,18 +365,18 @@ IsSwept-end part cs bounds old new i from h have done t g =
     let p = h.passed there.0 (omega arith) in
     let high = h.high in
     let e : from ≡ part.end = omega arith in
-    subst (λ (x : ℕ). Shows (map shown_by new) t g ↔ (Shows (map shown_by old) t g ⊎ (((part.start ≤ t) × (t < x)) × IsBestOf cs t g))) e (h.shows t g)
+    subst (λ (x : ℕ). Shows (map shown_at new) t g ↔ (Shows (map shown_at old) t g ⊎ (((part.start ≤ t) × (t < x)) × IsBestOf cs t g))) e (h.shows t g)
 
 -- ---- the bounds
 
 -- the bounds so far, where the chunks of rest are left
-pub record AreBoundsSoFar (part : Extent) (cs rest : List Chunk) (bounds : List ℕ) : Type 0 where
+pub record AreBoundsSoFar (part : Extent) (cs rest : List Group) (bounds : List ℕ) : Type 0 where
   pub last : Contains bounds part.end
   pub within : (b : ℕ) → Contains bounds b → b ≤ part.end
-  pub starts : (e : Chunk) → Contains cs e → Contains rest e ⊎ IsBoundIf part bounds e.0.interval.start
-  pub ends : (e : Chunk) → Contains cs e → Contains rest e ⊎ IsBoundIf part bounds e.0.interval.end
+  pub starts : (e : Group) → Contains cs e → Contains rest e ⊎ IsBoundIf part bounds e.interval.start
+  pub ends : (e : Group) → Contains cs e → Contains rest e ⊎ IsBoundIf part bounds e.interval.end
 
-pub AreBoundsSoFar-start : (part : Extent) (cs : List Chunk) (bounds : List ℕ) → bounds ≡ part.end ∷ [] → AreBoundsSoFar part cs cs bounds
+pub AreBoundsSoFar-start : (part : Extent) (cs : List Group) (bounds : List ℕ) → bounds ≡ part.end ∷ [] → AreBoundsSoFar part cs cs bounds
 AreBoundsSoFar-start part cs bounds e = record {
   last = subst (λ (bs : List ℕ). Contains bs part.end) (sym e) (0, omega arith, refl);
   within = λ b there. elim (Contains-cons part.end [] b (subst (λ (bs : List ℕ). Contains bs b) e there)) [
@@ -409,9 +387,9 @@ AreBoundsSoFar-start part cs bounds e = record {
   ends = λ x there. inl there;
 }
 
-pub AreBoundsSoFar-more : (part : Extent) (cs rest : List Chunk) (e : Chunk) (old mid new : List ℕ) → AreBoundsSoFar part cs (e ∷ rest) old
-    → IsBoundIf part mid e.0.interval.start → ((b : ℕ) → Contains old b → Contains mid b) → ((b : ℕ) → Contains mid b → Contains old b ⊎ (b ≤ part.end))
-    → IsBoundIf part new e.0.interval.end → ((b : ℕ) → Contains mid b → Contains new b) → ((b : ℕ) → Contains new b → Contains mid b ⊎ (b ≤ part.end))
+pub AreBoundsSoFar-more : (part : Extent) (cs rest : List Group) (e : Group) (old mid new : List ℕ) → AreBoundsSoFar part cs (e ∷ rest) old
+    → IsBoundIf part mid e.interval.start → ((b : ℕ) → Contains old b → Contains mid b) → ((b : ℕ) → Contains mid b → Contains old b ⊎ (b ≤ part.end))
+    → IsBoundIf part new e.interval.end → ((b : ℕ) → Contains mid b → Contains new b) → ((b : ℕ) → Contains new b → Contains mid b ⊎ (b ≤ part.end))
     → AreBoundsSoFar part cs rest new
 AreBoundsSoFar-more part cs rest e old mid new h start kept within end kept' within' = record {
   last = kept' part.end (kept part.end h.last);
@@ -425,21 +403,21 @@ AreBoundsSoFar-more part cs rest e old mid new h start kept within end kept' wit
   starts = λ x there. at_start x (h.starts x there);
   ends = λ x there. at_end x (h.ends x there);
 } where
-  at_start : (x : Chunk) → Contains (e ∷ rest) x ⊎ IsBoundIf part old x.0.interval.start → Contains rest x ⊎ IsBoundIf part new x.0.interval.start
+  at_start : (x : Group) → Contains (e ∷ rest) x ⊎ IsBoundIf part old x.interval.start → Contains rest x ⊎ IsBoundIf part new x.interval.start
   at_start x (inl left) = elim (Contains-cons e rest x left) [
-    | inl same ↦ inr (subst (λ (y : Chunk). IsBoundIf part new y.0.interval.start) same (λ low high. kept' _ (start low high)))
+    | inl same ↦ inr (subst (λ (y : Group). IsBoundIf part new y.interval.start) same (λ low high. kept' _ (start low high)))
     | inr later ↦ inl later
   ]
   at_start x (inr bound) = inr (λ low high. kept' _ (kept _ (bound low high)))
 
-  at_end : (x : Chunk) → Contains (e ∷ rest) x ⊎ IsBoundIf part old x.0.interval.end → Contains rest x ⊎ IsBoundIf part new x.0.interval.end
+  at_end : (x : Group) → Contains (e ∷ rest) x ⊎ IsBoundIf part old x.interval.end → Contains rest x ⊎ IsBoundIf part new x.interval.end
   at_end x (inl left) = elim (Contains-cons e rest x left) [
-    | inl same ↦ inr (subst (λ (y : Chunk). IsBoundIf part new y.0.interval.end) same end)
+    | inl same ↦ inr (subst (λ (y : Group). IsBoundIf part new y.interval.end) same end)
     | inr later ↦ inl later
   ]
   at_end x (inr bound) = inr (λ low high. kept' _ (kept _ (bound low high)))
 
-pub AreBoundsSoFar-end : (part : Extent) (cs : List Chunk) (bounds : List ℕ) → AreBoundsSoFar part cs [] bounds → HaveBounds part cs bounds
+pub AreBoundsSoFar-end : (part : Extent) (cs : List Group) (bounds : List ℕ) → AreBoundsSoFar part cs [] bounds → HaveBounds part cs bounds
 AreBoundsSoFar-end part cs bounds h = record {
   last = h.last;
   within = h.within;
@@ -447,79 +425,13 @@ AreBoundsSoFar-end part cs bounds h = record {
   ends = λ e there. elim (h.ends e there) [ inl none ↦ absurd (Contains-nil e none) | inr bound ↦ bound ];
 }
 
-pub HaveBounds-same : (part : Extent) (cs : List Chunk) (old new : List ℕ) → ((b : ℕ) → Contains old b → Contains new b) → ((b : ℕ) → Contains new b → Contains old b) → HaveBounds part cs old → HaveBounds part cs new
+pub HaveBounds-same : (part : Extent) (cs : List Group) (old new : List ℕ) → ((b : ℕ) → Contains old b → Contains new b) → ((b : ℕ) → Contains new b → Contains old b) → HaveBounds part cs old → HaveBounds part cs new
 HaveBounds-same part cs old new there back h = record {
   last = there part.end h.last;
   within = λ b at. h.within b (back b at);
   starts = λ e at low high. there _ (h.starts e at low high);
   ends = λ e at low high. there _ (h.ends e at low high);
 }
-
--- ---- the candidates of a part
-
--- what is gathered, where the chunks of rest are left
-pub record AreGathered (part : Extent) (chunks rest found : List Chunk) : Type 0 where
-  pub left : (e : Chunk) → Contains rest e → Contains chunks e
-  pub among : (e : Chunk) → Contains found e → Contains chunks e
-  pub all : (e : Chunk) → Contains chunks e → IsComplete e.1 → Share part e.0.interval → Contains rest e ⊎ Contains found e
-
-pub AreGathered-start : (part : Extent) (chunks found : List Chunk) → found ≡ [] → AreGathered part chunks chunks found
-AreGathered-start part chunks found none = record {
-  left = λ e there. there;
-  among = λ e there. absurd (Contains-nil e (subst (λ (xs : List Chunk). Contains xs e) none there));
-  all = λ e there whole shared. inl there;
-}
-
-pub AreGathered-skip : (part : Extent) (chunks rest found : List Chunk) (e : Chunk) → AreGathered part chunks (e ∷ rest) found → (Share part e.0.interval × IsComplete e.1 → ⊥) → AreGathered part chunks rest found
-AreGathered-skip part chunks rest found e h not = record {
-  left = λ x there. h.left x (Contains-later e rest x there);
-  among = h.among;
-  all = λ x there whole shared. elim (h.all x there whole shared) [
-    | inl left ↦ elim (Contains-cons e rest x left) [
-      | inl same ↦ absurd (not (subst (λ (y : Chunk). Share part y.0.interval) (sym same) shared, subst (λ (y : Chunk). IsComplete y.1) (sym same) whole))
-      | inr later ↦ inl later
-    ]
-    | inr found ↦ inr found
-  ];
-}
-
-pub AreGathered-more : (part : Extent) (chunks rest found new : List Chunk) (e : Chunk) → AreGathered part chunks (e ∷ rest) found → new ≡ found ++ e ∷ [] → AreGathered part chunks rest new
-AreGathered-more part chunks rest found new e h f = record {
-  left = λ x there. h.left x (Contains-later e rest x there);
-  among = λ x there. elim (Contains-push_cases found e x (subst (λ (xs : List Chunk). Contains xs x) f there)) [
-    | inl before ↦ h.among x before
-    | inr same ↦ subst (Contains chunks) same (h.left e (0, omega arith, refl))
-  ];
-  all = λ x there whole shared. elim (h.all x there whole shared) [
-    | inl left ↦ elim (Contains-cons e rest x left) [
-      | inl same ↦ inr (subst (λ (xs : List Chunk). Contains xs x) (sym f) (subst (Contains (found ++ e ∷ [])) same (Contains-push found e)))
-      | inr later ↦ inl later
-    ]
-    | inr before ↦ inr (subst (λ (xs : List Chunk). Contains xs x) (sym f) (Contains-append_left found (e ∷ []) x before))
-  ];
-}
-
-pub AreGathered-end : (part : Extent) (chunks found : List Chunk) → AreGathered part chunks [] found → AreCandidatesIn part chunks found
-AreGathered-end part chunks found h = record {
-  among = h.among;
-  all = λ e there whole shared. elim (h.all e there whole shared) [ inl none ↦ absurd (Contains-nil e none) | inr at ↦ at ];
-}
-
-IsCandidateOf-within : (part : Extent) (chunks found : List Chunk) → AreCandidatesIn part chunks found → (t : ℕ) → Has part t → (g : Group) → IsCandidateOf found t g ↔ IsCandidateOf chunks t g
-IsCandidateOf-within part chunks found h t in_part g = (forth, back) where
-  forth : IsCandidateOf found t g → IsCandidateOf chunks t g
-  forth (ms, there, whole, has) = (ms, h.among (g, ms) there, whole, has)
-
-  back : IsCandidateOf chunks t g → IsCandidateOf found t g
-  back (ms, there, whole, has) = (ms, h.all (g, ms) there whole (t, in_part, has), whole, has)
-
--- inside the part, the best of the chunks found is the best of all
-pub IsBestOf-within : (part : Extent) (chunks found : List Chunk) → AreCandidatesIn part chunks found → (t : ℕ) → Has part t → (g : Group) → IsBestOf found t g ↔ IsBestOf chunks t g
-IsBestOf-within part chunks found h t in_part g =
-    let same = IsCandidateOf-within part chunks found h t in_part in (
-      λ b. record { candidate = (same g).0 b.candidate; greatest = λ other x. b.greatest other ((same other).1 x) },
-      λ b. record { candidate = (same g).1 b.candidate; greatest = λ other x. b.greatest other ((same other).0 x) },
-    )
 
 -- ---- lists by their places
 
@@ -528,9 +440,29 @@ pub drop_next : {X : Type 0} (xs : List X) (i : ℕ) (x : X) → i < length xs �
 drop_next {X} xs i x l e =
     drop-cons xs i x l ∙ ap (λ (y : X). y ∷ drop (suc i) xs) (sym e) ∙ ap (λ (k : ℕ). x ∷ drop k xs) (sym (add-one i))
 
-pub AreRuns-stretch : (rs : List Stretch) → AreRuns (map shown_by rs) → (r : Stretch) → Contains rs r → IsStretch r.shown
+pub AreRuns-stretch : (rs : List Run) → AreRuns (map shown_at rs) → (r : Run) → Contains rs r → IsStretch (shown_at r)
 AreRuns-stretch [] runs r there = absurd (Contains-nil r there)
 AreRuns-stretch (x ∷ rs) runs r there = elim (Contains-cons x rs r there) [
-  | inl same ↦ subst (λ (q : Stretch). IsStretch q.shown) same (AreRuns-first x.shown (map shown_by rs) runs)
-  | inr later ↦ AreRuns-stretch rs (AreRuns-rest x.shown (map shown_by rs) runs) r later
+  | inl same ↦ subst (λ (q : Run). IsStretch (shown_at q)) same (AreRuns-first (shown_at x) (map shown_at rs) runs)
+  | inr later ↦ AreRuns-stretch rs (AreRuns-rest (shown_at x) (map shown_at rs) runs) r later
 ]
+
+-- ---- what the sweep has counted
+
+-- one bound more, at no more than n comparisons
+pub counted_next : (old new len i n whole : ℕ) → i < len → new ≤ old + n → old + (len - i) * n ≤ whole → new + (len - (i + 1)) * n ≤ whole
+counted_next old new len i n whole l le high =
+    let row = row_fits (len - (i + 1)) n (len - i) n (omega (arith, l)) (omega arith) in
+    omega (arith, le, high, row)
+
+pub counted_within : (old new len i n whole : ℕ) → i < len → new ≤ old + n → old + (len - i) * n ≤ whole → new ≤ whole
+counted_within old new len i n whole l le high =
+    let row = row_fits (len - (i + 1)) n (len - i) n (omega (arith, l)) (omega arith) in
+    omega (arith, le, high, row)
+
+-- a bound that is passed already counts nothing
+pub uncounted_next : (old len i n whole : ℕ) → i < len → old + (len - i) * n ≤ whole → old + (len - (i + 1)) * n ≤ whole
+uncounted_next old len i n whole l high = counted_next old old len i n whole l (omega arith) high
+
+pub counted_start : (m len n : ℕ) → m + (len - 0) * n ≤ m + len * n
+counted_start m len n = let e : len ≡ len - 0 = omega arith in subst (λ (k : ℕ). m + k * n ≤ m + len * n) e (omega arith)

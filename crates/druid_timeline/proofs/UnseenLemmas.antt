@@ -1,105 +1,53 @@
--- Chunks that are not seen, as a walk over all chunks gathers them.
-use Rattle.std.proofs.Common.{◌≡◌, ◌+◌, ◌<◌, ◌≤◌, ◌⊎◌, ◌↔◌, ◌++◌, ℕ, Bool, true, false, List, [], ◌∷◌, length, get_or, take, map, Option, Some, None, MatchOption, cond, refl, sym, ap, ◌∙◌, subst, inl, inr, arith}
+-- Chunks that no run shows, as a walk over all chunks gathers them.
+use Rattle.std.proofs.Common.{◌≡◌, ◌+◌, ◌<◌, ◌⊎◌, ◌↔◌, ◌++◌, ℕ, Bool, true, false, List, [], ◌∷◌, length, get_or, take, map, cond, refl, sym, ap, ◌∙◌, subst, inl, inr, arith}
 use Rattle.std.specs.Bool.{IsTrue}
-use Rattle.std.specs.HashMap as hash
-use Rattle.std.specs.List.{Contains, IsDistinct, AllByRecursion, list_any}
+use Rattle.std.specs.List.{Contains, IsDistinct, AllByRecursion}
 use Rattle.std.specs.Map.{keys_of}
-use Rattle.std.specs.Option.{IfSome}
 use Rattle.std.proofs.lemmas.Bool.{false≢true}
 use Rattle.std.proofs.lemmas.List.{take_more}
 use Rattle.std.proofs.lemmas.List.Elements.{Contains-push, Contains-push_cases, Contains-append_left}
 use Rattle.std.proofs.lemmas.List.Sorted.{IsPermutation-to_front, IsPermutation-sym}
 use Rattle.std.proofs.lemmas.Map.Keys.{IsDistinct-head, IsDistinct-tail, IsDistinct-cons, IsDistinct-from_apart, IsDistinct-IsPermutation}
-use Rattle.druid_time.specs.Extent.{Extent, IsExtent, Has, AreParts}
 use Rattle.druid_segid.specs.Group.{Group, same_group}
 use Rattle.druid_members.specs.Members.{IsComplete}
 use Rattle.druid_shard.proofs.MemberLemmas.{Contains-nil, Contains-cons, Contains-later}
-use Rattle.druid_timeline.specs.Holding.{members_of}
+use Rattle.druid_chunks.specs.Chunks.{Chunk, AreChunks, IsCompleteOf}
+use Rattle.druid_chunks.proofs.ChunkLemmas.{same_group-exact, same_group-same, same_group-equiv}
+use Rattle.druid_timeline.specs.Chunks.{held_in}
 use Rattle.druid_timeline.specs.Overshadowed.{IsOvershadowed}
-use Rattle.druid_timeline.specs.Pieces.{Shows}
-use Rattle.druid_timeline.specs.Chunks.{Chunk, held_in, chunk_of, IsCompleteOf, IsSeen, IsBestOf}
-use Rattle.druid_timeline.specs.Stretches.{Stretch, shown_by, IsWithin, AreRunsIn}
-use Rattle.druid_timeline.proofs.ChunkLemmas.{Chunks, same_group-exact, same_group-same, same_group-equiv, entry_found, chunk_entry, members_of-held_in, IsVisible-chunk}
-use Rattle.druid_timeline.proofs.SweepLemmas.{AreRuns-stretch}
-
--- ---- the hull
-
--- the hull so far, where the chunks of rest are left
-pub record IsHullSoFar (chunks rest : List Chunk) (hull : Option Extent) : Type 0 where
-  pub valid : IfSome hull IsExtent
-  pub passed : (e : Chunk) → Contains chunks e → Contains rest e ⊎ MatchOption hull ⊥ (IsWithin e.0.interval)
-
-pub IsHullSoFar-start : (chunks : List Chunk) (hull : Option Extent) → hull ≡ None → IsHullSoFar chunks chunks hull
-IsHullSoFar-start chunks hull none = subst (IsHullSoFar chunks chunks) (sym none) (record { valid = tt; passed = λ e there. inl there })
-
-pub IsHullSoFar-first : (chunks rest : List Chunk) (e : Chunk) → IsExtent e.0.interval → IsHullSoFar chunks (e ∷ rest) None → IsHullSoFar chunks rest (Some e.0.interval)
-IsHullSoFar-first chunks rest e valid h = record {
-  valid = valid;
-  passed = λ x there. elim (h.passed x there) [
-    | inl left ↦ elim (Contains-cons e rest x left) [
-      | inl same ↦ inr (subst (λ (y : Chunk). IsWithin y.0.interval e.0.interval) same (omega arith, omega arith))
-      | inr later ↦ inl later
-    ]
-    | inr none ↦ absurd none
-  ];
-}
-
-pub IsHullSoFar-more : (chunks rest : List Chunk) (e : Chunk) (old new : Extent) → IsExtent new → IsWithin old new → IsWithin e.0.interval new → IsHullSoFar chunks (e ∷ rest) (Some old) → IsHullSoFar chunks rest (Some new)
-IsHullSoFar-more chunks rest e old new valid outer own h = record {
-  valid = valid;
-  passed = λ x there. elim (h.passed x there) [
-    | inl left ↦ elim (Contains-cons e rest x left) [
-      | inl same ↦ inr (subst (λ (y : Chunk). IsWithin y.0.interval new) same own)
-      | inr later ↦ inl later
-    ]
-    | inr within ↦
-        let low : old.start ≤ x.0.interval.start = within.0 in
-        let high : x.0.interval.end ≤ old.end = within.1 in
-        let low' : new.start ≤ old.start = outer.0 in
-        let high' : old.end ≤ new.end = outer.1 in
-        inr (omega arith, omega arith)
-  ];
-}
-
-pub IsHullSoFar-end : (chunks : List Chunk) (hull : Option Extent) → IsHullSoFar chunks [] hull → (e : Chunk) → Contains chunks e → MatchOption hull ⊥ (IsWithin e.0.interval)
-IsHullSoFar-end chunks hull h e there = elim (h.passed e there) [
-  | inl none ↦ absurd (Contains-nil e none)
-  | inr within ↦ within
-]
-
-pub AreParts-one : (part : Extent) → IsExtent part → AreParts (part ∷ [])
-AreParts-one part valid = record {
-  each = λ k d l. subst (λ (i : ℕ). IsExtent (get_or (part ∷ []) i d)) (let e : 0 ≡ k = omega arith in e) valid;
-  apart = tt;
-}
+use Rattle.druid_timeline.specs.Pieces.{ArePieces, shown_at}
+use Rattle.druid_timeline.specs.Visible.{IsVisible}
+use Rattle.druid_timeline.proofs.ChunkLemmas.{IsCompleteIn-chunk}
+use Rattle.druid_timeline.proofs.SpliceLemmas.{Shows-member, member-Shows}
+use Rattle.druid_timeline.proofs.SweepLemmas.{Run, AreRuns-stretch}
 
 -- ---- what runs show
 
 -- a chunk is one that the runs show
-abbrev pub IsShownBy : List Stretch → Group → Type 0
-IsShownBy rs g = (r : Stretch) × Contains rs r × (r.shown.group ≡ g)
+abbrev pub IsShownBy : List Run → Group → Type 0
+IsShownBy rs g = (r : Run) × Contains rs r × (r.1 ≡ g)
 
-pub IsShownBy-none : (rs : List Stretch) (g : Group) → rs ≡ [] → IsShownBy rs g → ⊥
-IsShownBy-none rs g none (r, there, same) = Contains-nil r (subst (λ (xs : List Stretch). Contains xs r) none there)
+pub IsShownBy-none : (rs : List Run) (g : Group) → rs ≡ [] → IsShownBy rs g → ⊥
+IsShownBy-none rs g none (r, there, same) = Contains-nil r (subst (λ (xs : List Run). Contains xs r) none there)
 
 -- the set of the chunks that are shown, with that of one run more
-pub IsShownBy-more : (rs : List Stretch) (i : ℕ) (r : Stretch) (key : Group) (old new : Group → Bool) → i < length rs → r ≡ get_or rs i r → key ≡ r.shown.group
+pub IsShownBy-more : (rs : List Run) (i : ℕ) (r : Run) (key : Group) (old new : Group → Bool) → i < length rs → r ≡ get_or rs i r → key ≡ r.1
     → ((q : Group) → new q ≡ cond (same_group key q) true (old q)) → ((g : Group) → IsTrue (old g) ↔ IsShownBy (take i rs) g) → (g : Group) → IsTrue (new g) ↔ IsShownBy (take (i + 1) rs) g
 IsShownBy-more rs i r key old new l at same updates h g = by_test (same_group key g) refl where
   more : take (i + 1) rs ≡ take i rs ++ r ∷ []
-  more = take_more rs i r l ∙ ap (λ (x : Stretch). take i rs ++ x ∷ []) (sym at)
+  more = take_more rs i r l ∙ ap (λ (x : Run). take i rs ++ x ∷ []) (sym at)
 
-  one : IsShownBy (take (i + 1) rs) r.shown.group
-  one = (r, subst (λ (xs : List Stretch). Contains xs r) (sym more) (Contains-push (take i rs) r), refl)
+  one : IsShownBy (take (i + 1) rs) r.1
+  one = (r, subst (λ (xs : List Run). Contains xs r) (sym more) (Contains-push (take i rs) r), refl)
 
   forth : same_group key g ≡ false → IsShownBy (take (i + 1) rs) g → IsShownBy (take i rs) g
-  forth other (x, there, e) = elim (Contains-push_cases (take i rs) r x (subst (λ (xs : List Stretch). Contains xs x) more there)) [
+  forth other (x, there, e) = elim (Contains-push_cases (take i rs) r x (subst (λ (xs : List Run). Contains xs x) more there)) [
     | inl before ↦ (x, before, e)
-    | inr here ↦ absurd (false≢true (sym other ∙ same_group-same key g (same ∙ ap (λ (y : Stretch). y.shown.group) here ∙ e)))
+    | inr here ↦ absurd (false≢true (sym other ∙ same_group-same key g (same ∙ ap (λ (y : Run). y.1) here ∙ e)))
   ]
 
   back : IsShownBy (take i rs) g → IsShownBy (take (i + 1) rs) g
-  back (x, there, e) = (x, subst (λ (xs : List Stretch). Contains xs x) (sym more) (Contains-append_left (take i rs) (r ∷ []) x there), e)
+  back (x, there, e) = (x, subst (λ (xs : List Run). Contains xs x) (sym more) (Contains-append_left (take i rs) (r ∷ []) x there), e)
 
   by_test : (b : Bool) → same_group key g ≡ b → IsTrue (new g) ↔ IsShownBy (take (i + 1) rs) g
   by_test true e = (
@@ -111,41 +59,6 @@ IsShownBy-more rs i r key old new l at same updates h g = by_test (same_group ke
         λ told. back ((h g).0 (sym was ∙ told)),
         λ shown. was ∙ (h g).1 (forth e shown),
       )
-
-Shows-member : (rs : List Stretch) (t : ℕ) (g : Group) → Shows (map shown_by rs) t g → IsShownBy rs g
-Shows-member [] t g none = absurd none
-Shows-member (r ∷ rs) t g (inl here) = (r, (0, omega arith, refl), here.0)
-Shows-member (r ∷ rs) t g (inr later) = let one = Shows-member rs t g later in (one.0, Contains-later r rs one.0 one.1, one.2)
-
-member-Shows : (rs : List Stretch) (r : Stretch) (t : ℕ) → Contains rs r → Has r.shown.interval t → Shows (map shown_by rs) t r.shown.group
-member-Shows [] r t there has = absurd (Contains-nil r there)
-member-Shows (x ∷ rs) r t there has = elim (Contains-cons x rs r there) [
-  | inl same ↦ inl (ap (λ (y : Stretch). y.shown.group) same, subst (λ (y : Stretch). Has y.shown.interval t) (sym same) has)
-  | inr later ↦ inr (member-Shows rs r t later has)
-]
-
--- runs over the hull of all chunks show each chunk that is seen
-pub IsSeen-runs : (hull : Extent) (chunks : List Chunk) (rs : List Stretch) → AreRunsIn (hull ∷ []) chunks rs → ((e : Chunk) → Contains chunks e → IsWithin e.0.interval hull) → (g : Group) → IsShownBy rs g ↔ IsSeen chunks g
-IsSeen-runs hull chunks rs h within g = (forth, back) where
-  forth : IsShownBy rs g → IsSeen chunks g
-  forth (r, there, same) =
-      let st : r.shown.interval.start < r.shown.interval.end = AreRuns-stretch rs h.runs r there in
-      let shown = member-Shows rs r r.shown.interval.start there (omega arith, st) in
-      (r.shown.interval.start, subst (IsBestOf chunks r.shown.interval.start) same ((h.shows r.shown.interval.start r.shown.group).0 shown).1)
-
-  back : IsSeen chunks g → IsShownBy rs g
-  back (t, best) =
-      let chunk = best.candidate in
-      let inside = within (g, chunk.0) chunk.1 in
-      let low : hull.start ≤ g.interval.start = inside.0 in
-      let high : g.interval.end ≤ hull.end = inside.1 in
-      let from : g.interval.start ≤ t = chunk.3.0 in
-      let stops : t < g.interval.end = chunk.3.1 in
-      Shows-member rs t g ((h.shows t g).1 (inl (omega arith, omega arith), best))
-
--- without chunks none is seen
-pub IsSeen-none : (chunks : List Chunk) (g : Group) → ((e : Chunk) → Contains chunks e → ⊥) → IsSeen chunks g → ⊥
-IsSeen-none chunks g none (t, best) = none (g, best.candidate.0) best.candidate.1
 
 -- ---- the complete chunks that are not seen
 
@@ -235,28 +148,25 @@ AreUnseen-end seen chunks found h g = (
 
 -- ---- overshadowed chunks
 
-pub IsOvershadowed-chunk : {S : Type 0} (m : Chunks S) → hash.IsUnique same_group m → (g : Group) → (IsCompleteOf m.entries g × (IsSeen m.entries g → ⊥)) ↔ IsOvershadowed (held_in m.entries) g
-IsOvershadowed-chunk m u g = (forth, back) where
-  same : members_of (held_in m.entries) g ≡ chunk_of m g
-  same = members_of-held_in m u g
-
-  forth : IsCompleteOf m.entries g × (IsSeen m.entries g → ⊥) → IsOvershadowed (held_in m.entries) g
-  forth ((ms, there, whole), hidden) = record {
-    complete = subst IsComplete (sym (entry_found m u g ms there) ∙ sym same) whole;
-    unseen = λ t visible. hidden (t, (IsVisible-chunk m u t g).1 visible);
+-- the complete chunks that no run shows are the overshadowed ones
+pub IsOvershadowed-unshown : (cs : List Chunk) (rs : List Run) → AreChunks cs → ArePieces (held_in cs) (map shown_at rs) → (g : Group) → (IsCompleteOf cs g × (IsShownBy rs g → ⊥)) ↔ IsOvershadowed (held_in cs) g
+IsOvershadowed-unshown cs rs are h g = (forth, back) where
+  forth : IsCompleteOf cs g × (IsShownBy rs g → ⊥) → IsOvershadowed (held_in cs) g
+  forth (complete, hidden) = record {
+    complete = (IsCompleteIn-chunk cs are g).1 complete;
+    unseen = λ t visible.
+        let one = Shows-member rs t g ((h.shows t g).1 (tt, visible)) in
+        hidden (one.0, one.1, one.2);
   }
 
-  back : IsOvershadowed (held_in m.entries) g → IsCompleteOf m.entries g × (IsSeen m.entries g → ⊥)
-  back h =
-      let whole : IsComplete (chunk_of m g) = subst IsComplete same h.complete in
-      ((chunk_of m g, chunk_entry m u g whole.some.0 whole.some.1, whole), λ seen. h.unseen seen.0 ((IsVisible-chunk m u seen.0 g).0 seen.1))
+  shown : IsOvershadowed (held_in cs) g → IsShownBy rs g → ⊥
+  shown o (r, there, same) =
+      let st : r.0.start < r.0.end = AreRuns-stretch rs h.runs r there in
+      let at = member-Shows rs r r.0.start there (omega arith, st) in
+      o.unseen r.0.start (subst (λ (k : Group). IsVisible (held_in cs) r.0.start k) same ((h.shows r.0.start r.1).0 at).1)
 
--- a set without keys tells of none, and without chunks none is seen
-pub IsSeen-empty : (chunks : List Chunk) (seen : List Group) (g : Group) → seen ≡ [] → ((e : Chunk) → Contains chunks e → ⊥) → IsTrue (list_any (same_group g) seen) ↔ IsSeen chunks g
-IsSeen-empty chunks seen g none empty = (
-  λ told. absurd (false≢true (subst (λ (gs : List Group). list_any (same_group g) gs ≡ true) none told)),
-  λ h. absurd (IsSeen-none chunks g empty h),
-)
+  back : IsOvershadowed (held_in cs) g → IsCompleteOf cs g × (IsShownBy rs g → ⊥)
+  back o = ((IsCompleteIn-chunk cs are g).0 o.complete, shown o)
 
 -- the complete chunks that are not reported, where what is reported is what is seen
 pub unseen_of : (told seen : Type 0) (P : Type 0) → told ↔ seen → (P × (told → ⊥)) ↔ (P × (seen → ⊥))

@@ -4,6 +4,9 @@ pub mod Visible
 pub mod Pieces
 pub mod Chunks
 pub mod Overshadowed
+pub mod Candidates
+pub mod Edited
 -- words of private contracts
 pub mod Stretches
 pub mod Active
+pub mod Known

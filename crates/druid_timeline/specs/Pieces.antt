@@ -13,6 +13,10 @@ pub record Shown : Type 0 where
   pub interval : Extent
   pub group : Group
 
+-- a run as a timeline keeps it
+abbrev pub shown_at : Extent × Group → Shown
+shown_at run = record { interval = run.0; group = run.1 }
+
 -- the stretch is not empty
 abbrev pub IsStretch : Shown → Type 0
 IsStretch s = s.interval.start < s.interval.end

@@ -1,26 +1,46 @@
 //! The candidates that have an instant, kept as the instant moves on.
-ghost use Rattle.std.specs.Prelude.{◌≡◌, List, map, filter, drop, nat_lt, IfOk, OnOk, MatchOption, option_map, Contains};
+ghost use Rattle.std.specs.Prelude.{◌≡◌, ◌≤◌, ◌<◌, ◌+◌, ◌↔◌, List, length, map, filter, drop, nat_lt, IsTrue, IfOk, OnOk, MatchOption, option_copied, Contains};
 ghost use Rattle.druid_time.specs.Extent.{Has};
-ghost use Rattle.druid_timeline.specs.Chunks.{Chunk, IsBest};
-ghost use Rattle.druid_timeline.specs.Active.{StartInOrder, StartBehind, AreSplit};
+ghost use Rattle.druid_segid.specs.Group.{Group, Outranks};
+ghost use Rattle.druid_timeline.specs.Candidates.{IsBest};
+ghost use Rattle.druid_timeline.specs.Active.{StartInOrder, StartLater, AreSplit};
 
-use crate::sweep::Candidate;
-use druid_segid::Meter;
+use druid_segid::{GroupKey, Meter};
 use druid_time::Instant;
 use std::alloc::AllocError;
 
-// The best of the candidates that have the instant.
-pub(crate) fn best_at<'b, 'a>(
-    candidates: &[&'b Candidate<'a>],
-    instant: Instant,
-) -> Option<&'b Candidate<'a>>
-    ensures best { IsBest (map (λ c. c.now) candidates.now) instant (option_map (λ c. c.now.0) result) }
-    ensures among { MatchOption result (Unit {0}) (λ c. Contains (map (λ c. c.now) candidates.now) c.now) }
+// Whether a chunk outranks the best one so far, if there is one.
+fn beats(key: &GroupKey, best: Option<&GroupKey>, meter: &mut Meter) -> bool
+    ensures answer { IsTrue result ↔ MatchOption (option_copied best.entry) (Unit {0}) (Outranks key.now) }
+    ensures counted { (meter.old ≤ meter.new) × (meter.new ≤ meter.old + 1) }
 {
-    let mut meter = Meter::new();
-    let mut best: Option<&Candidate> = None;
+    match best {
+        Some(other) => key.rank().beats(&other.rank(), meter),
+        None => true,
+    }
+}
+
+// Whether a chunk has the instant and outranks the best one so far, if there is one.
+fn is_better(key: &GroupKey, instant: Instant, best: Option<&GroupKey>, meter: &mut Meter) -> bool
+    ensures answer { IsTrue result
+        ↔ (Has key.now.interval instant × MatchOption (option_copied best.entry) (Unit {0}) (Outranks key.now)) }
+    ensures counted { (meter.old ≤ meter.new) × (meter.new ≤ meter.old + 1) }
+{
+    key.interval().contains(instant) && beats(key, best, meter)
+}
+
+// The best of the candidates that have the instant. It counts at most one comparison for each candidate.
+pub(crate) fn best_at<'a>(
+    candidates: &[&'a GroupKey],
+    instant: Instant,
+    meter: &mut Meter,
+) -> Option<&'a GroupKey>
+    ensures best { IsBest (map (λ c. c.now) candidates.now) instant (option_copied result) }
+    ensures counted { (meter.old ≤ meter.new) × (meter.new ≤ meter.old + length candidates.now) }
+{
+    let mut best: Option<&GroupKey> = None;
     for candidate in candidates {
-        if candidate.is_better(instant, best, &mut meter) {
+        if is_better(candidate, instant, best, meter) {
             best = Some(*candidate);
         }
     }
@@ -28,21 +48,25 @@ pub(crate) fn best_at<'b, 'a>(
 }
 
 // Adds those from a place on that start at the instant or before, and gives the place after them.
-fn take_started<'b, 'a>(
-    active: &mut Vec<&'b Candidate<'a>>,
-    sorted: &'b [Candidate<'a>],
+fn take_started<'a>(
+    active: &mut Vec<&'a GroupKey>,
+    sorted: &[&'a GroupKey],
     start: usize,
     to: Instant,
 ) -> Result<usize, AllocError>
-    requires order { StartInOrder sorted.now }
-    requires split { AreSplit sorted.now (drop start sorted.now) (map (λ c. c.now) active.old.items) to }
-    ensures split { IfOk result (λ place. AreSplit sorted.now (drop place sorted.now) (map (λ c. c.now) active.new.items) to) }
-    ensures behind { IfOk result (λ place. StartBehind (drop place sorted.now) to) }
+    requires order { StartInOrder (map (λ c. c.now) sorted.now) }
+    requires split { AreSplit (map (λ c. c.now) sorted.now) (drop start (map (λ c. c.now) sorted.now))
+        (map (λ c. c.now) active.old.items) to }
+    requires few { (length active.old.items ≤ start) × (start ≤ length sorted.now) }
+    ensures split { IfOk result (λ place. AreSplit (map (λ c. c.now) sorted.now)
+        (drop place (map (λ c. c.now) sorted.now)) (map (λ c. c.now) active.new.items) to) }
+    ensures later { IfOk result (λ place. StartLater (drop place (map (λ c. c.now) sorted.now)) to) }
+    ensures few { IfOk result (λ place. (length active.new.items ≤ place) × (place ≤ length sorted.now)) }
 {
     let mut place = start;
     while place < sorted.len() {
-        let candidate = &sorted[place];
-        if to < candidate.start() {
+        let candidate = sorted[place];
+        if to < candidate.interval().start() {
             return Ok(place);
         }
         active.push(candidate)?;
@@ -52,25 +76,30 @@ fn take_started<'b, 'a>(
 }
 
 // Lets go of those that end at the instant or before.
-fn let_go(active: &mut Vec<&Candidate>, to: Instant)
-    ensures { map (λ c. c.now) active.new.items
-        ≡ filter (λ e. nat_lt to e.0.interval.end) (map (λ c. c.now) active.old.items) }
+fn let_go(active: &mut Vec<&GroupKey>, to: Instant)
+    ensures kept { map (λ c. c.now) active.new.items
+        ≡ filter (λ g. nat_lt to g.interval.end) (map (λ c. c.now) active.old.items) }
+    ensures few { length active.new.items ≤ length active.old.items }
 {
-    active.retain(|candidate| to < candidate.end());
+    active.retain(|candidate| to < candidate.interval().end());
 }
 
 // Moves on to an instant: those before the place that it gives are active or have ended, and the others start later.
-pub(crate) fn advance<'b, 'a>(
-    active: &mut Vec<&'b Candidate<'a>>,
-    sorted: &'b [Candidate<'a>],
+pub(crate) fn advance<'a>(
+    active: &mut Vec<&'a GroupKey>,
+    sorted: &[&'a GroupKey],
     start: usize,
     to: Instant,
 ) -> Result<usize, AllocError>
-    requires order { StartInOrder sorted.now }
-    requires split { AreSplit sorted.now (drop start sorted.now) (map (λ c. c.now) active.old.items) to }
-    ensures split { IfOk result (λ place. AreSplit sorted.now (drop place sorted.now) (map (λ c. c.now) active.new.items) to) }
-    ensures all { OnOk result ((e : Chunk) → Contains sorted.now e → Has e.0.interval to
-        → Contains (map (λ c. c.now) active.new.items) e) }
+    requires order { StartInOrder (map (λ c. c.now) sorted.now) }
+    requires split { AreSplit (map (λ c. c.now) sorted.now) (drop start (map (λ c. c.now) sorted.now))
+        (map (λ c. c.now) active.old.items) to }
+    requires few { (length active.old.items ≤ start) × (start ≤ length sorted.now) }
+    ensures split { IfOk result (λ place. AreSplit (map (λ c. c.now) sorted.now)
+        (drop place (map (λ c. c.now) sorted.now)) (map (λ c. c.now) active.new.items) to) }
+    ensures all { OnOk result ((g : Group) → Contains (map (λ c. c.now) sorted.now) g → Has g.interval to
+        → Contains (map (λ c. c.now) active.new.items) g) }
+    ensures few { IfOk result (λ place. (length active.new.items ≤ place) × (place ≤ length sorted.now)) }
 {
     let place = take_started(active, sorted, start, to)?;
     let_go(active, to);

@@ -2,14 +2,15 @@
 #![tactic(auto)]
 
 mod active;
-mod chunks;
+mod edit;
 mod fault;
 mod laws;
+mod lookup;
 mod overshadowed;
 mod piece;
-mod shared;
 mod sweep;
 mod timeline;
+mod turn;
 
 pub use fault::TimelineFault;
 pub use laws::{

@@ -1,74 +1,31 @@
 //! The complete chunks that are visible at no instant.
-ghost use Rattle.std.specs.Prelude.{◌≡◌, ◌↔◌, ℕ, List, IsTrue, IfOk, IfSome, MatchOption, Contains};
-ghost use Rattle.std.specs.HashMap as hash;
+ghost use Rattle.std.specs.Prelude.{◌≡◌, ◌↔◌, ℕ, List, IsTrue, IfOk, Contains};
 ghost use Rattle.std.specs.HashSet as set;
 ghost use Rattle.std.specs.List.{IsDistinct};
 ghost use Rattle.std.specs.List.Sorted.{IsPermutation, IsSorted, IsStrictlySortedBy};
-ghost use Rattle.druid_time.specs.Extent.{IsExtent};
+ghost use Rattle.druid_chunks.specs.Chunks.{AreChunks, IsCompleteOf};
+ghost use Rattle.druid_time.specs.Extent.{Extent};
 ghost use Rattle.druid_segid.specs.Group.{Group, same_group};
-ghost use Rattle.druid_timeline.specs.Chunks.{Chunk, IsCompleteOf, IsSeen};
 ghost use Rattle.druid_timeline.specs.Overshadowed.{place_cmp};
-ghost use Rattle.druid_timeline.specs.Stretches.{Stretch, IsWithin};
 
-use crate::chunks::Chunks;
-use crate::sweep::{Run, runs_in};
+use druid_chunks::Chunks;
 use druid_segid::{GroupKey, Meter};
 use druid_time::Interval;
 use std::alloc::{AllocError, Global};
 use std::cmp::Ordering;
 use std::collections::HashSet;
 
-// The two intervals, and what lies between them.
-fn joined(one: Interval, other: Interval) -> Interval
-    ensures valid { IsExtent result }
-    ensures one { IsWithin one result }
-    ensures other { IsWithin other result }
-{
-    let start = one.start().min(other.start());
-    let end = one.end().max(other.end());
-    Interval::new(start, end).unwrap()
-}
-
-// An interval in which each chunk lies. None without chunks.
-fn hull_over(chunks: &Chunks) -> Option<Interval>
-    ensures valid { IfSome result IsExtent }
-    ensures within { (e : Chunk) → Contains chunks.now.entries e → MatchOption result ⊥ (IsWithin e.0.interval) }
-{
-    let mut hull: Option<Interval> = None;
-    for (key, _) in chunks.iter() {
-        let own = key.interval();
-        hull = match hull {
-            Some(so_far) => Some(joined(so_far, own)),
-            None => Some(own),
-        };
-    }
-    hull
-}
-
 // The chunks that runs show.
-fn shown_in(alloc: Global, runs: &[Run]) -> Result<HashSet<GroupKey>, AllocError>
+fn shown_in(alloc: Global, runs: &[(Interval, GroupKey)]) -> Result<HashSet<GroupKey>, AllocError>
     ensures { IfOk result (λ shown. (g : Group) → IsTrue (set.contains same_group shown g)
-        ↔ ((r : Stretch) × Contains runs.now r × (r.shown.group ≡ g))) }
+        ↔ ((run : Extent × Group) × Contains runs.now run × (run.1 ≡ g))) }
 {
     let mut shown = HashSet::new(alloc);
     for run in runs {
-        let key = run.key().clone()?;
+        let key = run.1.clone()?;
         shown.insert(key)?;
     }
     Ok(shown)
-}
-
-// The chunks that are visible at some instant.
-fn seen_in(alloc: Global, chunks: &Chunks) -> Result<HashSet<GroupKey>, AllocError>
-    ensures { IfOk result (λ seen. (g : Group) → IsTrue (set.contains same_group seen g) ↔ IsSeen chunks.now.entries g) }
-{
-    match hull_over(chunks) {
-        Some(hull) => {
-            let runs = runs_in(alloc, chunks, &[hull])?;
-            shown_in(alloc, &runs)
-        }
-        None => Ok(HashSet::new(alloc)),
-    }
 }
 
 // The complete chunks that are not among the seen ones, not in order.
@@ -78,13 +35,14 @@ fn unseen_in(
     seen: &HashSet<GroupKey>,
 ) -> Result<Vec<GroupKey>, AllocError>
     ensures all { IfOk result (λ v. (g : Group) → Contains v.items g
-        ↔ (IsCompleteOf chunks.now.entries g × (IsTrue (set.contains same_group seen.now g) → ⊥))) }
+        ↔ (IsCompleteOf chunks.now g × (IsTrue (set.contains same_group seen.now g) → ⊥))) }
     ensures once { IfOk result (λ v. IsDistinct same_group v.items) }
+    ensures chunks { AreChunks chunks.now }
 {
     let mut unseen = Vec::new(alloc);
-    for (key, shared) in chunks.iter() {
-        let members = shared.lent();
-        if members.is_complete() && !seen.contains(key) {
+    for chunk in chunks.as_slice() {
+        let key = chunk.key();
+        if chunk.members().is_complete() && !seen.contains(key) {
             let copy = key.clone()?;
             unseen.push(copy)?;
         }
@@ -123,20 +81,19 @@ fn sort_by_place(keys: &mut Vec<GroupKey>, meter: &mut Meter)
     );
 }
 
-// The complete chunks that are visible at no instant, by start, then by end, then by version.
+// The complete chunks that no run shows, by start, then by end, then by version.
 pub(crate) fn overshadowed_in(
     alloc: Global,
     chunks: &Chunks,
+    runs: &[(Interval, GroupKey)],
     meter: &mut Meter,
 ) -> Result<Vec<GroupKey>, AllocError>
-    ensures all { IfOk result (λ v. (g : Group) → Contains v.items g
-        ↔ (IsCompleteOf chunks.now.entries g × (IsSeen chunks.now.entries g → ⊥))) }
+    ensures all { IfOk result (λ v. (g : Group) → Contains v.items g ↔ (IsCompleteOf chunks.now g
+        × ((run : Extent × Group) × Contains runs.now run × (run.1 ≡ g) → ⊥))) }
     ensures sorted { IfOk result (λ v. IsStrictlySortedBy place_cmp v.items) }
-    ensures unique { hash.IsUnique same_group chunks.now }
+    ensures chunks { IfOk result (λ _. AreChunks chunks.now) }
 {
-    // For the proof: reading it exposes the invariant of its type.
-    let _ = chunks.len();
-    let seen = seen_in(alloc, chunks)?;
+    let seen = shown_in(alloc, runs)?;
     let mut unseen = unseen_in(alloc, chunks, &seen)?;
     sort_by_place(&mut unseen, meter);
     Ok(unseen)

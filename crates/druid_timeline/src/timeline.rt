@@ -1,23 +1,22 @@
-ghost use Rattle.std.specs.Prelude.{◌≡◌, ◌≤◌, ◌↔◌, ◌⊎◌, ℕ, [], All, Contains, IsTrue, IfOk, IfErr, OnOk, OnErr, IsErrOf, map, MatchOption};
+ghost use Rattle.std.specs.Prelude.{◌≡◌, ◌≤◌, ◌+◌, ◌*◌, ◌↔◌, ◌⊎◌, ℕ, List, [], All, Contains, IsTrue, IfOk, IfErr, OnOk, OnErr, IsErrOf, length, map, MatchOption};
 ghost use Rattle.std.specs.List.Sorted.{IsStrictlyIncreasing, IsStrictlySortedBy};
 ghost use Rattle.druid_time.specs.Extent.{AnyHas};
-ghost use Rattle.druid_segid.specs.Group.{Group};
+ghost use Rattle.druid_segid.specs.Group.{Group, group_of};
+ghost use Rattle.druid_timeline.specs.Edited.{HasOthers};
 ghost use Rattle.druid_timeline.specs.Holding.{held_of, members_of, HoldsNothing, IsHeld, IsServed, AddsHeld, RemovesHeld, RemovesOneHeld, SameHeld};
 ghost use Rattle.druid_timeline.specs.Overshadowed.{IsOvershadowed, place_cmp};
-ghost use Rattle.druid_timeline.specs.Pieces.{ArePiecesIn, ArePartitions, shown_of};
+ghost use Rattle.druid_timeline.specs.Pieces.{ArePieces, ArePiecesIn, ArePartitions, shown_at, shown_of};
 ghost use Rattle.druid_timeline.specs.Visible.{IsVisible, NothingVisible};
 
-use crate::chunks::{
-    Chunks, add_to_chunk, best_of, hold_nothing, remove_from_chunk, replicas_in, serves,
-};
+use crate::lookup::{chunk_at, pieces_in};
 use crate::overshadowed::overshadowed_in;
-use crate::sweep::{pieces_of, runs_in};
+use crate::turn::{add_segment, remove_segment};
 use crate::{Piece, TimelineFault};
+use druid_chunks::Chunks;
 use druid_segid::{GroupKey, Meter, Name, SegmentId};
 use druid_shard::{Descriptor, NodeNo};
-use druid_time::{Instant, IntervalSet};
+use druid_time::{Instant, Interval, IntervalSet};
 use std::alloc::{AllocError, Global};
-use std::collections::HashMap;
 use std::marker::Model;
 
 /// What nodes serve of one data source, and by that which version of the data is visible at each instant.
@@ -28,15 +27,20 @@ pub struct Timeline {
     alloc: Global,
     source: Name,
     chunks: Chunks,
+    runs: Vec<(Interval, GroupKey)>,
 }
 
 impl Model for Timeline {
+    ghost use Rattle.std.specs.Prelude.{map};
     ghost use Rattle.druid_timeline.specs.Holding.{Serving};
     ghost use Rattle.druid_timeline.specs.Chunks.{held_in};
+    ghost use Rattle.druid_timeline.specs.Pieces.{ArePieces, shown_at};
 
     ghost Value = { Serving };
 
-    ghost view = { λ a. record { source = a.source; held = held_in a.chunks.entries } };
+    ghost view = { λ a. record { source = a.source; held = held_in a.chunks } };
+
+    ghost invariant = { λ a. ArePieces (held_in a.chunks) (map shown_at a.runs.items) };
 }
 
 impl Timeline {
@@ -47,7 +51,8 @@ impl Timeline {
         Timeline {
             alloc,
             source,
-            chunks: HashMap::new(alloc),
+            chunks: Chunks::new(alloc),
+            runs: Vec::new(alloc),
         }
     }
 
@@ -69,11 +74,14 @@ impl Timeline {
     pub fn is_empty(&self) -> bool
         ensures { IsTrue result ↔ HoldsNothing self.now.held }
     {
-        hold_nothing(&self.chunks)
+        // For the proof: it tells that no chunk is without members.
+        let _ = self.chunks.as_slice();
+        self.chunks.is_empty()
     }
 
     /// Adds a segment that a node serves. L2 where it is of another source, then L1 where the node serves that
-    /// identifier already, and L9 last; a refusal changes nothing.
+    /// identifier already, and L9 last; a refusal changes nothing of what is held. Where k other complete chunks overlap
+    /// its chunk, at most (2 * k + 1) * (k + 1) comparisons are counted, whatever the answer, and none at L2 and L1.
     pub fn add(
         &mut self,
         descriptor: &Descriptor,
@@ -89,26 +97,31 @@ impl Timeline {
         ensures err { OnErr result (SameHeld self.old.held self.new.held) }
         ensures source { self.new.source ≡ self.old.source }
         ensures counted { meter.old ≤ meter.new }
-        ensures uncounted { OnErr result (meter.new ≡ meter.old) }
+        ensures uncounted { IfErr result (λ fault. (fault ≡ TimelineFault.Memory) ⊎ (meter.new ≡ meter.old)) }
+        ensures bound { (others : List Group) → HasOthers self.old.held (group_of descriptor.now.id) others
+            → meter.new ≤ meter.old + (2 * length others + 1) * (length others + 1) }
     {
-        // One comparison could be counted, and none is made.
-        let _ = meter;
         let id = descriptor.id();
         if id.source() != &self.source {
             return Err(TimelineFault::OtherSource);
         }
-        let Ok(key) = id.group() else {
-            // The segment may be there already, and that is said first.
-            return Err(if serves(&self.chunks, id, node) {
-                TimelineFault::AlreadyThere
-            } else {
-                TimelineFault::Memory
-            });
-        };
-        add_to_chunk(self.alloc, &mut self.chunks, key, descriptor, node)
+        if self.chunks.holds(id, node) {
+            return Err(TimelineFault::AlreadyThere);
+        }
+        add_segment(
+            self.alloc,
+            &mut self.chunks,
+            &mut self.runs,
+            descriptor,
+            node,
+            meter,
+        )?;
+        Ok(())
     }
 
-    /// Removes a segment that a node serves. L3 where the node does not serve it, and L9 last; a refusal changes nothing.
+    /// Removes a segment that a node serves. L3 where the node does not serve it, and L9 last; a refusal changes nothing
+    /// of what is held. Where k other complete chunks overlap its chunk, at most (2 * k + 1) * (k + 1) comparisons are
+    /// counted, whatever the answer, and none at L3.
     pub fn remove(
         &mut self,
         id: &SegmentId,
@@ -122,22 +135,32 @@ impl Timeline {
         ensures err { OnErr result (SameHeld self.old.held self.new.held) }
         ensures source { self.new.source ≡ self.old.source }
         ensures counted { meter.old ≤ meter.new }
-        ensures uncounted { OnErr result (meter.new ≡ meter.old) }
+        ensures uncounted { IfErr result (λ fault. (fault ≡ TimelineFault.Memory) ⊎ (meter.new ≡ meter.old)) }
+        ensures bound { (others : List Group) → HasOthers self.old.held (group_of id.now) others
+            → meter.new ≤ meter.old + (2 * length others + 1) * (length others + 1) }
     {
-        // Comparisons could be counted, and none is made.
-        let _ = meter;
         if !self.is_source_of(id) {
             return Err(TimelineFault::NotThere);
         }
-        let Ok(key) = id.group() else {
-            // The segment may not be there, and that is said first.
-            return Err(if serves(&self.chunks, id, node) {
-                TimelineFault::Memory
-            } else {
-                TimelineFault::NotThere
-            });
-        };
-        remove_from_chunk(&mut self.chunks, &key, id.partition(), node)
+        if !self.chunks.holds(id, node) {
+            return Err(TimelineFault::NotThere);
+        }
+        remove_segment(
+            self.alloc,
+            &mut self.chunks,
+            &mut self.runs,
+            id,
+            node,
+            meter,
+        )?;
+        Ok(())
+    }
+
+    /// The visible pieces of all instants, in order, each with its chunk. Does not allocate.
+    pub fn runs(&self) -> &[(Interval, GroupKey)]
+        ensures { ArePieces self.now.held (map shown_at result.now) }
+    {
+        &self.runs
     }
 
     /// The chunk that is visible at an instant, if one is. Does not allocate.
@@ -145,7 +168,7 @@ impl Timeline {
         ensures { MatchOption result (NothingVisible self.now.held instant)
             (λ key. IsVisible self.now.held instant key.now) }
     {
-        best_of(&self.chunks, instant)
+        chunk_at(&self.runs, instant)
     }
 
     /// The visible pieces, cut by the parts of a set, in order, each with all partitions of its chunk.
@@ -155,8 +178,7 @@ impl Timeline {
         ensures parts { IfOk result (λ found.
             All (λ piece. ArePartitions (members_of self.now.held piece.group) piece.parts) found.items) }
     {
-        let runs = runs_in(self.alloc, &self.chunks, set.parts())?;
-        pieces_of(self.alloc, &runs)
+        pieces_in(self.alloc, &self.chunks, &self.runs, set.parts())
     }
 
     /// The complete chunks that are visible at no instant, each once: by start, then by end, then by rising version.
@@ -164,7 +186,7 @@ impl Timeline {
         ensures all { IfOk result (λ v. (g : Group) → Contains v.items g ↔ IsOvershadowed self.now.held g) }
         ensures sorted { IfOk result (λ v. IsStrictlySortedBy place_cmp v.items) }
     {
-        overshadowed_in(self.alloc, &self.chunks, meter)
+        overshadowed_in(self.alloc, &self.chunks, &self.runs, meter)
     }
 
     /// The nodes that serve a segment, rising; none where it is of another source.
@@ -175,8 +197,19 @@ impl Timeline {
         if !self.is_source_of(id) {
             return Ok(Vec::new(self.alloc));
         }
-        let key = id.group()?;
-        replicas_in(self.alloc, &self.chunks, &key, id.partition())
+        Vec::from_slice(self.alloc, self.chunks.replicas(id))
+    }
+
+    /// A timeline of equal holding.
+    pub fn try_clone(&self) -> Result<Timeline, AllocError>
+        ensures { IfOk result (λ copy. copy ≡ self.now) }
+    {
+        Ok(Timeline {
+            alloc: self.alloc,
+            source: self.source.clone()?,
+            chunks: self.chunks.clone()?,
+            runs: self.runs.clone()?,
+        })
     }
 }
 
@@ -184,10 +217,6 @@ impl Clone for Timeline {
     ghost is_clone = { λ timeline copy. copy ≡ timeline };
 
     fn clone(&self) -> Result<Timeline, AllocError> {
-        Ok(Timeline {
-            alloc: self.alloc,
-            source: self.source.clone()?,
-            chunks: self.chunks.clone()?,
-        })
+        self.try_clone()
     }
 }

@@ -1,5 +1,5 @@
 use Rattle.std.proofs.Common.{arith, rules}
-use Rattle.druid_timeline.proofs.ChunkLemmas.{always_err}
+use Rattle.druid_chunks.proofs.EditLemmas.{always_err}
 use Rattle.druid_scatter.proofs.GatherLemmas.{leading_none, leading_more, leading_err, leading_made, none_asked, gathered_all}
 use Rattle.druid_scatter.proofs.scatter.gather.Goals as goal
 

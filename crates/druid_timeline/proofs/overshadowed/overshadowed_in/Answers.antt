@@ -3,16 +3,16 @@ use Rattle.std.specs.HashSet as set
 use Rattle.std.proofs.lemmas.List.Sorted.{Contains-permutation, IsPermutation-sym}
 use Rattle.std.proofs.lemmas.Map.Keys.{IsDistinct-IsPermutation}
 use Rattle.druid_segid.specs.Group.{same_group}
-use Rattle.druid_timeline.specs.Chunks.{IsCompleteOf, IsSeen}
-use Rattle.druid_timeline.proofs.ChunkLemmas.{same_group-equiv}
+use Rattle.druid_chunks.specs.Chunks.{IsCompleteOf}
+use Rattle.druid_chunks.proofs.ChunkLemmas.{same_group-equiv}
 use Rattle.druid_timeline.proofs.PlaceLemmas.{strictly_sorted}
-use Rattle.druid_timeline.proofs.UnseenLemmas.{unseen_of}
+use Rattle.druid_timeline.proofs.UnseenLemmas.{IsShownBy, unseen_of}
 use Rattle.druid_timeline.proofs.overshadowed.overshadowed_in.Goals as goal
 
 pub returns-clause-all : goal.returns-clause-all
 returns-clause-all c g =
     let all = c.in_ok-unseen.ensures.all g in
-    let same = unseen_of (IsTrue (set.contains same_group c.in_ok-seen.seen g)) (IsSeen c.args.chunks.now.entries g) (IsCompleteOf c.args.chunks.now.entries g) (c.in_ok-seen.ensures g) in (
+    let same = unseen_of (IsTrue (set.contains same_group c.in_ok-seen.seen g)) (IsShownBy c.args.runs.now g) (IsCompleteOf c.args.chunks.now g) (c.in_ok-seen.ensures g) in (
       λ there. same.0 (all.0 (Contains-permutation c.sort_by_place.new.keys.items c.in_ok-unseen.unseen.items g (IsPermutation-sym _ _ c.sort_by_place.ensures.permutation) there)),
       λ h. Contains-permutation c.in_ok-unseen.unseen.items c.sort_by_place.new.keys.items g c.sort_by_place.ensures.permutation (all.1 (same.1 h)),
     )

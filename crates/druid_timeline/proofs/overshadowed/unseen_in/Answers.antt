@@ -1,42 +1,45 @@
-use Rattle.std.proofs.Common.{◌∙◌, ◌++◌, List, [], ◌∷◌, sym, ap, subst}
+use Rattle.std.proofs.Common.{◌∙◌, ◌++◌, ◌+◌, ◌<◌, ◌≡◌, ◌≤◌, List, [], ◌∷◌, length, drop, get_or, sym, ap, subst}
 use Rattle.std.specs.HashSet as set
-use Rattle.std.specs.Map.Iter.{deref_pair}
 use Rattle.std.proofs.lemmas.Bool.{false≢true}
-use Rattle.std.proofs.lemmas.Map.Iter.{rest_more, rest_all}
+use Rattle.std.proofs.lemmas.List.{drop_all}
 use Rattle.druid_segid.specs.Group.{Group, same_group}
 use Rattle.druid_members.specs.Members.{IsComplete}
-use Rattle.druid_timeline.specs.Chunks.{Chunk}
+use Rattle.druid_chunks.specs.Chunks.{Chunk}
+use Rattle.druid_timeline.proofs.SweepLemmas.{drop_next}
 use Rattle.druid_timeline.proofs.UnseenLemmas.{AreUnseen, AreUnseen-start, AreUnseen-more, AreUnseen-skip, AreUnseen-end}
 use Rattle.druid_timeline.proofs.overshadowed.unseen_in.Goals as goal
-use Rattle.druid_timeline.proofs.overshadowed.unseen_in.Goals.{else-is_complete-via-then-is_complete+else-not-contains, else-is_complete-via-else-is_complete}
+use Rattle.druid_timeline.proofs.overshadowed.unseen_in.Goals.{then-is_complete+then-not-contains+in_ok-copy+in_ok-push, else-is_complete, else-is_complete-via-then-is_complete+else-not-contains, else-is_complete-via-else-is_complete}
 
-pub loop-key-init : goal.loop-key-init
-loop-key-init c =
-    subst (λ (rest : List Chunk). AreUnseen (set.contains same_group c.args.seen.now) c.args.chunks.now.entries rest c.new-unseen.result.items) (sym (c.into_iter-key-iterator.ensures.into_iter_gives ∙ c.iter-key-items.ensures.rest))
-    (AreUnseen-start (set.contains same_group c.args.seen.now) c.args.chunks.now.entries c.new-unseen.result.items c.new-unseen.ensures.items c.iter-key-items.ensures.unique)
+pub loop-chunk-init : goal.loop-chunk-init
+loop-chunk-init c =
+    AreUnseen-start (set.contains same_group c.args.seen.now) c.args.chunks.now c.new-unseen.result.items c.new-unseen.ensures.items c.as_slice-chunk-items.ensures.chunks.once
 
-pub loop-key-preserved-then-not-contains : goal.loop-key-preserved-then-not-contains
-loop-key-preserved-then-not-contains c =
-    let e = rest_more deref_pair c.loop-key.key-iterator c.next.new.self c.next.result (c.in-Some.key, c.in-Some.shared) c.in-Some.is c.next.ensures.steps in
-    let whole = subst IsComplete c.lent-members.ensures (c.is_complete.ensures.0 c.if-is_complete.true) in
-    let absent = sym c.contains.ensures ∙ c.if-not-contains.true in
-    AreUnseen-more (set.contains same_group c.args.seen.now) c.args.chunks.now.entries c.next.new.self c.loop-key.unseen.items c.push.new.self.items (c.in-Some.key.now, c.in-Some.shared.now)
-    (subst (λ (rest : List Chunk). AreUnseen (set.contains same_group c.args.seen.now) c.args.chunks.now.entries rest c.loop-key.unseen.items) e c.loop-key.invariant)
-    (c.in_ok-push.ensures.items ∙ ap (λ (g : Group). c.loop-key.unseen.items ++ g ∷ []) c.in_ok-copy.ensures.cases) whole
-    (λ seen. false≢true (sym absent ∙ seen))
-
-pub loop-key-preserved : goal.loop-key-preserved
-loop-key-preserved c =
-    let e = rest_more deref_pair c.loop-key.key-iterator c.next.new.self c.next.result (c.in-Some.key, c.in-Some.shared) c.in-Some.is c.next.ensures.steps in
-    AreUnseen-skip (set.contains same_group c.args.seen.now) c.args.chunks.now.entries c.next.new.self c.loop-key.unseen.items (c.in-Some.key.now, c.in-Some.shared.now)
-    (subst (λ (rest : List Chunk). AreUnseen (set.contains same_group c.args.seen.now) c.args.chunks.now.entries rest c.loop-key.unseen.items) e c.loop-key.invariant)
-    (λ both. elim c.else-is_complete.branch [
-      | else-is_complete-via-then-is_complete+else-not-contains w ↦ both.1 (sym w.contains.ensures ∙ w.if-not-contains.false)
-      | else-is_complete-via-else-is_complete w ↦ false≢true (sym w.if-is_complete.false ∙ c.is_complete.ensures.1 (subst IsComplete (sym c.lent-members.ensures) both.0))
-    ])
+pub loop-chunk-preserved : goal.loop-chunk-preserved
+loop-chunk-preserved c =
+    let same = c.as_slice-chunk-items.ensures.value in
+    let l = subst (λ (cs : List Chunk). c.loop-chunk.chunk-index < length cs) same c.loop-chunk-test.true in
+    let at = subst (λ (cs : List Chunk). c.chunk-item.result ≡ get_or cs c.loop-chunk.chunk-index c.chunk-item.result) same c.chunk-item.is in
+    let e = drop_next c.args.chunks.now c.loop-chunk.chunk-index c.chunk-item.result l at in
+    let far = subst (λ (rest : List Chunk). AreUnseen (set.contains same_group c.args.seen.now) c.args.chunks.now rest c.loop-chunk.unseen.items) e c.loop-chunk.invariant in
+    elim c.if-is_complete.branch [
+      | then-is_complete+then-not-contains+in_ok-copy+in_ok-push w ↦
+          let whole = subst IsComplete c.members.ensures (c.is_complete.ensures.0 w.if-is_complete.true) in
+          let copied = w.in_ok-copy.ensures.cases ∙ c.key-key.ensures in
+          subst (λ (gs : List Group). AreUnseen (set.contains same_group c.args.seen.now) c.args.chunks.now (drop (c.loop-chunk.chunk-index + 1) c.args.chunks.now) gs) (sym (λ i. (w.unseen-is i).items))
+          (AreUnseen-more (set.contains same_group c.args.seen.now) c.args.chunks.now (drop (c.loop-chunk.chunk-index + 1) c.args.chunks.now) c.loop-chunk.unseen.items w.push.new.self.items c.chunk-item.result far
+          (w.in_ok-push.ensures.items ∙ ap (λ (g : Group). c.loop-chunk.unseen.items ++ g ∷ []) copied) whole
+          (λ seen. false≢true (sym (sym w.contains.ensures ∙ w.if-not-contains.true) ∙ ap (set.contains same_group c.args.seen.now) c.key-key.ensures ∙ seen)))
+      | else-is_complete w ↦
+          subst (λ (gs : List Group). AreUnseen (set.contains same_group c.args.seen.now) c.args.chunks.now (drop (c.loop-chunk.chunk-index + 1) c.args.chunks.now) gs) (sym (λ i. (w.unseen-is i).items))
+          (AreUnseen-skip (set.contains same_group c.args.seen.now) c.args.chunks.now (drop (c.loop-chunk.chunk-index + 1) c.args.chunks.now) c.loop-chunk.unseen.items c.chunk-item.result far
+          (λ both. elim w.else-is_complete.branch [
+            | else-is_complete-via-then-is_complete+else-not-contains w' ↦ both.1 (ap (set.contains same_group c.args.seen.now) (sym c.key-key.ensures) ∙ sym w'.contains.ensures ∙ w'.if-not-contains.false)
+            | else-is_complete-via-else-is_complete w' ↦ false≢true (sym w'.if-is_complete.false ∙ c.is_complete.ensures.1 (subst IsComplete (sym c.members.ensures) both.0))
+          ]))
+    ]
 
 pub returns-clause-all : goal.returns-clause-all
 returns-clause-all c =
-    let e = rest_all deref_pair c.loop-key.key-iterator c.next.new.self c.next.result c.in-None.is c.next.ensures.steps in
-    AreUnseen-end (set.contains same_group c.args.seen.now) c.args.chunks.now.entries c.loop-key.unseen.items
-    (subst (λ (rest : List Chunk). AreUnseen (set.contains same_group c.args.seen.now) c.args.chunks.now.entries rest c.loop-key.unseen.items) e c.loop-key.invariant)
+    let past = subst (λ (cs : List Chunk). length cs ≤ c.loop-chunk.chunk-index) c.as_slice-chunk-items.ensures.value c.loop-chunk-test.false in
+    AreUnseen-end (set.contains same_group c.args.seen.now) c.args.chunks.now c.loop-chunk.unseen.items
+    (subst (λ (rest : List Chunk). AreUnseen (set.contains same_group c.args.seen.now) c.args.chunks.now rest c.loop-chunk.unseen.items) (drop_all c.loop-chunk.chunk-index c.args.chunks.now past) c.loop-chunk.invariant)

@@ -1,7 +1,7 @@
 use Rattle.std.proofs.Common.{sym, subst}
 use Rattle.std.specs.Result.{OnOk}
 use Rattle.druid_timeline.specs.Holding.{Serving, held_of, AddsHeld}
-use Rattle.druid_timeline.proofs.ChunkLemmas.{was_ok}
+use Rattle.druid_chunks.proofs.EditLemmas.{was_ok}
 use Rattle.druid_inventory.proofs.EditLemmas.{lent_timeline}
 use Rattle.druid_inventory.proofs.shared.SharedTimeline.add.Goals as goal
 

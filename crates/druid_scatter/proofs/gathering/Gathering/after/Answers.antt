@@ -1,6 +1,6 @@
 use Rattle.std.proofs.Common.{ℕ, ◌≡◌}
 use Rattle.druid_partial.specs.Rows.{kinds_of}
-use Rattle.druid_timeline.proofs.ChunkLemmas.{always_err}
+use Rattle.druid_chunks.proofs.EditLemmas.{always_err}
 use Rattle.druid_link.specs.Links.{came_of}
 use Rattle.druid_scatter.specs.Gathered.{Answers, IsLost}
 use Rattle.druid_scatter.specs.Waiting.{exchange_of}

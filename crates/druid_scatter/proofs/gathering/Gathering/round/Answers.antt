@@ -1,5 +1,5 @@
 use Rattle.std.proofs.Common.{◌∙◌, refl, sym, ap, map, option_map, length}
-use Rattle.druid_timeline.proofs.ChunkLemmas.{always_err}
+use Rattle.druid_chunks.proofs.EditLemmas.{always_err}
 use Rattle.druid_link.specs.Links.{came_of}
 use Rattle.druid_scatter.specs.Waiting.{sub_if, wanted_of}
 use Rattle.druid_scatter.proofs.StateLemmas.{as_many_subs, subs_again, round_ok, made_by, answered_there}

@@ -1,5 +1,5 @@
 use Rattle.std.proofs.Common.{map, option_map, arith}
-use Rattle.druid_timeline.proofs.ChunkLemmas.{always_err}
+use Rattle.druid_chunks.proofs.EditLemmas.{always_err}
 use Rattle.druid_link.specs.Links.{came_of}
 use Rattle.druid_scatter.specs.Waiting.{wanted_of}
 use Rattle.druid_scatter.proofs.RoundLemmas.{mapped_at}

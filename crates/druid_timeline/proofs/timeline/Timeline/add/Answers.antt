@@ -1,41 +1,36 @@
-use Rattle.std.proofs.Common.{◌∙◌, ◌≡◌, ◌↔◌, List, sym, ap, subst, rules}
+use Rattle.std.proofs.Common.{◌≡◌, ◌∙◌, List, refl, sym, ap, subst, rules}
 use Rattle.std.specs.Result.{IsErrOf}
-use Rattle.druid_segid.specs.Group.{Group, group_of}
-use Rattle.druid_members.specs.Members.{HoldsPlace, Adds, SameMembers, member_of}
+use Rattle.std.proofs.lemmas.Bool.{false≢true}
+use Rattle.druid_timeline.specs.Chunks.{held_in}
 use Rattle.druid_timeline.specs.Holding.{Held, Serving, held_of, IsHeld, AddsHeld, SameHeld}
-use Rattle.druid_timeline.specs.Chunks.{held_in, chunk_of}
-use Rattle.druid_timeline.proofs.ChunkLemmas.{IsHeld-chunk, AddsHeld-chunk, SameHeld-chunk, on_ok, on_err}
+use Rattle.druid_timeline.specs.declared.fault.TimelineFault.TheVariants as faults
+use Rattle.druid_timeline.proofs.ChunkLemmas.{holds_held}
+use Rattle.druid_chunks.proofs.EditLemmas.{always_err}
 use Rattle.druid_timeline.proofs.timeline.Timeline.add.Goals as goal
+
+pub returns-then-holds-clause-there : goal.returns-then-holds-clause-there
+returns-then-holds-clause-there c =
+    let told = holds_held c.self.inside.chunks c.holds.ensures.chunks c.args.node c.args.descriptor.now.id c.id-id.result.now c.holds.result c.id-id.ensures.value c.holds.ensures.held in
+    let held = subst (λ (hs : List Held). IsHeld hs c.args.node c.args.descriptor.now.id) (ap (λ (s : Serving). s.held) c.self.view_is) (told.0 c.if-holds.true) in
+    let source : c.args.descriptor.now.id.source ≡ c.args.self.now.source = search rules in
+    (λ e. (source, held), λ h. refl)
+
+pub returns-in_err-add_segment-clause-there : goal.returns-in_err-add_segment-clause-there
+returns-in_err-add_segment-clause-there c =
+    let told = holds_held c.self.inside.chunks c.holds.ensures.chunks c.args.node c.args.descriptor.now.id c.id-id.result.now c.holds.result c.id-id.ensures.value c.holds.ensures.held in
+    let not : IsErrOf c.from_residual.result faults.AlreadyThere → ⊥ = search rules in
+    (λ e. absurd (not e), λ h. absurd (false≢true (sym c.if-holds.false ∙ told.1 (subst (λ (hs : List Held). IsHeld hs c.args.node c.args.descriptor.now.id) (sym (ap (λ (s : Serving). s.held) c.self.view_is)) h.1))))
+
+pub returns-in_err-add_segment-clause-err : goal.returns-in_err-add_segment-clause-err
+returns-in_err-add_segment-clause-err c =
+    always_err c.from_residual.result _
+    (subst (λ (hs : List Held). SameHeld hs (held_in c.add_segment.new.chunks)) (ap (λ (s : Serving). s.held) c.self.view_is) c.in_err-add_segment.ensures.err)
 
 pub returns-clause-there : goal.returns-clause-there
 returns-clause-there c =
-    let at : c.in-Ok.key ≡ group_of c.args.descriptor.now.id = c.in-Ok.ensures ∙ ap group_of c.id-id.ensures.value in
-    let view = ap (λ (s : Serving). s.held) c.self.view_is in
-    let held = IsHeld-chunk c.self.inside.chunks c.add_to_chunk.ensures.was_unique c.args.node c.args.descriptor.now.id in
-    let place = subst (λ (g : Group). IsErrOf c.add_to_chunk.result _ ↔ HoldsPlace (chunk_of c.self.inside.chunks g) c.args.descriptor.now.id.partition c.args.node) at c.add_to_chunk.ensures.there in
-    let source : c.args.descriptor.now.id.source ≡ c.args.self.now.source = search rules in (
-      λ e. (source, subst (λ (hs : List Held). IsHeld hs c.args.node c.args.descriptor.now.id) view (held.1 (place.0 e))),
-      λ h. place.1 (held.0 (subst (λ (hs : List Held). IsHeld hs c.args.node c.args.descriptor.now.id) (sym view) h.1)),
-    )
+    let told = holds_held c.self.inside.chunks c.holds.ensures.chunks c.args.node c.args.descriptor.now.id c.id-id.result.now c.holds.result c.id-id.ensures.value c.holds.ensures.held in
+    (λ e. absurd (cc), λ h. absurd (false≢true (sym c.if-holds.false ∙ told.1 (subst (λ (hs : List Held). IsHeld hs c.args.node c.args.descriptor.now.id) (sym (ap (λ (s : Serving). s.held) c.self.view_is)) h.1))))
 
 pub returns-clause-added : goal.returns-clause-added
 returns-clause-added c =
-    let at : c.in-Ok.key ≡ group_of c.args.descriptor.now.id = c.in-Ok.ensures ∙ ap group_of c.id-id.ensures.value in
-    let view = ap (λ (s : Serving). s.held) c.self.view_is in
-    let e = c.add_to_chunk.ensures in
-    on_ok c.add_to_chunk.result _ _
-    (λ (adds : Adds (chunk_of c.self.inside.chunks c.in-Ok.key) (chunk_of c.add_to_chunk.new.chunks c.in-Ok.key) (member_of c.args.node c.args.descriptor.now)).
-    subst (λ (hs : List Held). AddsHeld hs (held_in c.add_to_chunk.new.chunks.entries) (held_of c.args.node c.args.descriptor.now)) view
-    (subst (λ (g : Group). AddsHeld (held_in c.self.inside.chunks.entries) (held_in c.add_to_chunk.new.chunks.entries) (record { group = g; member = member_of c.args.node c.args.descriptor.now })) at
-    (AddsHeld-chunk c.self.inside.chunks c.add_to_chunk.new.chunks c.in-Ok.key (member_of c.args.node c.args.descriptor.now) e.was_unique e.unique e.others adds)))
-    e.added
-
-pub returns-clause-err : goal.returns-clause-err
-returns-clause-err c =
-    let view = ap (λ (s : Serving). s.held) c.self.view_is in
-    let e = c.add_to_chunk.ensures in
-    on_err c.add_to_chunk.result _ _
-    (λ (same : SameMembers (chunk_of c.self.inside.chunks c.in-Ok.key) (chunk_of c.add_to_chunk.new.chunks c.in-Ok.key)).
-    subst (λ (hs : List Held). SameHeld hs (held_in c.add_to_chunk.new.chunks.entries)) view
-    (SameHeld-chunk c.self.inside.chunks c.add_to_chunk.new.chunks c.in-Ok.key e.was_unique e.unique e.others same))
-    e.err
+    subst (λ (hs : List Held). AddsHeld hs (held_in c.add_segment.new.chunks) (held_of c.args.node c.args.descriptor.now)) (ap (λ (s : Serving). s.held) c.self.view_is) c.in_ok-add_segment.ensures.added

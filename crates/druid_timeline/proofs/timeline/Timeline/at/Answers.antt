@@ -1,18 +1,18 @@
-use Rattle.std.proofs.Common.{List, Option, Some, None, MatchOption, ℕ, ap, subst, Bor}
-use Rattle.std.specs.HashMap as hash
-use Rattle.std.specs.Option.{option_copied}
-use Rattle.druid_segid.specs.Group.{Group, same_group}
+use Rattle.std.proofs.Common.{List, Option, Some, None, MatchOption, ℕ, map, ap, sym, subst, Bor}
+use Rattle.druid_timeline.proofs.SweepLemmas.{Run}
+use Rattle.druid_segid.specs.Group.{Group}
 use Rattle.druid_timeline.specs.Holding.{Held, Serving}
+use Rattle.druid_timeline.specs.Pieces.{Shown, Shows, ArePieces, shown_at}
 use Rattle.druid_timeline.specs.Visible.{IsVisible, NothingVisible}
-use Rattle.druid_timeline.specs.Chunks.{held_in, IsBest}
-use Rattle.druid_timeline.proofs.ChunkLemmas.{Chunks, IsVisible-chunk, IsCandidate-chunk}
+use Rattle.druid_timeline.specs.Chunks.{held_in}
+use Rattle.druid_timeline.proofs.VisibleLemmas.{nothing_shown}
 use Rattle.druid_timeline.proofs.timeline.Timeline.at.Goals as goal
 
-seen : {S : Type 0} (m : Chunks S) → hash.IsUnique same_group m → (t : ℕ) (r : Option (Bor Group)) → IsBest m.entries t (option_copied r) → MatchOption r (NothingVisible (held_in m.entries) t) (λ key. IsVisible (held_in m.entries) t key.now)
-seen m u t None none = λ g h. none g ((IsCandidate-chunk m u t g).1 h)
-seen m u t (Some key) best = (IsVisible-chunk m u t key.now).0 best
+seen : (held : List Held) (ps : List Shown) (t : ℕ) (r : Option (Bor Group)) → ArePieces held ps → MatchOption r ((g : Group) → Shows ps t g → ⊥) (λ key. Shows ps t key.now) → MatchOption r (NothingVisible held t) (λ key. IsVisible held t key.now)
+seen held ps t None h none = nothing_shown held ps t h none
+seen held ps t (Some key) h s = ((h.shows t key.now).0 s).1
 
 pub returns : goal.returns
 returns c =
-    subst (λ (hs : List Held). MatchOption c.best_of.result (NothingVisible hs c.args.instant) (λ key. IsVisible hs c.args.instant key.now)) (ap (λ (s : Serving). s.held) c.self.view_is)
-    (seen c.self.inside.chunks c.best_of.ensures.unique c.args.instant c.best_of.result c.best_of.ensures.best)
+    subst (λ (hs : List Held). MatchOption c.chunk_at.result (NothingVisible hs c.args.instant) (λ key. IsVisible hs c.args.instant key.now)) (ap (λ (s : Serving). s.held) c.self.view_is)
+    (seen (held_in c.self.inside.chunks) (map shown_at c.deref.result.now) c.args.instant c.chunk_at.result (subst (λ (rs : List Run). ArePieces (held_in c.self.inside.chunks) (map shown_at rs)) (sym c.deref.ensures.value) c.self.invariant) c.chunk_at.ensures)

@@ -1,0 +1,158 @@
+//! What an edit replaces of the runs of a timeline, and by what.
+ghost use Rattle.std.specs.Prelude.{◌≡◌, ◌<◌, ◌≤◌, ◌+◌, ◌*◌, ◌++◌, ◌↔◌, ◌⊎◌, ℕ, List, length, map, take, drop, vec_len, vec_capacity, IfOk, OnOk, Contains};
+ghost use Rattle.std.specs.List.Sorted.{IsNonDecreasing};
+ghost use Rattle.druid_time.specs.Extent.{Extent, Has};
+ghost use Rattle.druid_segid.specs.Group.{Group};
+ghost use Rattle.druid_timeline.specs.Pieces.{AreRuns, Shows, shown_at};
+ghost use Rattle.druid_timeline.specs.Active.{StartInOrder};
+ghost use Rattle.druid_timeline.specs.Edited.{AreRunsEdited, spliced};
+ghost use Rattle.druid_timeline.specs.Stretches.{EndBy, HaveBounds};
+
+use crate::sweep::{add_part, push_run};
+use druid_segid::{GroupKey, Meter};
+use druid_time::{Instant, Interval};
+use std::alloc::{AllocError, Global};
+
+// The runs from one place to another are replaced by these.
+#[derive(Drop)]
+pub(crate) struct Edit {
+    pub(crate) from: usize,
+    pub(crate) to: usize,
+    pub(crate) runs: Vec<(Interval, GroupKey)>,
+}
+
+// The first run that ends at the instant or later.
+pub(crate) fn first_to(runs: &[(Interval, GroupKey)], instant: Instant) -> usize
+    requires { AreRuns (map shown_at runs.now) }
+    ensures bound { result ≤ length runs.now }
+    ensures before { (run : Extent × Group) → Contains (take result runs.now) run → run.0.end < instant }
+    ensures rest { (run : Extent × Group) → Contains (drop result runs.now) run → instant ≤ run.0.end }
+{
+    runs.partition_point(|run| run.0.end() < instant)
+}
+
+// The first run that starts after the instant.
+pub(crate) fn first_after(runs: &[(Interval, GroupKey)], instant: Instant) -> usize
+    requires { AreRuns (map shown_at runs.now) }
+    ensures bound { result ≤ length runs.now }
+    ensures before { (run : Extent × Group) → Contains (take result runs.now) run → run.0.start ≤ instant }
+    ensures rest { (run : Extent × Group) → Contains (drop result runs.now) run → instant < run.0.start }
+{
+    runs.partition_point(|run| run.0.start() <= instant)
+}
+
+// What the runs from a place on show before an instant, which at most the first of them starts before.
+fn front_of(
+    alloc: Global,
+    runs: &[(Interval, GroupKey)],
+    from: usize,
+    instant: Instant,
+) -> Result<Vec<(Interval, GroupKey)>, AllocError>
+    requires runs { AreRuns (map shown_at runs.now) }
+    requires rest { (run : Extent × Group) → Contains (drop from runs.now) run → instant ≤ run.0.end }
+    ensures runs { IfOk result (λ front. AreRuns (map shown_at front.items)) }
+    ensures shows { IfOk result (λ front. (t : ℕ) (g : Group) → Shows (map shown_at front.items) t g
+        ↔ (Shows (map shown_at (drop from runs.now)) t g × (t < instant))) }
+{
+    let mut front = Vec::new(alloc);
+    if from < runs.len() {
+        let run = &runs[from];
+        if let Some(before) = Interval::new(run.0.start(), instant) {
+            let key = run.1.clone()?;
+            front.push((before, key))?;
+        }
+    }
+    Ok(front)
+}
+
+// Adds what the runs before a place show from an instant on, which at most the last of them ends after.
+fn add_back(
+    middle: &mut Vec<(Interval, GroupKey)>,
+    runs: &[(Interval, GroupKey)],
+    to: usize,
+    instant: Instant,
+) -> Result<(), AllocError>
+    requires inside { to ≤ length runs.now }
+    requires runs { AreRuns (map shown_at runs.now) }
+    requires before { (run : Extent × Group) → Contains (take to runs.now) run → run.0.start ≤ instant }
+    requires middle { AreRuns (map shown_at middle.old.items) }
+    requires ends { EndBy (map shown_at middle.old.items) instant }
+    ensures runs { OnOk result (AreRuns (map shown_at middle.new.items)) }
+    ensures shows { OnOk result ((t : ℕ) (g : Group) → Shows (map shown_at middle.new.items) t g
+        ↔ (Shows (map shown_at middle.old.items) t g ⊎ (Shows (map shown_at (take to runs.now)) t g × (instant ≤ t)))) }
+{
+    if to == 0 {
+        return Ok(());
+    }
+    let run = &runs[to - 1];
+    match Interval::new(instant, run.0.end()) {
+        Some(after) => push_run(middle, after, &run.1),
+        None => Ok(()),
+    }
+}
+
+// What the runs become where inside a part the best of these candidates is visible, and outside it what was: the runs
+// that overlap the part or touch it are replaced, so that neighbours of one chunk are joined.
+pub(crate) fn edit_in(
+    alloc: Global,
+    runs: &[(Interval, GroupKey)],
+    part: Interval,
+    candidates: &[&GroupKey],
+    bounds: &[Instant],
+    meter: &mut Meter,
+) -> Result<Edit, AllocError>
+    requires runs { AreRuns (map shown_at runs.now) }
+    requires order { StartInOrder (map (λ c. c.now) candidates.now) }
+    requires bounds { HaveBounds part (map (λ c. c.now) candidates.now) bounds.now }
+    requires sorted { IsNonDecreasing bounds.now }
+    ensures inside { IfOk result (λ edit. (edit.from ≤ edit.to) × (edit.to ≤ length runs.now)) }
+    ensures edited { IfOk result (λ edit. AreRunsEdited part (map (λ c. c.now) candidates.now) (map shown_at runs.now)
+        (map shown_at (spliced runs.now edit.from edit.to edit.runs.items))) }
+    ensures counted { (meter.old ≤ meter.new)
+        × (meter.new ≤ meter.old + length bounds.now * length candidates.now) }
+{
+    let from = first_to(runs, part.start());
+    let to = first_after(runs, part.end());
+    let mut middle = front_of(alloc, runs, from, part.start())?;
+    add_part(alloc, &mut middle, candidates, bounds, part, meter)?;
+    add_back(&mut middle, runs, to, part.end())?;
+    Ok(Edit {
+        from,
+        to,
+        runs: middle,
+    })
+}
+
+// Moves so many items from a place on to the end.
+fn turn_slice(runs: &mut [(Interval, GroupKey)], from: usize, count: usize)
+    requires { from + count ≤ length runs.old }
+    ensures turned { runs.new ≡ take from runs.old ++ drop (from + count) runs.old ++ take count (drop from runs.old) }
+    ensures len { length runs.new ≡ length runs.old }
+{
+    runs[from..].rotate_left(count);
+}
+
+// The same of a vector.
+fn turn_tail(runs: &mut Vec<(Interval, GroupKey)>, from: usize, count: usize)
+    requires { from + count ≤ length runs.old.items }
+    ensures { runs.new.items ≡ take from runs.old.items ++ drop (from + count) runs.old.items
+        ++ take count (drop from runs.old.items) }
+{
+    turn_slice(runs, from, count);
+}
+
+// Replaces runs within the room that there is, without allocating: those that are replaced and those after them change
+// places with the new ones at the end.
+pub(crate) fn splice(runs: &mut Vec<(Interval, GroupKey)>, edit: Edit)
+    requires inside { (edit.from ≤ edit.to) × (edit.to ≤ length runs.old.items) }
+    requires room { vec_len runs.old + vec_len edit.runs ≤ vec_capacity runs.old }
+    ensures { runs.new.items ≡ spliced runs.old.items edit.from edit.to edit.runs.items }
+{
+    let mut middle = edit.runs;
+    let gone = edit.to - edit.from;
+    let after = runs.len() - edit.to;
+    let _ = runs.append(&mut middle);
+    turn_tail(runs, edit.from, gone);
+    runs.truncate(runs.len() - gone);
+    turn_tail(runs, edit.from, after);
+}
