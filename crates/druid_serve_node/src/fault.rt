@@ -133,17 +133,21 @@ impl StartFault {
     }
 
     // The fault of a segment file.
-    pub(crate) fn of_file(alloc: Global, name: &str, fault: NodeFault) -> StartFault
-        ensures { result.fault ≡ of_node fault }
+    pub(crate) fn of_file(alloc: Global, name: &str, fault: &NodeFault) -> StartFault
+        ensures { result.fault ≡ of_node fault.now }
     {
-        let cause = match String::from_str(alloc, name) {
-            Ok(name) => Some(Cause::File(name, fault)),
-            Err(_) => None,
-        };
         StartFault {
-            fault: fault.into(),
-            cause,
+            fault: (*fault).into(),
+            cause: file_cause(alloc, name, fault),
         }
+    }
+}
+
+// A segment file, where memory is there for its name.
+fn file_cause(alloc: Global, name: &str, fault: &NodeFault) -> Option<Cause> {
+    match String::from_str(alloc, name) {
+        Ok(name) => Some(Cause::File(name, *fault)),
+        Err(_) => None,
     }
 }
 

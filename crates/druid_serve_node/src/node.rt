@@ -66,7 +66,7 @@ fn load_one<R: Wait, F: Folder, I: Incarnation>(
 {
     match node.load_file(rt, folder, name, seen) {
         Ok(()) => Ok(()),
-        Err(fault) => Err(StartFault::of_file(alloc, name, fault)),
+        Err(fault) => Err(StartFault::of_file(alloc, name, &fault)),
     }
 }
 
