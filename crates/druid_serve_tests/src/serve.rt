@@ -185,6 +185,27 @@ fn queries_to_their_brokers(rt: HostRuntime) {
     clear(&rt, &place);
 }
 
+// What is reported where one worker answers that query twice: the second time at the next turn, so by the second node first.
+const TWICE: &str =
+    "0\n200\n[{\"result\":{\"n\":5},\"timestamp\":\"2024-01-01T00:00:00.000Z\"}]\n200\n[{\"result\":{\"n\":4},\"timestamp\":\"2024-01-01T00:00:00.000Z\"}]\n";
+
+#[test]
+fn turns_of_a_worker(rt: HostRuntime) {
+    let alloc = rt.alloc();
+    let place = place_of(&rt, alloc, "turns");
+    let fewer = fewer_bytes(&rt, alloc);
+    put(&rt, alloc, place.newer.as_str(), OLDER_FILE, &fewer);
+    let text = config(&rt, alloc, &place, 0);
+    let text = text
+        .replace(alloc, "\"broker\":0", "\"broker\":1")
+        .expect(&rt, "memory");
+    let text = text
+        .replace(alloc, "\"query\":{}", QUERY_OF_BOTH)
+        .expect(&rt, "memory");
+    assert_told(&rt, served(&rt, alloc, text.as_str()), TWICE);
+    clear(&rt, &place);
+}
+
 // What the program ends with for `serve` and a path: its status, what was printed and what was reported.
 fn run_with<R: Host + Net<Listener = TcpListener, Stream = TcpStream>>(
     rt: &R,
@@ -392,6 +413,59 @@ fn keep_asking<L: Link, C: Clock>(
     answered
 }
 
+// Asks the first broker alone for a while, and then all until the other thread is done. Whether it was not done before.
+fn ask_first_alone<L: Link, C: Clock>(
+    clock: &C,
+    alloc: Global,
+    links: &mut [L],
+    done: &AtomicBool,
+) -> bool {
+    if let Some(first) = links.first_mut() {
+        for _ in 0..100 {
+            let _ = first.exchange(alloc, b"GET /status/health HTTP/1.1\r\n\r\n");
+            thread::sleep(clock, Duration::from_millis(2));
+        }
+    }
+    let waited = !done.load(Ordering::SeqCst);
+    keep_asking(clock, alloc, links, done);
+    waited
+}
+
+// A link to each broker.
+fn links_to<R: Host + Net<Listener = TcpListener, Stream = TcpStream>>(
+    rt: &R,
+    alloc: Global,
+    place: &Place,
+) -> Vec<TcpLink<R>> {
+    let mut links = Vec::new(alloc);
+    for address in [&place.broker, &place.other] {
+        let address = String::from_str(alloc, address.as_str()).expect(rt, "memory");
+        links.push(TcpLink::new(*rt, address)).expect(rt, "memory");
+    }
+    links
+}
+
+// Whether a cluster waits for a connection from outside to its second broker too, which answered a query of the config.
+fn waits_for_each<R: Host + Net<Listener = TcpListener, Stream = TcpStream>>(
+    rt: &R,
+    alloc: Global,
+    config: &str,
+    place: &Place,
+) -> bool {
+    let done = AtomicBool::new(false);
+    let mut links = links_to(rt, alloc, place);
+    let (_, waited) = join(
+        rt,
+        || {
+            let told = served(rt, alloc, config);
+            done.store(true, Ordering::SeqCst);
+            told
+        },
+        || ask_first_alone(rt, alloc, &mut links, &done),
+    );
+    waited
+}
+
 // Serves a cluster whose brokers wait for connections from outside, and gives what it printed and how many were answered.
 fn served_to_others<R: Host + Net<Listener = TcpListener, Stream = TcpStream>>(
     rt: &R,
@@ -400,11 +474,7 @@ fn served_to_others<R: Host + Net<Listener = TcpListener, Stream = TcpStream>>(
     place: &Place,
 ) -> (String, u64) {
     let done = AtomicBool::new(false);
-    let mut links = Vec::new(alloc);
-    for address in [&place.broker, &place.other] {
-        let address = String::from_str(alloc, address.as_str()).expect(rt, "memory");
-        links.push(TcpLink::new(*rt, address)).expect(rt, "memory");
-    }
+    let mut links = links_to(rt, alloc, place);
     join(
         rt,
         || {
@@ -423,5 +493,13 @@ fn connections_from_outside(rt: HostRuntime) {
     let (told, answered) = served_to_others(&rt, rt.alloc(), text.as_str(), &place);
     assert_served(&rt, told);
     assert!(rt; answered >= 10, "{answered}");
+    clear(&rt, &place);
+}
+
+#[test]
+fn queries_of_the_config_do_not_count(rt: HostRuntime) {
+    let place = place_of(&rt, rt.alloc(), "counted");
+    let text = config(&rt, rt.alloc(), &place, 1);
+    assert!(rt; waits_for_each(&rt, rt.alloc(), text.as_str(), &place));
     clear(&rt, &place);
 }
