@@ -185,23 +185,25 @@ def compact(value):
     return json.dumps(value, separators=(',', ':')).encode()
 
 
-def replay(program, lines):
-    """The answers to lines of `replay`."""
+def replay(program, lines, took):
+    """The answers to lines of `replay`. The seconds that it takes are added to `took`."""
+    began = time.monotonic()
     try:
         run = subprocess.run([program, 'replay'], input=b'\n'.join(lines) + b'\n', capture_output=True, timeout=REPLAYING, check=False)
     except (OSError, subprocess.TimeoutExpired) as fault:
         raise Fault(502, f'`replay` did not run: {fault}') from None
+    took.append(time.monotonic() - began)
     if run.returncode:
         raise Fault(502, f'`replay` ended with {run.returncode}: {run.stderr.decode(errors="replace").strip()[:200]}')
     return [json.loads(line) for line in run.stdout.splitlines()]
 
 
-def answers_of_lookups(program, names, replies, lookups):
+def answers_of_lookups(program, names, replies, lookups, took):
     """The pieces of each lookup, at one broker that got these replies: pairs of a node's number and a text."""
     lines = [compact({'count': 1, 'do': 'brokers', 'nodes': names})]
     lines += [b'{"broker":0,"do":"reply","node":%d,"reply":%s}' % it for it in replies]
     lines += [compact({'broker': 0, 'do': 'lookup', 'interval': interval, 'source': source}) for source, interval in lookups]
-    answers = replay(program, lines)
+    answers = replay(program, lines, took)
     refused = [it for it in answers if 'refused' in it]
     if refused or len(answers) != len(lines):
         raise Fault(502, f'`replay` refused what the broker answered: {refused[:1]}')
@@ -241,7 +243,7 @@ def whole_of(chunks):
     return min(it.interval.split('/')[0] for it in chunks) + '/' + max(it.interval.split('/')[1] for it in chunks)
 
 
-def decide_complete(program, names, chunks):
+def decide_complete(program, names, chunks, took):
     """Marks as overshadowed those of these chunks, in no piece all of them, that are complete.
 
     The proved code decides here too: each chunk becomes a source of its own, and there it is visible exactly where it is complete.
@@ -254,7 +256,7 @@ def decide_complete(program, names, chunks):
     reply = {'counter': {'counter': 1, 'hash': 1}, 'from': None, 'resetCause': None, 'resetCounter': False}
     replies = [(node, compact({**reply, 'requests': it})) for node, it in loads.items()]
     lookups = [(f'chunk-{place}', chunk.interval) for place, chunk in enumerate(chunks)]
-    for chunk, pieces in zip(chunks, answers_of_lookups(program, names, replies, lookups)):
+    for chunk, pieces in zip(chunks, answers_of_lookups(program, names, replies, lookups, took)):
         chunk.state = 'overshadowed' if pieces else 'incomplete'
 
 
@@ -271,22 +273,21 @@ def timeline_of(chunks, pieces):
 
 def timelines_of(program, names, snapshots):
     """The timelines of what a broker knows, and the seconds that `replay` took."""
-    began = time.monotonic()
+    took = []
     sources = chunks_of(snapshots)
     replies = [(node, text) for node, text in enumerate(snapshots) if text]
     lookups = [(source, whole_of(chunks)) for source, chunks in sources.items()]
-    found = answers_of_lookups(program, names, replies, lookups)
+    found = answers_of_lookups(program, names, replies, lookups, took)
     pieces = {source: timeline_of(chunks, it) for (source, chunks), it in zip(sources.items(), found)}
     others = [it for chunks in sources.values() for it in chunks if it.state != 'visible']
     if others:
-        decide_complete(program, names, others)
-    took = time.monotonic() - began
+        decide_complete(program, names, others, took)
     shown = []
     for source, chunks in sources.items():
         versions = sorted({it.version for it in chunks}, reverse=True)
         places = {version: place for place, version in enumerate(versions)}
         shown.append({'source': source, 'versions': versions, 'chunks': [it.for_page(places) for it in chunks], 'pieces': pieces[source]})
-    return {'sources': shown, 'seconds': round(took, 3)}
+    return {'sources': shown, 'seconds': {'replay': round(sum(took), 3)}}
 
 
 class Brokers:
@@ -299,7 +300,9 @@ class Brokers:
     def look(self, chosen, known):
         """What all brokers know of the nodes, and the timelines of one, but where the page knows these by their digest."""
         with self.lock:
+            began = time.monotonic()
             looks = in_parallel(lambda it: look_at_broker(it, len(self.names)), self.config['brokers'])
+            took = time.monotonic() - began
             answer = {'brokers': [{'address': broker['address'], 'marks': marks_of(look), 'fault': look.get('fault')}
                                   for broker, look in zip(self.config['brokers'], looks)]}
             snapshots = looks[chosen].get('snapshots')
@@ -309,6 +312,7 @@ class Brokers:
             if digest != known:
                 if self.kept.get('digest') != digest:
                     self.kept = {'digest': digest, **timelines_of(self.program, self.names, snapshots)}
+                    self.kept['seconds']['inventories'] = round(took, 3)
                 answer.update(self.kept)
             return {**answer, 'digest': digest}
 
@@ -447,7 +451,7 @@ class Handler(http.server.BaseHTTPRequestHandler):
         origin = self.headers.get('Origin')
         if origin is not None and origin not in {f'http://{host}' for host in self.server.hosts}:
             raise Fault(403, 'another page')
-        if self.headers.get('Sec-Fetch-Site', 'none') not in ('none', 'same-origin') and self.path != '/':
+        if self.headers.get('Sec-Fetch-Site', 'none') not in ('none', 'same-origin') and self.path.partition('?')[0] != '/':
             raise Fault(403, 'another page')
 
     def body(self, most):

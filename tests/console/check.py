@@ -110,7 +110,7 @@ def pointing(page, *_):
     box = page.value("(() => { const it = document.querySelector('.timeline canvas').getBoundingClientRect(); return [it.left, it.top, it.width, it.height] })()")
     page.mouse('mouseMoved', box[0] + box[2] * 0.3, box[1] + box[3] - 24)
     words = page.wait_for("!document.getElementById('hover').hidden && document.getElementById('hover').textContent")
-    for part in ('v0, 2024-05-01 to 2024-05-02: overshadowed', 'core 1', 'n0 at (1, '):
+    for part in ('v0, 2024-05-01 to 2024-05-02: overshadowed', 'core count 1', 'n0 at (1, '):
         assert part in words, f'{part!r} is not in {words!r}'
     page.mouse('mouseMoved', 5, 5)
     count = page.value("document.querySelectorAll('.timeline:first-child li').length")

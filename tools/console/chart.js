@@ -71,7 +71,7 @@ function drawn(table, column, granularity) {
 }
 
 /** A chart of one aggregator at a time, where there is more than one row and a number; null otherwise. */
-export function chartOf(table, granularity) {
+export function chartOf(table, granularity, isPartial) {
   const first = 1 + table.dimensions.length;
   const places = table.metrics.map((_, place) => first + place).filter((column) => table.rows.some((row) => row[column] !== null));
   if (table.rows.length < 2 || !places.length) return null;
@@ -79,5 +79,6 @@ export function chartOf(table, granularity) {
   const choice = element('select', { onchange: () => holder.replaceChildren(drawn(table, Number(choice.value), granularity)) },
     ...places.map((column) => element('option', { value: column }, table.metrics[column - first])));
   const note = table.kind === 'groupBy' && table.rows.length > MOST_BARS ? ` (the first ${MOST_BARS} of ${table.rows.length} rows)` : '';
-  return element('figure', {}, element('figcaption', {}, element('label', {}, 'Chart of ', choice), note), holder);
+  const kind = isPartial ? ', partial' : '';
+  return element('figure', {}, element('figcaption', {}, element('label', {}, 'Chart of ', choice), kind, note), holder);
 }

@@ -53,6 +53,7 @@ class Page {
   /** Shows new timelines; of a source that was there before, with the view that it had. */
   showTimelines(answer) {
     const before = this.timelines;
+    const focused = document.activeElement;
     this.digest = answer.digest;
     this.timelines = new Map(answer.sources.map((it) => [it.source, new Timeline(lanesOf(it), this)]));
     byId('timelines').replaceChildren(...[...this.timelines.values()].map((it) => it.root));
@@ -62,6 +63,8 @@ class Page {
       const old = before.get(source);
       if (old && (old.view.end - old.view.start) < (old.lanes.end - old.lanes.start)) it.look(old.view.start, old.view.end);
       if (this.missing.has(source)) it.showMissing(this.missing.get(source));
+      if (old?.canvas === focused) it.canvas.focus({ preventScroll: true });
+      if (old?.list === focused) it.list.focus({ preventScroll: true });
     }
   }
 

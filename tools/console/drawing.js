@@ -27,16 +27,18 @@ export function coloursOf(canvas) {
 
 /** Calls `wide` with each range of a row that is a pixel or more, and `column` once for each pixel that narrower ones lie in. */
 function eachRange(ranges, view, wide, column) {
-  let last = -1;
-  for (let place = firstAfter(ranges, view.start); place < ranges.length && ranges[place].start < view.end; place += 1) {
+  let place = firstAfter(ranges, view.start);
+  while (place < ranges.length && ranges[place].start < view.end) {
     const range = ranges[place];
     const left = Math.max(LABEL, view.x(range.start));
     const right = Math.min(view.width, view.x(range.end));
     if (right - left >= 1.5) {
       wide(left, right - left, range);
-    } else if (Math.floor(left) !== last) {
-      last = Math.floor(left);
-      column(last);
+      place += 1;
+    } else {
+      // On to the first that reaches beyond this pixel, so that a frame costs what its pixels cost, however many chunks there are.
+      column(Math.floor(left));
+      place = Math.max(place + 1, firstAfter(ranges, view.start + (Math.floor(left) + 1 - LABEL) / view.scale));
     }
   }
 }

@@ -64,5 +64,8 @@ export function markText(place) {
 export function startEditor() {
   const [editor, marks] = [byId('text'), byId('marks')];
   editor.addEventListener('scroll', () => { marks.scrollTop = editor.scrollTop; });
-  editor.addEventListener('input', () => markText(null));
+  editor.addEventListener('input', () => {
+    markText(null);
+    editor.rows = Math.min(Math.max(editor.value.split('\n').length + 1, 10), 26);
+  });
 }

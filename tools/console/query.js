@@ -7,7 +7,7 @@ import { byId, counted, element, request, shortInterval, table } from './page.js
 const MOST_ROWS = 1000;
 
 const REFUSALS = {
-  Q1: 'it is no JSON', Q2: 'it is no object with `queryType` `timeseries` or `groupBy`', Q3: 'this field has another shape',
+  Q1: 'it is no JSON', Q2: 'it is no object with `queryType` `timeseries` or `groupBy`', Q3: 'it has another shape than the field may have',
   Q4: 'a text of `intervals` is no interval', Q5: 'a limit is passed', Q6: 'an output name stands twice', Q9: 'the broker is out of memory',
 };
 // The field in which these faults lie, where there is only one.
@@ -16,8 +16,8 @@ const FIELDS = { Q2: 'queryType', Q4: 'intervals' };
 function showRefusal(answer) {
   const { error, field = FIELDS[error] } = answer.refused;
   const place = field && placeOfKey(byId('text').value, field);
-  const where = field ? ` \`${field}\`${place ? ', marked above' : ', which the query has not'}` : '';
-  byId('refusal').textContent = `${answer.status} ${error ?? ''}: ${REFUSALS[error] ?? 'refused'}${where}`;
+  const where = field ? `\`${field}\`${place ? ', marked above' : ', which the query has not'}: ` : '';
+  byId('refusal').textContent = `${answer.status} ${error ?? ''}: ${where}${REFUSALS[error] ?? 'refused'}`;
   byId('refusal').dataset.field = field ?? '';
   markText(place || null);
   if (place) {
@@ -52,7 +52,7 @@ function showAnswer(answer, text, owner) {
   markText(null);
   byId('answer').replaceChildren(
     element('p', {}, element('b', {}, answer.missing ? 'Not complete' : 'Complete'), `, after ${answer.milliseconds.toLocaleString('en')} ms`),
-    ...(answer.missing ? missingList(answer, owner) : []), answerTable(answer), chartOf(answer.table, granularityOf(text)) ?? '');
+    ...(answer.missing ? missingList(answer, owner) : []), answerTable(answer), chartOf(answer.table, granularityOf(text), Boolean(answer.missing)) ?? '');
   owner.showMissing(answer.source, answer.missing ?? []);
 }
 
@@ -92,7 +92,7 @@ export function startQuery(examples, owner) {
   const take = () => {
     byId('text').value = examples[Number(byId('example').value)]?.text ?? '';
     byId('refusal').textContent = '';
-    markText(null);
+    byId('text').dispatchEvent(new Event('input'));
   };
   byId('example').replaceChildren(...examples.map((it, place) => element('option', { value: place }, it.name)));
   byId('example').addEventListener('change', take);

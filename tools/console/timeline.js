@@ -91,19 +91,21 @@ export class Timeline {
       this.view.scale = (this.view.width - LABEL) / (this.view.end - this.view.start);
       drawLanes(this.context, this.lanes, this.view, this.colours, this.height, this.chosen);
       this.range.textContent = shortInterval(...[this.view.start, this.view.end].map((it) => instantText(Math.round(it))));
-      this.timer ??= setTimeout(() => this.showList(), LIST_AFTER);
+      // The list follows once the view rests.
+      clearTimeout(this.timer);
+      this.timer = setTimeout(() => this.showList(), LIST_AFTER);
     });
   }
 
   // The list beside it
 
   showList() {
-    this.timer = null;
     const { found, count } = chunksInView(this.lanes, this.view.start, this.view.end, MOST_LISTED);
     this.listed = found;
     this.more.textContent = count > found.length ? `${found.length} of ${count.toLocaleString('en')} chunks in view; zoom in for the others` : `${counted(count, 'chunk')} in view`;
     this.list.replaceChildren(...found.map((chunk) => this.item(chunk)));
     this.showChosen();
+    performance.mark('timeline');
   }
 
   item(chunk) {
@@ -146,7 +148,7 @@ export class Timeline {
     const shown = chunk.pieces.map((it) => shortInterval(it.startText, it.endText)).join('; ');
     const numbers = chunk.partitions.slice(0, 20).map(([number]) => number).join(', ') + (chunk.partitions.length > 20 ? ', …' : '');
     return [`${this.lanes.versions[chunk.lane]}, ${shortInterval(chunk.startText, chunk.endText)}: ${stateWords(chunk)}`,
-      `partitions ${numbers}; core ${chunk.core}, of which ${corePartitions(chunk)} are there`, `nodes ${held}`,
+      `partitions ${numbers}; core count ${chunk.core}, of which ${corePartitions(chunk) === chunk.core ? 'all' : corePartitions(chunk)} are there`, `nodes ${held}`,
       ...(chunk.state === 'visible' ? [`visible ${shown}`] : []),
       ...chunk.missing.map((it) => `missing: partition ${it.part}, ${shortInterval(it.startText, it.endText)}`)];
   }
