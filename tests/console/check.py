@@ -105,10 +105,18 @@ def node_table(page, _, nodes):
         equal(rows[place], [f'n{place}', address, '✓ answers', mark, str(len(reply['requests'])), f'{mark}, the same'], f'node n{place}')
 
 
+def canvas_box(page):
+    return page.value("(() => { const it = document.querySelector('.timeline canvas').getBoundingClientRect(); return [it.left, it.top, it.width, it.height] })()")
+
+
+def wait_for_count(page, is_less, count):
+    page.wait_for(f"document.querySelectorAll('.timeline:first-child li').length {'<' if is_less else '==='} {count}")
+
+
 def pointing(page, *_):
-    """Pointer, keys and list: the chunk in words, a smaller view, the detail of a chunk with the rows of its segments."""
-    box = page.value("(() => { const it = document.querySelector('.timeline canvas').getBoundingClientRect(); return [it.left, it.top, it.width, it.height] })()")
-    page.mouse('mouseMoved', box[0] + box[2] * 0.3, box[1] + box[3] - 24)
+    """Hover, keys, wheel and drag: a chunk in words, and other views."""
+    left, top, width, height = canvas_box(page)
+    page.mouse('mouseMoved', left + width * 0.3, top + height - 24)
     words = page.wait_for("!document.getElementById('hover').hidden && document.getElementById('hover').textContent")
     for part in ('v0, 2024-05-01 to 2024-05-02: overshadowed', 'core count 1', 'n0 at (1, '):
         assert part in words, f'{part!r} is not in {words!r}'
@@ -117,13 +125,23 @@ def pointing(page, *_):
     page.value("document.querySelector('.timeline canvas').focus()")
     for _ in range(8):
         page.key('+')
-    page.wait_for(f"document.querySelectorAll('.timeline:first-child li').length < {count}")
+    wait_for_count(page, True, count)
     page.key('0')
-    page.wait_for(f"document.querySelectorAll('.timeline:first-child li').length === {count}")
-    page.mouse('mouseWheel', box[0] + box[2] * 0.3, box[1] + 60, deltaX=0, deltaY=-900)
-    page.wait_for(f"document.querySelectorAll('.timeline:first-child li').length < {count}")
+    wait_for_count(page, False, count)
+    page.mouse('mouseWheel', left + width * 0.3, top + 60, deltaX=0, deltaY=-900)
+    wait_for_count(page, True, count)
+    shown = page.value("document.querySelector('.timeline .range').textContent")
+    page.mouse('mousePressed', left + width * 0.5, top + 60, button='left', buttons=1, clickCount=1)
+    page.mouse('mouseMoved', left + width * 0.8, top + 60, button='left', buttons=1)
+    page.mouse('mouseReleased', left + width * 0.8, top + 60, button='left', clickCount=1)
+    earlier = page.wait_for(f"((it) => it !== {json.dumps(shown)} && it)(document.querySelector('.timeline .range').textContent)")
+    assert earlier < shown, f'{earlier} is not earlier than {shown}'
     page.key('0')
-    page.wait_for(f"document.querySelectorAll('.timeline:first-child li').length === {count}")
+    wait_for_count(page, False, count)
+
+
+def segment_rows(page, *_):
+    """A chunk chosen in the list, the rows of its segment, and those of a file that is dropped."""
     page.value("document.querySelector('.timeline [role=listbox]').focus()")
     page.key('ArrowDown')
     detail = page.wait_for("document.querySelector('.timeline .detail').textContent")
@@ -131,6 +149,15 @@ def pointing(page, *_):
     page.value("document.querySelector('.timeline .detail button').click()")
     equal(page.wait_for("document.querySelectorAll('#rows tbody tr').length"), 1, 'rows of a segment')
     equal(page.value("document.querySelector('#rows td.number').textContent"), str(2**63 - 1), 'a number of 64 bits')
+    with open(os.path.join(TOP, 'examples', 'vector.dsg'), 'rb') as file:
+        data = list(file.read())
+    drop = "const it = new DataTransfer(); it.items.add(new File([new Uint8Array(%s)], 'x.seg')); document.body.dispatchEvent(new DragEvent('drop', { dataTransfer: it, bubbles: true }))"
+    page.value('{' + drop % data + '}')
+    shown = "[...document.querySelectorAll('#rows td')].map((it) => it.textContent)"
+    page.wait_for(f"({shown}).includes('x')")
+    equal(page.value(shown), ['1970-01-01T00:00:01.000Z', 'x', '5'], 'the row of examples/vector.dsg')
+    page.value('{' + drop % data[:-1] + '}')
+    equal(page.wait_for("document.querySelector('#rows .fault')?.textContent"), 'no segment file: F2: it ends inside a part', 'a cut file')
 
 
 def queries(page, broker, _):
@@ -204,7 +231,7 @@ def main():
         config, broker, nodes = make_cluster(folder)
         with console_of(config, broker) as url, Browser(CHROMIUM) as page:
             page.open(url, "document.querySelectorAll('.in-view li').length >= 6 && document.querySelectorAll('#nodes td').length >= 15")
-            for test in (timelines, node_table, pointing, queries, refusals, doors, node_away, requests_of):
+            for test in (timelines, node_table, pointing, segment_rows, queries, refusals, doors, node_away, requests_of):
                 try:
                     test(page, broker, nodes)
                     print(f'ok {test.__name__}', flush=True)
