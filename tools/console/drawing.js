@@ -3,8 +3,10 @@
 import { ticksOf } from './axis.js';
 import { corePartitions, firstAfter } from './lanes.js';
 
-/** Pixels: the versions' names, a sub-row, the room between lanes, the axis. */
-export const [LABEL, ROW, GAP, AXIS] = [92, 24, 8, 22];
+/** Pixels: a sub-row, the room between lanes, the axis; the versions' names have `view.label`. */
+export const [ROW, GAP, AXIS] = [24, 8, 22];
+const [LEAST_LABEL, MOST_LABEL] = [60, 190];
+const NAME_FONT = '12px "DejaVu Sans Mono", ui-monospace, monospace';
 
 /** The colours of the page's style, anew where light and dark change. */
 export function coloursOf(canvas) {
@@ -30,7 +32,7 @@ function eachRange(ranges, view, wide, column) {
   let place = firstAfter(ranges, view.start);
   while (place < ranges.length && ranges[place].start < view.end) {
     const range = ranges[place];
-    const left = Math.max(LABEL, view.x(range.start));
+    const left = Math.max(view.label, view.x(range.start));
     const right = Math.min(view.width, view.x(range.end));
     if (right - left >= 1.5) {
       wide(left, right - left, range);
@@ -38,7 +40,7 @@ function eachRange(ranges, view, wide, column) {
     } else {
       // On to the first that reaches beyond this pixel, so that a frame costs what its pixels cost, however many chunks there are.
       column(Math.floor(left));
-      place = Math.max(place + 1, firstAfter(ranges, view.start + (Math.floor(left) + 1 - LABEL) / view.scale));
+      place = Math.max(place + 1, firstAfter(ranges, view.start + (Math.floor(left) + 1 - view.label) / view.scale));
     }
   }
 }
@@ -54,13 +56,14 @@ function fillRanges(context, ranges, view, top, style) {
 /** Frames of ranges; of columns the upper and the lower end alone. */
 function frameRanges(context, ranges, view, top, colour, width, dashes) {
   context.strokeStyle = colour;
+  context.fillStyle = colour;
   context.lineWidth = width;
   context.setLineDash(dashes);
   context.beginPath();
   const inset = width / 2;
   eachRange(ranges, view, (left, wide) => context.rect(left + inset, top + inset, Math.max(wide - width - 1, 0.5), ROW - width), (left) => {
-    context.rect(left, top, 1, 2);
-    context.rect(left, top + ROW - 2, 1, 2);
+    context.fillRect(left, top, 1, ROW / 4);
+    context.fillRect(left, top + ROW - ROW / 4, 1, ROW / 4);
   });
   context.stroke();
   context.setLineDash([]);
@@ -118,8 +121,8 @@ function drawRow(context, row, view, top, colours) {
 function drawAxis(context, view, colours, height) {
   context.font = '11px system-ui, "DejaVu Sans", sans-serif';
   context.lineWidth = 1;
-  let written = LABEL;
-  for (const { at, text } of ticksOf(view.start, view.end, Math.max(2, (view.width - LABEL) / 95))) {
+  let written = view.label;
+  for (const { at, text } of ticksOf(view.start, view.end, Math.max(2, (view.width - view.label) / 95))) {
     const x = Math.round(view.x(at)) + 0.5;
     context.strokeStyle = colours.grid;
     context.beginPath();
@@ -135,12 +138,19 @@ function drawAxis(context, view, colours, height) {
 }
 
 function frameChunk(context, chunk, view, top, colour) {
-  const left = Math.max(LABEL, view.x(chunk.start));
+  const left = Math.max(view.label, view.x(chunk.start));
   const right = Math.min(view.width, view.x(chunk.end));
   if (right <= left) return;
   context.strokeStyle = colour;
   context.lineWidth = 2;
   context.strokeRect(left - 2, top - 3, Math.max(right - left, 1) + 3, ROW + 6);
+}
+
+/** How wide the names of versions are. */
+export function labelWidth(context, versions) {
+  context.font = NAME_FONT;
+  const widest = versions.reduce((width, it) => Math.max(width, context.measureText(it).width), 0);
+  return Math.min(Math.max(widest + 18, LEAST_LABEL), MOST_LABEL);
 }
 
 /** The tops of the sub-rows of all lanes, from the axis down. */
@@ -171,9 +181,9 @@ export function drawLanes(context, lanes, view, colours, height, chosen) {
       const top = row.top - view.down;
       if (top + ROW > AXIS && top < height) drawRow(context, row, view, top, colours);
     }
-    context.font = '12px "DejaVu Sans Mono", ui-monospace, monospace';
+    context.font = NAME_FONT;
     context.fillStyle = colours.text;
-    context.fillText(lane.version.length > 11 ? `${lane.version.slice(0, 10)}…` : lane.version, 8, lane.top - view.down + ROW / 2 + 4);
+    context.fillText(lane.version.length > 24 ? `${lane.version.slice(0, 23)}…` : lane.version, 8, lane.top - view.down + ROW / 2 + 4);
   }
   if (chosen) frameChunk(context, chosen, view, chosen.row.top - view.down, colours.focus);
   context.restore();

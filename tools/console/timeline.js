@@ -1,6 +1,6 @@
 // One data source's timeline: the canvas with its view, the list of what is in view, and the chunk that is shown whole.
 
-import { AXIS, LABEL, ROW, coloursOf, drawLanes, placeRows } from './drawing.js';
+import { AXIS, ROW, coloursOf, drawLanes, labelWidth, placeRows } from './drawing.js';
 import { chunksInView, corePartitions, firstAfter, markMissing, stateWords } from './lanes.js';
 import { byId, counted, element, markText, shortInterval } from './page.js';
 
@@ -18,7 +18,7 @@ export class Timeline {
     this.range = element('span', { class: 'quiet data range' });
     this.root = element('div', { class: 'timeline', 'data-source': lanes.source }, this.bar(), this.canvas,
       element('div', { class: 'in-view' }, this.more, this.list), this.detail);
-    this.view = { start: 0, end: 1, down: 0, width: 0, x: (instant) => LABEL + (instant - this.view.start) * this.view.scale };
+    this.view = { start: 0, end: 1, down: 0, width: 0, label: 0, x: (instant) => this.view.label + (instant - this.view.start) * this.view.scale };
     this.listen();
     this.showWhole();
   }
@@ -80,6 +80,7 @@ export class Timeline {
     this.context = this.canvas.getContext('2d');
     this.context.setTransform(ratio, 0, 0, ratio, 0, 0);
     this.colours = coloursOf(this.canvas);
+    this.view.label = labelWidth(this.context, this.lanes.versions);
     this.draw();
   }
 
@@ -88,7 +89,7 @@ export class Timeline {
     this.isDrawn = true;
     requestAnimationFrame(() => {
       this.isDrawn = false;
-      this.view.scale = (this.view.width - LABEL) / (this.view.end - this.view.start);
+      this.view.scale = (this.view.width - this.view.label) / (this.view.end - this.view.start);
       drawLanes(this.context, this.lanes, this.view, this.colours, this.height, this.chosen);
       this.range.textContent = shortInterval(...[this.view.start, this.view.end].map((it) => instantText(Math.round(it))));
       // The list follows once the view rests.
@@ -172,8 +173,8 @@ export class Timeline {
   // Pointers and keys
 
   chunkAt(x, y) {
-    if (x < LABEL || y < AXIS) return null;
-    const instant = this.view.start + (x - LABEL) / this.view.scale;
+    if (x < this.view.label || y < AXIS) return null;
+    const instant = this.view.start + (x - this.view.label) / this.view.scale;
     const row = this.lanes.lanes.flatMap((it) => it.rows).find((it) => y + this.view.down >= it.top && y + this.view.down < it.top + ROW);
     const chunk = row?.chunks[firstAfter(row.chunks, instant)];
     return chunk && chunk.start <= instant ? chunk : null;
@@ -246,7 +247,7 @@ export class Timeline {
     if (event.shiftKey || Math.abs(event.deltaX) > Math.abs(event.deltaY)) {
       this.scroll(((event.deltaX || event.deltaY) * lines) / 1000);
     } else {
-      this.zoom(Math.exp((event.deltaY * lines) / 400), this.view.start + Math.max(0, event.offsetX - LABEL) / this.view.scale);
+      this.zoom(Math.exp((event.deltaY * lines) / 400), this.view.start + Math.max(0, event.offsetX - this.view.label) / this.view.scale);
     }
   }
 
