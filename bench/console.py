@@ -19,12 +19,20 @@ SCROLLING = 4  # Seconds.
 
 FRAMES = """new Promise((done) => {
     const frames = [];
-    const step = (at) => { frames.push(at); if (at - frames[0] < %d) requestAnimationFrame(step); else done(frames.slice(1).map((it, place) => it - frames[place])); };
+    const step = (at) => {
+        frames.push(at);
+        if (at - frames[0] < %d) requestAnimationFrame(step);
+        else done(frames.slice(1).map((it, place) => it - frames[place]));
+    };
     requestAnimationFrame(step);
     const canvas = document.querySelector('.timeline canvas');
     let turn = 0;
-    const wheel = () => { if (frames.length && performance.now() - frames[0] > %d) return;
-        canvas.dispatchEvent(new WheelEvent('wheel', { %s, cancelable: true, bubbles: true })); turn += 1; setTimeout(wheel, 8); };
+    const wheel = () => {
+        if (frames.length && performance.now() - frames[0] > %d) return;
+        canvas.dispatchEvent(new WheelEvent('wheel', { %s, cancelable: true, bubbles: true }));
+        turn += 1;
+        setTimeout(wheel, 8);
+    };
     wheel();
 })"""
 
@@ -49,7 +57,8 @@ def scrolled(page, what, wheel):
 def stands(page, url):
     """The milliseconds from the page's request for the timelines until it stands, those in which the console waited, and what replay took."""
     page.open(url, "performance.getEntriesByName('timeline').length > 0")
-    asked, answered, stood = page.value("""(() => { const it = performance.getEntriesByType('resource').find((entry) => entry.name.includes('/api/brokers'));
+    asked, answered, stood = page.value("""(() => {
+        const it = performance.getEntriesByType('resource').find((entry) => entry.name.includes('/api/brokers'));
         return [it.startTime, it.responseEnd, performance.getEntriesByName('timeline')[0].startTime] })()""")
     seconds = page.value("fetch('/api/brokers?known=').then((it) => it.json()).then((it) => it.seconds)")
     rest = stood - asked - 1000 * (seconds['inventories'] + seconds['replay'])

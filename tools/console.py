@@ -326,7 +326,8 @@ def cell(value):
 def table_of(query, rows):
     """Result rows as a table: the columns in the order of the query, numbers as texts, which scripts keep exact."""
     inner = 'result' if query['queryType'] == 'timeseries' else 'event'
-    dimensions = [] if inner == 'result' else [it if isinstance(it, str) else it.get('outputName') or it['dimension'] for it in query.get('dimensions') or []]
+    given = query.get('dimensions') or [] if inner == 'event' else []
+    dimensions = [it if isinstance(it, str) else it.get('outputName') or it['dimension'] for it in given]
     metrics = [it['name'] for it in query.get('aggregations') or []]
     return {'kind': query['queryType'], 'dimensions': dimensions, 'metrics': metrics,
             'rows': [[row['timestamp'], *(cell(row[inner][name]) for name in dimensions + metrics)] for row in rows]}
@@ -419,7 +420,8 @@ class Handler(http.server.BaseHTTPRequestHandler):
     server_version, sys_version, timeout = 'console', '', 30
 
     def do_GET(self):
-        self.respond({'/api/cluster': self.cluster, '/api/nodes': self.nodes, '/api/brokers': self.brokers, '/api/files': self.files, '/api/file': self.file})
+        self.respond({'/api/cluster': self.cluster, '/api/nodes': self.nodes, '/api/brokers': self.brokers,
+                      '/api/files': self.files, '/api/file': self.file})
 
     def do_POST(self):
         self.respond({'/api/query': self.query, '/api/show': self.show})

@@ -2,6 +2,9 @@
 import base64, json, os, re, shutil, signal, socket, struct, subprocess, tempfile, time, urllib.request
 
 
+LONGEST = '900'  # Seconds after which `timeout` ends a browser that a killed test leaves.
+
+
 class Socket:
     """A client's end of a websocket: texts there and back, each in one frame or in several."""
 
@@ -18,7 +21,10 @@ class Socket:
 
     def send(self, text):
         data, mask = text.encode(), os.urandom(4)
-        size = bytes([0x80 | len(data)]) if len(data) < 126 else struct.pack('>BH', 0x80 | 126, len(data)) if len(data) < 65_536 else struct.pack('>BQ', 0x80 | 127, len(data))
+        if len(data) < 126:
+            size = bytes([0x80 | len(data)])
+        else:
+            size = struct.pack('>BH', 0x80 | 126, len(data)) if len(data) < 65_536 else struct.pack('>BQ', 0x80 | 127, len(data))
         masked = bytes(byte ^ mask[place % 4] for place, byte in enumerate(data))
         self.link.sendall(b'\x81' + size + mask + masked)
 
@@ -26,7 +32,8 @@ class Socket:
         text = b''
         while True:
             first, size = self.bytes.read(2)
-            size = struct.unpack('>H', self.bytes.read(2))[0] if size == 126 else struct.unpack('>Q', self.bytes.read(8))[0] if size == 127 else size
+            if size > 125:
+                size = struct.unpack(*('>H', self.bytes.read(2)) if size == 126 else ('>Q', self.bytes.read(8)))[0]
             part = self.bytes.read(size)
             if first & 0x0f < 8:  # Others are pings and the like.
                 text += part
@@ -39,9 +46,10 @@ class Browser:
 
     def __init__(self, program, width=1280, height=900, dark=False):
         self.folder, self.count, self.events = tempfile.mkdtemp(), 0, []
-        words = [program, '--headless=new', '--remote-debugging-port=0', f'--user-data-dir={self.folder}', '--no-first-run', '--disable-gpu', '--hide-scrollbars',
-                 '--disable-background-networking', '--disable-component-update', '--disable-sync', '--host-resolver-rules=MAP * ~NOTFOUND, EXCLUDE 127.0.0.1',
-                 f'--window-size={width},{height}', *(['--no-sandbox'] if os.geteuid() == 0 else []), 'about:blank']
+        words = ['timeout', LONGEST, program, '--headless=new', '--remote-debugging-port=0', f'--user-data-dir={self.folder}',
+                 '--no-first-run', '--disable-gpu', '--hide-scrollbars', '--disable-background-networking', '--disable-component-update',
+                 '--disable-sync', '--host-resolver-rules=MAP * ~NOTFOUND, EXCLUDE 127.0.0.1', f'--window-size={width},{height}',
+                 *(['--no-sandbox'] if os.geteuid() == 0 else []), 'about:blank']
         self.process = subprocess.Popen(words, stdout=subprocess.DEVNULL, stderr=subprocess.PIPE, start_new_session=True)
         self.socket = Socket(self.page_url())
         for domain in ('Page', 'Runtime', 'Network', 'Log'):

@@ -15,7 +15,8 @@ HOUR = 3_600_000
 MAY_1, MAY_2 = 1_714_521_600_000, 1_714_608_000_000
 LISTED = """[...document.querySelectorAll('.timeline')].flatMap((it) => [...it.querySelectorAll('li[role=option]')].map((li) =>
     [it.dataset.source, li.dataset.version, li.dataset.chunk, li.dataset.state, li.dataset.pieces, li.dataset.missing ?? '']))"""
-TABLE = """[...document.querySelectorAll('#answer tbody tr')].map((row) => [...row.cells].map((it) => it.className === 'null' ? null : it.textContent))"""
+TABLE = """[...document.querySelectorAll('#answer tbody tr')].map((row) =>
+    [...row.cells].map((it) => it.className === 'null' ? null : it.textContent))"""
 
 
 def equal(found, wanted, what):
@@ -106,7 +107,7 @@ def node_table(page, _, nodes):
 
 
 def canvas_box(page):
-    return page.value("(() => { const it = document.querySelector('.timeline canvas').getBoundingClientRect(); return [it.left, it.top, it.width, it.height] })()")
+    return page.value("((it) => [it.left, it.top, it.width, it.height])(document.querySelector('.timeline canvas').getBoundingClientRect())")
 
 
 def wait_for_count(page, is_less, count):
@@ -151,12 +152,13 @@ def segment_rows(page, *_):
     equal(page.value("document.querySelector('#rows td.number').textContent"), str(2**63 - 1), 'a number of 64 bits')
     with open(os.path.join(TOP, 'examples', 'vector.dsg'), 'rb') as file:
         data = list(file.read())
-    drop = "const it = new DataTransfer(); it.items.add(new File([new Uint8Array(%s)], 'x.seg')); document.body.dispatchEvent(new DragEvent('drop', { dataTransfer: it, bubbles: true }))"
-    page.value('{' + drop % data + '}')
+    drop = ("{ const it = new DataTransfer(); it.items.add(new File([new Uint8Array(%s)], 'x.seg')); "
+            "document.body.dispatchEvent(new DragEvent('drop', { dataTransfer: it, bubbles: true })) }")
+    page.value(drop % data)
     shown = "[...document.querySelectorAll('#rows td')].map((it) => it.textContent)"
     page.wait_for(f"({shown}).includes('x')")
     equal(page.value(shown), ['1970-01-01T00:00:01.000Z', 'x', '5'], 'the row of examples/vector.dsg')
-    page.value('{' + drop % data[:-1] + '}')
+    page.value(drop % data[:-1])
     equal(page.wait_for("document.querySelector('#rows .fault')?.textContent"), 'no segment file: F2: it ends inside a part', 'a cut file')
 
 

@@ -4,7 +4,7 @@ import { element, shortInstant } from './page.js';
 
 const LENGTHS = { second: 1000, minute: 60_000, hour: 3_600_000, day: 86_400_000 };
 const [WIDTH, HEIGHT, LEFT, BOTTOM, TOP] = [640, 220, 80, 26, 10];
-const [MOST_BARS, BAR, NAMES] = [40, 20, 210];
+const [MOST_DOTS, MOST_BARS, BAR, NAMES] = [300, 40, 20, 210];
 
 function svg(name, attributes, ...children) {
   const it = document.createElementNS('http://www.w3.org/2000/svg', name);
@@ -33,13 +33,15 @@ function linePath(points, length) {
 }
 
 function lineChart(rows, column, granularity) {
-  const held = rows.filter((row) => row[column] !== null).map((row) => ({ text: row[0], at: Date.parse(row[0]), value: Number(row[column]), exact: row[column] }));
+  const held = rows.filter((row) => row[column] !== null)
+    .map((row) => ({ text: row[0], at: Date.parse(row[0]), value: Number(row[column]), exact: row[column] }));
   const [low, high] = reach(held.map((it) => it.value));
   const [first, last] = [held[0].at, held.at(-1).at];
   const y = (value) => TOP + (HEIGHT - TOP - BOTTOM) * (1 - (value - low) / (high - low || 1));
   const points = held.map((it) => ({ ...it, x: LEFT + 8 + ((WIDTH - LEFT - 16) * (it.at - first)) / (last - first || 1), y: y(it.value) }));
-  const dots = points.length > 300 ? [] : points.map((it) => svg('circle', { class: 'point', cx: it.x, cy: it.y, r: 3 }, svg('title', {}, `${shortInstant(it.text)}: ${it.exact}`)));
-  return svg('svg', { viewBox: `0 0 ${WIDTH} ${HEIGHT}`, role: 'img' }, ...gridLines(low, high, y), svg('path', { class: 'line', d: linePath(points, LENGTHS[granularity]) }), ...dots,
+  const dot = (it) => svg('circle', { class: 'point', cx: it.x, cy: it.y, r: 3 }, svg('title', {}, `${shortInstant(it.text)}: ${it.exact}`));
+  return svg('svg', { viewBox: `0 0 ${WIDTH} ${HEIGHT}`, role: 'img' }, ...gridLines(low, high, y),
+    svg('path', { class: 'line', d: linePath(points, LENGTHS[granularity]) }), ...(points.length > MOST_DOTS ? [] : points.map(dot)),
     svg('text', { class: 'quiet', x: LEFT, y: HEIGHT - 8 }, shortInstant(held[0].text)),
     svg('text', { class: 'quiet', x: WIDTH, y: HEIGHT - 8, 'text-anchor': 'end' }, shortInstant(held.at(-1).text)));
 }

@@ -12,8 +12,8 @@ const [NODES, BROKERS] = [3000, 30_000];
 
 class Page {
   constructor(cluster) {
-    Object.assign(this, { cluster, broker: 0, nodes: cluster.nodes, brokers: [], marks: null, digest: '', timelines: new Map(), missing: new Map(), connections: 0 });
-    Object.assign(this, { isPaused: false, isLooking: false, nodesDue: 0, brokersDue: 0, fault: '' });
+    Object.assign(this, { cluster, broker: 0, nodes: cluster.nodes, brokers: [], marks: null, digest: '', connections: 0 });
+    Object.assign(this, { timelines: new Map(), missing: new Map(), isPaused: false, isLooking: false, nodesDue: 0, brokersDue: 0, fault: '' });
   }
 
   // Looks

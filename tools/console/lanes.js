@@ -4,7 +4,8 @@
 const MOST_ROWS = 8;
 
 function chunkOf([start, end, lane, core, state, partitions], place) {
-  return { place, startText: start, endText: end, start: Date.parse(start), end: Date.parse(end), lane, core, state, partitions, pieces: [], missing: [] };
+  const ends = { startText: start, endText: end, start: Date.parse(start), end: Date.parse(end) };
+  return { place, ...ends, lane, core, state, partitions, pieces: [], missing: [] };
 }
 
 /** Puts a chunk, later than those before, into the first sub-row in which it overlaps none. */

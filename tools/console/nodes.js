@@ -14,7 +14,7 @@ function distance(node, mark) {
 
 function nodeRow(node, place, brokers) {
   const cell = (text, kind = 'data') => element('td', { class: kind }, text);
-  const marks = brokers.map((broker) => cell(broker.marks ? distance(node, broker.marks[place]) : `no answer: ${broker.fault}`, broker.marks ? 'data' : 'fault'));
+  const marks = brokers.map((broker) => (broker.marks ? cell(distance(node, broker.marks[place])) : cell(`no answer: ${broker.fault}`, 'fault')));
   return element('tr', { 'data-node': node.name }, element('th', { scope: 'row' }, node.name), cell(node.address),
     cell(node.answers ? '✓ answers' : `✗ no answer: ${node.fault}`, node.answers ? '' : 'fault'),
     cell(node.answers ? markText(node.mark) : '?'), cell(node.answers ? node.segments.toLocaleString('en') : '?', 'number data'), ...marks);
@@ -23,7 +23,7 @@ function nodeRow(node, place, brokers) {
 /** Shows what is known of the nodes. `brokers` is empty until brokers were looked at. */
 export function showNodes(nodes, brokers) {
   const names = ['node', 'address', 'health', 'mark (incarnation, count)', 'segments', ...brokers.map((it) => `mark at broker ${it.address}`)];
-  byId('nodes').replaceChildren(element('table', {},
-    element('thead', {}, element('tr', {}, ...names.map((name) => element('th', { scope: 'col', class: name === 'segments' ? 'number' : null }, name)))),
+  const heads = names.map((name) => element('th', { scope: 'col', class: name === 'segments' ? 'number' : null }, name));
+  byId('nodes').replaceChildren(element('table', {}, element('thead', {}, element('tr', {}, ...heads)),
     element('tbody', {}, ...nodes.map((node, place) => nodeRow(node, place, brokers)))));
 }

@@ -47,7 +47,7 @@ export function table(caption, columns, metrics, rows) {
   const cells = (row) => row.map((value, place) => (value === null
     ? element('td', { class: 'null' }, 'null')
     : element('td', { class: metrics[place] ? 'number data' : 'data' }, value)));
-  return element('table', {}, element('caption', {}, caption),
-    element('thead', {}, element('tr', {}, ...columns.map((name, place) => element('th', { scope: 'col', class: metrics[place] ? 'number' : null }, name)))),
+  const heads = columns.map((name, place) => element('th', { scope: 'col', class: metrics[place] ? 'number' : null }, name));
+  return element('table', {}, element('caption', {}, caption), element('thead', {}, element('tr', {}, ...heads)),
     element('tbody', {}, ...rows.map((row) => element('tr', {}, ...cells(row)))));
 }

@@ -28,7 +28,8 @@ function showRefusal(answer) {
 }
 
 function missingList(answer, owner) {
-  const item = (slice) => element('li', { 'data-missing': JSON.stringify(slice) }, `${slice.ver}, ${shortInterval(...slice.itvl.split('/'))}, partition ${slice.part} `,
+  const item = (slice) => element('li', { 'data-missing': JSON.stringify(slice) },
+    `${slice.ver}, ${shortInterval(...slice.itvl.split('/'))}, partition ${slice.part} `,
     element('button', { type: 'button', onclick: () => owner.lookAt(answer.source, slice) }, 'in the timeline'));
   return [element('h3', { class: 'fault' }, `503: ${counted(answer.missing.length, 'segment slice')} missing`),
     element('p', {}, 'No node gave these; the timeline has them in a frame with a cross.'),
@@ -37,10 +38,12 @@ function missingList(answer, owner) {
 
 function answerTable(answer) {
   const { dimensions, metrics, rows } = answer.table;
-  const caption = `${answer.missing ? 'Partial: without what is missing. ' : ''}${counted(rows.length, 'row')}${rows.length > MOST_ROWS ? `, of which these are the first ${MOST_ROWS}` : ''}`;
-  const holder = element('div', { class: answer.missing ? 'scrolls partial' : 'scrolls', tabindex: 0, role: 'region', 'aria-label': answer.missing ? 'Partial rows' : 'Rows' });
-  holder.append(table(caption, ['timestamp', ...dimensions, ...metrics], [false, ...dimensions.map(() => false), ...metrics.map(() => true)], rows.slice(0, MOST_ROWS)));
-  return holder;
+  const first = rows.length > MOST_ROWS ? `, of which these are the first ${MOST_ROWS}` : '';
+  const caption = `${answer.missing ? 'Partial: without what is missing. ' : ''}${counted(rows.length, 'row')}${first}`;
+  const [kind, name] = answer.missing ? ['scrolls partial', 'Partial rows'] : ['scrolls', 'Rows'];
+  const areMetrics = [false, ...dimensions.map(() => false), ...metrics.map(() => true)];
+  return element('div', { class: kind, tabindex: 0, role: 'region', 'aria-label': name },
+    table(caption, ['timestamp', ...dimensions, ...metrics], areMetrics, rows.slice(0, MOST_ROWS)));
 }
 
 function granularityOf(text) {
@@ -52,7 +55,8 @@ function showAnswer(answer, text, owner) {
   markText(null);
   byId('answer').replaceChildren(
     element('p', {}, element('b', {}, answer.missing ? 'Not complete' : 'Complete'), `, after ${answer.milliseconds.toLocaleString('en')} ms`),
-    ...(answer.missing ? missingList(answer, owner) : []), answerTable(answer), chartOf(answer.table, granularityOf(text), Boolean(answer.missing)) ?? '');
+    ...(answer.missing ? missingList(answer, owner) : []), answerTable(answer),
+    chartOf(answer.table, granularityOf(text), Boolean(answer.missing)) ?? '');
   owner.showMissing(answer.source, answer.missing ?? []);
 }
 
@@ -62,7 +66,9 @@ function waiting() {
   byId('answer').replaceChildren(line);
   byId('answer').setAttribute('aria-busy', 'true');
   const began = performance.now();
-  return setInterval(() => { line.textContent = `asking, ${Math.round((performance.now() - began) / 1000)} s; a silent node is waited for 30 s`; }, 1000);
+  return setInterval(() => {
+    line.textContent = `asking, ${Math.round((performance.now() - began) / 1000)} s; a silent node is waited for 30 s`;
+  }, 1000);
 }
 
 async function ask(owner) {

@@ -5,26 +5,30 @@ import { chunksInView, corePartitions, firstAfter, markMissing, stateWords } fro
 import { byId, counted, element, markText, shortInterval } from './page.js';
 
 const [MOST_HEIGHT, MOST_LISTED, MOST_PARTITIONS, SHORTEST] = [320, 200, 100, 10];
-const LIST_AFTER = 120;
+const LIST_AFTER = 120; // Milliseconds that a view rests.
+const [FIRST, LAST] = ['0000-01-01T00:00:00.000Z', '9999-12-31T23:59:59.999Z'].map((it) => Date.parse(it));
 
 export class Timeline {
   /** `owner` has `nodes`, `marks` and `showRows(node, name)`. */
   constructor(lanes, owner) {
     Object.assign(this, { lanes, owner, chosen: null, listed: [], isDrawn: false, timer: null });
-    this.canvas = element('canvas', { tabindex: 0, role: 'application', 'aria-roledescription': 'timeline', 'aria-label': `Timeline of ${lanes.source}` });
+    const name = `Timeline of ${lanes.source}`;
+    this.canvas = element('canvas', { tabindex: 0, role: 'application', 'aria-roledescription': 'timeline', 'aria-label': name });
     this.list = element('ul', { role: 'listbox', tabindex: 0, 'aria-label': `Chunks of ${lanes.source} in view` });
     this.more = element('p', { class: 'quiet', role: 'status' });
     this.detail = element('div', { class: 'detail', 'aria-live': 'polite' });
     this.range = element('span', { class: 'quiet data range' });
     this.root = element('div', { class: 'timeline', 'data-source': lanes.source }, this.bar(), this.canvas,
       element('div', { class: 'in-view' }, this.more, this.list), this.detail);
-    this.view = { start: 0, end: 1, down: 0, width: 0, label: 0, x: (instant) => this.view.label + (instant - this.view.start) * this.view.scale };
+    this.view = { start: 0, end: 1, down: 0, width: 0, label: 0, scale: 1 };
+    this.view.x = (instant) => this.view.label + (instant - this.view.start) * this.view.scale;
     this.listen();
     this.showWhole();
   }
 
   bar() {
-    const button = (text, name, work) => element('button', { type: 'button', title: name, 'aria-label': `${name}, ${this.lanes.source}`, onclick: work }, text);
+    const words = (name) => ({ type: 'button', title: name, 'aria-label': `${name}, ${this.lanes.source}` });
+    const button = (text, name, work) => element('button', { ...words(name), onclick: work }, text);
     return element('div', { class: 'bar' }, element('h3', {}, this.lanes.source),
       button('◀', 'earlier', () => this.scroll(-0.25)), button('▶', 'later', () => this.scroll(0.25)),
       button('+', 'zoom in', () => this.zoom(0.5)), button('−', 'zoom out', () => this.zoom(2)),
@@ -103,7 +107,8 @@ export class Timeline {
   showList() {
     const { found, count } = chunksInView(this.lanes, this.view.start, this.view.end, MOST_LISTED);
     this.listed = found;
-    this.more.textContent = count > found.length ? `${found.length} of ${count.toLocaleString('en')} chunks in view; zoom in for the others` : `${counted(count, 'chunk')} in view`;
+    const all = `${counted(count, 'chunk')} in view`;
+    this.more.textContent = count > found.length ? `${found.length} of ${all}; zoom in for the others` : all;
     this.list.replaceChildren(...found.map((chunk) => this.item(chunk)));
     this.showChosen();
     performance.mark('timeline');
@@ -114,7 +119,8 @@ export class Timeline {
     return element('li', {
       role: 'option', id: `chunk-${this.lanes.source}-${chunk.place}`, 'aria-selected': 'false',
       'data-version': this.lanes.versions[chunk.lane], 'data-chunk': `${chunk.startText}/${chunk.endText}`, 'data-state': chunk.state,
-      'data-pieces': chunk.pieces.map((it) => `${it.startText}/${it.endText}`).join(' '), 'data-missing': chunk.missing.length ? chunk.missing.map((it) => it.part).join(' ') : null,
+      'data-pieces': chunk.pieces.map((it) => `${it.startText}/${it.endText}`).join(' '),
+      'data-missing': chunk.missing.length ? chunk.missing.map((it) => it.part).join(' ') : null,
       onclick: () => this.choose(chunk, true),
     }, words, element('span', { class: 'word' }, stateWords(chunk)));
   }
@@ -148,17 +154,20 @@ export class Timeline {
     const held = nodes.map((node) => `${this.owner.nodes[node]?.name ?? node} at ${markText(this.owner.marks?.[node])}`).join(', ');
     const shown = chunk.pieces.map((it) => shortInterval(it.startText, it.endText)).join('; ');
     const numbers = chunk.partitions.slice(0, 20).map(([number]) => number).join(', ') + (chunk.partitions.length > 20 ? ', …' : '');
+    const core = corePartitions(chunk) === chunk.core ? 'all' : corePartitions(chunk);
     return [`${this.lanes.versions[chunk.lane]}, ${shortInterval(chunk.startText, chunk.endText)}: ${stateWords(chunk)}`,
-      `partitions ${numbers}; core count ${chunk.core}, of which ${corePartitions(chunk) === chunk.core ? 'all' : corePartitions(chunk)} are there`, `nodes ${held}`,
+      `partitions ${numbers}; core count ${chunk.core}, of which ${core} are there`, `nodes ${held}`,
       ...(chunk.state === 'visible' ? [`visible ${shown}`] : []),
       ...chunk.missing.map((it) => `missing: partition ${it.part}, ${shortInterval(it.startText, it.endText)}`)];
   }
 
   showDetail(chunk) {
-    const fileName = (number) => `${this.lanes.source}_${chunk.startText}_${chunk.endText}_${this.lanes.versions[chunk.lane]}${number ? `_${number}` : ''}.seg`;
-    const button = (node, number) => element('button', { type: 'button', onclick: () => this.owner.showRows(node, fileName(number)) }, `rows at ${this.owner.nodes[node]?.name}`);
-    const parts = chunk.partitions.slice(0, MOST_PARTITIONS).map(([number, held]) => element('li', {}, `partition ${number}${number < chunk.core ? '' : ', not core'}: `,
-      ...held.flatMap((node) => [button(node, number), ' '])));
+    const front = `${this.lanes.source}_${chunk.startText}_${chunk.endText}_${this.lanes.versions[chunk.lane]}`;
+    const show = (node, number) => () => this.owner.showRows(node, `${front}${number ? `_${number}` : ''}.seg`);
+    const button = (node, number) => element('button', { type: 'button', onclick: show(node, number) }, `rows at ${this.owner.nodes[node]?.name}`);
+    const item = ([number, held]) => element('li', {}, `partition ${number}${number < chunk.core ? '' : ', not core'}: `,
+      ...held.flatMap((node) => [button(node, number), ' ']));
+    const parts = chunk.partitions.slice(0, MOST_PARTITIONS).map(item);
     const rest = chunk.partitions.length - parts.length;
     this.detail.replaceChildren(...this.words(chunk).map((line) => element('div', {}, line)),
       element('ul', { class: 'parts' }, ...parts, rest > 0 ? element('li', {}, `and ${rest} more`) : null));
@@ -272,7 +281,7 @@ export class Timeline {
   }
 }
 
+/** An instant of a view, which may go a little beyond the years that there are. */
 function instantText(ms) {
-  const at = new Date(ms);
-  return at.getUTCFullYear() < 0 || at.getUTCFullYear() > 9999 ? (ms < 0 ? '0000-01-01T00:00:00.000Z' : '9999-12-31T23:59:59.999Z') : at.toISOString();
+  return new Date(Math.min(Math.max(ms, FIRST), LAST)).toISOString();
 }
