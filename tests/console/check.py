@@ -86,7 +86,8 @@ def rows_of(text, body):
 # What the page shows
 
 def ask(page, text, seconds=20):
-    page.value(f"document.getElementById('text').value = {json.dumps(text)}; document.querySelector('#query button').click()")
+    page.value(f"document.getElementById('text').value = {json.dumps(text)}")
+    page.value("document.getElementById('text').dispatchEvent(new Event('input')); document.querySelector('#query button').click()")
     page.wait_for("!document.querySelector('#query button').disabled", seconds)
 
 

@@ -3,14 +3,14 @@
 
     python3 tests/console/pictures.py [FOLDER]        # docs/images unless said otherwise; a minute and a half
 
-It serves examples/cluster on the ports of its config; so nothing else may serve it meanwhile.
+It serves a copy of examples/cluster on the ports of console.json; so nothing else may serve that meanwhile.
 """
-import json, os, sys
+import json, os, shutil, sys, tempfile
 
 from browser import Browser
 from served import CHROMIUM, TOP, console_of, silent
 
-CONFIG = os.path.join('examples', 'cluster', 'console.json')
+CLUSTER = os.path.join(TOP, 'examples', 'cluster')
 HOURS = {'queryType': 'timeseries', 'dataSource': 'orders', 'granularity': 'hour', 'intervals': '2024-05-02T06:00/2024-05-02T20:00',
          'aggregations': [{'type': 'count', 'name': 'orders'}, {'type': 'longSum', 'name': 'cents', 'fieldName': 'cents'}]}
 REFUSED = {**HOURS, 'granularity': 'week'}
@@ -23,7 +23,8 @@ def lines(query):
 
 
 def ask(page, query, seconds=20):
-    page.value(f"document.getElementById('text').value = {json.dumps(lines(query))}; document.querySelector('#query button').click()")
+    page.value(f"document.getElementById('text').value = {json.dumps(lines(query))}")
+    page.value("document.getElementById('text').dispatchEvent(new Event('input')); document.querySelector('#query button').click()")
     page.wait_for("!document.querySelector('#query button').disabled", seconds)
 
 
@@ -35,13 +36,22 @@ def picture(page, path, to):
     print(f'{path}: {os.path.getsize(path) // 1000} kB')
 
 
-def main():
-    folder = sys.argv[1] if len(sys.argv) > 1 else os.path.join(TOP, 'docs', 'images')
-    with open(os.path.join(TOP, CONFIG), encoding='utf-8') as file:
+def copy_cluster(to):
+    """The example, whose folders get no file of incarnations by this; the path of its config, its broker and its nodes."""
+    with open(os.path.join(CLUSTER, 'console.json'), encoding='utf-8') as file:
         config = json.load(file)
-    broker, nodes = config['brokers'][0]['address'], [it['address'] for it in config['nodes']]
+    for node in config['nodes']:
+        shutil.copytree(os.path.join(TOP, node['folder']), os.path.join(to, node['name']), ignore=shutil.ignore_patterns('incarnation*'))
+        node['folder'] = os.path.join(to, node['name'])
+    with open(os.path.join(to, 'config.json'), 'w', encoding='utf-8') as file:
+        json.dump({**config, 'queries': []}, file)
+    return os.path.join(to, 'config.json'), config['brokers'][0]['address'], [it['address'] for it in config['nodes']]
+
+
+def make_pictures(folder, to):
+    config, broker, nodes = copy_cluster(to)
     os.makedirs(folder, exist_ok=True)
-    with console_of(CONFIG, broker) as url, Browser(CHROMIUM, WIDTH, 1500) as page:
+    with console_of(config, broker) as url, Browser(CHROMIUM, WIDTH, 1500) as page:
         page.open(url, "document.querySelectorAll('.in-view li').length >= 4")
         ask(page, HOURS)
         picture(page, f'{folder}/console.png', '.beside')
@@ -57,6 +67,14 @@ def main():
             ask(page, HOURS, 130)
             page.wait_for("document.querySelectorAll('#nodes td.fault').length >= 2")
             picture(page, f'{folder}/console-missing.png', '.beside')
+
+
+def main():
+    to = tempfile.mkdtemp()
+    try:
+        make_pictures(sys.argv[1] if len(sys.argv) > 1 else os.path.join(TOP, 'docs', 'images'), to)
+    finally:
+        shutil.rmtree(to, ignore_errors=True)
 
 
 if __name__ == '__main__':

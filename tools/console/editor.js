@@ -60,12 +60,19 @@ export function markText(place) {
   marks.scrollTop = editor.scrollTop;
 }
 
-/** Keeps the mark under the text where that scrolls, and takes it away once the text changes. */
+/** Takes the mark of an earlier text away, and gives the editor as many lines as the text. */
+function fitText() {
+  markText(null);
+  byId('text').rows = Math.min(Math.max(byId('text').value.split('\n').length + 1, 10), 26);
+}
+
+export function setText(text) {
+  byId('text').value = text;
+  fitText();
+}
+
+/** Keeps the mark under the text where that scrolls. */
 export function startEditor() {
-  const [editor, marks] = [byId('text'), byId('marks')];
-  editor.addEventListener('scroll', () => { marks.scrollTop = editor.scrollTop; });
-  editor.addEventListener('input', () => {
-    markText(null);
-    editor.rows = Math.min(Math.max(editor.value.split('\n').length + 1, 10), 26);
-  });
+  byId('text').addEventListener('scroll', () => { byId('marks').scrollTop = byId('text').scrollTop; });
+  byId('text').addEventListener('input', fitText);
 }

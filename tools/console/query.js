@@ -1,7 +1,7 @@
 // A query: its text, what the broker answers, and what of it is missing.
 
 import { chartOf } from './chart.js';
-import { markText, placeOfKey, startEditor } from './editor.js';
+import { markText, placeOfKey, setText, startEditor } from './editor.js';
 import { byId, counted, element, request, shortInterval, table } from './page.js';
 
 const MOST_ROWS = 1000;
@@ -96,11 +96,13 @@ async function ask(owner) {
 /** `owner` has `broker`, `countConnections`, `showMissing(source, missing)` and `lookAt(source, slice)`. */
 export function startQuery(examples, owner) {
   const take = () => {
-    byId('text').value = examples[Number(byId('example').value)]?.text ?? '';
+    const chosen = examples[byId('example').selectedIndex];
+    if (!chosen) return;
+    setText(chosen.text);
     byId('refusal').textContent = '';
-    byId('text').dispatchEvent(new Event('input'));
   };
-  byId('example').replaceChildren(...examples.map((it, place) => element('option', { value: place }, it.name)));
+  byId('example').replaceChildren(...examples.map((it) => element('option', {}, it.name)), element('option', { value: '' }, 'none: a text of your own'));
+  byId('text').addEventListener('input', () => { byId('example').value = ''; });
   byId('example').addEventListener('change', take);
   byId('query').addEventListener('submit', (event) => {
     event.preventDefault();
