@@ -60,7 +60,6 @@ def make_pictures(folder, to):
         page.value("document.querySelector('.timeline li').click()")
         page.value("document.querySelector('.timeline [role=listbox]').focus()")
         page.key('Enter')
-        page.mouse('mouseMoved', 470, 226)
         picture(page, f'{folder}/console-correction.png', '.timeline')
         page.open(url + '?', "document.querySelectorAll('.in-view li').length >= 4")
         with silent([nodes[0], nodes[2]]):
