@@ -157,13 +157,13 @@ class Nodes:
 # Brokers: what each knows of each node, as snapshots
 
 def snapshot(address, node):
-    """The text of what a broker knows of a node, None where it was never synced."""
+    """What a broker knows of a node, as text and as JSON, None where it was never synced."""
     status, body = exchange(address, 'GET', f'/druid-internal/v1/inventory/{node}', seconds=EXCHANGE)
     if status == 404 and b'V3' in body:
         return None
     if status != 200:
         raise OSError(f'status {status}')
-    return body.replace(b'\n', b' ')
+    return body.replace(b'\n', b' '), json.loads(body)
 
 
 def look_at_broker(broker, nodes):
@@ -176,7 +176,7 @@ def look_at_broker(broker, nodes):
 
 def marks_of(look):
     """The mark of each node at a broker; None where it was never synced, and for all nodes where the broker does not answer."""
-    return look.get('snapshots') and [it and mark_of(json.loads(it)['counter']) for it in look['snapshots']]
+    return look.get('snapshots') and [it and mark_of(it[1]['counter']) for it in look['snapshots']]
 
 
 # Timelines: what `druid_cluster replay` says of a broker's snapshots
@@ -229,8 +229,8 @@ class Chunk:
 def chunks_of(snapshots):
     """The chunks of each source, in the order of their starts."""
     sources = {}
-    for node, text in enumerate(snapshots):
-        for load in json.loads(text)['requests'] if text else []:
+    for node, known in enumerate(snapshots):
+        for load in known[1]['requests'] if known else []:
             key = load['interval'], load['version']
             chunks = sources.setdefault(load['dataSource'], {})
             if key not in chunks:
@@ -275,7 +275,7 @@ def timelines_of(program, names, snapshots):
     """The timelines of what a broker knows, and the seconds that `replay` took."""
     took = []
     sources = chunks_of(snapshots)
-    replies = [(node, text) for node, text in enumerate(snapshots) if text]
+    replies = [(node, it[0]) for node, it in enumerate(snapshots) if it]
     lookups = [(source, whole_of(chunks)) for source, chunks in sources.items()]
     found = answers_of_lookups(program, names, replies, lookups, took)
     pieces = {source: timeline_of(chunks, it) for (source, chunks), it in zip(sources.items(), found)}
@@ -308,7 +308,7 @@ class Brokers:
             snapshots = looks[chosen].get('snapshots')
             if not snapshots:
                 return answer
-            digest = hashlib.sha256(b'\n'.join(it or b'' for it in snapshots)).hexdigest()
+            digest = hashlib.sha256(b'\n'.join(it[0] if it else b'' for it in snapshots)).hexdigest()
             if digest != known:
                 if self.kept.get('digest') != digest:
                     self.kept = {'digest': digest, **timelines_of(self.program, self.names, snapshots)}
