@@ -1,0 +1,90 @@
+"""A cluster with its console, served for a test or a measurement, and what its broker says: all of it ends with the `with`, or after a while."""
+import contextlib, http.client, json, os, socket, subprocess, sys, time
+
+TOP = os.path.dirname(os.path.dirname(os.path.dirname(os.path.abspath(__file__))))
+sys.dont_write_bytecode = True
+sys.path.insert(0, os.path.join(TOP, 'tools'))
+from make_segments import file_of  # noqa: E402
+
+PROGRAM = os.environ.get('DRUID_CLUSTER') or os.path.join(TOP, 'crates', 'druid_cluster_program', 'out', 'druid_cluster_program')
+CHROMIUM = os.environ.get('CHROMIUM', 'chromium')
+LONGEST = '900'  # Seconds after which `timeout` ends what a killed test leaves.
+
+
+def free_ports(count):
+    with contextlib.ExitStack() as held:
+        sockets = [held.enter_context(socket.socket()) for _ in range(count)]
+        for it in sockets:
+            it.bind(('127.0.0.1', 0))
+        return [it.getsockname()[1] for it in sockets]
+
+
+def write_segments(folder, segments):
+    os.makedirs(folder, exist_ok=True)
+    for it in segments:
+        with open(os.path.join(folder, it.identifier() + '.seg'), 'wb') as file:
+            file.write(file_of(it))
+
+
+def write_config(path, folders):
+    """A config of one broker over nodes `n0` and on, one for each folder."""
+    broker, *nodes = [f'127.0.0.1:{port}' for port in free_ports(1 + len(folders))]
+    with open(path, 'w', encoding='utf-8') as file:
+        json.dump({'brokers': [{'address': broker, 'workers': 4}], 'connections': 1_000_000, 'kept': 100, 'queries': [], 'turns': 1,
+                   'nodes': [{'address': address, 'folder': folder, 'loads': [], 'name': f'n{place}', 'workers': 2}
+                             for place, (address, folder) in enumerate(zip(nodes, folders))]}, file)
+    return broker, nodes
+
+
+def exchange(address, target, text=None, **fields):
+    """The status and the body of a response; the target is sent as it is."""
+    host, port = address.split(':')
+    connection = http.client.HTTPConnection(host, int(port), timeout=150)
+    try:
+        connection.request('GET' if text is None else 'POST', target, text, fields)
+        response = connection.getresponse()
+        return response.status, response.read()
+    finally:
+        connection.close()
+
+
+@contextlib.contextmanager
+def running(words):
+    process = subprocess.Popen(['timeout', LONGEST, *words], stdout=subprocess.PIPE, cwd=TOP)
+    try:
+        yield process
+    finally:
+        process.terminate()
+        process.wait()
+        process.stdout.close()
+
+
+def is_known(broker):
+    try:
+        return exchange(broker, '/druid/broker/v1/loadstatus')[1] == b'{"inventoryInitialized":true}'
+    except OSError:
+        return False
+
+
+@contextlib.contextmanager
+def console_of(config, broker):
+    """The page's address, once the broker of the config knows all nodes."""
+    with running([PROGRAM, 'serve', config]) as program:
+        until = time.monotonic() + 120
+        while not is_known(broker):
+            if program.poll() is not None or time.monotonic() > until:
+                raise OSError(f'{PROGRAM} does not serve {config}')
+            time.sleep(0.1)
+        with running([sys.executable, os.path.join(TOP, 'tools', 'console.py'), '--port', '0', '--program', PROGRAM, config]) as console:
+            yield console.stdout.readline().decode().strip()
+
+
+@contextlib.contextmanager
+def silent(addresses):
+    """Clients that say nothing hold all workers of these nodes, which so do not answer; each worker for 30 s, and then the next."""
+    with contextlib.ExitStack() as held:
+        for address in addresses:
+            host, port = address.split(':')
+            for _ in range(8):
+                held.enter_context(socket.create_connection((host, int(port))))
+        yield
