@@ -1,5 +1,5 @@
 //! What views read of what is published.
-ghost use Rattle.std.specs.Prelude.{◌≡◌};
+ghost use Rattle.std.specs.Prelude.{◌≡◌, ◌≤◌};
 
 use crate::printing::{assert_told, printed};
 use crate::turns::{first_mark, link, one_node};
