@@ -109,10 +109,6 @@ members_at-none [] g none = refl
 members_at-none (c ∷ cs) g none =
     at_tail c cs g (none c (0, omega arith, refl)) ∙ members_at-none cs g (λ d there. none d (Contains-later c cs d there))
 
--- two chunks of one group are one
-pub one_chunk : (chunks : List Chunk) → IsDistinct same_group (keys_of chunks) → (g : Group) (ms ns : List Member) → Contains chunks (g, ms) → Contains chunks (g, ns) → ms ≡ ns
-one_chunk chunks once g ms ns here there = sym (members_at-found chunks once g ms here) ∙ members_at-found chunks once g ns there
-
 -- a chunk that was found has the members at the group
 pub members_at-of : (chunks : List Chunk) → AreChunks chunks → (g : Group) (c : Chunk) → Contains chunks c → c.0 ≡ g → c.1 ≡ members_at chunks g
 members_at-of chunks are g c there e =

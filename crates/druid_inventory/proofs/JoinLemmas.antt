@@ -130,20 +130,6 @@ abbrev pub NoneLaterTo : List Entry → List Entry → ℕ → Type 0
 NoneLaterTo a b n =
     (k : ℕ) (x y : Entry) → k < n → slice_get a k ≡ Some x → slice_get b k ≡ Some y → is_lt (mark_cmp x.mark y.mark) ≡ false
 
-pub none_later-more : (a b : List Entry) (n : ℕ) (x y : Entry) → NoneLaterTo a b n → slice_get a n ≡ Some x → slice_get b n ≡ Some y
-    → is_lt (mark_cmp x.mark y.mark) ≡ false → NoneLaterTo a b (n + 1)
-none_later-more a b n x y h f g e k v w l p q = elim (cases_order k n) [
-  | inl at ↦
-      let left : v ≡ x = same_Some v x (sym p ∙ ap (slice_get a) at ∙ f) in
-      let right : w ≡ y = same_Some w y (sym q ∙ ap (slice_get b) at ∙ g) in
-      (λ i. is_lt (mark_cmp (left i).mark (right i).mark)) ∙ e
-  | inr (inl before) ↦ h k v w before p q
-  | inr (inr behind) ↦ absurd (omega arith)
-]
-
-pub none_later-all : (a b : List Entry) (n : ℕ) → length a ≡ n → NoneLaterTo a b n → NoneLater a b
-none_later-all a b n e h k x y f g = let l = within a k x f in h k x y (omega arith) f g
-
 -- where nothing is later, the first counts
 pub none_later-left : (a b : List Entry) → length a ≡ length b → NoneLater a b → later_each a b ≡ a
 none_later-left [] b e h = refl

@@ -251,9 +251,6 @@ judged_drop s cs i count c d j l here is strict =
     let one : length (without_segment d j.after) ≡ count - 1 = omega arith in
     (omega arith, judged_more s cs i count (count - 1) c j l here strict (ap (has_room j.after) is) (ap (λ (x : Change). length (after j.after x)) is ∙ one))
 
-pub JudgedTo-none : (s : List Described) (cs : List Change) → IsSegmentSet s → JudgedTo s cs 0 (length s)
-JudgedTo-none s cs h = record { after = s; made = refl; length = refl; set = h }
-
 -- ---- changes that are known to be made
 
 -- each change of a replayed list is strict and has room, and leaves what the next begins with

@@ -38,9 +38,6 @@ of_slot m ordered x (Some s) e there =
     let entry = (btree_map_get_iff nat_cmp_total exact_unsigned m ordered x.partition s).0 e in
     Contains-flat_map_back (λ (e : ℕ × List (ℕ × ℕ)). map (member_at e.0) e.1) m.entries (x.partition, s) x entry (Contains-map_back (member_at x.partition) s (x.node, x.core) there)
 
-pub Contains-members_in : (m : Slots) → tree.IsOrdered nat_cmp m → (x : Member) → Contains (members_in m.entries) x ↔ Contains (slot_of m x.partition) (x.node, x.core)
-Contains-members_in m ordered x = (in_slot m ordered x, of_slot m ordered x (tree.get nat_cmp m x.partition) refl)
-
 member_same : (x : Member) (node partition core : ℕ) → x.partition ≡ partition → ◌≡◌ {A = ℕ × ℕ} (x.node, x.core) (node, core) → x ≡ record { node = node; partition = partition; core = core }
 member_same x node partition core e f i = record { node = (f i).0; partition = e i; core = (f i).1 }
 

@@ -67,15 +67,6 @@ unfolding core_at
 core_read short =
     accepted_read (λ n. nat_le n max_core) (λ n. n ≤ max_core) (number_read short w16 (2 ^ 16) wide16) (λ core is fine. leb-true core max_core is) (λ core h. (omega arith, le-leb core max_core h))
 
--- the core count that is read is one that a descriptor takes
-pub core_at_limit : (short : FileFault) (bytes : List ℕ) (core : ℕ) (rest : List ℕ) → core_at short bytes ≡ Ok (core, rest) → core ≤ max_core
-unfolding core_at
-core_at_limit short bytes core rest e =
-    let s = bind_ok (number_at short w16 bytes) (λ part. accepted (λ n. nat_le n max_core) part.0 >>= λ core. Ok (core, part.1)) (core, rest) e in
-    let m = bind_ok (accepted (λ n. nat_le n max_core) s.0.0) (λ core. Ok (core, s.0.1)) (core, rest) s.2 in
-    let g = accepted_ok (λ n. nat_le n max_core) s.0.0 m.0 m.1 in
-    subst (λ (p : ℕ × List ℕ). p.0 ≤ max_core) (ok_is (m.0, s.0.1) (core, rest) m.2) (leb-true m.0 max_core g.1)
-
 abbrev pub described : List ℕ → Extent → List ℕ → ℕ → ℕ → ℕ → Described
 described source extent version partition core size = record {
   id = record { source = source; interval = extent; version = version; partition = partition };

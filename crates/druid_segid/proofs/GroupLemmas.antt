@@ -60,9 +60,6 @@ Outranks-one_way g h above below =
     let back = reverse-Greater (rank_cmp g h) (rank_cmp h g) (rank_cmp-total.antisymm g h) above in
     absurd (cc)
 
-pub Outranks-not_itself : (g : Group) → Outranks g g → ⊥
-Outranks-not_itself g above = Outranks-one_way g g above above
-
 pub Outranks-onward : (g h k : Group) → Outranks g h → Outranks h k → Outranks g k
 Outranks-onward g h k first second =
     let lower = reverse-Greater (rank_cmp g h) (rank_cmp h g) (rank_cmp-total.antisymm g h) first in

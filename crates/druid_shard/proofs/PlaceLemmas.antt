@@ -41,14 +41,6 @@ pub record IsLeft (s : List Described) (id : Identifier) (low high : ℕ) : Type
   pub below : AllBefore s id low
   pub above : AllBehind s id high
 
-pub IsLeft-all : (s : List Described) (id : Identifier) (n : ℕ) → n ≡ length s → IsLeft s id 0 n
-IsLeft-all s id n e = record {
-  apart = omega arith;
-  within = omega arith;
-  below = λ k x l. absurd (omega arith);
-  above = λ k x m l. absurd (omega arith);
-}
-
 pub IsLeft-above : (s : List Described) (id : Identifier) (low high m : ℕ) (y : Described) → AreSorted s → IsLeft s id low high → m < high → low ≤ m
     → y ≡ get_or s m y → Less ≡ slice_cmp nat_cmp (identifier_text y.id) (identifier_text id) → IsLeft s id (m + 1) high
 IsLeft-above s id low high m y h left under over is less = record {
@@ -92,14 +84,6 @@ IsLeft-below s id low high m y h left under over is greater = record {
 } where
   behind : (z : Described) → Greater ≡ slice_cmp nat_cmp (identifier_text z.id) (identifier_text id) → Precedes (identifier_text id) (identifier_text z.id)
   behind z e = nat_list_cmp_total.antisymm (identifier_text id) (identifier_text z.id) ∙ ap ordering_reverse (sym e)
-
--- nothing is left
-pub IsLeft-none : (s : List Described) (id : Identifier) (low high : ℕ) → IsLeft s id low high → high ≤ low → BelongsAt s id low
-IsLeft-none s id low high left done = record {
-  within = let a = left.within in let b = left.apart in omega arith;
-  below = left.below;
-  above = λ k x m l. let b = left.apart in left.above k x (omega arith) l;
-}
 
 -- it is found
 pub StandsAt-found : (s : List Described) (id : Identifier) (m : ℕ) (y : Described) → m < length s → y ≡ get_or s m y → Equal ≡ identifier_cmp y.id id → StandsAt s id m

@@ -23,14 +23,6 @@ common-Share a b =
       | inr apart ↦ rw (le-ltb (max a.start b.start) (min a.end b.end) apart) (λ e. absurd (false≢true e), λ s. absurd (omega (arith, lt-from_Share a b s)))
     ]
 
-pub common-IsMeet : (a b : Extent) → IfSome (common a b) (IsMeet a b)
-common-IsMeet a b =
-    elim (cases_lt (max a.start b.start) (min a.end b.end)) [
-      | inl met ↦ rw (lt-ltb (max a.start b.start) (min a.end b.end) met)
-          (λ t. (λ h. ((omega arith, omega arith), (omega arith, omega arith)), λ h. (omega arith, omega arith)))
-      | inr apart ↦ rw (le-ltb (max a.start b.start) (min a.end b.end) apart) tt
-    ]
-
 -- ---- lists of intervals
 
 pub AnyHas-append : (xs ys : List Extent) (t : ℕ) → AnyHas (xs ++ ys) t ↔ (AnyHas xs t ⊎ AnyHas ys t)

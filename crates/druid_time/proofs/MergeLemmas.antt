@@ -17,10 +17,6 @@ pub record IsMerged (first : Extent) (rest : List Extent) (i : ℕ) (done : List
   pub same : (t : ℕ) → AnyHas (done ++ last ∷ []) t ↔ AnyHas (first ∷ take i rest) t
   pub before : (k : ℕ) (d : Extent) → i ≤ k → k < length rest → last.start ≤ (get_or rest k d).start
 
-pub IsMerged-parts : (first : Extent) (rest : List Extent) (i : ℕ) (done : List Extent) (last : Extent) → IsMerged first rest i done last → AreParts (done ++ last ∷ [])
-IsMerged-parts first rest i done last h =
-    record { each = All-push IsExtent done last h.each h.valid; apart = h.apart }
-
 -- the instants of one interval more
 more_instants : (first : Extent) (rest : List Extent) (i : ℕ) (t : ℕ) (next : Extent) → i < length rest → next ≡ get_or rest i next → AnyHas (first ∷ take (i + 1) rest) t ↔ (AnyHas (first ∷ take i rest) t ⊎ Has next t)
 more_instants first rest i t next below is =

@@ -453,10 +453,6 @@ extent_text-parts : (e : Extent) → extent_text e ≡ instant_text e.start ++ 4
 unfolding extent_text
 extent_text-parts e = append_assoc (instant_text e.start) (47 ∷ []) (instant_text e.end)
 
-pub length-extent_text : (e : Extent) → length (extent_text e) ≡ 49
-length-extent_text e =
-    rw extent_text-parts (omega (arith, length-append (instant_text e.start) (47 ∷ instant_text e.end), length-instant_text e.start, length-instant_text e.end))
-
 -- a printed interval is read back
 pub extent_at-extent_text : (e : Extent) → IsExtent e → extent_at (extent_text e) ≡ Ok e
 extent_at-extent_text e h =

@@ -183,10 +183,6 @@ StartLater-first chunks place t first order l at below =
     subst (λ (xs : List Group). StartLater xs t) (sym e)
     (behind_first first (drop (place + 1) chunks) t (subst StartInOrder e (IsNonDecreasingBy-drop (λ (x : Group). x.interval.start) place chunks order)) below)
 
-pub StartLater-end : (chunks : List Group) (place t : ℕ) → length chunks ≤ place → StartLater (drop place chunks) t
-StartLater-end chunks place t done e there =
-    absurd (Contains-nil e (subst (λ (xs : List Group). Contains xs e) (drop_all place chunks done) there))
-
 -- each that has the instant is active
 pub AreSplit-all : (chunks rest active : List Group) (t : ℕ) → AreSplit chunks rest active t → StartLater rest t → (e : Group) → Contains chunks e → Has e.interval t → Contains active e
 AreSplit-all chunks rest active t h behind e there has = elim (h.all e there) [

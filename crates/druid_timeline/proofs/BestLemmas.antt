@@ -17,9 +17,6 @@ pub record IsBestSoFar (chunks rest : List Group) (t : ℕ) (best : Option Group
   pub found : MatchOption best (Unit {0}) (IsCandidateOf chunks t)
   pub passed : (g : Group) → IsCandidateOf chunks t g → IsCandidateOf rest t g ⊎ IsBehind best g
 
-pub IsBestSoFar-start : (chunks : List Group) (t : ℕ) → IsBestSoFar chunks chunks t None
-IsBestSoFar-start chunks t = record { among = λ g h. h; found = tt; passed = λ g h. inl h }
-
 no_candidate : (t : ℕ) (g : Group) → IsCandidateOf [] t g → ⊥
 no_candidate t g (there, has) = Contains-nil g there
 

@@ -313,13 +313,6 @@ back_unpushed rs to u r old pos le at runs before not t g = (λ s. inl s, back) 
       absurd (no_back (take (to - 1) rs) r u (subst (λ (xs : List Run). AreRuns (map shown_at xs)) e (runs_take rs to runs)) (started rs to u r e before) ended t g
       (subst (λ (xs : List Run). Shows (map shown_at xs) t g) e h.0) h.1)
 
--- no run is before the first place
-pub back_none : (rs : List Run) (to u : ℕ) (old : List Shown) → to ≡ 0 → (t : ℕ) (g : Group) → Shows old t g ↔ (Shows old t g ⊎ (Shows (map shown_at (take to rs)) t g × (u ≤ t)))
-back_none rs to u old none t g = (λ s. inl s, back) where
-  back : Shows old t g ⊎ (Shows (map shown_at (take to rs)) t g × (u ≤ t)) → Shows old t g
-  back (inl was) = was
-  back (inr h) = absurd (subst (λ (k : ℕ). Shows (map shown_at (take k rs)) t g) none h.0)
-
 pub front_pushed : (rs : List Run) (from u : ℕ) (r : Run) (front : List Run) (before : Extent) (key : Group) → from < length rs → r ≡ get_or rs from r → AreRuns (map shown_at rs)
     → ((q : Run) → Contains (drop from rs) q → u ≤ q.0.end) → before ≡ record { start = r.0.start; end = u } → r.0.start < u → key ≡ r.1 → front ≡ (before, key) ∷ []
     → (t : ℕ) (g : Group) → Shows (map shown_at front) t g ↔ (Shows (map shown_at (drop from rs)) t g × (t < u))

@@ -123,12 +123,6 @@ first run st = record {
   shows = λ t g. Shows-push [] (shown_at run) t g;
 }
 
-pub IsPushed-first : (old rest new : List Run) (run : Run) → old ≡ rest ++ [] → rest ≡ [] → new ≡ rest ++ run ∷ [] → IsStretch (shown_at run) → IsPushed old new run
-IsPushed-first old rest new run e none f st =
-    let e' : old ≡ [] = e ∙ ap (λ (xs : List Run). xs ++ []) none in
-    let f' : new ≡ run ∷ [] = f ∙ ap (λ (xs : List Run). xs ++ run ∷ []) none in
-    subst (λ (xs : List Run). IsPushed xs new run) (sym e') (subst (λ (xs : List Run). IsPushed [] xs run) (sym f') (first run st))
-
 -- the run that two make
 abbrev pub joined : Run → Run → Run
 joined a b = (record { start = a.0.start; end = b.0.end }, a.1)
@@ -375,17 +369,6 @@ pub record AreBoundsSoFar (part : Extent) (cs rest : List Group) (bounds : List 
   pub within : (b : ℕ) → Contains bounds b → b ≤ part.end
   pub starts : (e : Group) → Contains cs e → Contains rest e ⊎ IsBoundIf part bounds e.interval.start
   pub ends : (e : Group) → Contains cs e → Contains rest e ⊎ IsBoundIf part bounds e.interval.end
-
-pub AreBoundsSoFar-start : (part : Extent) (cs : List Group) (bounds : List ℕ) → bounds ≡ part.end ∷ [] → AreBoundsSoFar part cs cs bounds
-AreBoundsSoFar-start part cs bounds e = record {
-  last = subst (λ (bs : List ℕ). Contains bs part.end) (sym e) (0, omega arith, refl);
-  within = λ b there. elim (Contains-cons part.end [] b (subst (λ (bs : List ℕ). Contains bs b) e there)) [
-    | inl same ↦ let s : part.end ≡ b = same in omega arith
-    | inr none ↦ absurd (Contains-nil b none)
-  ];
-  starts = λ x there. inl there;
-  ends = λ x there. inl there;
-}
 
 pub AreBoundsSoFar-more : (part : Extent) (cs rest : List Group) (e : Group) (old mid new : List ℕ) → AreBoundsSoFar part cs (e ∷ rest) old
     → IsBoundIf part mid e.interval.start → ((b : ℕ) → Contains old b → Contains mid b) → ((b : ℕ) → Contains mid b → Contains old b ⊎ (b ≤ part.end))

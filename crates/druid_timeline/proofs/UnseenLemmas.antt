@@ -27,9 +27,6 @@ use Rattle.druid_timeline.proofs.SweepLemmas.{Run, AreRuns-stretch}
 abbrev pub IsShownBy : List Run → Group → Type 0
 IsShownBy rs g = (r : Run) × Contains rs r × (r.1 ≡ g)
 
-pub IsShownBy-none : (rs : List Run) (g : Group) → rs ≡ [] → IsShownBy rs g → ⊥
-IsShownBy-none rs g none (r, there, same) = Contains-nil r (subst (λ (xs : List Run). Contains xs r) none there)
-
 -- the set of the chunks that are shown, with that of one run more
 pub IsShownBy-more : (rs : List Run) (i : ℕ) (r : Run) (key : Group) (old new : Group → Bool) → i < length rs → r ≡ get_or rs i r → key ≡ r.1
     → ((q : Group) → new q ≡ cond (same_group key q) true (old q)) → ((g : Group) → IsTrue (old g) ↔ IsShownBy (take i rs) g) → (g : Group) → IsTrue (new g) ↔ IsShownBy (take (i + 1) rs) g

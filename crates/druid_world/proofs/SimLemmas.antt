@@ -249,9 +249,6 @@ exactly r s t event f other ok told =
 
 -- ---- the opening
 
-pub replicate-more : {X : Type 0} (n : ℕ) (x : X) → replicate n x ++ x ∷ [] ≡ replicate (n + 1) x
-replicate-more n x = replicate-append-replicate n 1 x
-
 pub names-more : (n : ℕ) → node_names n ++ node_name n ∷ [] ≡ node_names (n + 1)
 names-more n = sym (map-range_with_len_more node_name 0 n n (omega arith))
 
