@@ -1,3 +1,4 @@
 -- what public contracts rest on
 pub mod Chunks
+pub mod Edits
 pub mod Places

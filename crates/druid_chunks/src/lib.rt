@@ -6,6 +6,8 @@ mod chunks;
 mod order;
 mod overlap;
 mod place;
+mod transaction;
 
 pub use chunk::Chunk;
 pub use chunks::Chunks;
+pub use transaction::Transaction;
