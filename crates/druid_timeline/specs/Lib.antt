@@ -6,6 +6,7 @@ pub mod Chunks
 pub mod Overshadowed
 pub mod Candidates
 pub mod Edited
+pub mod Transactions
 -- words of private contracts
 pub mod Stretches
 pub mod Active

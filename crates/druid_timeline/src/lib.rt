@@ -10,6 +10,7 @@ mod overshadowed;
 mod piece;
 mod sweep;
 mod timeline;
+mod transaction;
 mod turn;
 
 pub use fault::TimelineFault;
@@ -19,3 +20,4 @@ pub use laws::{
 };
 pub use piece::{Partitions, Piece};
 pub use timeline::Timeline;
+pub use transaction::Transaction;

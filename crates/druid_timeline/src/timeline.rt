@@ -24,10 +24,10 @@ use std::marker::Model;
 /// A contract sees the source, and what is held of it as a set.
 #[derive(Debug, Drop)]
 pub struct Timeline {
-    alloc: Global,
-    source: Name,
-    chunks: Chunks,
-    runs: Vec<(Interval, GroupKey)>,
+    pub(crate) alloc: Global,
+    pub(crate) source: Name,
+    pub(crate) chunks: Chunks,
+    pub(crate) runs: Vec<(Interval, GroupKey)>,
 }
 
 impl Model for Timeline {
