@@ -1,4 +1,4 @@
-use Rattle.std.proofs.Common.{◌≡◌, ◌∙◌, List, ap, subst}
+use Rattle.std.proofs.Common.{◌≡◌, List, subst}
 use Rattle.druid_segid.specs.Group.{Group}
 use Rattle.druid_chunks.specs.Chunks.{Chunk, members_at}
 use Rattle.druid_timeline.specs.Chunks.{held_in}

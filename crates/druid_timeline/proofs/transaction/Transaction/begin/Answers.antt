@@ -1,4 +1,4 @@
-use Rattle.std.proofs.Common.{◌≡◌, ◌∙◌, List, sym, subst}
+use Rattle.std.proofs.Common.{◌≡◌, sym, subst}
 use Rattle.druid_segid.specs.Group.{Group}
 use Rattle.druid_chunks.specs.Chunks.{members_at}
 use Rattle.druid_timeline.specs.Holding.{Serving, members_of}

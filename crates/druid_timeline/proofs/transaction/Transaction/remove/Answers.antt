@@ -2,7 +2,7 @@ use Rattle.std.proofs.Common.{◌∙◌, List, refl, sym, ap, subst, rules}
 use Rattle.std.specs.Result.{IsErrOf}
 use Rattle.std.proofs.lemmas.Bool.{false≢true}
 use Rattle.druid_timeline.specs.Chunks.{held_in}
-use Rattle.druid_timeline.specs.Holding.{Held, Serving, IsHeld, RemovesHeld, RemovesOneHeld, SameHeld}
+use Rattle.druid_timeline.specs.Holding.{Held, IsHeld, RemovesHeld, RemovesOneHeld, SameHeld}
 use Rattle.druid_timeline.specs.Transactions.{Edited}
 use Rattle.druid_timeline.specs.declared.fault.TimelineFault.TheVariants as faults
 use Rattle.druid_timeline.proofs.ChunkLemmas.{holds_held}
