@@ -15,7 +15,7 @@ use druid_time::{Instant, Interval};
 use std::alloc::{AllocError, Global};
 
 // The runs from one place to another are exchanged for these.
-#[derive(Drop)]
+#[derive(Debug, Drop)]
 pub(crate) struct Edit {
     pub(crate) from: usize,
     pub(crate) to: usize,

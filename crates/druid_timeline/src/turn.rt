@@ -70,7 +70,7 @@ fn reserve_place(runs: &mut Vec<(Interval, GroupKey)>, gone: usize) -> Result<()
 }
 
 // The same, with room for what it adds and what it takes. Nothing else allocates where the chunk's completeness turns.
-fn prepare_edit(
+pub(crate) fn prepare_edit(
     alloc: Global,
     chunks: &Chunks,
     runs: &mut Vec<(Interval, GroupKey)>,
@@ -80,6 +80,7 @@ fn prepare_edit(
     requires { ArePieces (held_in chunks.now) (map shown_at runs.old.items) }
     ensures same { runs.new.items ≡ runs.old.items }
     ensures can { IfOk result (CanExchange runs.new.items (vec_capacity runs.new)) }
+    ensures capacity { vec_capacity runs.old ≤ vec_capacity runs.new }
     ensures turned { IfOk result (λ edit. ArePiecesTurned (held_in chunks.now) (group_of id.now)
         (map shown_at (exchanged runs.old.items edit))) }
     ensures counted { meter.old ≤ meter.new }
@@ -101,7 +102,7 @@ fn has_turned(is_complete: bool, was_complete: bool) -> bool
 }
 
 // Exchanges the runs if the completeness of a segment's chunk has turned, and gives the edit that exchanges them back.
-fn settle(
+pub(crate) fn settle(
     chunks: &Chunks,
     runs: &mut Vec<(Interval, GroupKey)>,
     id: &SegmentId,
