@@ -1,10 +1,9 @@
 -- A log of exchanges that takes the runs back.
-use Rattle.std.proofs.Common.{◌≡◌, ◌≤◌, ◌++◌, ℕ, List, [], ◌∷◌, map, reverse, sym, ap, ◌∙◌, subst, arith}
-use Rattle.std.proofs.lemmas.List.{reverse-append}
+use Rattle.std.proofs.Common.{◌≡◌, ◌≤◌, ℕ, List, [], ◌∷◌, map, reverse, sym, ◌∙◌, subst, arith}
 use Rattle.druid_chunks.specs.Chunks.{Chunk, AreChunks}
 use Rattle.druid_timeline.specs.declared.edit.Edit.{Edit}
 use Rattle.druid_timeline.specs.Chunks.{held_in}
-use Rattle.druid_timeline.specs.Exchanges.{CanUndo, ExchangesBack, HaveMembersOf, TakesBack, exchanged, undone}
+use Rattle.druid_timeline.specs.Exchanges.{CanUndo, HaveMembersOf, TakesBack, exchanged}
 use Rattle.druid_timeline.specs.Pieces.{ArePieces, shown_at}
 use Rattle.druid_timeline.proofs.ChunkLemmas.{SameHeld-members}
 use Rattle.druid_timeline.proofs.SweepLemmas.{Run}
@@ -18,26 +17,13 @@ CanUndo-more (edit ∷ log) runs old new more can = (
 )
 
 -- with more room, and where each chunk has the members before that it had
-pub TakesBack-more : (old new : List Chunk) (runs runs' : List Run) (room room' : ℕ) (log : List Edit) → HaveMembersOf new old → runs' ≡ runs → room ≤ room' → TakesBack old runs room log → TakesBack new runs' room' log
-TakesBack-more old new runs runs' room room' log same e more back =
-    subst (λ (rs : List Run). TakesBack new rs room' log) (sym e) (record {
+pub TakesBack-more : (old new : List Chunk) (runs runs' : List Run) (room room' : ℕ) (log log' : List Edit) → HaveMembersOf new old → runs' ≡ runs → room ≤ room' → log' ≡ log → TakesBack old runs room log → TakesBack new runs' room' log'
+TakesBack-more old new runs runs' room room' log log' same e more f back =
+    subst (λ (rs : List Run). TakesBack new rs room' log') (sym e)
+    (subst (λ (es : List Edit). TakesBack new runs room' es) (sym f) (record {
       can = CanUndo-more (reverse log) runs room room' more back.can;
       pieces = λ chunks are have. back.pieces chunks are (λ g. have g ∙ same g);
-    })
-
-latest : (log : List Edit) (edit : Edit) → reverse (log ++ edit ∷ []) ≡ edit ∷ reverse log
-latest log edit = reverse-append log (edit ∷ [])
-
-pub TakesBack-push : (before : List Chunk) (old new : List Run) (room room' : ℕ) (log log' : List Edit) (edit : Edit) → log' ≡ log ++ edit ∷ [] → room' ≡ room → ExchangesBack old new room' edit → TakesBack before old room log → TakesBack before new room' log'
-TakesBack-push before old new room room' log log' edit e f back earlier =
-    let latest_first : reverse log' ≡ edit ∷ reverse log = ap reverse e ∙ latest log edit in record {
-      can =
-          subst (λ (es : List Edit). CanUndo es new room') (sym latest_first)
-          (back.can, subst (λ (rs : List Run). CanUndo (reverse log) rs room') (sym back.runs) (subst (λ (n : ℕ). CanUndo (reverse log) old n) (sym f) earlier.can));
-      pieces = λ chunks are have.
-          subst (λ (es : List Edit). ArePieces (held_in chunks) (map shown_at (undone es new))) (sym latest_first)
-          (subst (λ (rs : List Run). ArePieces (held_in chunks) (map shown_at (undone (reverse log) rs))) (sym back.runs) (earlier.pieces chunks are have));
-    }
+    }))
 
 -- before the first edit
 pub TakesBack-none : (old before : List Chunk) (runs : List Run) (room : ℕ) (log : List Edit) → AreChunks old → HaveMembersOf before old → log ≡ [] → ArePieces (held_in old) (map shown_at runs) → TakesBack before runs room log

@@ -5,10 +5,9 @@ use Rattle.druid_segid.specs.Group.{Group, group_of}
 use Rattle.druid_members.specs.Members.{member_of, IsComplete}
 use Rattle.druid_chunks.specs.Chunks.{Chunk, AreChunks, members_at}
 use Rattle.druid_chunks.proofs.EditLemmas.{always_err}
-use Rattle.druid_timeline.specs.declared.edit.Edit.{Edit}
 use Rattle.druid_timeline.specs.Chunks.{held_in}
 use Rattle.druid_timeline.specs.Edited.{AreAlikeBut, ArePiecesTurned, HasOthers}
-use Rattle.druid_timeline.specs.Exchanges.{TakesBack, exchanged}
+use Rattle.druid_timeline.specs.Exchanges.{exchanged}
 use Rattle.druid_timeline.specs.Holding.{IsCompleteIn, SameHeld}
 use Rattle.druid_timeline.specs.Pieces.{ArePieces, shown_at}
 use Rattle.druid_timeline.proofs.ChunkLemmas.{IsHeld-chunk, IsCompleteIn-at, SameHeld-chunk, AddsHeld-chunk}
@@ -24,8 +23,7 @@ add-requires c =
 
 pub returns-in_err-edit-clause-back : goal.returns-in_err-edit-clause-back
 returns-in_err-edit-clause-back c =
-    subst (λ (log : List Edit). TakesBack c.args.chunks.now.before c.prepare_edit.new.runs.items (vec_capacity c.prepare_edit.new.runs) log) (sym c.reserve.ensures.items)
-    (TakesBack-more c.args.chunks.now.before c.args.chunks.now.before c.args.runs.now.items c.prepare_edit.new.runs.items (vec_capacity c.args.runs.now) (vec_capacity c.prepare_edit.new.runs) c.args.log.now.items (λ g. refl) c.prepare_edit.ensures.same c.prepare_edit.ensures.capacity c.requires.back)
+    TakesBack-more c.args.chunks.now.before c.args.chunks.now.before c.args.runs.now.items c.prepare_edit.new.runs.items (vec_capacity c.args.runs.now) (vec_capacity c.prepare_edit.new.runs) c.args.log.now.items c.reserve.new.self.items (λ g. refl) c.prepare_edit.ensures.same c.prepare_edit.ensures.capacity c.reserve.ensures.items c.requires.back
 
 pub returns-in_err-add-clause-pieces : goal.returns-in_err-add-clause-pieces
 returns-in_err-add-clause-pieces c =
@@ -35,8 +33,7 @@ returns-in_err-add-clause-pieces c =
 
 pub returns-in_err-add-clause-back : goal.returns-in_err-add-clause-back
 returns-in_err-add-clause-back c =
-    subst (λ (log : List Edit). TakesBack c.add.new.self.before c.prepare_edit.new.runs.items (vec_capacity c.prepare_edit.new.runs) log) (sym c.reserve.ensures.items)
-    (TakesBack-more c.args.chunks.now.before c.add.new.self.before c.args.runs.now.items c.prepare_edit.new.runs.items (vec_capacity c.args.runs.now) (vec_capacity c.prepare_edit.new.runs) c.args.log.now.items c.add.ensures.before c.prepare_edit.ensures.same c.prepare_edit.ensures.capacity c.requires.back)
+    TakesBack-more c.args.chunks.now.before c.add.new.self.before c.args.runs.now.items c.prepare_edit.new.runs.items (vec_capacity c.args.runs.now) (vec_capacity c.prepare_edit.new.runs) c.args.log.now.items c.reserve.new.self.items c.add.ensures.before c.prepare_edit.ensures.same c.prepare_edit.ensures.capacity c.reserve.ensures.items c.requires.back
 
 pub returns-in_err-add-clause-err : goal.returns-in_err-add-clause-err
 returns-in_err-add-clause-err c =
@@ -60,8 +57,7 @@ returns-clause-pieces c =
 pub returns-clause-back : goal.returns-clause-back
 returns-clause-back c =
     c.settle_logged.ensures.back c.add.new.self.before
-    (subst (λ (log : List Edit). TakesBack c.add.new.self.before c.prepare_edit.new.runs.items (vec_capacity c.prepare_edit.new.runs) log) (sym c.reserve.ensures.items)
-    (TakesBack-more c.args.chunks.now.before c.add.new.self.before c.args.runs.now.items c.prepare_edit.new.runs.items (vec_capacity c.args.runs.now) (vec_capacity c.prepare_edit.new.runs) c.args.log.now.items c.add.ensures.before c.prepare_edit.ensures.same c.prepare_edit.ensures.capacity c.requires.back))
+    (TakesBack-more c.args.chunks.now.before c.add.new.self.before c.args.runs.now.items c.prepare_edit.new.runs.items (vec_capacity c.args.runs.now) (vec_capacity c.prepare_edit.new.runs) c.args.log.now.items c.reserve.new.self.items c.add.ensures.before c.prepare_edit.ensures.same c.prepare_edit.ensures.capacity c.reserve.ensures.items c.requires.back)
 
 pub returns-clause-added : goal.returns-clause-added
 returns-clause-added c =
