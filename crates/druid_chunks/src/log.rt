@@ -1,10 +1,8 @@
 //! What edits found, so that it can be put back.
-ghost use Rattle.std.specs.Prelude.{◌≡◌, ◌+◌, ◌≤◌, ◌<◌, List, [], ◌++◌, All, IsTrue, IfOk, OnOk, length, vec_len, vec_capacity};
-ghost use Rattle.std.specs.HashSet as set;
-ghost use Rattle.druid_segid.specs.Group.{Group, group_of, same_group};
+ghost use Rattle.std.specs.Prelude.{◌≡◌, ◌+◌, ◌≤◌, List, [], IfOk, OnOk, length, vec_capacity};
+ghost use Rattle.druid_segid.specs.Group.{Group, group_of};
 ghost use Rattle.druid_chunks.specs.Chunks.{AreChunks, Chunk as Held, members_at};
 ghost use Rattle.druid_chunks.specs.Edits.{AreSaved, HasRoom, HasSaved, IsSaved, chunks_before, members_in};
-ghost use Rattle.druid_chunks.specs.Places.{AreInOrder};
 
 use crate::undo::put_all_back;
 use crate::{Chunk, Chunks};
@@ -13,8 +11,8 @@ use std::alloc::{AllocError, Global};
 use std::collections::HashSet;
 use std::marker::Model;
 
-// The chunk of each group that edits have touched, as they found it, and room for all chunks that putting them back
-// can make.
+// The chunk of each group that edits have touched, as the first of them found it, and room for all chunks that putting
+// them back can make. The room is an empty vector of its own, since no contract tells what `Chunks` has spare.
 #[derive(Debug, Drop)]
 pub(crate) struct Log {
     saved: Vec<(GroupKey, Option<Chunk>)>,
