@@ -95,6 +95,13 @@ SameHeld-chunk old new g are now kept same x = (
   λ there. of_chunk new x (one_way new old g (λ q other. sym (kept q other)) (λ y. ((same y).1, (same y).0)) x (in_chunk old are x there)),
 )
 
+-- chunks of the same members hold the same
+pub SameHeld-members : (old new : List Chunk) → AreChunks old → AreChunks new → ((g : Group) → members_at new g ≡ members_at old g) → SameHeld (held_in old) (held_in new)
+SameHeld-members old new are now same x = (
+  λ there. of_chunk old x (subst (λ (ms : List Member). Contains ms x.member) (same x.group) (in_chunk new now x there)),
+  λ there. of_chunk new x (subst (λ (ms : List Member). Contains ms x.member) (sym (same x.group)) (in_chunk old are x there)),
+)
+
 -- what a node serves of an identifier is taken out where its place is taken out of its chunk
 pub RemovesHeld-chunk : (old new : List Chunk) (node : ℕ) (id : Identifier) → AreChunks old → AreChunks new → KeepsChunks old new (group_of id)
     → RemovesPlace (members_at old (group_of id)) (members_at new (group_of id)) id.partition node → RemovesHeld (held_in old) (held_in new) node id

@@ -1,5 +1,5 @@
 -- One edit of a timeline.
-use Rattle.std.specs.Prelude.{◌≢◌, ℕ, List, take, drop, ◌++◌, ◌⊎◌, ◌↔◌, Contains}
+use Rattle.std.specs.Prelude.{◌≢◌, ℕ, List, take, drop, ◌+◌, ◌++◌, ◌⊎◌, ◌↔◌, Contains}
 use Rattle.druid_time.specs.Extent.{Extent, Has, Share}
 use Rattle.druid_segid.specs.Group.{Group}
 use Rattle.druid_timeline.specs.Candidates.{IsBestOf}
@@ -27,6 +27,10 @@ ArePiecesTurned held g pieces = (new : List Held) → Turns held new g → ArePi
 -- the list with those from one place to another replaced
 abbrev pub spliced : {A : Type 0} → List A → ℕ → ℕ → List A → List A
 spliced xs from to middle = take from xs ++ middle ++ drop to xs
+
+-- so many from a place on, moved to the end
+abbrev pub turned : {A : Type 0} → List A → ℕ → ℕ → List A
+turned xs from count = take from xs ++ drop (from + count) xs ++ take count (drop from xs)
 
 -- runs that show inside the part the best of the chunks, and outside it what the old ones show
 pub record AreRunsEdited (part : Extent) (chunks : List Group) (old new : List Shown) : Type 0 where

@@ -9,5 +9,6 @@ pub mod Edited
 pub mod Transactions
 -- words of private contracts
 pub mod Stretches
+pub mod Exchanges
 pub mod Active
 pub mod Known

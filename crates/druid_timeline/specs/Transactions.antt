@@ -1,5 +1,5 @@
 -- A timeline under edits that can be taken back.
-use Rattle.std.specs.Prelude.{List, Option, None, Some}
+use Rattle.std.specs.Prelude.{List}
 use Rattle.druid_chunks.specs.Chunks.{Chunk}
 use Rattle.druid_timeline.specs.Holding.{Serving}
 
@@ -7,8 +7,3 @@ use Rattle.druid_timeline.specs.Holding.{Serving}
 pub record Edited : Type 0 where
   pub before : List Chunk
   pub now : Serving
-
--- the chunks that were kept, if any were
-abbrev pub kept_or : Option (List Chunk) → List Chunk → List Chunk
-kept_or None chunks = chunks
-kept_or (Some kept) chunks = kept

@@ -1,20 +1,21 @@
 //! What an edit replaces of the runs of a timeline, and by what.
-ghost use Rattle.std.specs.Prelude.{◌≡◌, ◌<◌, ◌≤◌, ◌+◌, ◌*◌, ◌++◌, ◌↔◌, ◌⊎◌, ℕ, List, length, map, take, drop, vec_len, vec_capacity, IfOk, OnOk, Contains};
+ghost use Rattle.std.specs.Prelude.{◌≡◌, ◌<◌, ◌≤◌, ◌+◌, ◌-◌, ◌*◌, ◌++◌, ◌↔◌, ◌⊎◌, ℕ, List, length, map, take, drop, reverse, vec_capacity, IfOk, OnOk, Contains};
 ghost use Rattle.std.specs.List.Sorted.{IsNonDecreasing};
 ghost use Rattle.druid_time.specs.Extent.{Extent, Has};
 ghost use Rattle.druid_segid.specs.Group.{Group};
 ghost use Rattle.druid_timeline.specs.Pieces.{AreRuns, Shows, shown_at};
 ghost use Rattle.druid_timeline.specs.Active.{StartInOrder};
-ghost use Rattle.druid_timeline.specs.Edited.{AreRunsEdited, spliced};
+ghost use Rattle.druid_timeline.specs.Edited.{AreRunsEdited, spliced, turned};
 ghost use Rattle.druid_timeline.specs.Stretches.{EndBy, HaveBounds};
+ghost use Rattle.druid_timeline.specs.Exchanges.{CanExchange, ExchangesBack, exchanged};
 
 use crate::sweep::{add_part, push_run};
 use druid_segid::{GroupKey, Meter};
 use druid_time::{Instant, Interval};
 use std::alloc::{AllocError, Global};
 
-// The runs from one place to another are replaced by these.
-#[derive(Drop)]
+// The runs from one place to another are exchanged for these.
+#[derive(Debug, Drop)]
 pub(crate) struct Edit {
     pub(crate) from: usize,
     pub(crate) to: usize,
@@ -126,7 +127,7 @@ pub(crate) fn edit_in(
 // Moves so many items from a place on to the end.
 fn turn_slice(runs: &mut [(Interval, GroupKey)], from: usize, count: usize)
     requires { from + count ≤ length runs.old }
-    ensures turned { runs.new ≡ take from runs.old ++ drop (from + count) runs.old ++ take count (drop from runs.old) }
+    ensures turned { runs.new ≡ turned runs.old from count }
     ensures len { length runs.new ≡ length runs.old }
 {
     runs[from..].rotate_left(count);
@@ -135,24 +136,160 @@ fn turn_slice(runs: &mut [(Interval, GroupKey)], from: usize, count: usize)
 // The same of a vector.
 fn turn_tail(runs: &mut Vec<(Interval, GroupKey)>, from: usize, count: usize)
     requires { from + count ≤ length runs.old.items }
-    ensures { runs.new.items ≡ take from runs.old.items ++ drop (from + count) runs.old.items
-        ++ take count (drop from runs.old.items) }
+    ensures turned { runs.new.items ≡ turned runs.old.items from count }
+    ensures capacity { vec_capacity runs.new ≡ vec_capacity runs.old }
 {
     turn_slice(runs, from, count);
 }
 
-// Replaces runs within the room that there is, without allocating: those that are replaced and those after them change
-// places with the new ones at the end.
-pub(crate) fn splice(runs: &mut Vec<(Interval, GroupKey)>, edit: Edit)
-    requires inside { (edit.from ≤ edit.to) × (edit.to ≤ length runs.old.items) }
-    requires room { vec_len runs.old + vec_len edit.runs ≤ vec_capacity runs.old }
-    ensures { runs.new.items ≡ spliced runs.old.items edit.from edit.to edit.runs.items }
+// Exchanges so many runs from a place on for the first of others.
+fn swap_slices(
+    runs: &mut [(Interval, GroupKey)],
+    from: usize,
+    others: &mut [(Interval, GroupKey)],
+    count: usize,
+)
+    requires { (from + count ≤ length runs.old) × (count ≤ length others.old) }
+    ensures runs { runs.new ≡ spliced runs.old from (from + count) (take count others.old) }
+    ensures others { others.new ≡ take count (drop from runs.old) ++ drop count others.old }
+    ensures len { length runs.new ≡ length runs.old }
+    ensures others_len { length others.new ≡ length others.old }
 {
-    let mut middle = edit.runs;
-    let gone = edit.to - edit.from;
-    let after = runs.len() - edit.to;
-    let _ = runs.append(&mut middle);
-    turn_tail(runs, edit.from, gone);
-    runs.truncate(runs.len() - gone);
-    turn_tail(runs, edit.from, after);
+    runs[from..from + count].swap_with_slice(&mut others[..count]);
+}
+
+// The same of vectors.
+fn swap_runs(
+    runs: &mut Vec<(Interval, GroupKey)>,
+    from: usize,
+    others: &mut Vec<(Interval, GroupKey)>,
+    count: usize,
+)
+    requires { (from + count ≤ length runs.old.items) × (count ≤ length others.old.items) }
+    ensures runs { runs.new.items ≡ spliced runs.old.items from (from + count) (take count others.old.items) }
+    ensures others { others.new.items ≡ take count (drop from runs.old.items) ++ drop count others.old.items }
+    ensures capacity { vec_capacity runs.new ≡ vec_capacity runs.old }
+    ensures others_capacity { vec_capacity others.new ≡ vec_capacity others.old }
+{
+    swap_slices(runs, from, others, count);
+}
+
+// Turns round the runs from a place on.
+fn reverse_tail(runs: &mut Vec<(Interval, GroupKey)>, from: usize)
+    requires { from ≤ length runs.old.items }
+    ensures reversed { runs.new.items ≡ take from runs.old.items ++ reverse (drop from runs.old.items) }
+    ensures capacity { vec_capacity runs.new ≡ vec_capacity runs.old }
+{
+    runs[from..].reverse();
+}
+
+// Moves the runs from a place on to the end of others, within the room that there is.
+fn move_end(
+    runs: &mut Vec<(Interval, GroupKey)>,
+    from: usize,
+    others: &mut Vec<(Interval, GroupKey)>,
+)
+    requires inside { from ≤ length runs.old.items }
+    requires room { length others.old.items + (length runs.old.items - from) ≤ vec_capacity others.old }
+    ensures left { runs.new.items ≡ take from runs.old.items }
+    ensures moved { others.new.items ≡ others.old.items ++ drop from runs.old.items }
+    ensures capacity { vec_capacity runs.new ≡ vec_capacity runs.old }
+    ensures others_capacity { vec_capacity others.new ≡ vec_capacity others.old }
+{
+    let start = others.len();
+    while from < runs.len() {
+        let Some(run) = runs.pop() else {
+            unreachable!()
+        };
+        others.push_reserved(run);
+    }
+    reverse_tail(others, start);
+}
+
+// Exchanges runs for at least as many: those after them move up once.
+fn exchange_for_more(
+    runs: &mut Vec<(Interval, GroupKey)>,
+    from: usize,
+    to: usize,
+    middle: &mut Vec<(Interval, GroupKey)>,
+)
+    requires inside { (from ≤ to) × (to ≤ length runs.old.items) }
+    requires more { to - from ≤ length middle.old.items }
+    requires room { length runs.old.items + length middle.old.items ≤ vec_capacity runs.old + (to - from) }
+    ensures runs { runs.new.items ≡ spliced runs.old.items from to middle.old.items }
+    ensures middle { middle.new.items ≡ take (to - from) (drop from runs.old.items) }
+    ensures capacity { vec_capacity runs.new ≡ vec_capacity runs.old }
+    ensures middle_capacity { vec_capacity middle.new ≡ vec_capacity middle.old }
+{
+    let gone = to - from;
+    let after = runs.len() - to;
+    swap_runs(runs, from, middle, gone);
+    move_end(middle, gone, runs);
+    turn_tail(runs, to, after);
+}
+
+// Exchanges runs for at most as many: those after them move down once.
+fn exchange_for_fewer(
+    runs: &mut Vec<(Interval, GroupKey)>,
+    from: usize,
+    to: usize,
+    middle: &mut Vec<(Interval, GroupKey)>,
+)
+    requires inside { (from ≤ to) × (to ≤ length runs.old.items) }
+    requires fewer { length middle.old.items ≤ to - from }
+    requires place { to - from ≤ vec_capacity middle.old }
+    ensures runs { runs.new.items ≡ spliced runs.old.items from to middle.old.items }
+    ensures middle { middle.new.items ≡ take (to - from) (drop from runs.old.items) }
+    ensures capacity { vec_capacity runs.new ≡ vec_capacity runs.old }
+    ensures middle_capacity { vec_capacity middle.new ≡ vec_capacity middle.old }
+{
+    let new = middle.len();
+    let less = to - from - new;
+    let kept = runs.len() - less;
+    swap_runs(runs, from, middle, new);
+    turn_tail(runs, from + new, less);
+    move_end(runs, kept, middle);
+}
+
+// Exchanges runs for others, without allocating.
+fn exchange_runs(
+    runs: &mut Vec<(Interval, GroupKey)>,
+    from: usize,
+    to: usize,
+    middle: &mut Vec<(Interval, GroupKey)>,
+)
+    requires inside { (from ≤ to) × (to ≤ length runs.old.items) }
+    requires room { length runs.old.items + length middle.old.items ≤ vec_capacity runs.old + (to - from) }
+    requires place { to - from ≤ vec_capacity middle.old }
+    ensures runs { runs.new.items ≡ spliced runs.old.items from to middle.old.items }
+    ensures middle { middle.new.items ≡ take (to - from) (drop from runs.old.items) }
+    ensures capacity { vec_capacity runs.new ≡ vec_capacity runs.old }
+    ensures middle_capacity { vec_capacity middle.new ≡ vec_capacity middle.old }
+{
+    if to - from < middle.len() {
+        exchange_for_more(runs, from, to, middle);
+    } else {
+        exchange_for_fewer(runs, from, to, middle);
+    }
+}
+
+// The same by an edit, and gives the edit that exchanges them back.
+pub(crate) fn exchange(runs: &mut Vec<(Interval, GroupKey)>, edit: Edit) -> Edit
+    requires { CanExchange runs.old.items (vec_capacity runs.old) edit }
+    ensures runs { runs.new.items ≡ exchanged runs.old.items edit }
+    ensures back { ExchangesBack runs.old.items runs.new.items (vec_capacity runs.new) result }
+    ensures capacity { vec_capacity runs.new ≡ vec_capacity runs.old }
+{
+    let Edit {
+        from,
+        to,
+        runs: mut middle,
+    } = edit;
+    let after = runs.len() - to;
+    exchange_runs(runs, from, to, &mut middle);
+    Edit {
+        from,
+        to: runs.len() - after,
+        runs: middle,
+    }
 }

@@ -12,6 +12,7 @@ mod sweep;
 mod timeline;
 mod transaction;
 mod turn;
+mod undo;
 
 pub use fault::TimelineFault;
 pub use laws::{

@@ -1,41 +1,18 @@
 //! Edits of a timeline that can be taken back all at once.
-ghost use Rattle.std.specs.Prelude.{◌≡◌, ◌≤◌, ◌+◌, ◌*◌, ◌↔◌, ◌⊎◌, ℕ, List, Some, IsTrue, length, map, IfOk, IfErr, OnOk, OnErr, IsErrOf};
+ghost use Rattle.std.specs.Prelude.{◌≡◌, ◌≤◌, ◌+◌, ◌*◌, ◌↔◌, ◌⊎◌, List, IsTrue, length, IfErr, OnOk, OnErr, IsErrOf};
 ghost use Rattle.druid_segid.specs.Group.{Group, group_of};
 ghost use Rattle.druid_chunks.specs.Chunks.{members_at};
-ghost use Rattle.druid_timeline.specs.Chunks.{held_in};
 ghost use Rattle.druid_timeline.specs.Edited.{HasOthers};
 ghost use Rattle.druid_timeline.specs.Holding.{held_of, members_of, IsHeld, IsServed, AddsHeld, RemovesHeld, RemovesOneHeld, SameHeld};
-ghost use Rattle.druid_timeline.specs.Transactions.{kept_or};
-ghost use Rattle.druid_timeline.specs.Pieces.{ArePieces, shown_at};
 
-use crate::turn::{add_segment, remove_segment};
+use crate::edit::Edit;
+use crate::undo::{add_logged, remove_logged, take_back};
 use crate::{Timeline, TimelineFault};
-use druid_chunks::Chunks;
 use druid_segid::{GroupKey, Meter, Name, SegmentId};
 use druid_shard::{Descriptor, NodeNo};
 use druid_time::Interval;
-use std::alloc::{AllocError, Global};
+use std::alloc::Global;
 use std::marker::Model;
-
-// Chunks, and the runs over them.
-#[derive(Debug, Drop)]
-struct Parts {
-    chunks: Chunks,
-    runs: Vec<(Interval, GroupKey)>,
-}
-
-impl Model for Parts {
-    ghost use Rattle.std.specs.Prelude.{List, map};
-    ghost use Rattle.druid_chunks.specs.Chunks.{Chunk};
-    ghost use Rattle.druid_timeline.specs.Chunks.{held_in};
-    ghost use Rattle.druid_timeline.specs.Pieces.{ArePieces, shown_at};
-
-    ghost Value = { List Chunk };
-
-    ghost view = { λ a. a.chunks };
-
-    ghost invariant = { λ a. ArePieces (held_in a.chunks) (map shown_at a.runs.items) };
-}
 
 /// A timeline under edits, which are committed or rolled back together; a roll back does not allocate.
 ///
@@ -44,58 +21,25 @@ impl Model for Parts {
 pub struct Transaction {
     alloc: Global,
     source: Name,
-    chunks: Chunks,
+    chunks: druid_chunks::Transaction,
     runs: Vec<(Interval, GroupKey)>,
-    kept: Option<Parts>,
+    // What takes the runs back, the latest last.
+    log: Vec<Edit>,
 }
 
 impl Model for Transaction {
-    ghost use Rattle.std.specs.Prelude.{map};
+    ghost use Rattle.std.specs.Prelude.{map, vec_capacity};
     ghost use Rattle.druid_timeline.specs.Chunks.{held_in};
+    ghost use Rattle.druid_timeline.specs.Exchanges.{TakesBack};
     ghost use Rattle.druid_timeline.specs.Pieces.{ArePieces, shown_at};
-    ghost use Rattle.druid_timeline.specs.Transactions.{Edited, kept_or};
+    ghost use Rattle.druid_timeline.specs.Transactions.{Edited};
 
     ghost Value = { Edited };
 
-    ghost view = { λ a. record { before = kept_or a.kept a.chunks; now = record { source = a.source; held = held_in a.chunks } } };
+    ghost view = { λ a. record { before = a.chunks.before; now = record { source = a.source; held = held_in a.chunks.now } } };
 
-    ghost invariant = { λ a. ArePieces (held_in a.chunks) (map shown_at a.runs.items) };
-}
-
-impl Parts {
-    // The timeline of these parts.
-    fn into_timeline(self, alloc: Global, source: Name) -> Timeline
-        ensures source { result.source ≡ source }
-        ensures members { (g : Group) → members_of result.held g ≡ members_at self g }
-    {
-        // For the proof: it tells that each group stands once.
-        let _ = self.chunks.as_slice();
-        Timeline {
-            alloc,
-            source,
-            chunks: self.chunks,
-            runs: self.runs,
-        }
-    }
-}
-
-// Keeps a copy, unless one is kept.
-fn keep_first(
-    kept: &mut Option<Parts>,
-    chunks: &Chunks,
-    runs: &Vec<(Interval, GroupKey)>,
-) -> Result<(), AllocError>
-    requires { ArePieces (held_in chunks.now) (map shown_at runs.now.items) }
-    ensures kept { OnOk result (kept.new ≡ Some (kept_or kept.old chunks.now)) }
-    ensures err { OnErr result (kept.new ≡ kept.old) }
-{
-    if kept.is_none() {
-        *kept = Some(Parts {
-            chunks: chunks.clone()?,
-            runs: runs.clone()?,
-        });
-    }
-    Ok(())
+    ghost invariant = { λ a. ArePieces (held_in a.chunks.now) (map shown_at a.runs.items)
+        × TakesBack a.chunks.before a.runs.items (vec_capacity a.runs) a.log.items };
 }
 
 impl Transaction {
@@ -115,9 +59,9 @@ impl Transaction {
         Transaction {
             alloc,
             source,
-            chunks,
+            chunks: druid_chunks::Transaction::begin(chunks),
             runs,
-            kept: None,
+            log: Vec::new(alloc),
         }
     }
 
@@ -126,6 +70,13 @@ impl Transaction {
         ensures { IsTrue result ↔ (id.now.source ≡ self.now.now.source) }
     {
         id.source() == &self.source
+    }
+
+    // Whether a node serves the segment of this identifier, of whichever source.
+    fn is_held(&self, id: &SegmentId, node: NodeNo) -> bool
+        ensures { IsTrue result ↔ IsHeld self.now.now.held node id.now }
+    {
+        self.chunks.chunks().holds(id, node)
     }
 
     /// Adds a segment that a node serves. L2 where it is of another source, then L1 where the node serves that
@@ -155,14 +106,14 @@ impl Transaction {
         if id.source() != &self.source {
             return Err(TimelineFault::OtherSource);
         }
-        if self.chunks.holds(id, node) {
+        if self.is_held(id, node) {
             return Err(TimelineFault::AlreadyThere);
         }
-        keep_first(&mut self.kept, &self.chunks, &self.runs)?;
-        add_segment(
+        add_logged(
             self.alloc,
             &mut self.chunks,
             &mut self.runs,
+            &mut self.log,
             descriptor,
             node,
             meter,
@@ -194,14 +145,14 @@ impl Transaction {
         if !self.is_source_of(id) {
             return Err(TimelineFault::NotThere);
         }
-        if !self.chunks.holds(id, node) {
+        if !self.is_held(id, node) {
             return Err(TimelineFault::NotThere);
         }
-        keep_first(&mut self.kept, &self.chunks, &self.runs)?;
-        remove_segment(
+        remove_logged(
             self.alloc,
             &mut self.chunks,
             &mut self.runs,
+            &mut self.log,
             id,
             node,
             meter,
@@ -216,7 +167,7 @@ impl Transaction {
         Timeline {
             alloc: self.alloc,
             source: self.source,
-            chunks: self.chunks,
+            chunks: self.chunks.commit(),
             runs: self.runs,
         }
     }
@@ -230,10 +181,18 @@ impl Transaction {
             alloc,
             source,
             chunks,
-            runs,
-            kept,
+            mut runs,
+            log,
         } = self;
-        let parts = kept.unwrap_or(Parts { chunks, runs });
-        parts.into_timeline(alloc, source)
+        take_back(&mut runs, log);
+        let chunks = chunks.roll_back();
+        // For the proof: it tells that each group stands once.
+        let _ = chunks.as_slice();
+        Timeline {
+            alloc,
+            source,
+            chunks,
+            runs,
+        }
     }
 }

@@ -1,5 +1,5 @@
 //! What the runs become where the completeness of one chunk turns.
-ghost use Rattle.std.specs.Prelude.{◌≡◌, ◌≢◌, ◌<◌, ◌≤◌, ◌+◌, ◌*◌, ◌↔◌, ◌⊎◌, ℕ, List, false, length, map, vec_len, vec_capacity, IsTrue, IfOk, OnOk, OnErr, Contains};
+ghost use Rattle.std.specs.Prelude.{◌≡◌, ◌<◌, ◌≤◌, ◌+◌, ◌*◌, ◌↔◌, ◌⊎◌, ℕ, List, false, length, map, vec_capacity, IsTrue, IfOk, OnOk, OnErr, MatchOption, Contains};
 ghost use Rattle.druid_segid.specs.Group.{Group, group_of};
 ghost use Rattle.druid_members.specs.Members.{HoldsPlace};
 ghost use Rattle.druid_chunks.specs.Chunks.{members_at};
@@ -8,8 +8,9 @@ ghost use Rattle.druid_timeline.specs.Chunks.{held_in};
 ghost use Rattle.druid_timeline.specs.Edited.{AreAlikeBut, ArePiecesTurned, HasOthers, spliced};
 ghost use Rattle.druid_timeline.specs.Holding.{Held, IsCompleteIn, held_of, AddsHeld, RemovesHeld, RemovesOneHeld, SameHeld};
 ghost use Rattle.druid_timeline.specs.Pieces.{ArePieces, shown_at};
+ghost use Rattle.druid_timeline.specs.Exchanges.{CanExchange, ExchangesBack, exchanged};
 
-use crate::edit::{Edit, edit_in, splice};
+use crate::edit::{Edit, edit_in, exchange};
 use crate::sweep::bounds_in;
 use druid_chunks::Chunks;
 use druid_segid::{GroupKey, Meter, SegmentId};
@@ -60,8 +61,16 @@ fn turn_of(
     edit_in(alloc, runs, id.interval(), &candidates, &bounds, meter)
 }
 
-// The same, with room for what it adds. Nothing else allocates where the chunk's completeness turns.
-fn prepare_edit(
+// Room for so many runs in place of an edit's own.
+fn reserve_place(runs: &mut Vec<(Interval, GroupKey)>, gone: usize) -> Result<(), AllocError>
+    ensures same { runs.new.items ≡ runs.old.items }
+    ensures place { OnOk result (gone ≤ vec_capacity runs.new) }
+{
+    runs.reserve(gone.saturating_sub(runs.len()))
+}
+
+// The same, with room for what it adds and what it takes. Nothing else allocates where the chunk's completeness turns.
+pub(crate) fn prepare_edit(
     alloc: Global,
     chunks: &Chunks,
     runs: &mut Vec<(Interval, GroupKey)>,
@@ -70,16 +79,18 @@ fn prepare_edit(
 ) -> Result<Edit, AllocError>
     requires { ArePieces (held_in chunks.now) (map shown_at runs.old.items) }
     ensures same { runs.new.items ≡ runs.old.items }
-    ensures inside { IfOk result (λ edit. (edit.from ≤ edit.to) × (edit.to ≤ length runs.old.items)) }
-    ensures room { IfOk result (λ edit. vec_len runs.new + vec_len edit.runs ≤ vec_capacity runs.new) }
+    ensures can { IfOk result (CanExchange runs.new.items (vec_capacity runs.new)) }
+    ensures capacity { vec_capacity runs.old ≤ vec_capacity runs.new }
     ensures turned { IfOk result (λ edit. ArePiecesTurned (held_in chunks.now) (group_of id.now)
-        (map shown_at (spliced runs.old.items edit.from edit.to edit.runs.items))) }
+        (map shown_at (exchanged runs.old.items edit))) }
     ensures counted { meter.old ≤ meter.new }
     ensures bound { (others : List Group) → HasOthers (held_in chunks.now) (group_of id.now) others
         → meter.new ≤ meter.old + (2 * length others + 1) * (length others + 1) }
 {
-    let edit = turn_of(alloc, chunks, runs, id, meter)?;
+    let mut edit = turn_of(alloc, chunks, runs, id, meter)?;
     runs.reserve(edit.runs.len())?;
+    let gone = edit.to - edit.from;
+    reserve_place(&mut edit.runs, gone)?;
     Ok(edit)
 }
 
@@ -90,26 +101,28 @@ fn has_turned(is_complete: bool, was_complete: bool) -> bool
     is_complete != was_complete
 }
 
-// Replaces the runs if the completeness of a segment's chunk has turned.
-fn settle(
+// Exchanges the runs if the completeness of a segment's chunk has turned, and gives the edit that exchanges them back.
+pub(crate) fn settle(
     chunks: &Chunks,
     runs: &mut Vec<(Interval, GroupKey)>,
     id: &SegmentId,
     was_complete: bool,
     edit: Edit,
-)
-    requires inside { (edit.from ≤ edit.to) × (edit.to ≤ length runs.old.items) }
-    requires room { vec_len runs.old + vec_len edit.runs ≤ vec_capacity runs.old }
-    ensures { (old : List Held) → ArePieces old (map shown_at runs.old.items)
-        → ArePiecesTurned old (group_of id.now)
-        (map shown_at (spliced runs.old.items edit.from edit.to edit.runs.items))
+) -> Option<Edit>
+    requires { CanExchange runs.old.items (vec_capacity runs.old) edit }
+    ensures pieces { (old : List Held) → ArePieces old (map shown_at runs.old.items)
+        → ArePiecesTurned old (group_of id.now) (map shown_at (exchanged runs.old.items edit))
         → (IsTrue was_complete ↔ IsCompleteIn old (group_of id.now))
         → AreAlikeBut old (held_in chunks.now) (group_of id.now)
         → ArePieces (held_in chunks.now) (map shown_at runs.new.items) }
+    ensures back { MatchOption result (runs.new.items ≡ runs.old.items)
+        (ExchangesBack runs.old.items runs.new.items (vec_capacity runs.new)) }
+    ensures capacity { vec_capacity runs.new ≡ vec_capacity runs.old }
 {
     if has_turned(chunks.is_complete(id), was_complete) {
-        splice(runs, edit);
+        return Some(exchange(runs, edit));
     }
+    None
 }
 
 // Adds a segment that the node does not serve yet, and edits the runs. A refusal changes neither.

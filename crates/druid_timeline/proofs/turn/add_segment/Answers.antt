@@ -4,9 +4,10 @@ use Rattle.druid_segid.specs.Group.{Group, group_of}
 use Rattle.druid_members.specs.Members.{member_of}
 use Rattle.druid_chunks.proofs.EditLemmas.{always_err}
 use Rattle.druid_timeline.specs.Chunks.{held_in}
-use Rattle.druid_timeline.specs.Edited.{AreAlikeBut, ArePiecesTurned, HasOthers, spliced}
+use Rattle.druid_timeline.specs.Edited.{AreAlikeBut, ArePiecesTurned, HasOthers}
 use Rattle.druid_timeline.specs.Holding.{IsCompleteIn, SameHeld}
 use Rattle.druid_timeline.specs.Pieces.{ArePieces, shown_at}
+use Rattle.druid_timeline.specs.Exchanges.{exchanged}
 use Rattle.druid_timeline.proofs.ChunkLemmas.{IsCompleteIn-at, SameHeld-chunk, AddsHeld-chunk}
 use Rattle.druid_timeline.proofs.SweepLemmas.{Run}
 use Rattle.druid_timeline.proofs.TurnLemmas.{alike_chunks, pieces_same}
@@ -28,9 +29,9 @@ returns-clause-pieces c =
     let g = group_of c.id-id.result.now in
     let at = IsCompleteIn-at c.args.chunks.now c.add.ensures.was g in
     let was : IsTrue c.is_complete-was_complete.result ↔ IsCompleteIn (held_in c.args.chunks.now) g = (λ e. at.1 (c.is_complete-was_complete.ensures.complete.0 e), λ h. c.is_complete-was_complete.ensures.complete.1 (at.0 h)) in
-    c.settle.ensures (held_in c.args.chunks.now)
+    c.settle.ensures.pieces (held_in c.args.chunks.now)
     (subst (λ (items : List Run). ArePieces (held_in c.args.chunks.now) (map shown_at items)) (sym c.prepare_edit.ensures.same) c.requires.pieces)
-    (subst (λ (items : List Run). ArePiecesTurned (held_in c.args.chunks.now) g (map shown_at (spliced items c.in_ok-edit.edit.from c.in_ok-edit.edit.to c.in_ok-edit.edit.runs.items))) (sym c.prepare_edit.ensures.same) c.in_ok-edit.ensures.turned)
+    (subst (λ (items : List Run). ArePiecesTurned (held_in c.args.chunks.now) g (map shown_at (exchanged items c.in_ok-edit.edit))) (sym c.prepare_edit.ensures.same) c.in_ok-edit.ensures.turned)
     was
     (subst (λ (k : Group). AreAlikeBut (held_in c.args.chunks.now) (held_in c.add.new.self) k) (sym (ap group_of c.id-id.ensures.value)) (alike_chunks c.args.chunks.now c.add.new.self (group_of c.args.descriptor.now.id) c.add.ensures.was c.add.ensures.chunks c.add.ensures.others))
 

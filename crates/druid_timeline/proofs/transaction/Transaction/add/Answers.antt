@@ -1,43 +1,39 @@
-use Rattle.std.proofs.Common.{◌≡◌, ◌∙◌, List, refl, sym, ap, subst, rules}
+use Rattle.std.proofs.Common.{◌≤◌, ◌+◌, ◌*◌, ◌∙◌, List, length, sym, ap, subst, rules}
 use Rattle.std.specs.Result.{IsErrOf}
 use Rattle.std.proofs.lemmas.Bool.{false≢true}
+use Rattle.druid_segid.specs.Group.{Group, group_of}
+use Rattle.druid_segid.specs.Identifier.{Identifier}
 use Rattle.druid_timeline.specs.Chunks.{held_in}
-use Rattle.druid_timeline.specs.Holding.{Held, Serving, held_of, IsHeld, AddsHeld, SameHeld}
+use Rattle.druid_timeline.specs.Edited.{HasOthers}
+use Rattle.druid_timeline.specs.Holding.{Held, held_of, IsHeld, AddsHeld, SameHeld}
 use Rattle.druid_timeline.specs.Transactions.{Edited}
 use Rattle.druid_timeline.specs.declared.fault.TimelineFault.TheVariants as faults
-use Rattle.druid_timeline.proofs.ChunkLemmas.{holds_held}
 use Rattle.druid_chunks.proofs.EditLemmas.{always_err}
 use Rattle.druid_timeline.proofs.transaction.Transaction.add.Goals as goal
 
-pub returns-then-holds-clause-there : goal.returns-then-holds-clause-there
-returns-then-holds-clause-there c =
-    let told = holds_held c.self.inside.chunks c.holds.ensures.chunks c.args.node c.args.descriptor.now.id c.id-id.result.now c.holds.result c.id-id.ensures.value c.holds.ensures.held in
-    let held = subst (λ (hs : List Held). IsHeld hs c.args.node c.args.descriptor.now.id) (ap (λ (e : Edited). e.now.held) c.self.view_is) (told.0 c.if-holds.true) in
-    let source : c.args.descriptor.now.id.source ≡ c.args.self.now.now.source = search rules in
-    (λ e. (source, held), λ h. refl)
+pub add_logged-requires-clause-new : goal.add_logged-requires-clause-new
+add_logged-requires-clause-new c h =
+    false≢true (sym c.if-is_held.false ∙ c.is_held.ensures.1 (subst (λ (id : Identifier). IsHeld c.args.self.now.now.held c.args.node id) (sym c.id-id.ensures.value)
+    (subst (λ (hs : List Held). IsHeld hs c.args.node c.args.descriptor.now.id) (ap (λ (e : Edited). e.now.held) c.self.view_is) h)))
 
-pub returns-in_err-add_segment-clause-there : goal.returns-in_err-add_segment-clause-there
-returns-in_err-add_segment-clause-there c =
-    let told = holds_held c.self.inside.chunks c.holds.ensures.chunks c.args.node c.args.descriptor.now.id c.id-id.result.now c.holds.result c.id-id.ensures.value c.holds.ensures.held in
-    let not : IsErrOf c.from_residual-in_err-add_segment.result faults.AlreadyThere → ⊥ = search rules in
-    (λ e. absurd (not e), λ h. absurd (false≢true (sym c.if-holds.false ∙ told.1 (subst (λ (hs : List Held). IsHeld hs c.args.node c.args.descriptor.now.id) (sym (ap (λ (e : Edited). e.now.held) c.self.view_is)) h.1))))
-
-pub returns-in_err-keep_first-clause-there : goal.returns-in_err-keep_first-clause-there
-returns-in_err-keep_first-clause-there c =
-    let told = holds_held c.self.inside.chunks c.holds.ensures.chunks c.args.node c.args.descriptor.now.id c.id-id.result.now c.holds.result c.id-id.ensures.value c.holds.ensures.held in
+pub returns-in_err-add_logged-clause-there : goal.returns-in_err-add_logged-clause-there
+returns-in_err-add_logged-clause-there c =
     let not : IsErrOf c.from_residual.result faults.AlreadyThere → ⊥ = search rules in
-    (λ e. absurd (not e), λ h. absurd (false≢true (sym c.if-holds.false ∙ told.1 (subst (λ (hs : List Held). IsHeld hs c.args.node c.args.descriptor.now.id) (sym (ap (λ (e : Edited). e.now.held) c.self.view_is)) h.1))))
+    (λ e. absurd (not e), λ h. absurd (false≢true (sym c.if-is_held.false ∙ c.is_held.ensures.1 (subst (λ (id : Identifier). IsHeld c.args.self.now.now.held c.args.node id) (sym c.id-id.ensures.value) h.1))))
 
-pub returns-in_err-add_segment-clause-err : goal.returns-in_err-add_segment-clause-err
-returns-in_err-add_segment-clause-err c =
-    always_err c.from_residual-in_err-add_segment.result _
-    (subst (λ (hs : List Held). SameHeld hs (held_in c.add_segment.new.chunks)) (ap (λ (e : Edited). e.now.held) c.self.view_is) c.in_err-add_segment.ensures.err)
+pub returns-in_err-add_logged-clause-err : goal.returns-in_err-add_logged-clause-err
+returns-in_err-add_logged-clause-err c =
+    always_err c.from_residual.result _
+    (subst (λ (hs : List Held). SameHeld hs (held_in c.add_logged.new.chunks.now)) (ap (λ (e : Edited). e.now.held) c.self.view_is) c.in_err-add_logged.ensures.err)
 
-pub returns-clause-there : goal.returns-clause-there
-returns-clause-there c =
-    let told = holds_held c.self.inside.chunks c.holds.ensures.chunks c.args.node c.args.descriptor.now.id c.id-id.result.now c.holds.result c.id-id.ensures.value c.holds.ensures.held in
-    (λ e. absurd (cc), λ h. absurd (false≢true (sym c.if-holds.false ∙ told.1 (subst (λ (hs : List Held). IsHeld hs c.args.node c.args.descriptor.now.id) (sym (ap (λ (e : Edited). e.now.held) c.self.view_is)) h.1))))
+pub returns-in_err-add_logged-clause-bound : goal.returns-in_err-add_logged-clause-bound
+returns-in_err-add_logged-clause-bound c =
+    subst (λ (hs : List Held). (others : List Group) → HasOthers hs (group_of c.args.descriptor.now.id) others → c.add_logged.new.meter ≤ c.args.meter.now + (2 * length others + 1) * (length others + 1)) (ap (λ (e : Edited). e.now.held) c.self.view_is) c.add_logged.ensures.bound
 
 pub returns-clause-added : goal.returns-clause-added
 returns-clause-added c =
-    subst (λ (hs : List Held). AddsHeld hs (held_in c.add_segment.new.chunks) (held_of c.args.node c.args.descriptor.now)) (ap (λ (e : Edited). e.now.held) c.self.view_is) c.in_ok-add_segment.ensures.added
+    subst (λ (hs : List Held). AddsHeld hs (held_in c.add_logged.new.chunks.now) (held_of c.args.node c.args.descriptor.now)) (ap (λ (e : Edited). e.now.held) c.self.view_is) c.in_ok-add_logged.ensures.added
+
+pub returns-clause-bound : goal.returns-clause-bound
+returns-clause-bound c =
+    subst (λ (hs : List Held). (others : List Group) → HasOthers hs (group_of c.args.descriptor.now.id) others → c.add_logged.new.meter ≤ c.args.meter.now + (2 * length others + 1) * (length others + 1)) (ap (λ (e : Edited). e.now.held) c.self.view_is) c.add_logged.ensures.bound
