@@ -3,3 +3,4 @@ pub mod EditLemmas
 pub mod OrderLemmas
 pub mod OverlapLemmas
 pub mod PlaceLemmas
+pub mod UndoLemmas

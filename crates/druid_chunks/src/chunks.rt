@@ -1,4 +1,4 @@
-ghost use Rattle.std.specs.Prelude.{◌≡◌, ◌↔◌, ℕ, [], map, Contains, IsTrue, IsOk, IfOk, OnOk, OnErr, MatchOption};
+ghost use Rattle.std.specs.Prelude.{◌≡◌, ◌↔◌, ◌≤◌, ℕ, [], length, map, vec_capacity, Contains, IsTrue, IsOk, IfOk, OnOk, OnErr, MatchOption};
 ghost use Rattle.std.specs.List.{IsDistinct};
 ghost use Rattle.std.specs.List.Sorted.{IsStrictlyIncreasing};
 ghost use Rattle.druid_segid.specs.Group.{Group, group_of, same_group};
@@ -45,6 +45,33 @@ impl Chunks {
             alloc,
             items: Vec::new(alloc),
         }
+    }
+
+    // The chunks of a vector that has them in order.
+    pub(crate) fn of_ordered(alloc: Global, items: Vec<Chunk>) -> Chunks
+        requires { AreInOrder items.items }
+        ensures { result ≡ items.items }
+    {
+        Chunks { alloc, items }
+    }
+
+    // Where the chunks allocate.
+    pub(crate) fn alloc(&self) -> Global {
+        self.alloc
+    }
+
+    // Moves the chunks into an empty vector that has room for them.
+    pub(crate) fn move_into(self, room: Vec<Chunk>) -> Vec<Chunk>
+        requires empty { room.items ≡ [] }
+        requires room { length self ≤ vec_capacity room }
+        ensures value { result.items ≡ self }
+        ensures ordered { AreInOrder self }
+        ensures capacity { vec_capacity room ≤ vec_capacity result }
+    {
+        let mut all = room;
+        let mut items = self.items;
+        let _ = all.append(&mut items);
+        all
     }
 
     /// The chunks.

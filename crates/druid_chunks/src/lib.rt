@@ -3,10 +3,12 @@
 
 mod chunk;
 mod chunks;
+mod log;
 mod order;
 mod overlap;
 mod place;
 mod transaction;
+mod undo;
 
 pub use chunk::Chunk;
 pub use chunks::Chunks;

@@ -1,45 +1,86 @@
 //! Edits of chunks that can be taken back all at once.
-ghost use Rattle.std.specs.Prelude.{◌≡◌, Some, OnOk, OnErr};
+ghost use Rattle.std.specs.Prelude.{◌≡◌, OnOk, OnErr};
 ghost use Rattle.druid_segid.specs.Group.{Group, group_of};
 ghost use Rattle.druid_members.specs.Members.{member_of, HoldsPlace, Adds, RemovesPlace, RemovesOne, SameMembers};
 ghost use Rattle.druid_chunks.specs.Chunks.{AreChunks, members_at};
-ghost use Rattle.druid_chunks.specs.Edits.{saved_or};
+ghost use Rattle.druid_chunks.specs.Edits.{HasRoom, chunks_before};
 
 use crate::Chunks;
+use crate::log::Log;
 use druid_segid::SegmentId;
 use druid_shard::{Descriptor, NodeNo};
 use std::alloc::AllocError;
 use std::marker::Model;
 
-/// Chunks under edits, which are committed or rolled back together; a roll back does not allocate.
+/// Chunks under edits, which are committed or rolled back together. Each edited chunk is saved once, and what copies
+/// share of it is copied once; a roll back does not allocate.
 ///
 /// A contract sees the members of each group as they were before the edits, and the chunks as they are.
 #[derive(Debug, Drop)]
 pub struct Transaction {
     chunks: Chunks,
-    saved: Option<Chunks>,
+    log: Log,
 }
 
 impl Model for Transaction {
-    ghost use Rattle.druid_chunks.specs.Edits.{Edited, saved_or};
+    ghost use Rattle.druid_chunks.specs.Edits.{Edited, HasRoom, chunks_before};
 
     ghost Value = { Edited };
 
-    ghost view = { λ a. record { before = saved_or a.saved a.chunks; now = a.chunks } };
+    ghost view = { λ a. record { before = chunks_before a.log.saved a.chunks; now = a.chunks } };
+
+    ghost invariant = { λ a. HasRoom a.chunks a.log };
 }
 
-// Keeps a copy, unless one is kept.
-fn keep_first(saved: &mut Option<Chunks>, chunks: &Chunks) -> Result<(), AllocError>
-    ensures kept { OnOk result (saved.new ≡ Some (saved_or saved.old chunks.now)) }
-    ensures err { OnErr result (saved.new ≡ saved.old) }
-    ensures chunks { AreChunks chunks.now }
+// Adds a segment, after its group's chunk is saved.
+fn add_logged(
+    chunks: &mut Chunks,
+    log: &mut Log,
+    descriptor: &Descriptor,
+    node: NodeNo,
+) -> Result<(), AllocError>
+    requires room { HasRoom chunks.old log.old }
+    requires new { HoldsPlace (members_at chunks.old (group_of descriptor.now.id)) descriptor.now.id.partition node → ⊥ }
+    ensures room { HasRoom chunks.new log.new }
+    ensures added { OnOk result (Adds (members_at chunks.old (group_of descriptor.now.id))
+        (members_at chunks.new (group_of descriptor.now.id)) (member_of node descriptor.now)) }
+    ensures err { OnErr result (SameMembers (members_at chunks.old (group_of descriptor.now.id))
+        (members_at chunks.new (group_of descriptor.now.id))) }
+    ensures others { (q : Group) → (q ≡ group_of descriptor.now.id → ⊥)
+        → members_at chunks.new q ≡ members_at chunks.old q }
+    ensures before { (g : Group) → members_at (chunks_before log.new.saved chunks.new) g
+        ≡ members_at (chunks_before log.old.saved chunks.old) g }
+    ensures was { AreChunks chunks.old }
+    ensures chunks { AreChunks chunks.new }
 {
-    // For the proof: it tells that each group stands once.
-    let _ = chunks.as_slice();
-    if saved.is_none() {
-        *saved = Some(chunks.clone()?);
-    }
-    Ok(())
+    log.save(chunks, descriptor.id())?;
+    chunks.add(descriptor, node)
+}
+
+// Takes a segment from what a node serves, after its group's chunk is saved.
+fn remove_logged(
+    chunks: &mut Chunks,
+    log: &mut Log,
+    id: &SegmentId,
+    node: NodeNo,
+) -> Result<(), AllocError>
+    requires room { HasRoom chunks.old log.old }
+    requires there { HoldsPlace (members_at chunks.old (group_of id.now)) id.now.partition node }
+    ensures room { HasRoom chunks.new log.new }
+    ensures removed { OnOk result (RemovesPlace (members_at chunks.old (group_of id.now))
+        (members_at chunks.new (group_of id.now)) id.now.partition node) }
+    ensures one { OnOk result (RemovesOne (members_at chunks.old (group_of id.now))
+        (members_at chunks.new (group_of id.now)) id.now.partition node) }
+    ensures err { OnErr result (SameMembers (members_at chunks.old (group_of id.now))
+        (members_at chunks.new (group_of id.now))) }
+    ensures others { (q : Group) → (q ≡ group_of id.now → ⊥) → members_at chunks.new q ≡ members_at chunks.old q }
+    ensures before { (g : Group) → members_at (chunks_before log.new.saved chunks.new) g
+        ≡ members_at (chunks_before log.old.saved chunks.old) g }
+    ensures was { AreChunks chunks.old }
+    ensures chunks { AreChunks chunks.new }
+{
+    log.save(chunks, id)?;
+    chunks.remove(id, node)
 }
 
 impl Transaction {
@@ -48,10 +89,8 @@ impl Transaction {
         ensures before { (g : Group) → members_at result.before g ≡ members_at chunks g }
         ensures now { result.now ≡ chunks }
     {
-        Transaction {
-            chunks,
-            saved: None,
-        }
+        let log = Log::new(chunks.alloc());
+        Transaction { chunks, log }
     }
 
     /// The chunks as they are.
@@ -74,9 +113,7 @@ impl Transaction {
         ensures was { AreChunks self.old.now }
         ensures chunks { AreChunks self.new.now }
     {
-        keep_first(&mut self.saved, &self.chunks)?;
-        let chunks = &mut self.chunks;
-        chunks.add(descriptor, node)
+        add_logged(&mut self.chunks, &mut self.log, descriptor, node)
     }
 
     /// Takes a segment from what a node serves that serves it. A refusal changes nothing.
@@ -93,9 +130,7 @@ impl Transaction {
         ensures was { AreChunks self.old.now }
         ensures chunks { AreChunks self.new.now }
     {
-        keep_first(&mut self.saved, &self.chunks)?;
-        let chunks = &mut self.chunks;
-        chunks.remove(id, node)
+        remove_logged(&mut self.chunks, &mut self.log, id, node)
     }
 
     /// Ends the edits, and the chunks stay as they are.
@@ -109,6 +144,6 @@ impl Transaction {
     pub fn roll_back(self) -> Chunks
         ensures { (g : Group) → members_at result g ≡ members_at self.before g }
     {
-        self.saved.unwrap_or(self.chunks)
+        self.log.put_back(self.chunks)
     }
 }

@@ -1,12 +1,12 @@
 //! The complete chunks that are visible at no instant.
-ghost use Rattle.std.specs.Prelude.{◌≡◌, ◌↔◌, ℕ, List, IsTrue, IfOk, Contains};
+ghost use Rattle.std.specs.Prelude.{◌≡◌, ◌↔◌, ◌≤◌, ℕ, List, IsTrue, IfOk, Contains, length};
 ghost use Rattle.std.specs.HashSet as set;
-ghost use Rattle.std.specs.List.{IsDistinct};
+ghost use Rattle.std.specs.List.{IsDistinct, insert};
 ghost use Rattle.std.specs.List.Sorted.{IsPermutation, IsSorted, IsStrictlySortedBy};
 ghost use Rattle.druid_chunks.specs.Chunks.{AreChunks, IsCompleteOf};
 ghost use Rattle.druid_time.specs.Extent.{Extent};
 ghost use Rattle.druid_segid.specs.Group.{Group, same_group};
-ghost use Rattle.druid_timeline.specs.Overshadowed.{place_cmp};
+ghost use Rattle.druid_timeline.specs.Overshadowed.{interval_cmp, place_cmp};
 
 use druid_chunks::Chunks;
 use druid_segid::{GroupKey, Meter};
@@ -50,13 +50,21 @@ fn unseen_in(
     Ok(unseen)
 }
 
-// The order of two chunks by start, then by end, then by version, which only their ranks can tell.
-fn place_order(one: &GroupKey, other: &GroupKey, meter: &mut Meter) -> Ordering
-    ensures { result ≡ place_cmp one.now other.now }
+// The order of two chunks by start, then by end.
+fn interval_order(one: &GroupKey, other: &GroupKey) -> Ordering
+    ensures { result ≡ interval_cmp one.now.interval other.now.interval }
 {
     let (mine, theirs) = (one.interval(), other.interval());
     let start = mine.start().cmp(&theirs.start());
-    let by_interval = start.then(mine.end().cmp(&theirs.end()));
+    start.then(mine.end().cmp(&theirs.end()))
+}
+
+// The order of two chunks by start, then by end, then by version, which only their ranks can tell.
+fn place_order(one: &GroupKey, other: &GroupKey, meter: &mut Meter) -> Ordering
+    ensures order { result ≡ place_cmp one.now other.now }
+    ensures counted { meter.old ≤ meter.new }
+{
+    let by_interval = interval_order(one, other);
     if by_interval != Ordering::Equal {
         return by_interval;
     }
@@ -69,16 +77,41 @@ fn place_order(one: &GroupKey, other: &GroupKey, meter: &mut Meter) -> Ordering
     Ordering::Equal
 }
 
-// Sorts chunks by their places.
-fn sort_by_place(keys: &mut Vec<GroupKey>, meter: &mut Meter)
-    ensures permutation { IsPermutation keys.old.items keys.new.items }
-    ensures sorted { IsSorted place_cmp keys.new.items }
+// Where a chunk belongs among others that are sorted by their places.
+fn place_among(sorted: &[GroupKey], key: &GroupKey, meter: &mut Meter) -> usize
+    ensures within { result ≤ length sorted.now }
+    ensures sorted { IsSorted place_cmp sorted.now → IsSorted place_cmp (insert sorted.now result key.now) }
+    ensures counted { meter.old ≤ meter.new }
 {
-    keys.sort_unstable_by(
-        |one: &GroupKey, other: &GroupKey| -> Ordering
-            ensures { result ≡ place_cmp one.now other.now }
-        { place_order(one, other, meter) },
-    );
+    let mut low = 0;
+    let mut high = sorted.len();
+    while low < high {
+        let middle = low + (high - low) / 2;
+        if place_order(&sorted[middle], key, meter) == Ordering::Less {
+            low = middle + 1;
+        } else {
+            high = middle;
+        }
+    }
+    low
+}
+
+// The chunks sorted by their places: each is put in its place among those before it.
+fn sorted_by_place(
+    alloc: Global,
+    keys: Vec<GroupKey>,
+    meter: &mut Meter,
+) -> Result<Vec<GroupKey>, AllocError>
+    ensures permutation { IfOk result (λ sorted. IsPermutation keys.items sorted.items) }
+    ensures sorted { IfOk result (λ sorted. IsSorted place_cmp sorted.items) }
+    ensures counted { meter.old ≤ meter.new }
+{
+    let mut sorted = Vec::with_capacity(alloc, keys.len())?;
+    for key in keys {
+        let place = place_among(&sorted, &key, meter);
+        sorted.insert(place, key)?;
+    }
+    Ok(sorted)
 }
 
 // The complete chunks that no run shows, by start, then by end, then by version.
@@ -92,9 +125,13 @@ pub(crate) fn overshadowed_in(
         × ((run : Extent × Group) × Contains runs.now run × (run.1 ≡ g) → ⊥))) }
     ensures sorted { IfOk result (λ v. IsStrictlySortedBy place_cmp v.items) }
     ensures chunks { IfOk result (λ _. AreChunks chunks.now) }
+    ensures counted { meter.old ≤ meter.new }
 {
     let seen = shown_in(alloc, runs)?;
     let mut unseen = unseen_in(alloc, chunks, &seen)?;
-    sort_by_place(&mut unseen, meter);
-    Ok(unseen)
+    // The standard library's sort says nothing of what its closure has counted, so it takes the intervals alone. Then
+    // each chunk belongs at the end, or among versions of its own interval.
+    unseen.sort_unstable_by(interval_order);
+    let sorted = sorted_by_place(alloc, unseen, meter)?;
+    Ok(sorted)
 }

@@ -185,6 +185,7 @@ impl Timeline {
     pub fn overshadowed(&self, meter: &mut Meter) -> Result<Vec<GroupKey>, AllocError>
         ensures all { IfOk result (λ v. (g : Group) → Contains v.items g ↔ IsOvershadowed self.now.held g) }
         ensures sorted { IfOk result (λ v. IsStrictlySortedBy place_cmp v.items) }
+        ensures counted { meter.old ≤ meter.new }
     {
         overshadowed_in(self.alloc, &self.chunks, &self.runs, meter)
     }

@@ -11,15 +11,14 @@ answered : (told : Bool) (mine theirs g h : Group) → mine ≡ g → theirs ≡
 answered told mine theirs g h e f told_of =
     subst (λ (k : Group). IsTrue told ↔ Outranks k h) e (subst (λ (k : Group). IsTrue told ↔ Outranks mine k) f told_of)
 
-pub returns-then-beats-2 : goal.returns-then-beats-2
-returns-then-beats-2 c =
-    let same : c.then-by_interval.result ≡ Equal = search rules in
-    let parts : c.then-by_interval.result ≡ ordering_then (nat_cmp c.args.one.now.interval.start c.args.other.now.interval.start) (nat_cmp c.args.one.now.interval.end c.args.other.now.interval.end) = search rules in
-    place_cmp-below c.args.one.now c.args.other.now (sym parts ∙ same)
+pub returns-then-beats-2-clause-order : goal.returns-then-beats-2-clause-order
+returns-then-beats-2-clause-order c =
+    let same : c.interval_order-by_interval.result ≡ Equal = search rules in
+    place_cmp-below c.args.one.now c.args.other.now (sym c.interval_order-by_interval.ensures ∙ same)
     ((answered c.beats-2.result c.rank-3.result c.rank-4.result c.args.other.now c.args.one.now c.rank-3.ensures.value c.rank-4.ensures.value c.beats-2.ensures.answer).0 c.if-beats-2.true)
 
-pub returns : goal.returns
-returns c =
+pub returns-clause-order : goal.returns-clause-order
+returns-clause-order c =
     place_cmp-level c.args.one.now c.args.other.now
     (λ above. false≢true (sym c.if-beats.false ∙ (answered c.beats.result c.rank.result c.rank-2.result c.args.one.now c.args.other.now c.rank.ensures.value c.rank-2.ensures.value c.beats.ensures.answer).1 above))
     (λ below. false≢true (sym c.if-beats-2.false ∙ (answered c.beats-2.result c.rank-3.result c.rank-4.result c.args.other.now c.args.one.now c.rank-3.ensures.value c.rank-4.ensures.value c.beats-2.ensures.answer).1 below))

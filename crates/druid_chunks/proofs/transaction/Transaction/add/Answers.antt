@@ -8,10 +8,10 @@ use Rattle.druid_chunks.proofs.transaction.Transaction.add.Goals as goal
 
 pub returns-clause-added : goal.returns-clause-added
 returns-clause-added c =
-    subst (λ (e : Edited). OnOk c.add.result (Adds (members_at e.now (group_of c.args.descriptor.now.id)) (members_at c.add.new.self (group_of c.args.descriptor.now.id)) (member_of c.args.node c.args.descriptor.now)))
-    c.self.view_is c.add.ensures.added
+    subst (λ (e : Edited). OnOk c.add_logged.result (Adds (members_at e.now (group_of c.args.descriptor.now.id)) (members_at c.add_logged.new.chunks (group_of c.args.descriptor.now.id)) (member_of c.args.node c.args.descriptor.now)))
+    c.self.view_is c.add_logged.ensures.added
 
 pub returns-clause-err : goal.returns-clause-err
 returns-clause-err c =
-    subst (λ (e : Edited). OnErr c.add.result (SameMembers (members_at e.now (group_of c.args.descriptor.now.id)) (members_at c.add.new.self (group_of c.args.descriptor.now.id))))
-    c.self.view_is c.add.ensures.err
+    subst (λ (e : Edited). OnErr c.add_logged.result (SameMembers (members_at e.now (group_of c.args.descriptor.now.id)) (members_at c.add_logged.new.chunks (group_of c.args.descriptor.now.id))))
+    c.self.view_is c.add_logged.ensures.err
