@@ -6,7 +6,7 @@ pub loop-low-preserved-then-eq : goal.loop-low-preserved-then-eq
 loop-low-preserved-then-eq c =
     let less : c.place_order.result ≡ Less = search rules in record {
       between = IsBetween-above c.args.sorted.now c.args.key.now c.index-sorted-middle.result c.loop-low.low c.loop-low.high
-      (c.loop-low.low + (c.loop-low.high - c.loop-low.low) / 2) c.loop-low.invariant.between (search rules) c.index-sorted-middle.is (sym c.place_order.ensures.order ∙ less);
+          (c.loop-low.low + (c.loop-low.high - c.loop-low.low) / 2) c.loop-low.invariant.between (search rules) c.index-sorted-middle.is (sym c.place_order.ensures.order ∙ less);
       counted = search rules;
     }
 

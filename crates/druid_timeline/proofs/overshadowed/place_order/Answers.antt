@@ -1,6 +1,5 @@
 use Rattle.std.proofs.Common.{◌≡◌, ◌∙◌, ◌↔◌, Equal, Bool, sym, subst, rules}
 use Rattle.std.specs.Bool.{IsTrue}
-use Rattle.std.specs.Ordering.{ordering_then, nat_cmp}
 use Rattle.std.proofs.lemmas.Bool.{false≢true}
 use Rattle.druid_segid.specs.Group.{Group, Outranks}
 use Rattle.druid_timeline.proofs.PlaceLemmas.{place_cmp-below, place_cmp-level}
