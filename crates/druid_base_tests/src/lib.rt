@@ -1,7 +1,7 @@
 //! What no contract says of the crates from instants to inventories, of `replay` and of `druid_world`: worked examples and
 //! runs, printed texts, devices that fail, that calls succeed with ample memory, and drawn runs against a plain replay. A
 //! module has the name of the crate that it tests; `devices`, `explaining`, `following` and `joining` are of `replay`,
-//! `drawn` is of `druid_world`, and `edits` of `druid_timeline`.
+//! `drawn` is of `druid_world`, and `edits` and `edit_bound` are of `druid_timeline`.
 #![tactic(auto)]
 
 #[cfg(test)]
@@ -14,6 +14,8 @@ mod cluster;
 mod devices;
 #[cfg(test)]
 mod drawn;
+#[cfg(test)]
+mod edit_bound;
 #[cfg(test)]
 mod edits;
 #[cfg(test)]

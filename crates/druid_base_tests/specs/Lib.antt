@@ -1,0 +1,2 @@
+-- words of private contracts
+pub mod Others
