@@ -7,3 +7,5 @@ pub mod Sources
 pub mod Timelines
 -- words of private contracts
 pub mod Judged
+pub mod Kept
+pub mod Transactions

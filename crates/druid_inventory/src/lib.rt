@@ -9,6 +9,7 @@ mod known;
 mod laws;
 mod shared;
 mod timelines;
+mod transactions;
 
 pub use fault::{ApplyFault, InventoryFault, JoinFault, Outcome};
 pub use inventory::{Inventory, MAX_NODES};
