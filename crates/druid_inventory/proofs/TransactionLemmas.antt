@@ -30,6 +30,12 @@ use Rattle.druid_inventory.specs.Transactions.{edited, IsAfter, IsBefore, IsEith
 use Rattle.druid_inventory.proofs.EditLemmas.{WithoutSegment, IsAlone, held_less, held_less_there, less_there, left_kept, loaded_fresh, is_served, dropped_alone, ServesWith-loaded, ServesWith-dropped}
 use Rattle.druid_inventory.proofs.TimelineLemmas.{WithSegment, held_of_kept, held_more, held_more_there, kept_there, held_alike, kept_alike, same_or_not, not_held, not_tied}
 
+-- ---- one way or the other
+
+pub on_ok : {T E : Type 0} (r : Result T E) {P : Type 0} → P → OnOk r P
+on_ok (Ok x) p = p
+on_ok (Err e) p = tt
+
 -- ---- writes to a map
 
 -- other keys keep what they had

@@ -9,3 +9,4 @@ pub mod Timelines
 pub mod Judged
 pub mod Kept
 pub mod Transactions
+pub mod Moves

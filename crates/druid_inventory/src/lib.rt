@@ -1,6 +1,7 @@
 //! What a broker knows of the data nodes: a mark and a set of segments for each, and the timelines over them.
 #![tactic(auto)]
 
+mod advance;
 mod fault;
 mod inventory;
 mod join;

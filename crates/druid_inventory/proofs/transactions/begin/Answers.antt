@@ -1,20 +1,13 @@
-use Rattle.std.proofs.Common.{◌≡◌, ℕ, List, [], Option, Result, Ok, Err, refl, sym, ap, subst, ◌∙◌}
+use Rattle.std.proofs.Common.{◌≡◌, ℕ, List, [], Option, refl, sym, ap, subst, ◌∙◌}
 use Rattle.std.specs.BTreeMap.{BTreeMap}
 use Rattle.std.specs.Option.{is_some}
 use Rattle.std.specs.Result.{OnOk, OnErr}
+use Rattle.std.proofs.lemmas.Result.{on_err_weaker}
 use Rattle.druid_timeline.specs.Holding.{Serving}
 use Rattle.druid_inventory.specs.Timelines.{kept, ServesWith}
 use Rattle.druid_inventory.specs.Transactions.{edited, HasPlace}
-use Rattle.druid_inventory.proofs.TransactionLemmas.{IsFrom, AreAfter-begun, AreBefore-begun, HasPlace-written, may_begin, unless_found, written_back}
+use Rattle.druid_inventory.proofs.TransactionLemmas.{IsFrom, AreAfter-begun, AreBefore-begun, HasPlace-written, may_begin, unless_found, on_ok, written_back}
 use Rattle.druid_inventory.proofs.transactions.begin.Goals as goal
-
-on_ok : {T E : Type 0} (r : Result T E) {P : Type 0} → P → OnOk r P
-on_ok (Ok x) p = p
-on_ok (Err e) p = tt
-
-on_err_weaker : {T E : Type 0} (r : Result T E) {P Q : Type 0} → (P → Q) → OnErr r P → OnErr r Q
-on_err_weaker (Ok x) f h = tt
-on_err_weaker (Err e) f h = f h
 
 pub returns-in-Some-clause-after : goal.returns-in-Some-clause-after
 returns-in-Some-clause-after c entries node set h =

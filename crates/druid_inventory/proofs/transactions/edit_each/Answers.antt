@@ -35,8 +35,7 @@ pub loop-change-preserved : goal.loop-change-preserved
 loop-change-preserved c = record {
   after = λ entries s t set made h.
       let u = c.loop-change.invariant.after entries s t set made h in
-      let next = replayed-next s u.0 t c.args.changes.now c.loop-change.change-index c.change-item.result made u.1 c.loop-change-test.true c.change-item.is in
-      (
+      let next = replayed-next s u.0 t c.args.changes.now c.loop-change.change-index c.change-item.result made u.1 c.loop-change-test.true c.change-item.is in (
         after u.0 c.change-item.result,
         next.2,
         AreAfter-made entries c.args.node u.0 c.change-item.result c.begin.new.timelines c.begin.new.edits c.change_edited.new.edits
