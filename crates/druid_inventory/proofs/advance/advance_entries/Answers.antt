@@ -26,8 +26,13 @@ pub returns-clause-ok : goal.returns-clause-ok
 returns-clause-ok c =
     let found = found_behind arc_value c.args.entries.now.items c.args.node c.index_mut-entry.result.now (within arc_value c.args.entries.now.items c.args.node c.requires.made.0 c.requires.made.1) c.index_mut-entry.ensures.value in
     on_ok_weaker c.advance_known.result
-    (λ moves. (arc_value c.index_mut-entry.result.now, arc_value c.advance_known.new.entry, found, moves,
-    map-set arc_value c.args.entries.now.items c.args.node c.advance_known.new.entry))
+    (λ moves. (
+      arc_value c.index_mut-entry.result.now,
+      arc_value c.advance_known.new.entry,
+      found,
+      moves,
+      map-set arc_value c.args.entries.now.items c.args.node c.advance_known.new.entry,
+    ))
     c.advance_known.ensures.ok
 
 pub returns-clause-err : goal.returns-clause-err
