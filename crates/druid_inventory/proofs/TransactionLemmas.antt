@@ -8,7 +8,6 @@ use Rattle.std.specs.Result.{OnOk, OnErr}
 use Rattle.std.specs.Ordering.{nat_cmp}
 use Rattle.std.specs.Cmp.Lexicographic.{slice_cmp}
 use Rattle.std.proofs.lemmas.Bool.{false≢true}
-use Rattle.std.proofs.lemmas.Option.{same_Some}
 use Rattle.druid_segid.specs.Group.{Group, same_group}
 use Rattle.druid_segid.proofs.OrderLemmas.{slice_cmp-Equal}
 use Rattle.druid_chunks.specs.Chunks.{members_at}
@@ -26,7 +25,7 @@ use Rattle.druid_timeline.proofs.HoldingLemmas.{in_filter, from_filter}
 use Rattle.druid_inventory.specs.Entry.{Entry}
 use Rattle.druid_inventory.specs.Judged.{segment_of}
 use Rattle.druid_inventory.specs.Timelines.{kept, IsHeldOf, IsKept, AreTimelines, IsLeftOver, ServesWith}
-use Rattle.druid_inventory.specs.Transactions.{edited, IsAfter, IsBefore, IsEither, AreEither, AreAfter, AreBefore, Begins, HasPlace, TakesEdit, Goes, GoesOn, Makes, Settles}
+use Rattle.druid_inventory.specs.Transactions.{edited, IsAfter, IsBefore, IsEither, AreEither, AreAfter, Begins, HasPlace, TakesEdit, Goes, GoesOn, Makes, Settles}
 use Rattle.druid_inventory.proofs.EditLemmas.{WithoutSegment, IsAlone, held_less, held_less_there, less_there, left_kept, loaded_fresh, is_served, dropped_alone, ServesWith-loaded, ServesWith-dropped}
 use Rattle.druid_inventory.proofs.TimelineLemmas.{WithSegment, held_of_kept, held_more, held_more_there, kept_there, held_alike, kept_alike, same_or_not, not_held, not_tied}
 

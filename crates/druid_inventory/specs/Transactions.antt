@@ -4,7 +4,7 @@ use Rattle.std.specs.BTreeMap.{BTreeMap, get}
 use Rattle.std.specs.Ordering.{nat_cmp}
 use Rattle.std.specs.Cmp.Lexicographic.{slice_cmp}
 use Rattle.druid_segid.specs.Group.{Group}
-use Rattle.druid_chunks.specs.Chunks.{Chunk, members_at}
+use Rattle.druid_chunks.specs.Chunks.{members_at}
 use Rattle.druid_shard.specs.Described.{Described}
 use Rattle.druid_shard.specs.declared.change.Change.{Change}
 use Rattle.druid_shard.specs.declared.change.Change.TheVariants.{Load, Drop}

@@ -1,13 +1,10 @@
-use Rattle.std.proofs.Common.{◌≡◌, ℕ, List, Some, map, inl, inr, sym, ap, subst, ◌∙◌}
+use Rattle.std.proofs.Common.{◌≡◌, List, Some, map, inl, inr, sym, subst, ◌∙◌}
 use Rattle.std.specs.Arc.{arc_value}
-use Rattle.std.specs.BTreeMap.{BTreeMap}
 use Rattle.std.specs.List.{slice_get}
-use Rattle.std.specs.Result.{OnOk, OnErr}
 use Rattle.std.proofs.lemmas.Result.{on_err_weaker, on_ok_weaker}
 use Rattle.druid_chunks.proofs.EditLemmas.{always_err, was_ok}
 use Rattle.druid_shard.specs.Described.{Described}
 use Rattle.druid_shard.specs.Replay.{replay_from}
-use Rattle.druid_timeline.specs.Holding.{Serving}
 use Rattle.druid_inventory.specs.Entry.{Entry}
 use Rattle.druid_inventory.specs.Moves.{MovesAt}
 use Rattle.druid_inventory.specs.Sources.{Serves}

@@ -1,6 +1,5 @@
 use Rattle.std.proofs.Common.{List, ap, sym, subst, ◌∙◌}
 use Rattle.std.specs.Bool.{IsTrue}
-use Rattle.std.specs.List.{insert}
 use Rattle.druid_segid.specs.Identifier.{Identifier}
 use Rattle.druid_shard.specs.Described.{Described}
 use Rattle.druid_shard.specs.Replay.{StandsAt, BelongsAt, after, is_strict}

@@ -1,4 +1,4 @@
-use Rattle.std.proofs.Common.{◌≡◌, List, Some, ◌∷◌, arith, ap, sym, subst, ◌∙◌}
+use Rattle.std.proofs.Common.{◌≡◌, List, Some, arith, ap, sym, subst, ◌∙◌}
 use Rattle.std.specs.Vec.Iter.{into_iter_items}
 use Rattle.druid_shard.specs.Described.{Described}
 use Rattle.druid_shard.specs.Replay.{IsSegmentSet, replay_from}
