@@ -22,7 +22,7 @@ use Rattle.druid_shard.proofs.ReplayLemmas.{strict_load, strict_drop, Contains-w
 use Rattle.druid_timeline.specs.Holding.{Held, Serving, HoldsNothing, held_of, IsPlaceOf, IsServed, RemovesHeld}
 use Rattle.druid_inventory.specs.Entry.{Entry}
 use Rattle.druid_inventory.specs.Sources.{Serves}
-use Rattle.druid_inventory.specs.Timelines.{kept, IsKept, AreTimelines, held_by, TakesChange, AddsSegment, EditsOut, IsLeftOver, RemovesSegment, MakesChange, ServesWith}
+use Rattle.druid_inventory.specs.Timelines.{kept, IsHeldOf, IsKept, AreTimelines, held_by, TakesChange, AddsSegment, EditsOut, IsLeftOver, RemovesSegment, MakesChange, ServesWith}
 use Rattle.druid_inventory.proofs.ReplayedLemmas.{one_holder}
 use Rattle.druid_inventory.proofs.TimelineLemmas.{WithSegment, AreTimelines-alike, AreTimelines-more, held_of_kept, identifier_same, not_tied, same_or_not, takes_segment}
 
@@ -46,52 +46,60 @@ at_its_place served node d alone i y there source place =
     (place.2, alone y (subst (λ (n : ℕ). served n y) place.2 there) (identifier_same y.id d.id source place.0 place.1))
 
 -- of the source of the segment, what is left
-left_here : (served : ℕ → Described → Type 0) (o : Option Serving) (held : List Held) (node : ℕ) (d : Described)
-    → IsKept served d.id.source o → RemovesHeld (held_by o) held node d.id → IsAlone served node d → (x : Held)
-    → Contains held x ↔ ((i : ℕ) × (y : Described) × WithoutSegment served node d i y × (y.id.source ≡ d.id.source) × (x ≡ held_of i y))
-left_here served o held node d old removes alone x = (
+pub held_less : (served : ℕ → Described → Type 0) (old new : List Held) (node : ℕ) (d : Described)
+    → IsHeldOf served d.id.source old → RemovesHeld old new node d.id → IsAlone served node d → IsHeldOf (WithoutSegment served node d) d.id.source new
+held_less served old new node d h removes alone x = (
   λ c.
       let was = (removes x).0 c in
-      let s = (held_of_kept served d.id.source o old x).0 was.0 in
+      let s = (h x).0 was.0 in
       (s.0, s.1, (s.2, λ it. was.1 (subst (IsPlaceOf node d.id) (sym s.4) (its_place node d s.0 s.1 it.0 it.1))), s.3, s.4),
   λ e. (removes x).1 (
-    (held_of_kept served d.id.source o old x).1 (e.0, e.1, e.2.0, e.3, e.4),
+    (h x).1 (e.0, e.1, e.2.0, e.3, e.4),
     λ place. e.2.1 (at_its_place served node d alone e.0 e.1 e.2.0 e.3 (subst (IsPlaceOf node d.id) e.4 place)),
   ),
+)
+
+-- of another source
+pub held_less_there : (served : ℕ → Described → Type 0) (source : List ℕ) (held : List Held) (node : ℕ) (d : Described)
+    → (source ≡ d.id.source → ⊥) → IsHeldOf served source held → IsHeldOf (WithoutSegment served node d) source held
+held_less_there served source held node d apart h x = (
+  λ c. let was = (h x).0 c in (was.0, was.1, (was.2, λ it. apart (sym was.3 ∙ ap (λ (z : Described). z.id.source) it.1)), was.3, was.4),
+  λ e. (h x).1 (e.0, e.1, e.2.0, e.3, e.4),
 )
 
 one_of : (held : List Held) → (HoldsNothing held → ⊥) → (x : Held) × Contains held x
 one_of [] some = absurd (some (λ x there. Contains-nil x there))
 one_of (x ∷ xs) some = (x, (0, omega arith, refl))
 
+-- what is left over is the timeline of what is held
+pub left_kept : (served : ℕ → Described → Type 0) (source : List ℕ) (held : List Held) (o : Option Serving)
+    → IsHeldOf served source held → IsLeftOver source held o → IsKept served source o
+left_kept served source held None h nothing = λ i y there same. nothing (held_of i y) ((h (held_of i y)).1 (i, y, there, same, refl))
+left_kept served source held (Some t) h left =
+    let one = one_of held left.2 in
+    let it = (h one.0).0 one.1 in
+    record {
+      of_source = left.0;
+      some = (it.0, it.1, it.2, it.3);
+      held = subst (IsHeldOf served source) (sym left.1) h;
+    }
+
 -- at the source of the segment
 less_here : (served : ℕ → Described → Type 0) (o n : Option Serving) (held : List Held) (node : ℕ) (d : Described)
     → IsKept served d.id.source o → RemovesHeld (held_by o) held node d.id → IsAlone served node d → IsLeftOver d.id.source held n
     → IsKept (WithoutSegment served node d) d.id.source n
-less_here served o None held node d old removes alone nothing =
-    λ i y there same. nothing (held_of i y) ((left_here served o held node d old removes alone (held_of i y)).1 (i, y, there, same, refl))
-less_here served o (Some t) held node d old removes alone left =
-    let one = one_of held left.2 in
-    let it = (left_here served o held node d old removes alone one.0).0 one.1 in
-    record {
-      of_source = left.0;
-      some = (it.0, it.1, it.2, it.3);
-      held = λ x.
-          subst (λ (h : List Held). Contains h x ↔ ((i : ℕ) × (y : Described) × WithoutSegment served node d i y × (y.id.source ≡ d.id.source) × (x ≡ held_of i y)))
-          (sym left.1) (left_here served o held node d old removes alone x);
-    }
+less_here served o n held node d old removes alone left =
+    left_kept (WithoutSegment served node d) d.id.source held n
+    (held_less served (held_by o) held node d (held_of_kept served d.id.source o old) removes alone) left
 
 -- at another source
-less_there : (served : ℕ → Described → Type 0) (source : List ℕ) (o : Option Serving) (node : ℕ) (d : Described)
+pub less_there : (served : ℕ → Described → Type 0) (source : List ℕ) (o : Option Serving) (node : ℕ) (d : Described)
     → (source ≡ d.id.source → ⊥) → IsKept served source o → IsKept (WithoutSegment served node d) source o
 less_there served source None node d apart h = λ i y s e. h i y s.0 e
 less_there served source (Some t) node d apart h = record {
   of_source = h.of_source;
   some = (h.some.0, h.some.1, (h.some.2, λ it. apart (sym h.some.3 ∙ ap (λ (z : Described). z.id.source) it.1)), h.some.3);
-  held = λ x. (
-    λ c. let was = (h.held x).0 c in (was.0, was.1, (was.2, λ it. apart (sym was.3 ∙ ap (λ (z : Described). z.id.source) it.1)), was.3, was.4),
-    λ e. (h.held x).1 (e.0, e.1, e.2.0, e.3, e.4),
-  );
+  held = held_less_there served source t.held node d apart h.held;
 }
 
 -- with the segment taken out, the timelines are those of all but the segment
@@ -185,21 +193,31 @@ ServesWith-dropped entries node s d i y = (
   ],
 )
 
+-- the node serves no segment of the identifier of one that is loaded
+pub loaded_fresh : (entries : List Entry) (node : ℕ) (s : List Described) (d : Described) → IsTrue (is_strict s (Load d))
+    → (y : Described) → ServesWith entries node s node y → y.id ≡ d.id → ⊥
+loaded_fresh entries node s d strict y there same = elim there [
+  | inl own ↦ (strict_load s d).0 strict y own.1 (ap identifier_text same)
+  | inr other ↦ other.0 refl
+]
+
 -- the timeline of its source takes a segment that is loaded
 loaded_taken : (entries : List Entry) (node : ℕ) (s : List Described) (d : Described) (m : BTreeMap (List ℕ) Serving)
     → AreTimelines (ServesWith entries node s) m → IsTrue (is_strict s (Load d)) → TakesChange m node (Load d)
 loaded_taken entries node s d m over strict =
-    takes_segment (ServesWith entries node s) m node d over (λ y there same. elim there [
-      | inl own ↦ (strict_load s d).0 strict y own.1 (ap identifier_text same)
-      | inr other ↦ other.0 refl
-    ])
+    takes_segment (ServesWith entries node s) m node d over (loaded_fresh entries node s d strict)
+
+-- a segment that the node serves is held
+pub is_served : (served : ℕ → Described → Type 0) (node : ℕ) (d : Described) (t : Serving) → t.source ≡ d.id.source → IsHeldOf served d.id.source t.held
+    → served node d → IsServed t node d.id
+is_served served node d t of_source h there =
+    (sym of_source, (held_of node d, (h (held_of node d)).1 (node, d, there, refl, refl), refl, refl, refl))
 
 -- a segment that is dropped is in the timeline of its source
 pub dropped_in : (served : ℕ → Described → Type 0) (node : ℕ) (d : Described) (o : Option Serving) → IsKept served d.id.source o → served node d
     → (t : Serving) × (o ≡ Some t) × IsServed t node d.id
 dropped_in served node d None h there = absurd (h node d there refl)
-dropped_in served node d (Some t) h there =
-    (t, refl, (sym h.of_source, (held_of node d, (h.held (held_of node d)).1 (node, d, there, refl, refl), refl, refl, refl)))
+dropped_in served node d (Some t) h there = (t, refl, is_served served node d t h.of_source h.held there)
 
 dropped_taken : (entries : List Entry) (node : ℕ) (s : List Described) (d : Described) (m : BTreeMap (List ℕ) Serving)
     → AreTimelines (ServesWith entries node s) m → IsTrue (is_strict s (Drop d)) → TakesChange m node (Drop d)
@@ -212,7 +230,7 @@ pub change_taken : (entries : List Entry) (node : ℕ) (s : List Described) (c :
 change_taken entries node s (Load d) m over strict = loaded_taken entries node s d m over strict
 change_taken entries node s (Drop d) m over strict = dropped_taken entries node s d m over strict
 
-dropped_alone : (entries : List Entry) (node : ℕ) (s : List Described) (d : Described) → IsSegmentSet s → IsTrue (is_strict s (Drop d))
+pub dropped_alone : (entries : List Entry) (node : ℕ) (s : List Described) (d : Described) → IsSegmentSet s → IsTrue (is_strict s (Drop d))
     → IsAlone (ServesWith entries node s) node d
 dropped_alone entries node s d h strict y there same = elim there [
   | inl own ↦ one_holder s h.sorted y d own.1 ((strict_drop s d).0 strict) (ap identifier_text same)

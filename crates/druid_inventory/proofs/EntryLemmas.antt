@@ -1,7 +1,7 @@
 -- Lists of entries after pointers.
-use Rattle.std.proofs.Common.{◌≡◌, ℕ, List, [], ◌∷◌, map, set, Some, Result, Ok, Err, refl, sym, ap, ◌∙◌}
+use Rattle.std.proofs.Common.{◌≡◌, ℕ, List, [], ◌∷◌, map, set, Some, Result, Ok, Err, refl, sym, ap, subst, ◌∙◌}
 use Rattle.std.specs.List.{AllZip, slice_get}
-use Rattle.std.specs.Result.{IfOk, MatchResult}
+use Rattle.std.specs.Result.{IfOk, MatchResult, OnErr}
 use Rattle.std.proofs.lemmas.List.{set-get_or}
 use Rattle.std.proofs.lemmas.List.Sorted.{Contains-permutation, IsPermutation-sym}
 use Rattle.std.proofs.lemmas.Option.{get_or_from_slice_get}
@@ -37,3 +37,7 @@ snapshot_is at set (Snapshot mark segments) h k =
     (λ x. (Contains-permutation segments set x (IsPermutation-sym set segments k.1), Contains-permutation set segments x k.1)) in
     (λ i. Snapshot (k.0 i) (same i))
 snapshot_is at set (Reset cause mark) h k = absurd k
+
+-- what is reported of an error, where there is one
+pub err_case : {T E X : Type 0} (r : Result T E) (e : E) → r ≡ Err e → OnErr r X → X
+err_case {X = X} r e is h = subst (λ (s : _). OnErr s X) is h

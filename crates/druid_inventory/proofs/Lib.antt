@@ -5,3 +5,4 @@ pub mod JoinLemmas
 pub mod ReplayedLemmas
 pub mod StepLemmas
 pub mod TimelineLemmas
+pub mod TransactionLemmas

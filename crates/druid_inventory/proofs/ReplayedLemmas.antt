@@ -263,3 +263,12 @@ replayed-next s t u cs i c e before l is =
     let step = and_then-some (λ v. replay_from v (drop (suc i) cs)) (changed parts.0 c) u parts.2 in
     let made = changed-is t step.0 c (ap (λ (x : List Described). changed x c) (sym same) ∙ step.1) in
     (made.0, made.1, replay_from-more s t cs i c before l is made.0 made.1)
+
+-- the first change of a replayed list is strict, and leaves what the rest begins with
+pub replayed-first : (s t : List Described) (c : Change) (rest : List Change) → IsSegmentSet s → replay_from s (c ∷ rest) ≡ Some t
+    → (is_strict s c ≡ true) × IsSegmentSet (after s c) × (replay_from (after s c) rest ≡ Some t)
+replayed-first s t c rest h e =
+    let step = and_then-some (λ v. replay_from v rest) (changed s c) t e in
+    let made = changed-is s step.0 c step.1 in
+    let same : step.0 ≡ after s c = same_Some step.0 (after s c) (sym step.1 ∙ changed-made s c made.0 made.1) in
+    (made.0, after-set s c h made.0 made.1, subst (λ (u : List Described). replay_from u rest ≡ Some t) same step.2)

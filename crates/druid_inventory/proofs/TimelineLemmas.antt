@@ -20,10 +20,10 @@ use Rattle.druid_segid.specs.Group.{group_of}
 use Rattle.druid_segid.proofs.OrderLemmas.{slice_cmp-Equal}
 use Rattle.druid_shard.specs.Described.{Described}
 use Rattle.druid_shard.proofs.MemberLemmas.{Contains-nil}
-use Rattle.druid_timeline.specs.Holding.{Held, Serving, held_of, AddsHeld}
+use Rattle.druid_timeline.specs.Holding.{Held, Serving, held_of, IsHeld, AddsHeld}
 use Rattle.druid_inventory.specs.Entry.{Entry, fresh}
 use Rattle.druid_inventory.specs.Sources.{Serves, HasSource, IsHoldingOf}
-use Rattle.druid_inventory.specs.Timelines.{kept, IsTimelineOf, IsKept, AreTimelines, AreTimelinesOf, held_by, TakesSegment, AddsSegment, IsInventory}
+use Rattle.druid_inventory.specs.Timelines.{kept, IsHeldOf, IsTimelineOf, IsKept, AreTimelines, AreTimelinesOf, held_by, TakesSegment, AddsSegment, IsInventory}
 
 -- ---- one segment more
 
@@ -35,34 +35,47 @@ nothing_held : (x : Held) → Contains [] x → ⊥
 nothing_held x h = absurd (omega (arith, h.1))
 
 -- a source's holding, kept or empty
-pub held_of_kept : (served : ℕ → Described → Type 0) (source : List ℕ) (o : Option Serving) → IsKept served source o → (x : Held)
-    → Contains (held_by o) x ↔ ((i : ℕ) × (y : Described) × served i y × (y.id.source ≡ source) × (x ≡ held_of i y))
+pub held_of_kept : (served : ℕ → Described → Type 0) (source : List ℕ) (o : Option Serving) → IsKept served source o → IsHeldOf served source (held_by o)
 held_of_kept served source None h x = (λ c. absurd (nothing_held x c), λ e. absurd (h e.0 e.1 e.2 e.3))
 held_of_kept served source (Some t) h x = h.held x
 
 -- at the source of the segment
+pub held_more : (served : ℕ → Described → Type 0) (old new : List Held) (node : ℕ) (d : Described)
+    → IsHeldOf served d.id.source old → AddsHeld old new (held_of node d) → IsHeldOf (WithSegment served node d) d.id.source new
+held_more served old new node d h adds x = (
+  λ c. elim ((adds x).0 c) [
+    | inl e ↦ (node, d, inr (refl, refl), refl, e)
+    | inr more ↦
+        let was = (h x).0 more in
+        (was.0, was.1, inl was.2, was.3, was.4)
+  ],
+  λ e. elim e.2 [
+    | inl s ↦ (adds x).1 (inr ((h x).1 (e.0, e.1, s, e.3, e.4)))
+    | inr new ↦ (adds x).1 (inl (e.4 ∙ (λ k. held_of (new.0 k) (new.1 k))))
+  ],
+)
+
+-- at another source
+pub held_more_there : (served : ℕ → Described → Type 0) (source : List ℕ) (held : List Held) (node : ℕ) (d : Described)
+    → (source ≡ d.id.source → ⊥) → IsHeldOf served source held → IsHeldOf (WithSegment served node d) source held
+held_more_there served source held node d apart h x = (
+  λ c. let was = (h x).0 c in (was.0, was.1, inl was.2, was.3, was.4),
+  λ e. elim e.2 [
+    | inl s ↦ (h x).1 (e.0, e.1, s, e.3, e.4)
+    | inr new ↦ absurd (apart (sym e.3 ∙ ap (λ (z : Described). z.id.source) new.1))
+  ],
+)
+
 kept_here : (served : ℕ → Described → Type 0) (o : Option Serving) (t : Serving) (node : ℕ) (d : Described)
     → IsKept served d.id.source o → t.source ≡ d.id.source → AddsHeld (held_by o) t.held (held_of node d)
     → IsTimelineOf (WithSegment served node d) d.id.source t
 kept_here served o t node d old source adds = record {
   of_source = source;
   some = (node, d, inr (refl, refl), refl);
-  held = λ x. (
-    λ c. elim ((adds x).0 c) [
-      | inl e ↦ (node, d, inr (refl, refl), refl, e)
-      | inr more ↦
-          let was = (held_of_kept served d.id.source o old x).0 more in
-          (was.0, was.1, inl was.2, was.3, was.4)
-    ],
-    λ e. elim e.2 [
-      | inl s ↦ (adds x).1 (inr ((held_of_kept served d.id.source o old x).1 (e.0, e.1, s, e.3, e.4)))
-      | inr new ↦ (adds x).1 (inl (e.4 ∙ (λ k. held_of (new.0 k) (new.1 k))))
-    ],
-  );
+  held = held_more served (held_by o) t.held node d (held_of_kept served d.id.source o old) adds;
 }
 
--- at another source
-kept_there : (served : ℕ → Described → Type 0) (source : List ℕ) (o : Option Serving) (node : ℕ) (d : Described)
+pub kept_there : (served : ℕ → Described → Type 0) (source : List ℕ) (o : Option Serving) (node : ℕ) (d : Described)
     → (source ≡ d.id.source → ⊥) → IsKept served source o → IsKept (WithSegment served node d) source o
 kept_there served source None node d apart h =
     λ i y s e. elim s [
@@ -72,13 +85,7 @@ kept_there served source None node d apart h =
 kept_there served source (Some t) node d apart h = record {
   of_source = h.of_source;
   some = (h.some.0, h.some.1, inl h.some.2, h.some.3);
-  held = λ x. (
-    λ c. let was = (h.held x).0 c in (was.0, was.1, inl was.2, was.3, was.4),
-    λ e. elim e.2 [
-      | inl s ↦ (h.held x).1 (e.0, e.1, s, e.3, e.4)
-      | inr new ↦ absurd (apart (sym e.3 ∙ ap (λ (z : Described). z.id.source) new.1))
-    ],
-  );
+  held = held_more_there served source t.held node d apart h.held;
 }
 
 decided : (b : Bool) (P : Type 0) → Decides b P → P ⊎ (P → ⊥)
@@ -102,16 +109,20 @@ AreTimelines-more served m n node d old adds = record {
   ];
 }
 
-kept_alike : (P Q : ℕ → Described → Type 0) (source : List ℕ) (o : Option Serving)
+pub held_alike : (P Q : ℕ → Described → Type 0) (source : List ℕ) (held : List Held)
+    → ((i : ℕ) (y : Described) → P i y ↔ Q i y) → IsHeldOf P source held → IsHeldOf Q source held
+held_alike P Q source held alike h x = (
+  λ c. let was = (h x).0 c in (was.0, was.1, (alike was.0 was.1).0 was.2, was.3, was.4),
+  λ e. (h x).1 (e.0, e.1, (alike e.0 e.1).1 e.2, e.3, e.4),
+)
+
+pub kept_alike : (P Q : ℕ → Described → Type 0) (source : List ℕ) (o : Option Serving)
     → ((i : ℕ) (y : Described) → P i y ↔ Q i y) → IsKept P source o → IsKept Q source o
 kept_alike P Q source None alike h = λ i y s e. h i y ((alike i y).1 s) e
 kept_alike P Q source (Some t) alike h = record {
   of_source = h.of_source;
   some = (h.some.0, h.some.1, (alike h.some.0 h.some.1).0 h.some.2, h.some.3);
-  held = λ x. (
-    λ c. let was = (h.held x).0 c in (was.0, was.1, (alike was.0 was.1).0 was.2, was.3, was.4),
-    λ e. (h.held x).1 (e.0, e.1, (alike e.0 e.1).1 e.2, e.3, e.4),
-  );
+  held = held_alike P Q source t.held alike h.held;
 }
 
 -- timelines of what is served, said otherwise
@@ -123,18 +134,20 @@ pub identifier_same : (a b : Identifier) → a.source ≡ b.source → group_of 
 identifier_same a b source group partition i =
     record { source = source i; interval = (group i).interval; version = (group i).version; partition = partition i }
 
+-- where the node serves no segment of that identifier, none is held
+pub not_held : (served : ℕ → Described → Type 0) (held : List Held) (node : ℕ) (d : Described)
+    → IsHeldOf served d.id.source held → ((y : Described) → served node y → y.id ≡ d.id → ⊥) → IsHeld held node d.id → ⊥
+not_held served held node d h fresh there =
+    let was = (h there.0).0 there.1 in
+    let here : was.0 ≡ node = ap (λ (x : Held). x.member.node) (sym was.4) ∙ there.4 in
+    let group : group_of was.1.id ≡ group_of d.id = ap (λ (x : Held). x.group) (sym was.4) ∙ there.2 in
+    let partition : was.1.id.partition ≡ d.id.partition = ap (λ (x : Held). x.member.partition) (sym was.4) ∙ there.3 in
+    fresh was.1 (subst (λ (i : ℕ). served i was.1) here was.2) (identifier_same was.1.id d.id was.3 group partition)
+
 takes_kept : (served : ℕ → Described → Type 0) (o : Option Serving) (node : ℕ) (d : Described)
     → IsKept served d.id.source o → ((y : Described) → served node y → y.id ≡ d.id → ⊥) → IfSome o (TakesSegment d.id.source node d)
 takes_kept served None node d h fresh = tt
-takes_kept served (Some t) node d h fresh = record {
-  of_source = h.of_source;
-  new = λ there.
-      let was = (h.held there.0).0 there.1 in
-      let here : was.0 ≡ node = ap (λ (x : Held). x.member.node) (sym was.4) ∙ there.4 in
-      let group : group_of was.1.id ≡ group_of d.id = ap (λ (x : Held). x.group) (sym was.4) ∙ there.2 in
-      let partition : was.1.id.partition ≡ d.id.partition = ap (λ (x : Held). x.member.partition) (sym was.4) ∙ there.3 in
-      fresh was.1 (subst (λ (i : ℕ). served i was.1) here was.2) (identifier_same was.1.id d.id was.3 group partition);
-}
+takes_kept served (Some t) node d h fresh = record { of_source = h.of_source; new = not_held served t.held node d h.held fresh }
 
 -- where the node serves no segment of that identifier, the timeline of its source takes it
 pub takes_segment : (served : ℕ → Described → Type 0) (m : BTreeMap (List ℕ) Serving) (node : ℕ) (d : Described)

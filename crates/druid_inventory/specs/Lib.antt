@@ -7,3 +7,6 @@ pub mod Sources
 pub mod Timelines
 -- words of private contracts
 pub mod Judged
+pub mod Kept
+pub mod Transactions
+pub mod Moves

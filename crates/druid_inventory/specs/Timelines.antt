@@ -16,12 +16,16 @@ use Rattle.druid_inventory.specs.Sources.{Serves}
 abbrev pub kept : BTreeMap (List ℕ) Serving → List ℕ → Option Serving
 kept timelines source = get (slice_cmp nat_cmp) timelines source
 
+-- of all that is served, this is held of the source
+abbrev pub IsHeldOf : (ℕ → Described → Type 0) → List ℕ → List Held → Type 0
+IsHeldOf served source held =
+    (x : Held) → Contains held x ↔ ((node : ℕ) × (d : Described) × served node d × (d.id.source ≡ source) × (x ≡ held_of node d))
+
 -- of all that is served, this is the timeline of the source, of which some is served
 pub record IsTimelineOf (served : ℕ → Described → Type 0) (source : List ℕ) (t : Serving) : Type 0 where
   pub of_source : t.source ≡ source
   pub some : (node : ℕ) × (d : Described) × served node d × (d.id.source ≡ source)
-  pub held : (x : Held) → Contains t.held x
-      ↔ ((node : ℕ) × (d : Described) × served node d × (d.id.source ≡ source) × (x ≡ held_of node d))
+  pub held : IsHeldOf served source t.held
 
 -- the timeline of the source, or nothing where nothing of it is served
 abbrev pub IsKept : (ℕ → Described → Type 0) → List ℕ → Option Serving → Type 0

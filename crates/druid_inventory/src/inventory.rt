@@ -1,4 +1,4 @@
-ghost use Rattle.std.specs.Prelude.{◌≡◌, ◌≢◌, ◌↔◌, ◌≤◌, ◌<◌, ℕ, List, IsTrue, IfOk, IfErr, IfSome, OnOk, IsErrOf, IsSome, Err, None, Some, Contains, length, map, option_copied, option_map, slice_get, slice_index_or, slice_set, vec_len};
+ghost use Rattle.std.specs.Prelude.{◌≡◌, ◌≢◌, ◌↔◌, ◌≤◌, ◌<◌, ℕ, List, IsTrue, IfOk, IfErr, IfSome, OnOk, OnErr, IsErrOf, IsSome, Err, None, Some, Contains, length, map, option_copied, option_map, slice_get, slice_index_or, slice_set, vec_len};
 ghost use Rattle.std.specs.Arc.{arc_value};
 ghost use Rattle.std.specs.Ordering.{nat_cmp};
 ghost use Rattle.std.specs.Cmp.Lexicographic.{slice_cmp};
@@ -13,9 +13,11 @@ ghost use Rattle.druid_inventory.specs.Join.{names_of, later_each, ConflictAt, I
 ghost use Rattle.druid_inventory.specs.Step.{Steps, StepsAt, RefusedAt, Tells, moved_to};
 ghost use Rattle.druid_inventory.specs.declared.fault.ApplyFault.{ApplyFault};
 ghost use Rattle.druid_inventory.specs.declared.fault.Outcome.TheVariants.{Moved};
+ghost use Rattle.druid_inventory.specs.Moves.{MovesAt};
 ghost use Rattle.druid_inventory.specs.Sources.{HasSource, IsHoldingOf};
 ghost use Rattle.druid_inventory.specs.Timelines.{AreTimelinesOf};
 
+use crate::advance::advance_shared;
 use crate::join::{are_of_same_nodes, catch_up, first_conflict, has_later};
 use crate::judge::judge;
 use crate::known::{Known, copy_of};
@@ -34,8 +36,8 @@ pub const MAX_NODES: usize = 64;
 
 /// What a broker knows of each data node, in the order of their list, and the timeline of each data source.
 ///
-/// A contract sees the entries of the nodes. An inventory never changes: a reply gives a new one, which shares with it
-/// what stayed as it was.
+/// A contract sees the entries of the nodes. A reply gives a new inventory, which shares with this one what stayed as it
+/// was, or is applied in place, where what others share is copied first: no other inventory changes.
 #[derive(Debug, Drop)]
 pub struct Inventory {
     alloc: Global,
@@ -243,17 +245,122 @@ impl Inventory {
             × (r.0 ≡ slice_set self.now node new)) }
         ensures told { IfErr result (Tells self.now node body.now) }
     {
-        let Some(known) = self.known(node) else {
-            return Err(ApplyFault::UnknownNode);
-        };
-        let outcome = match judge(known, body) {
+        let outcome = match self.judged(node, body) {
             Ok(outcome) => outcome,
             Err(fault) => return Err(fault),
+        };
+        let Some(known) = self.known(node) else {
+            unreachable!()
         };
         match self.after(node, known, body, outcome) {
             Ok(inventory) => Ok((inventory, outcome)),
             Err(_) => Err(ApplyFault::Memory),
         }
+    }
+
+    /// Applies a reply of a node in place. The answers are those of `apply`, and a refusal leaves the inventory as it was.
+    /// What no other inventory shares is edited, and what is shared is copied first.
+    pub fn advance(&mut self, node: NodeNo, reply: &Reply) -> Result<Outcome, ApplyFault>
+        ensures ok { IfOk result (λ outcome. (new : Entry) × StepsAt self.old node reply.now outcome new
+            × (self.new ≡ slice_set self.old node new)) }
+        ensures err { OnErr result (self.new ≡ self.old) }
+        ensures unknown { IsErrOf result ApplyFault.UnknownNode ↔ (slice_get self.old node ≡ None) }
+        ensures refused { (fault : ApplyFault) → fault ≢ ApplyFault.UnknownNode → fault ≢ ApplyFault.Memory
+            → IsErrOf result fault ↔ RefusedAt self.old node reply.now fault }
+        ensures told { IfErr result (Tells self.old node reply.now) }
+    {
+        self.advanced(node, reply.body())
+    }
+
+    // Applies a reply of a node in place, and its outcome.
+    fn advanced(&mut self, node: NodeNo, body: &Body) -> Result<Outcome, ApplyFault>
+        requires { IsReply body.now }
+        ensures ok { IfOk result (λ outcome. (new : Entry) × StepsAt self.old node body.now outcome new
+            × (self.new ≡ slice_set self.old node new)) }
+        ensures err { OnErr result (self.new ≡ self.old) }
+        ensures told { IfErr result (Tells self.old node body.now) }
+    {
+        let outcome = match self.judged(node, body) {
+            Ok(outcome) => outcome,
+            Err(fault) => return Err(fault),
+        };
+        match self.step(node, body, outcome) {
+            Ok(()) => Ok(outcome),
+            Err(_) => Err(ApplyFault::Memory),
+        }
+    }
+
+    // The outcome of a reply of a node, or why it is refused.
+    fn judged(&self, node: NodeNo, body: &Body) -> Result<Outcome, ApplyFault>
+        requires { IsReply body.now }
+        ensures ok { IfOk result (λ outcome. (new : Entry) × StepsAt self.now node body.now outcome new) }
+        ensures told { IfErr result (Tells self.now node body.now) }
+    {
+        let Some(known) = self.known(node) else {
+            return Err(ApplyFault::UnknownNode);
+        };
+        match judge(known, body) {
+            Ok(outcome) => Ok(outcome),
+            Err(fault) => Err(fault),
+        }
+    }
+
+    // Makes of the inventory what a reply of a node with this outcome makes of it.
+    fn step(&mut self, node: NodeNo, body: &Body, outcome: Outcome) -> Result<(), AllocError>
+        requires valid { IsReply body.now }
+        requires steps { (new : Entry) × StepsAt self.old node body.now outcome new }
+        ensures ok { OnOk result ((new : Entry) × StepsAt self.old node body.now outcome new
+            × (self.new ≡ slice_set self.old node new)) }
+        ensures err { OnErr result (self.new ≡ self.old) }
+    {
+        match outcome {
+            Outcome::Moved => self.step_on(node, body),
+            Outcome::AlreadyHave => Ok(()),
+            Outcome::AskWhole => Ok(()),
+        }
+    }
+
+    // Moves the entry of a node by a reply: by a delta in place, and by a snapshot to the inventory that it makes.
+    fn step_on(&mut self, node: NodeNo, body: &Body) -> Result<(), AllocError>
+        requires valid { IsReply body.now }
+        requires moves { (new : Entry) × StepsAt self.old node body.now Moved new }
+        ensures ok { OnOk result ((new : Entry) × StepsAt self.old node body.now Moved new
+            × (self.new ≡ slice_set self.old node new)) }
+        ensures err { OnErr result (self.new ≡ self.old) }
+    {
+        let Some(known) = self.known(node) else {
+            unreachable!()
+        };
+        match body {
+            Body::Delta { from, to, changes } => {
+                let skipped = (known.mark().count() - from.count()) as usize;
+                self.replay(node, *to, &changes.as_slice()[skipped..])
+            }
+            Body::Snapshot { .. } => {
+                let moved = self.moved(node, known, body)?;
+                *self = moved;
+                Ok(())
+            }
+            Body::Reset { .. } => unreachable!(),
+        }
+    }
+
+    // Moves the entry of a node to another mark, by changes of its set, in place.
+    fn replay(&mut self, node: NodeNo, to: Mark, changes: &[Change]) -> Result<(), AllocError>
+        requires incarnation { 1 ≤ to.incarnation }
+        requires made { (e : Entry) × (slice_get self.old node ≡ Some e)
+            × (t : List Described) × (replay_from e.set changes.now ≡ Some t) }
+        ensures ok { OnOk result (MovesAt self.old self.new node to changes.now) }
+        ensures err { OnErr result (self.new ≡ self.old) }
+    {
+        advance_shared(
+            &mut self.entries,
+            &mut self.timelines,
+            self.alloc,
+            node,
+            to,
+            changes,
+        )
     }
 
     fn known(&self, node: NodeNo) -> Option<&Known>

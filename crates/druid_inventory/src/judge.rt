@@ -16,7 +16,7 @@ use druid_shard::{Body, Change, Descriptor, MAX_SEGMENTS, Mark, find_segment};
 use std::cmp::Ordering;
 
 // The segment that a change loads or drops.
-fn segment_of(change: &Change) -> &Descriptor
+pub(crate) fn segment_of(change: &Change) -> &Descriptor
     ensures { result.now ≡ segment_of change.now }
 {
     match change {

@@ -1,14 +1,19 @@
 //! What is known of one node.
-ghost use Rattle.std.specs.Prelude.{◌≡◌, ◌≢◌, ◌↔◌, ◌≤◌, IsTrue, IfOk};
+ghost use Rattle.std.specs.Prelude.{◌≡◌, ◌≢◌, ◌↔◌, ◌≤◌, List, Some, IsTrue, IfOk, OnOk, OnErr};
+ghost use Rattle.druid_shard.specs.Described.{Described};
 ghost use Rattle.druid_shard.specs.Mark.{never};
-ghost use Rattle.druid_shard.specs.Replay.{IsSegmentSet};
+ghost use Rattle.druid_shard.specs.Replay.{IsSegmentSet, replay_from};
 ghost use Rattle.druid_shard.specs.declared.reply.Body.TheVariants.{Snapshot};
-ghost use Rattle.druid_inventory.specs.Entry.{fresh};
+ghost use Rattle.druid_inventory.specs.Entry.{Entry, fresh};
 ghost use Rattle.druid_inventory.specs.Equality.{same_entry, same_entry-per};
+ghost use Rattle.druid_inventory.specs.Moves.{Moves};
 ghost use Rattle.druid_inventory.specs.Step.{moved_to};
+ghost use Rattle.druid_inventory.specs.Timelines.{AreTimelines, ServesWith};
 
+use crate::advance::advance_set;
+use crate::timelines::Timelines;
 use druid_segid::Name;
-use druid_shard::{Descriptor, Mark, Reply, ReplyFault};
+use druid_shard::{Change, Descriptor, Mark, NodeNo, Reply, ReplyFault};
 use std::alloc::{AllocError, Global};
 use std::marker::Model;
 
@@ -56,6 +61,28 @@ impl Known {
         })
     }
 
+    // Moves to another mark, by changes of the set, and edits the timelines by them.
+    pub(crate) fn advance(
+        &mut self,
+        timelines: &mut Timelines,
+        alloc: Global,
+        node: NodeNo,
+        to: Mark,
+        changes: &[Change],
+    ) -> Result<(), AllocError>
+        requires incarnation { 1 ≤ to.incarnation }
+        requires made { (t : List Described) × (replay_from self.old.set changes.now ≡ Some t) }
+        requires over { (entries : List Entry) × AreTimelines (ServesWith entries node self.old.set) timelines.old }
+        ensures ok { OnOk result (Moves self.old self.new to changes.now) }
+        ensures err { OnErr result (self.new ≡ self.old) }
+        ensures over { (entries : List Entry) → AreTimelines (ServesWith entries node self.old.set) timelines.old
+            → AreTimelines (ServesWith entries node self.new.set) timelines.new }
+    {
+        advance_set(&mut self.set, timelines, alloc, node, changes)?;
+        self.mark = to;
+        Ok(())
+    }
+
     // The node's name.
     pub(crate) fn name(&self) -> &Name
         ensures { result.now ≡ self.now.name }
@@ -98,6 +125,18 @@ impl Known {
             Err(ReplyFault::DoubledSegment) => unreachable!(),
             Err(ReplyFault::Memory) => unreachable!(),
         }
+    }
+}
+
+impl Clone for Known {
+    ghost is_clone = { λ known copy. copy ≡ known };
+
+    fn clone(&self) -> Result<Known, AllocError> {
+        Ok(Known {
+            name: self.name.clone()?,
+            mark: self.mark,
+            set: self.set.clone()?,
+        })
     }
 }
 

@@ -1,6 +1,7 @@
 //! What a broker knows of the data nodes: a mark and a set of segments for each, and the timelines over them.
 #![tactic(auto)]
 
+mod advance;
 mod fault;
 mod inventory;
 mod join;
@@ -9,6 +10,7 @@ mod known;
 mod laws;
 mod shared;
 mod timelines;
+mod transactions;
 
 pub use fault::{ApplyFault, InventoryFault, JoinFault, Outcome};
 pub use inventory::{Inventory, MAX_NODES};

@@ -51,7 +51,7 @@ fn add_segment(
         Some(timeline) => timeline.add(node, descriptor),
         None => {
             let timeline = Timeline::new(alloc, source.clone()?);
-            let mut timeline = SharedTimeline::new(alloc, timeline)?;
+            let mut timeline = SharedTimeline::new(alloc, timeline);
             timeline.add(node, descriptor)?;
             timelines.insert(source.clone()?, timeline)?;
             Ok(())

@@ -1,0 +1,14 @@
+use Rattle.std.proofs.Common.{sym, subst}
+use Rattle.std.specs.Result.{OnOk}
+use Rattle.druid_segid.specs.Identifier.{Identifier}
+use Rattle.druid_shard.specs.declared.change.Change.{Change}
+use Rattle.druid_timeline.specs.Holding.{RemovesHeld}
+use Rattle.druid_inventory.specs.Transactions.{ChangesHeld}
+use Rattle.druid_inventory.proofs.transactions.change_transaction.Goals as goal
+
+pub returns-in-Drop-clause-ok : goal.returns-in-Drop-clause-ok
+returns-in-Drop-clause-ok c =
+    let old = c.args.transaction.now.now.held in
+    let new = c.remove_from_transaction.new.transaction.now.held in
+    subst (λ (x : Change). OnOk c.remove_from_transaction.result (ChangesHeld old new c.args.node x)) (sym c.in-Drop.is)
+    (subst (λ (id : Identifier). OnOk c.remove_from_transaction.result (RemovesHeld old new c.args.node id)) c.id.ensures.value c.remove_from_transaction.ensures.removed)
