@@ -27,7 +27,7 @@ chunk_before saved = (saved.0, members_in saved.1)
 abbrev pub chunks_before : List Saved → List Chunk → List Chunk
 chunks_before saved now = map chunk_before saved ++ now
 
--- what was saved is of the group, and has members
+-- what was saved is a chunk of the group with members, or none
 abbrev pub IsSaved : Saved → Type 0
 IsSaved saved = IfSome saved.1 (λ chunk. (chunk.0 ≡ saved.0) × HasMember chunk.1)
 
@@ -35,7 +35,7 @@ IsSaved saved = IfSome saved.1 (λ chunk. (chunk.0 ≡ saved.0) × HasMember chu
 abbrev pub HasSaved : List Saved → Group → Type 0
 HasSaved saved g = Contains (keys_of saved) g
 
--- each touched group is saved, and what was saved is as it was
+-- what was saved is of its group, and each touched group is saved
 pub record AreSaved (saved : List Saved) (groups : List Group) : Type 0 where
   pub valid : All IsSaved saved
   pub touched : (g : Group) → IsTrue (list_any (same_group g) groups) → HasSaved saved g

@@ -12,8 +12,9 @@ use druid_shard::{Descriptor, NodeNo};
 use std::alloc::AllocError;
 use std::marker::Model;
 
-/// Chunks under edits, which are committed or rolled back together. Each edited chunk is saved once, and what copies
-/// share of it is copied once; a roll back does not allocate.
+/// Chunks under edits, which are committed or rolled back together. The chunks are edited in place: of each chunk, the
+/// first edit saves a copy, which shares its members until they change. Each edit sees to the room for a roll back, which
+/// so does not allocate.
 ///
 /// A contract sees the members of each group as they were before the edits, and the chunks as they are.
 #[derive(Debug, Drop)]
