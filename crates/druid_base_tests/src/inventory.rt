@@ -141,8 +141,8 @@ fn outcome_told(rt: &impl Abort, alloc: Global, inventory: &Inventory, outcome: 
 }
 
 // What a reply does to the inventory, which is the new one after that.
-fn take(rt: &impl Abort, alloc: Global, inventory: &mut Inventory, row: &str) -> String {
-    match inventory.apply(0, &reply(rt, alloc, row)) {
+fn take(rt: &impl Abort, alloc: Global, inventory: &mut Inventory, reply: &Reply) -> String {
+    match inventory.apply(0, reply) {
         Ok((next, outcome)) => {
             *inventory = next;
             outcome_told(rt, alloc, inventory, outcome)
@@ -151,12 +151,34 @@ fn take(rt: &impl Abort, alloc: Global, inventory: &mut Inventory, row: &str) ->
     }
 }
 
-// Asserts that the replies, one after another, do as the rows say.
+// The same in place.
+fn take_in_place(
+    rt: &impl Abort,
+    alloc: Global,
+    inventory: &mut Inventory,
+    reply: &Reply,
+) -> String {
+    match inventory.advance(0, reply) {
+        Ok(outcome) => outcome_told(rt, alloc, inventory, outcome),
+        Err(fault) => printed(rt, alloc, &fault),
+    }
+}
+
+// Asserts that the replies, one after another, do as the rows say, of an inventory that is shared and of one that is not.
 fn assert_replies(rt: &impl Abort, alloc: Global, rows: &str) {
     let mut inventory = nodes(rt, alloc, "n1");
+    let mut alone = nodes(rt, alloc, "n1");
     for row in rows.lines() {
-        let (reply, wanted) = row.split_once(" = ").expect(rt, "no row");
-        assert_told(rt, reply, take(rt, alloc, &mut inventory, reply), wanted);
+        let (text, wanted) = row.split_once(" = ").expect(rt, "no row");
+        let reply = reply(rt, alloc, text);
+        assert_told(rt, text, take(rt, alloc, &mut inventory, &reply), wanted);
+        assert_told(
+            rt,
+            text,
+            take_in_place(rt, alloc, &mut alone, &reply),
+            wanted,
+        );
+        assert!(rt; inventory == alone, "{text}");
     }
 }
 

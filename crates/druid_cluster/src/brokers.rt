@@ -1,7 +1,13 @@
 //! The brokers of a script.
-ghost use Rattle.std.specs.Prelude.{◌≡◌, ◌<◌, IfOk, Some, length, replicate, slice_get, slice_set};
+ghost use Rattle.std.specs.Prelude.{◌≡◌, ◌<◌, IfOk, OnErr, Some, length, replicate, slice_get, slice_set};
+ghost use Rattle.serde_json.specs.View.{view};
+ghost use Rattle.druid_cluster.specs.Commands as commands;
+ghost use Rattle.druid_cluster.specs.Serving.{CommandWants, Does};
 
+use crate::answer::Answer;
+use crate::serving::step;
 use druid_inventory::Inventory;
+use serde_json::Value;
 use std::alloc::{AllocError, Global};
 use std::marker::Model;
 
@@ -45,6 +51,23 @@ impl Brokers {
         ensures { slice_get self.now broker ≡ Some result.now }
     {
         &self.inventories[broker as usize]
+    }
+
+    // A broker takes a reply of a node in place: what is answered. Where that fails all stays.
+    pub(crate) fn step(
+        &mut self,
+        alloc: Global,
+        broker: u64,
+        node: u16,
+        value: &Value,
+    ) -> Result<Answer, AllocError>
+        requires { broker < length self.old }
+        ensures ok { IfOk result (λ answer.
+            Does self.old (commands.reply broker node (view value.now)) answer self.new) }
+        ensures memory { OnErr result (CommandWants self.old (commands.reply broker node (view value.now))) }
+    {
+        let inventory = &mut self.inventories[broker as usize];
+        step(alloc, inventory, node, value)
     }
 
     /// The brokers, of which one has another inventory.

@@ -1,5 +1,5 @@
 //! Commands, carried out.
-ghost use Rattle.std.specs.Prelude.{◌≡◌, ◌↔◌, ◌≤◌, ◌<◌, ℕ, List, All, Some, None, get_or, length, map, unwrap_or, IsTrue, IsUtf8, IfOk, OnErr};
+ghost use Rattle.std.specs.Prelude.{◌≡◌, ◌↔◌, ◌≤◌, ◌<◌, ℕ, List, All, Some, None, get_or, length, map, IsTrue, IsUtf8, IfOk, OnErr};
 ghost use Rattle.druid_segid.specs.Names.{IsName};
 ghost use Rattle.druid_inventory.specs.Entry.{HaveOwnNames, max_nodes};
 ghost use Rattle.serde_json.specs.View.{view};
@@ -136,31 +136,30 @@ fn not_joined(fault: JoinFault) -> Option<Refusal>
     }
 }
 
-// What a reply of a node is answered, and the inventory after it; None where it is the same.
-fn step(
+// An inventory takes a reply of a node: what is answered. Where that fails the inventory stays.
+pub(crate) fn step(
     alloc: Global,
-    inventory: &Inventory,
+    inventory: &mut Inventory,
     node: u16,
     value: &Value,
-) -> Result<(Answer, Option<Inventory>), AllocError>
-    ensures ok { IfOk result (λ r.
-        TakesReply inventory.now node (view value.now) r.0 (unwrap_or r.1 inventory.now)) }
-    ensures memory { OnErr result (ReplyWants inventory.now node (view value.now)) }
+) -> Result<Answer, AllocError>
+    ensures ok { IfOk result (λ answer. TakesReply inventory.old node (view value.now) answer inventory.new) }
+    ensures memory { OnErr result (ReplyWants inventory.old node (view value.now)) }
 {
     let reply = match reply_of(alloc, value) {
         Ok(reply) => reply,
         Err(fault) => match unread(fault) {
-            Some(refusal) => return Ok((Answer::Refused(refusal), None)),
+            Some(refusal) => return Ok(Answer::Refused(refusal)),
             None => return Err(AllocError),
         },
     };
-    match inventory.apply(node, &reply) {
-        Ok((next, outcome)) => {
-            let mark = next.mark(node).unwrap();
-            Ok((Answer::Stepped { mark, outcome }, Some(next)))
+    match inventory.advance(node, &reply) {
+        Ok(outcome) => {
+            let mark = inventory.mark(node).unwrap();
+            Ok(Answer::Stepped { mark, outcome })
         }
         Err(fault) => match not_applied(fault) {
-            Some(refusal) => Ok((Answer::Refused(refusal), None)),
+            Some(refusal) => Ok(Answer::Refused(refusal)),
             None => Err(AllocError),
         },
     }
@@ -169,7 +168,7 @@ fn step(
 // A broker takes a reply of a node.
 fn take_reply(
     alloc: Global,
-    brokers: Brokers,
+    mut brokers: Brokers,
     broker: u64,
     node: u16,
     value: &Value,
@@ -178,11 +177,8 @@ fn take_reply(
     ensures ok { IfOk result (λ r. Does brokers (commands.reply broker node (view value.now)) r.0 r.1) }
     ensures memory { OnErr result (CommandWants brokers (commands.reply broker node (view value.now))) }
 {
-    let (answer, next) = step(alloc, brokers.inventory(broker), node, value)?;
-    match next {
-        Some(inventory) => Ok((answer, brokers.with(broker, inventory))),
-        None => Ok((answer, brokers)),
-    }
+    let answer = brokers.step(alloc, broker, node, value)?;
+    Ok((answer, brokers))
 }
 
 // What is visible in an interval of what a timeline holds.
