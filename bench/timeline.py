@@ -5,7 +5,8 @@ By `druid_cluster replay`, in processor time of the whole program, the least of 
 alone (which is mostly the reading of its JSON); the same and then 2,000 deltas of 5 changes each, with a lookup of a changed
 day after each; days, weeks and months in three versions over each other, with 20 lookups, beside as many chunks of one
 version. By the proved program of `bench/inventory`: a delta of 5 changes applied to an inventory that shares what stays,
-beside a copy of all its descriptors. Each at 10,000 and at 20,000 segments.
+beside a copy of all its descriptors, and in place, alone and under 20 chunks of a year each. Each at 10,000 and at 20,000
+segments.
 """
 import json, os, subprocess, sys, tempfile
 from datetime import datetime, timedelta
@@ -70,6 +71,8 @@ def applied(count):
     apply, copy = spent['deltas of 5 changes, applied to a copy'], spent['copies of the descriptors']
     yield 'a delta of 5 applied to a copy, us', apply / 400
     yield 'of a copy of the descriptors', apply / copy
+    yield 'a delta of 5 in place, us', spent['deltas of 5 changes, in place'] / 400
+    yield 'the same under 20 years, us', spent['deltas of 5 changes, in place under 20 years'] / 400
 
 
 def main():

@@ -38,6 +38,10 @@ fn fields(rt: HostRuntime) {
 :65535 = :65536 -> nodes[0].address: not 127.0.0.1: and a port from 1 to 65535
 \"f\" = 1 -> nodes[0].folder: not a text
 [\"a.seg\"] = [\"a.seg\",1] -> nodes[0].loads: not a list of texts
+\"nodes\":[ = \"nodes\":[{}, -> nodes[0].name: not a name of 1 to 100 letters, digits, '_', '-' and '.'
+\"nodes\":[ = \"nodes\":[{\"name\":\"n9\"},{}, -> nodes[0].address: not 127.0.0.1: and a port from 1 to 65535
+\"nodes\":[ = \"nodes\":[{\"name\":\"n9\",\"address\":\"127.0.0.1:1\"}, -> nodes[0].folder: not a text
+\"nodes\":[ = \"nodes\":[{\"name\":\"n9\",\"address\":\"127.0.0.1:1\",\"folder\":\"f\"}, -> nodes[0].loads: not a list of texts
 \"workers\":1} = \"workers\":0} -> nodes[0].workers: not a number from 1 to 16
 \"brokers\" = \"broker\" -> brokers: not a list
 [{\"address\":\"127.0.0.1:9001\",\"workers\":16}] = [] -> brokers: not 1 to 64 of them
