@@ -342,19 +342,6 @@ pub no_entries : {A : Type 0} (xs : List A) → (0 < length xs → ⊥) → xs �
 no_entries [] none = refl
 no_entries (x ∷ xs) none = absurd (none (omega arith))
 
--- a source under edits has a place
-pub place_of : (served : ℕ → Described → Type 0) (is : List ℕ → Edited → Type 0) (m : BTreeMap (List ℕ) Serving) (edits : BTreeMap (List ℕ) Edited)
-    (source : List ℕ) (e : Edited) → edited edits source ≡ Some e → AreEither served is m edits → IsSome (kept m source)
-place_of served is m edits source e found h = (of_edits served is m edits source e found h).0
-
-pub after_of : (served : ℕ → Described → Type 0) (m : BTreeMap (List ℕ) Serving) (edits : BTreeMap (List ℕ) Edited)
-    (source : List ℕ) (e : Edited) → edited edits source ≡ Some e → AreEither served (IsAfter served) m edits → e.now.source ≡ source
-after_of served m edits source e found h = (of_edits served (IsAfter served) m edits source e found h).1.of_source
-
-pub before_of : (was : ℕ → Described → Type 0) (m : BTreeMap (List ℕ) Serving) (edits : BTreeMap (List ℕ) Edited)
-    (source : List ℕ) (e : Edited) → edited edits source ≡ Some e → AreEither was (IsBefore was) m edits → e.now.source ≡ source
-before_of was m edits source e found h = (of_edits was (IsBefore was) m edits source e found h).1.of_source
-
 -- a commit
 pub AreAfter-committed : (served : ℕ → Described → Type 0) (m n : BTreeMap (List ℕ) Serving) (edits rest : BTreeMap (List ℕ) Edited)
     (source : List ℕ) (e : Edited) (t : Serving) → edited edits source ≡ Some e → edited rest source ≡ None
