@@ -15,16 +15,15 @@ use Rattle.druid_segid.specs.Identifier.{identifier_text}
 use Rattle.druid_segid.specs.Group.{group_of}
 use Rattle.druid_shard.specs.Described.{Described}
 use Rattle.druid_shard.specs.Replay.{IsSegmentSet, is_strict, after, with_segment, without_segment}
-use Rattle.druid_shard.specs.declared.change.Change.{Change}
 use Rattle.druid_shard.specs.declared.change.Change.TheVariants.{Load, Drop}
 use Rattle.druid_shard.proofs.MemberLemmas.{Contains-nil}
 use Rattle.druid_shard.proofs.ReplayLemmas.{strict_load, strict_drop, Contains-with_segment, Contains-without_segment}
 use Rattle.druid_timeline.specs.Holding.{Held, Serving, HoldsNothing, held_of, IsPlaceOf, IsServed, RemovesHeld}
 use Rattle.druid_inventory.specs.Entry.{Entry}
 use Rattle.druid_inventory.specs.Sources.{Serves}
-use Rattle.druid_inventory.specs.Timelines.{kept, IsHeldOf, IsKept, AreTimelines, held_by, TakesChange, AddsSegment, EditsOut, IsLeftOver, RemovesSegment, MakesChange, ServesWith}
+use Rattle.druid_inventory.specs.Timelines.{kept, IsHeldOf, IsKept, AreTimelines, held_by, TakesChange, EditsOut, IsLeftOver, RemovesSegment, ServesWith}
 use Rattle.druid_inventory.proofs.ReplayedLemmas.{one_holder}
-use Rattle.druid_inventory.proofs.TimelineLemmas.{WithSegment, AreTimelines-alike, AreTimelines-more, held_of_kept, identifier_same, not_tied, same_or_not, takes_segment}
+use Rattle.druid_inventory.proofs.TimelineLemmas.{WithSegment, AreTimelines-alike, held_of_kept, identifier_same, not_tied, same_or_not}
 
 -- ---- one segment less
 
@@ -201,12 +200,6 @@ loaded_fresh entries node s d strict y there same = elim there [
   | inr other ↦ other.0 refl
 ]
 
--- the timeline of its source takes a segment that is loaded
-loaded_taken : (entries : List Entry) (node : ℕ) (s : List Described) (d : Described) (m : BTreeMap (List ℕ) Serving)
-    → AreTimelines (ServesWith entries node s) m → IsTrue (is_strict s (Load d)) → TakesChange m node (Load d)
-loaded_taken entries node s d m over strict =
-    takes_segment (ServesWith entries node s) m node d over (loaded_fresh entries node s d strict)
-
 -- a segment that the node serves is held
 pub is_served : (served : ℕ → Described → Type 0) (node : ℕ) (d : Described) (t : Serving) → t.source ≡ d.id.source → IsHeldOf served d.id.source t.held
     → served node d → IsServed t node d.id
@@ -218,17 +211,6 @@ pub dropped_in : (served : ℕ → Described → Type 0) (node : ℕ) (d : Descr
     → (t : Serving) × (o ≡ Some t) × IsServed t node d.id
 dropped_in served node d None h there = absurd (h node d there refl)
 dropped_in served node d (Some t) h there = (t, refl, is_served served node d t h.of_source h.held there)
-
-dropped_taken : (entries : List Entry) (node : ℕ) (s : List Described) (d : Described) (m : BTreeMap (List ℕ) Serving)
-    → AreTimelines (ServesWith entries node s) m → IsTrue (is_strict s (Drop d)) → TakesChange m node (Drop d)
-dropped_taken entries node s d m over strict =
-    dropped_in (ServesWith entries node s) node d (kept m d.id.source) (over.each d.id.source) (inl (refl, (strict_drop s d).0 strict))
-
--- the timelines take a strict change
-pub change_taken : (entries : List Entry) (node : ℕ) (s : List Described) (c : Change) (m : BTreeMap (List ℕ) Serving)
-    → AreTimelines (ServesWith entries node s) m → IsTrue (is_strict s c) → TakesChange m node c
-change_taken entries node s (Load d) m over strict = loaded_taken entries node s d m over strict
-change_taken entries node s (Drop d) m over strict = dropped_taken entries node s d m over strict
 
 pub dropped_alone : (entries : List Entry) (node : ℕ) (s : List Described) (d : Described) → IsSegmentSet s → IsTrue (is_strict s (Drop d))
     → IsAlone (ServesWith entries node s) node d
@@ -305,26 +287,6 @@ lent_timeline lent inside now (inl e) f = e ∙ f
 lent_timeline lent inside now (inr e) f = e ∙ f
 
 -- ---- a change
-
-timelines_loaded : (entries : List Entry) (node : ℕ) (s : List Described) (d : Described) (m n : BTreeMap (List ℕ) Serving)
-    → AreTimelines (ServesWith entries node s) m → AddsSegment m n node d → AreTimelines (ServesWith entries node (with_segment d s)) n
-timelines_loaded entries node s d m n over adds =
-    AreTimelines-alike (WithSegment (ServesWith entries node s) node d) (ServesWith entries node (with_segment d s)) n
-    (ServesWith-loaded entries node s d) (AreTimelines-more (ServesWith entries node s) m n node d over adds)
-
-timelines_dropped : (entries : List Entry) (node : ℕ) (s : List Described) (d : Described) (m n : BTreeMap (List ℕ) Serving)
-    → IsSegmentSet s → IsTrue (is_strict s (Drop d)) → AreTimelines (ServesWith entries node s) m → RemovesSegment m n node d
-    → AreTimelines (ServesWith entries node (without_segment d s)) n
-timelines_dropped entries node s d m n h strict over removes =
-    AreTimelines-alike (WithoutSegment (ServesWith entries node s) node d) (ServesWith entries node (without_segment d s)) n
-    (ServesWith-dropped entries node s d) (AreTimelines-less (ServesWith entries node s) m n node d over removes (dropped_alone entries node s d h strict))
-
--- with a change made, the timelines are those of the set after it
-pub change_made : (entries : List Entry) (node : ℕ) (s : List Described) (c : Change) (m n : BTreeMap (List ℕ) Serving)
-    → IsSegmentSet s → IsTrue (is_strict s c) → AreTimelines (ServesWith entries node s) m → MakesChange m n node c
-    → AreTimelines (ServesWith entries node (after s c)) n
-change_made entries node s (Load d) m n h strict over made = timelines_loaded entries node s d m n over made
-change_made entries node s (Drop d) m n h strict over made = timelines_dropped entries node s d m n h strict over made
 
 -- ---- before the first change, and after the last
 

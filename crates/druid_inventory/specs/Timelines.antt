@@ -88,11 +88,6 @@ abbrev pub TakesChange : BTreeMap (List ℕ) Serving → ℕ → Change → Type
 TakesChange timelines node (Load d) = IfSome (kept timelines d.id.source) (TakesSegment d.id.source node d)
 TakesChange timelines node (Drop d) = (t : Serving) × (kept timelines d.id.source ≡ Some t) × IsServed t node d.id
 
--- the change is made
-abbrev pub MakesChange : BTreeMap (List ℕ) Serving → BTreeMap (List ℕ) Serving → ℕ → Change → Type 0
-MakesChange old new node (Load d) = AddsSegment old new node d
-MakesChange old new node (Drop d) = RemovesSegment old new node d
-
 -- a node serves these segments, and the others theirs
 abbrev pub ServesThese : List Entry → ℕ → (Described → Type 0) → ℕ → Described → Type 0
 ServesThese entries node these i d = ((i ≡ node) × these d) ⊎ ((i ≡ node → ⊥) × Serves entries i d)

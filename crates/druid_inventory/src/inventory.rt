@@ -17,11 +17,11 @@ ghost use Rattle.druid_inventory.specs.Moves.{MovesAt};
 ghost use Rattle.druid_inventory.specs.Sources.{HasSource, IsHoldingOf};
 ghost use Rattle.druid_inventory.specs.Timelines.{AreTimelinesOf};
 
-use crate::advance::advance_shared;
+use crate::advance::{advance_set, advance_shared};
 use crate::join::{are_of_same_nodes, catch_up, first_conflict, has_later};
 use crate::judge::judge;
 use crate::known::{Known, copy_of};
-use crate::timelines::{Timelines, change_set, names_of, replay_changes};
+use crate::timelines::{Timelines, change_set, names_of};
 use crate::{ApplyFault, InventoryFault, JoinFault, Outcome};
 use druid_segid::Name;
 use druid_shard::{Ask, Body, Change, Descriptor, Mark, NodeNo, Reply};
@@ -429,7 +429,7 @@ impl Inventory {
     {
         let mut set = copy_of(self.alloc, known.set())?;
         let mut timelines = self.copied_timelines()?;
-        replay_changes(&mut timelines, self.alloc, node, &mut set, changes)?;
+        advance_set(&mut set, &mut timelines, self.alloc, node, changes)?;
         let entries = self.entries_with(node, known.with_set(to, set)?)?;
         Inventory::of(self.alloc, entries, timelines)
     }

@@ -1,23 +1,19 @@
 //! The timelines of the data sources: built from what nodes serve, and edited where that changes.
-ghost use Rattle.std.specs.Prelude.{◌≡◌, ◌↔◌, ◌⊎◌, ◌+◌, ◌<◌, ◌^◌, List, Contains, IsTrue, IfOk, IfSome, OnOk, Some, length, map, take};
-ghost use Rattle.std.specs.Arc.{arc_value};
+ghost use Rattle.std.specs.Prelude.{◌≡◌, ◌↔◌, List, Contains, IsTrue, IfOk, IfSome, OnOk, Some};
 ghost use Rattle.std.specs.BTreeMap as tree;
 ghost use Rattle.std.specs.Ordering.{nat_cmp};
 ghost use Rattle.std.specs.Cmp.Lexicographic.{slice_cmp};
-ghost use Rattle.druid_shard.specs.Described.{Described};
-ghost use Rattle.druid_shard.specs.Replay.{IsSegmentSet, replay_from};
+ghost use Rattle.druid_shard.specs.Replay.{IsSegmentSet};
 ghost use Rattle.druid_shard.specs.declared.change.Change.TheVariants.{Drop};
 ghost use Rattle.druid_inventory.specs.Entry.{Entry};
-ghost use Rattle.druid_inventory.specs.Timelines.{kept, AreTimelines, AreTimelinesOf, TakesSegment, TakesChange, AddsSegment, EditsOut, RemovesSegment, MakesChange, ServesThese, ServesWith};
+ghost use Rattle.druid_inventory.specs.Timelines.{kept, AreTimelines, TakesSegment, TakesChange, AddsSegment, EditsOut, RemovesSegment, ServesThese, ServesWith};
 
-use crate::known::Known;
 use crate::shared::SharedTimeline;
 use druid_segid::Name;
-use druid_shard::{Change, Descriptor, NodeNo, apply_change, find_segment};
+use druid_shard::{Descriptor, NodeNo, find_segment};
 use druid_timeline::Timeline;
 use std::alloc::{AllocError, Global};
 use std::collections::BTreeMap;
-use std::sync::Arc;
 
 // The timeline of each data source of which a node serves a segment.
 pub(crate) type Timelines = BTreeMap<Name, SharedTimeline>;
@@ -93,44 +89,6 @@ fn remove_segment(
     }
     let source = descriptor.id().source();
     timelines.remove(source);
-    Ok(())
-}
-
-// Edits the timeline of the source of a segment that the node begins or ceases to serve.
-fn change_timeline(
-    timelines: &mut Timelines,
-    alloc: Global,
-    node: NodeNo,
-    change: &Change,
-) -> Result<(), AllocError>
-    requires { TakesChange timelines.old node change.now }
-    ensures { OnOk result (MakesChange timelines.old timelines.new node change.now) }
-{
-    match change {
-        Change::Load(descriptor) => add_segment(timelines, alloc, node, descriptor),
-        Change::Drop(descriptor) => remove_segment(timelines, node, descriptor),
-    }
-}
-
-// Makes changes of the set of a node, in place, and edits the timelines of their sources.
-pub(crate) fn replay_changes(
-    timelines: &mut Timelines,
-    alloc: Global,
-    node: NodeNo,
-    set: &mut Vec<Descriptor>,
-    changes: &[Change],
-) -> Result<(), AllocError>
-    requires set { IsSegmentSet set.old.items }
-    requires made { (t : List Described) × (replay_from set.old.items changes.now ≡ Some t) }
-    requires over { (entries : List Entry) × AreTimelines (ServesWith entries node set.old.items) timelines.old }
-    ensures made { OnOk result (replay_from set.old.items changes.now ≡ Some set.new.items) }
-    ensures over { OnOk result ((entries : List Entry) → AreTimelines (ServesWith entries node set.old.items) timelines.old
-        → AreTimelines (ServesWith entries node set.new.items) timelines.new) }
-{
-    for change in changes {
-        change_timeline(timelines, alloc, node, change)?;
-        apply_change(set, change)?;
-    }
     Ok(())
 }
 

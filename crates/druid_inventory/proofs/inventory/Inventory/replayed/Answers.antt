@@ -8,9 +8,9 @@ use Rattle.druid_inventory.specs.Entry.{Entry}
 use Rattle.druid_inventory.proofs.EditLemmas.{replay_start, replay_end}
 use Rattle.druid_inventory.proofs.inventory.Inventory.replayed.Goals as goal
 
-pub replay_changes-requires-clause-over :
-    goal.replay_changes-requires-clause-over
-replay_changes-requires-clause-over c = (
+pub advance_set-requires-clause-over :
+    goal.advance_set-requires-clause-over
+advance_set-requires-clause-over c = (
   c.args.self.now,
   replay_start c.args.self.now c.args.node c.args.known.now c.in_ok-set.set.items c.in_ok-timelines.timelines c.in_ok-timelines.timelines
       c.requires.known (c.in_ok-set.ensures ∙ c.set.ensures.value) refl c.in_ok-timelines.ensures,
@@ -19,7 +19,7 @@ replay_changes-requires-clause-over c = (
 pub with_set-requires-clause-set : goal.with_set-requires-clause-set
 with_set-requires-clause-set c =
     let set = subst IsSegmentSet (sym (c.in_ok-set.ensures ∙ c.set.ensures.value)) c.set.ensures.valid in
-    replay_from-set c.in_ok-set.set.items c.replay_changes.new.set.items c.args.changes.now set c.in_ok-replay_changes.ensures.made
+    replay_from-set c.in_ok-set.set.items c.advance_set.new.set.items c.args.changes.now set c.in_ok-advance_set.ensures.made
 
 pub entries_with-requires : goal.entries_with-requires
 entries_with-requires c = slice_get_within c.args.self.now c.args.node c.args.known.now c.requires.known
@@ -29,5 +29,5 @@ of-requires-clause-over c =
     let start = replay_start c.args.self.now c.args.node c.args.known.now c.in_ok-set.set.items c.in_ok-timelines.timelines c.in_ok-timelines.timelines
     c.requires.known (c.in_ok-set.ensures ∙ c.set.ensures.value) refl c.in_ok-timelines.ensures in
     replay_end c.args.self.now (map arc_value c.in_ok-entries.entries.items) c.args.node c.args.known.now c.in_ok-with_set.field-0
-    c.replay_changes.new.set.items c.replay_changes.new.timelines c.requires.known
-    (ap (λ (e : Entry). e.set) c.in_ok-with_set.ensures) c.in_ok-entries.ensures.entries (c.in_ok-replay_changes.ensures.over c.args.self.now start)
+    c.advance_set.new.set.items c.advance_set.new.timelines c.requires.known
+    (ap (λ (e : Entry). e.set) c.in_ok-with_set.ensures) c.in_ok-entries.ensures.entries (c.in_ok-advance_set.ensures.over c.args.self.now start)
