@@ -23,7 +23,8 @@ pub(crate) struct Place {
     pub(crate) second: String,
     /// The first broker.
     pub(crate) broker: String,
-    other: String,
+    /// The second broker.
+    pub(crate) other: String,
     /// The folder of the first node.
     pub(crate) older: String,
     /// The folder of the second node.
@@ -81,8 +82,8 @@ pub(crate) fn config(rt: &impl Abort, alloc: Global, place: &Place, connections:
     ).expect(rt, "memory")
 }
 
-// What a config comes to: the status, a line feed, what was printed and what was written to the error writer.
-fn served<R: Host + Net<Listener = TcpListener, Stream = TcpStream>>(
+/// What a config comes to: the status, a line feed, what was printed and what was written to the error writer.
+pub(crate) fn served<R: Host + Net<Listener = TcpListener, Stream = TcpStream>>(
     rt: &R,
     alloc: Global,
     config: &str,

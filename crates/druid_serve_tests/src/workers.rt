@@ -1,6 +1,6 @@
 //! Servers that answer one connection while another waits, and how long they wait for one.
 use crate::host::Host;
-use crate::serve::{assert_served, clear, place_of, served_at};
+use crate::serve::{assert_served, clear, config, place_of, served, served_at};
 use druid_serve_node::{PEER_SECONDS, limit};
 use std::alloc::Global;
 use std::io;
@@ -56,6 +56,29 @@ fn workers_of_nodes(rt: HostRuntime) {
             "{address}"
         );
     }
+    clear(&rt, &place);
+}
+
+// A single worker gives up a client that says nothing, and answers the next one: of a node and of a broker at once, since
+// that takes as long as the limit.
+#[test]
+fn silent_clients(rt: HostRuntime) {
+    let place = place_of(&rt, rt.alloc(), "silent");
+    let config = config(&rt, rt.alloc(), &place, 0);
+    let config = config
+        .replace(rt.alloc(), "\"workers\":2", "\"workers\":1")
+        .expect(&rt, "memory");
+    assert_served(&rt, served(&rt, rt.alloc(), config.as_str()));
+    let addresses = [place.second.as_str(), place.other.as_str()];
+    let silent = addresses.map(|address| TcpStream::connect(&rt, address).expect(
+        &rt,
+        "a connection",
+    ));
+    for address in addresses {
+        let mut other = TcpStream::connect(&rt, address).expect(&rt, "a connection");
+        assert!(rt; is_answered(rt.alloc(), &mut other), "{address}");
+    }
+    drop(silent);
     clear(&rt, &place);
 }
 
