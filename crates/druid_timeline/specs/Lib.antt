@@ -7,8 +7,8 @@ pub mod Overshadowed
 pub mod Candidates
 pub mod Edited
 pub mod Transactions
+pub mod Exchanges
 -- words of private contracts
 pub mod Stretches
-pub mod Exchanges
 pub mod Active
 pub mod Known
