@@ -504,3 +504,73 @@ fn queries_of_the_config_do_not_count(rt: HostRuntime) {
     assert!(rt; waits_for_each(&rt, rt.alloc(), text.as_str(), &place));
     clear(&rt, &place);
 }
+
+// A writer that takes all and tells when it was flushed: by then the brokers count connections.
+#[derive(Drop)]
+struct Flagged<'a> {
+    flushed: &'a AtomicBool,
+}
+
+impl Write for Flagged<'_> {
+    fn write(&mut self, buf: &[u8]) -> io::Result<usize> {
+        Ok(buf.len())
+    }
+
+    fn flush(&mut self) -> io::Result<()> {
+        self.flushed.store(true, Ordering::SeqCst);
+        Ok(())
+    }
+}
+
+// The status with which a cluster ends.
+fn status_of<R: Host + Net<Listener = TcpListener, Stream = TcpStream>>(
+    rt: &R,
+    alloc: Global,
+    config: &str,
+    flushed: &AtomicBool,
+) -> u8 {
+    let mut out = Flagged { flushed };
+    let mut errors = Vec::new(alloc);
+    serve(rt, alloc, config.as_bytes(), &mut out, &mut errors, false).status
+}
+
+// Asks each broker five times, once connections are counted.
+fn ask_five<L: Link, C: Clock>(clock: &C, alloc: Global, links: &mut [L], flushed: &AtomicBool) {
+    for _ in 0..10_000 {
+        if flushed.load(Ordering::SeqCst) {
+            break;
+        }
+        thread::sleep(clock, Duration::from_millis(2));
+    }
+    for _ in 0..5 {
+        for link in links.iter_mut() {
+            let _ = link.exchange(alloc, b"GET /status/health HTTP/1.1\r\n\r\n");
+        }
+    }
+}
+
+// The status with which a cluster ends, each of whose brokers was asked five times.
+fn asked_five<R: Host + Net<Listener = TcpListener, Stream = TcpStream>>(
+    rt: &R,
+    alloc: Global,
+    config: &str,
+    place: &Place,
+) -> u8 {
+    let flushed = AtomicBool::new(false);
+    let mut links = links_to(rt, alloc, place);
+    let (status, ()) = join(
+        rt,
+        || status_of(rt, alloc, config, &flushed),
+        || ask_five(rt, alloc, &mut links, &flushed),
+    );
+    status
+}
+
+// As many connections as the config says are enough.
+#[test]
+fn five_connections(rt: HostRuntime) {
+    let place = place_of(&rt, rt.alloc(), "five");
+    let text = config(&rt, rt.alloc(), &place, 5);
+    assert!(rt; asked_five(&rt, rt.alloc(), text.as_str(), &place) == 0);
+    clear(&rt, &place);
+}
