@@ -1,5 +1,5 @@
 //! A cluster, from its config to its end.
-ghost use Rattle.std.specs.Prelude.{◌≡◌, ◌<◌, ◌≤◌, ◌∷◌, ◌++◌, [], ⊤, Result, Err, All, IfOk, IfErr, OnOk, length};
+ghost use Rattle.std.specs.Prelude.{◌≡◌, ◌<◌, ◌≤◌, ◌∷◌, ◌++◌, [], ⊤, Result, Err, All, IfOk, IfErr, OnOk, length, vec_len};
 ghost use Rattle.std.specs.Io.KnownBytes.{Appends};
 ghost use Rattle.druid_command_line.specs.Reasons.{Reports};
 ghost use Rattle.druid_shard.specs.Reply.{max_changes};
@@ -17,8 +17,8 @@ use druid_command_line::{Ending, Exit, reason_text, write_below};
 use druid_config::{BrokerConfig, Config, NodeConfig, QueryConfig, names_in, read_config};
 use druid_inventory::Inventory;
 use druid_published::Opened;
-use druid_serve_node::{DeviceFailed, listen, start_node};
-use std::alloc::Global;
+use druid_serve_node::{DeviceFailed, EndOfLoads, listen, start_node};
+use std::alloc::{AllocError, Global};
 use std::fs::File;
 use std::io::Write;
 use std::marker::Brand;
@@ -40,13 +40,19 @@ fn start_nodes<
         + Send
         + Sync
         + 'static,
->(rt: &R, alloc: Global, nodes: &[NodeConfig], kept: usize) -> Result<Vec<JoinHandle<()>>, Stop>
+>(
+    rt: &R,
+    alloc: Global,
+    nodes: &[NodeConfig],
+    kept: usize,
+) -> Result<Vec<JoinHandle<EndOfLoads>>, Stop>
 where
     R::Dir: Send,
     requires some { 1 ≤ kept }
     requires few { kept ≤ max_changes }
+    ensures { IfOk result (λ loaders. vec_len loaders ≡ length nodes.now) }
 {
-    let mut loaders = Vec::new(alloc);
+    let mut loaders = Vec::with_capacity(alloc, nodes.len())?;
     for place in 0..nodes.len() {
         let node = &nodes[place];
         match start_node::<R, Brand, Brand>(rt, alloc, node, kept) {
@@ -144,41 +150,67 @@ fn start_brokers<
     Ok(standing)
 }
 
-// Waits for the end of threads.
-fn join_all<R: Threads>(rt: &R, threads: Vec<JoinHandle<()>>) {
-    for thread in threads {
-        thread.join(rt);
+// Waits for the ends of the syncers of a broker.
+fn join_all<R: Threads>(rt: &R, syncers: Vec<JoinHandle<()>>) {
+    for syncer in syncers {
+        syncer.join(rt);
     }
 }
 
-// Waits until the nodes have loaded and the brokers have followed them, and gives where each broker counts connections.
-fn settled<R: Threads>(
+// Waits for the ends of loaders, and gives what each ends with.
+fn ends_of<R: Threads>(
     rt: &R,
     alloc: Global,
-    loaders: Vec<JoinHandle<()>>,
+    loaders: Vec<JoinHandle<EndOfLoads>>,
+) -> Result<Vec<EndOfLoads>, AllocError>
+    ensures { IfOk result (λ ends. vec_len ends ≡ vec_len loaders) }
+{
+    let mut ends = Vec::with_capacity(alloc, loaders.len())?;
+    for loader in loaders {
+        ends.push(loader.join(rt))?;
+    }
+    Ok(ends)
+}
+
+// A cluster whose nodes have loaded, and whose brokers have followed them.
+#[derive(Drop)]
+struct Settled {
+    // What the loader of each node ended with.
+    loads: Vec<EndOfLoads>,
+    // Where each broker counts connections.
+    gates: Vec<Arc<Gate, Global>>,
+}
+
+// Waits until the nodes have loaded and the brokers have followed them.
+fn settle<R: Threads>(
+    rt: &R,
+    alloc: Global,
+    loaders: Vec<JoinHandle<EndOfLoads>>,
     standing: Vec<Broker>,
-) -> Result<Vec<Arc<Gate, Global>>, DeviceFailed> {
+) -> Result<Settled, DeviceFailed>
+    ensures { IfOk result (λ settled. vec_len settled.loads ≡ vec_len loaders) }
+{
     let mut gates = Vec::with_capacity(alloc, standing.len())?;
-    join_all(rt, loaders);
+    let loads = ends_of(rt, alloc, loaders)?;
     for broker in standing {
         join_all(rt, broker.syncers);
         gates.push(broker.gate)?;
     }
-    Ok(gates)
+    Ok(Settled { loads, gates })
 }
 
-// Posts the queries and prints their answers.
+// Posts the queries to a cluster whose nodes have loaded, and prints their answers.
 fn ask_all<R: Net + Clock + Copy, W: Write>(
     rt: &R,
     alloc: Global,
-    queries: &[QueryConfig],
-    brokers: &[BrokerConfig],
+    config: &Config,
+    settled: &Settled,
     out: &mut W,
 ) -> Result<(), Stop>
-    requires { All (λ q. q.broker < length brokers.now) queries.now }
+    requires { vec_len settled.now.loads ≡ length config.now.nodes }
 {
-    for query in queries {
-        let broker = &brokers[query.broker()];
+    for query in config.queries() {
+        let broker = &config.brokers()[query.broker()];
         if let Err(error) = ask(rt, alloc, query.text(), broker.address(), out) {
             return Err(Stop::at_output(alloc, &error));
         }
@@ -225,9 +257,9 @@ where
 {
     let loaders = start_nodes(rt, alloc, config.nodes(), config.kept())?;
     let standing = start_brokers(rt, alloc, config.brokers(), config.turns(), config.nodes())?;
-    let gates = settled(rt, alloc, loaders, standing)?;
-    ask_all(rt, alloc, config.queries(), config.brokers(), out)?;
-    wait_for_others(rt, alloc, &gates, config.connections(), out)
+    let settled = settle(rt, alloc, loaders, standing)?;
+    ask_all(rt, alloc, config, &settled, out)?;
+    wait_for_others(rt, alloc, &settled.gates, config.connections(), out)
 }
 
 // Serves the cluster of a config to its end.

@@ -1,6 +1,7 @@
 //! Why a cluster is not served, and what kept it.
 ghost use Rattle.std.specs.Prelude.{◌≡◌};
 ghost use Rattle.druid_serve.specs.Faults.{of_cluster, of_config};
+ghost use Rattle.druid_serve_node.specs.declared.fault.ClusterFault.TheVariants.{Device};
 
 use crate::ServeFault;
 use druid_command_line::reason_text;
@@ -21,7 +22,9 @@ pub(crate) struct Stop {
 
 impl Stop {
     // A device failed, and this says which.
-    fn device(reason: Option<String>) -> Stop {
+    fn device(reason: Option<String>) -> Stop
+        ensures { result.fault ≡ Device }
+    {
         Stop {
             fault: ClusterFault::Device,
             reason,
@@ -34,7 +37,9 @@ impl Stop {
         place: usize,
         node: &NodeConfig,
         start: StartFault,
-    ) -> Stop {
+    ) -> Stop
+        ensures { result.fault ≡ start.fault }
+    {
         Stop {
             fault: start.fault,
             reason: match start.cause {
@@ -45,13 +50,17 @@ impl Stop {
     }
 
     /// The broker at a place does not listen.
-    pub(crate) fn at_broker(alloc: Global, place: usize, broker: &BrokerConfig) -> Stop {
+    pub(crate) fn at_broker(alloc: Global, place: usize, broker: &BrokerConfig) -> Stop
+        ensures { result.fault ≡ Device }
+    {
         let address = broker.address();
         Stop::device(format!(in alloc; "brokers[{place}].address: listening on {address}").ok())
     }
 
     /// The output was not written or flushed.
-    pub(crate) fn at_output(alloc: Global, error: &io::Error) -> Stop {
+    pub(crate) fn at_output(alloc: Global, error: &io::Error) -> Stop
+        ensures { result.fault ≡ Device }
+    {
         let text = if error.kind() == ErrorKind::OutOfMemory {
             "out of memory"
         } else {
@@ -79,18 +88,24 @@ fn node_reason(alloc: Global, place: usize, node: &NodeConfig, cause: &Cause) ->
 }
 
 impl From<AllocError> for Stop {
+    ghost from_gives = { λ _ stop. stop.fault ≡ Device };
+
     fn from(_error: AllocError) -> Stop {
         Stop::device(None)
     }
 }
 
 impl<T: Drop> From<AllocFailed<T>> for Stop {
+    ghost from_gives = { λ _ stop. stop.fault ≡ Device };
+
     fn from(_error: AllocFailed<T>) -> Stop {
         Stop::device(None)
     }
 }
 
 impl From<DeviceFailed> for Stop {
+    ghost from_gives = { λ _ stop. stop.fault ≡ Device };
+
     fn from(_failed: DeviceFailed) -> Stop {
         Stop::device(None)
     }

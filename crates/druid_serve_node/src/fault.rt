@@ -1,6 +1,6 @@
 //! Why a data node, or anything else of a cluster, does not start.
-ghost use Rattle.std.specs.Prelude.{◌≡◌, ⊤};
-ghost use Rattle.druid_serve_node.specs.Faults.{of_store, of_node};
+ghost use Rattle.std.specs.Prelude.{◌≡◌, ⊤, Some, IfSome};
+ghost use Rattle.druid_serve_node.specs.Faults.{of_store, of_node, NamesFile};
 ghost use Rattle.druid_serve_node.specs.declared.fault.ClusterFault.TheVariants.{Device};
 
 use druid_folder::StoreFault;
@@ -114,7 +114,8 @@ pub struct StartFault {
 impl StartFault {
     // The fault of a device.
     pub(crate) fn device(cause: Cause) -> StartFault
-        ensures { result.fault ≡ Device }
+        ensures fault { result.fault ≡ Device }
+        ensures cause { result.cause ≡ Some cause }
     {
         StartFault {
             fault: ClusterFault::Device,
@@ -124,7 +125,8 @@ impl StartFault {
 
     // The fault of a call on a folder.
     pub(crate) fn of_store(fault: StoreFault, cause: Cause) -> StartFault
-        ensures { result.fault ≡ of_store fault }
+        ensures fault { result.fault ≡ of_store fault }
+        ensures cause { result.cause ≡ Some cause }
     {
         StartFault {
             fault: fault.into(),
@@ -134,7 +136,8 @@ impl StartFault {
 
     // The fault of a segment file.
     pub(crate) fn of_file(alloc: Global, name: &str, fault: &NodeFault) -> StartFault
-        ensures { result.fault ≡ of_node fault.now }
+        ensures fault { result.fault ≡ of_node fault.now }
+        ensures cause { IfSome result.cause (NamesFile name.now fault.now) }
     {
         StartFault {
             fault: (*fault).into(),
@@ -144,7 +147,9 @@ impl StartFault {
 }
 
 // A segment file, where memory is there for its name.
-fn file_cause(alloc: Global, name: &str, fault: &NodeFault) -> Option<Cause> {
+fn file_cause(alloc: Global, name: &str, fault: &NodeFault) -> Option<Cause>
+    ensures { IfSome result (NamesFile name.now fault.now) }
+{
     match String::from_str(alloc, name) {
         Ok(name) => Some(Cause::File(name, *fault)),
         Err(_) => None,

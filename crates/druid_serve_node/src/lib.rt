@@ -6,5 +6,5 @@ mod node;
 mod outside;
 
 pub use fault::{Cause, ClusterFault, DeviceFailed, StartFault};
-pub use node::{load_later, start_node};
+pub use node::{EndOfLoads, load_later, start_node};
 pub use outside::{PEER_SECONDS, REST_MILLISECONDS, limit, listen};

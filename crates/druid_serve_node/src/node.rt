@@ -1,5 +1,5 @@
 //! A data node: its folder, its sockets and its threads.
-ghost use Rattle.std.specs.Prelude.{◌≡◌, ◌≢◌, ◌≤◌, [], All, Some, Ok, IfOk, OnOk, map, string_bytes};
+ghost use Rattle.std.specs.Prelude.{◌≡◌, ◌≢◌, ◌≤◌, [], All, Some, Ok, IfOk, IfErr, IfSome, OnOk, map, string_bytes};
 ghost use Rattle.std.specs.declared.cmp.Ordering.TheVariants.{Greater};
 ghost use Rattle.druid_shard.specs.Mark.{mark_cmp};
 ghost use Rattle.druid_shard.specs.Reply.{max_changes};
@@ -8,6 +8,8 @@ ghost use Rattle.druid_rows.specs.Segment.{Segment};
 ghost use Rattle.druid_folder.specs.Folder.{names_of, read_part};
 ghost use Rattle.druid_node.specs.Files.{file_at};
 ghost use Rattle.druid_incarnation.specs.Incarnation.{number_file, number_text};
+ghost use Rattle.druid_node.specs.declared.fault.NodeFault.{NodeFault};
+ghost use Rattle.druid_serve_node.specs.Faults.{of_node, NamesFile, IsOfRaise, IsOfLoad};
 ghost use Rattle.druid_serve_node.specs.Files.{is_segment_file, IsTaken, HoldsSegments, IsStarted};
 
 use crate::fault::{Cause, DeviceFailed, StartFault};
@@ -63,6 +65,7 @@ fn load_one<R: Wait, F: Folder, I: Incarnation>(
         → OnOk result ((s : Segment) × (file_at name.now (read_part (F.content folder.old name.now)) ≡ Ok s)) }
     ensures content { F.is_honest folder.new → F.content folder.new ≡ F.content folder.old }
     ensures honest { F.is_honest folder.new → F.is_honest folder.old }
+    ensures cause { IfErr result (λ start. (why : NodeFault) × (start.fault ≡ of_node why) × IfSome start.cause (NamesFile name.now why)) }
 {
     match node.load_file(rt, folder, name, seen) {
         Ok(()) => Ok(()),
@@ -82,6 +85,7 @@ fn load_named<R: Wait, F: Folder, I: Incarnation>(
     ensures ok { F.is_honest folder.new → OnOk result (All (IsTaken (F.content folder.old)) (names_of names.now)) }
     ensures content { F.is_honest folder.new → F.content folder.new ≡ F.content folder.old }
     ensures honest { F.is_honest folder.new → F.is_honest folder.old }
+    ensures cause { IfErr result (λ start. IfSome start.cause (IsOfLoad start.fault)) }
 {
     for name in names {
         if is_segment_file(name.as_str()) {
@@ -98,7 +102,8 @@ fn load_files<R: Wait, F: Folder, I: Incarnation>(
     node: &DataNode<I>,
     folder: &mut F,
 ) -> Result<(), StartFault>
-    ensures { F.is_honest folder.new → OnOk result (HoldsSegments (F.content folder.new)) }
+    ensures ok { F.is_honest folder.new → OnOk result (HoldsSegments (F.content folder.new)) }
+    ensures cause { IfErr result (λ start. IfSome start.cause (IsOfLoad start.fault)) }
 {
     let names = match folder.list(alloc) {
         Ok(names) => names,
@@ -119,6 +124,7 @@ fn first_state<F: Folder>(
         → IfOk result (λ state. IsStarted (F.content folder.old number_file) (F.content folder.new number_file) state.history.incarnation) }
     ensures kept { IfOk result (λ state. state.history.limit ≡ kept) }
     ensures nothing { IfOk result (λ state. StandsFor state.history [] × (state.held ≡ [])) }
+    ensures cause { IfErr result (λ start. IfSome start.cause (IsOfRaise start.fault)) }
 {
     let incarnation = match next_incarnation(alloc, folder) {
         Ok(incarnation) => incarnation,
@@ -146,12 +152,17 @@ fn loaded<R: Wait, F: Folder, I: Incarnation>(
     state: NodeState,
 ) -> Result<DataNode<I>, StartFault>
     requires { state.history.incarnation ≡ I.number }
-    ensures { F.is_honest folder.new → OnOk result (HoldsSegments (F.content folder.new)) }
+    ensures ok { F.is_honest folder.new → OnOk result (HoldsSegments (F.content folder.new)) }
+    ensures cause { IfErr result (λ start. IfSome start.cause (IsOfLoad start.fault)) }
 {
     let node = DataNode::new(state);
     load_files(rt, alloc, &node, folder)?;
     Ok(node)
 }
+
+/// Shows that the files that a node loads later were tried: only `load_later` gives one.
+#[derive(Debug, Drop)]
+pub struct EndOfLoads(());
 
 /// Loads files of a folder that a node serves from, one after another; one that is refused is passed over.
 pub fn load_later<R: Wait, F: Folder, I: Incarnation>(
@@ -160,12 +171,13 @@ pub fn load_later<R: Wait, F: Folder, I: Incarnation>(
     folder: &mut F,
     names: &[String],
     seen: &mut Mark,
-)
+) -> EndOfLoads
     ensures { mark_cmp seen.old seen.new ≢ Greater }
 {
     for name in names {
         drop(node.load_file(rt, folder, name.as_str(), seen));
     }
+    EndOfLoads(())
 }
 
 // What the thread does that loads files later.
@@ -174,9 +186,9 @@ fn load_from<R: Files<File = File> + AllocGlobal + Wait + Copy, L: Device, I: In
     node: &DataNode<I>,
     path: String,
     names: &[String],
-) {
+) -> EndOfLoads {
     let mut folder: DiskFolder<R, L> = DiskFolder::new(*rt, path);
-    load_later(rt, node, &mut folder, names, &mut Mark::never());
+    load_later(rt, node, &mut folder, names, &mut Mark::never())
 }
 
 // Starts the thread that loads files once the node stands.
@@ -189,7 +201,7 @@ fn start_loader<
     node: &Arc<DataNode<I>, Global>,
     path: String,
     names: Vec<String>,
-) -> Result<JoinHandle<()>, DeviceFailed>
+) -> Result<JoinHandle<EndOfLoads>, DeviceFailed>
 where
     R::Dir: Send,
 {
@@ -289,7 +301,7 @@ fn start_from<
     config: &NodeConfig,
     folder: &mut F,
     state: NodeState,
-) -> Result<JoinHandle<()>, StartFault>
+) -> Result<JoinHandle<EndOfLoads>, StartFault>
 where
     R::Dir: Send,
     requires own { state.history.incarnation ≡ I.number }
@@ -325,7 +337,7 @@ pub fn start_node<
         + 'static,
     D: Device,
     L: Device + Send + Sync + 'static,
->(rt: &R, alloc: Global, config: &NodeConfig, kept: usize) -> Result<JoinHandle<()>, StartFault>
+>(rt: &R, alloc: Global, config: &NodeConfig, kept: usize) -> Result<JoinHandle<EndOfLoads>, StartFault>
 where
     R::Dir: Send,
     requires some { 1 ≤ kept }
