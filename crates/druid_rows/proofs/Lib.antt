@@ -1,7 +1,10 @@
+pub mod ColumnLemmas
 pub mod EachLemmas
+pub mod GrowLemmas
 pub mod LengthLemmas
 pub mod NameLemmas
-pub mod PageLemmas
-pub mod PagesLemmas
-pub mod TextsLemmas
+pub mod NumberingLemmas
+pub mod PlaceLemmas
+pub mod ShortLemmas
+pub mod TableLemmas
 mod FilterLemmas

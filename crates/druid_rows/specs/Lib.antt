@@ -2,7 +2,7 @@
 pub mod Names
 pub mod Rows
 pub mod Segment
+pub mod Columns
 -- words of private contracts
-pub mod Texts
-pub mod Sheet
-pub mod Pages
+pub mod Numbering
+pub mod Table

@@ -1,27 +1,39 @@
-ghost use Rattle.std.specs.Prelude.{◌≡◌, ◌↔◌, [], IfOk, OnOk, OnErr, IsErrOf, IsOkUnless};
-ghost use Rattle.druid_rows.specs.Rows.{texts_by, row_of, IsSchema, HasShape, IsInside};
-ghost use Rattle.druid_rows.specs.Segment.{Segment, IsWithinLimits, HaveWords, IsSegment, segment_of, with_row};
+ghost use Rattle.std.specs.Prelude.{◌≡◌, ◌↔◌, ◌-◌, [], IfOk, OnOk, OnErr, OnSome, SomeIff, IsErrOf, IsOkUnless};
+ghost use Rattle.druid_rows.specs.Rows.{texts_by, row_of, IsSchema, HasShape, IsInside, HasWords};
+ghost use Rattle.druid_rows.specs.Segment.{Segment, IsWithinLimits, HaveWords, IsSegment, segment_of, with_row, text_length, max_text};
 
 use crate::lent::LentRow;
-use crate::{Row, RowFault, Schema, Segment};
+use crate::segment::judge;
+use crate::table_builder::TableBuilder;
+use crate::{MAX_ROWS, Row, RowFault, Schema, Segment};
 use druid_shard::Descriptor;
 use druid_time::Instant;
-use std::alloc::Global;
+use std::alloc::{AllocError, Global};
 use std::convert::AsStr;
 use std::marker::Model;
 
 /// Makes a segment row by row, for a caller that does not have them all at once. At each moment it is a segment.
 #[derive(Debug, Drop)]
 pub struct SegmentBuilder {
-    segment: Segment,
+    descriptor: Descriptor,
+    schema: Schema,
+    table: TableBuilder,
+    room: usize,
 }
 
 impl Model for SegmentBuilder {
-    ghost use Rattle.druid_rows.specs.Segment.{Segment};
+    ghost use Rattle.std.specs.Prelude.{◌≡◌, ◌-◌, length};
+    ghost use Rattle.druid_rows.specs.Segment.{Segment, IsSegment, HaveWords, segment_of, text_length, max_text};
 
     ghost Value = { Segment };
 
-    ghost view = { λ a. a.segment };
+    ghost view = { λ a. segment_of a.descriptor a.schema a.table.rows };
+
+    ghost invariant = { λ a. IsSegment (segment_of a.descriptor a.schema a.table.rows)
+        × HaveWords (segment_of a.descriptor a.schema a.table.rows)
+        × (a.room ≡ max_text - text_length (segment_of a.descriptor a.schema a.table.rows))
+        × (a.table.dimensions ≡ length a.schema.dimensions)
+        × (a.table.metrics ≡ length a.schema.metrics) };
 }
 
 impl SegmentBuilder {
@@ -40,10 +52,47 @@ impl SegmentBuilder {
             ↔ (IsSchema schema
             × (¬ IsWithinLimits (segment_of descriptor schema []))) }
     {
-        match Segment::new(alloc, descriptor, schema, Vec::new(alloc)) {
-            Ok(segment) => Ok(SegmentBuilder { segment }),
+        match judge(&descriptor, &schema, &[]) {
+            Ok(room) => Ok(SegmentBuilder::of_judged(alloc, descriptor, schema, room)?),
             Err(fault) => Err(fault),
         }
+    }
+
+    // No rows of a schema that a segment of none may have, of which the text leaves this room.
+    fn of_judged(
+        alloc: Global,
+        descriptor: Descriptor,
+        schema: Schema,
+        room: usize,
+    ) -> Result<SegmentBuilder, AllocError>
+        requires valid { IsSegment (segment_of descriptor schema []) }
+        requires words { HaveWords (segment_of descriptor schema []) }
+        requires room { room ≡ max_text - text_length (segment_of descriptor schema []) }
+        ensures { IfOk result (λ builder. builder ≡ segment_of descriptor schema []) }
+    {
+        let (dimensions, metrics) = (schema.dimensions().len(), schema.metrics().len());
+        let table = TableBuilder::new(alloc, dimensions, metrics)?;
+        Ok(SegmentBuilder {
+            descriptor,
+            schema,
+            table,
+            room,
+        })
+    }
+
+    // The room that is left after one more row. None where a limit would be passed.
+    fn room_behind<T: AsStr>(&self, row: &LentRow<'_, T>) -> Option<usize>
+        ensures value { SomeIff result (IsWithinLimits (with_row self.now row.now))
+            (max_text - text_length (with_row self.now row.now)) }
+        ensures words { OnSome result (HasWords row.now) }
+    {
+        if self.table.len() == MAX_ROWS {
+            return None;
+        }
+        if !row.has_short_values() {
+            return None;
+        }
+        row.room_after(self.room)
     }
 
     /// Adds a row after the others. `TooLong` where a limit would be passed, then `RowShape`, then `RowOutside`, and
@@ -93,18 +142,17 @@ impl SegmentBuilder {
             ↔ (IsWithinLimits (with_row self.old row.now) × HasShape self.old.fields row.now
             × (¬ IsInside self.old.descriptor.id.interval row.now)) }
     {
-        let Some(room) = self.segment.room_behind(row) else {
+        let Some(room) = self.room_behind(row) else {
             return Err(RowFault::TooLong);
         };
-        if !self.segment.schema.fits(row) {
+        if !self.schema.fits(row) {
             return Err(RowFault::RowShape);
         }
-        if !self.segment.descriptor.id().interval().contains(row.time()) {
+        if !self.descriptor.id().interval().contains(row.time()) {
             return Err(RowFault::RowOutside);
         }
-        self.segment.table.push(row)?;
-        self.segment.len += 1;
-        self.segment.room = room;
+        self.table.push(row)?;
+        self.room = room;
         Ok(())
     }
 
@@ -114,8 +162,16 @@ impl SegmentBuilder {
         ensures valid { IsSegment result }
         ensures words { HaveWords result }
     {
-        let SegmentBuilder { mut segment } = self;
-        segment.shrink();
-        segment
+        let SegmentBuilder {
+            descriptor,
+            schema,
+            table,
+            ..
+        } = self;
+        Segment {
+            descriptor,
+            schema,
+            table: table.finish(),
+        }
     }
 }

@@ -2,20 +2,25 @@
 #![tactic(auto)]
 
 mod builder;
+mod column;
+mod column_builder;
 mod fault;
 mod filter;
+mod laws;
 mod lent;
-mod page;
+mod numbering;
+mod numbers;
 mod row;
 mod schema;
 mod segment;
 mod table;
-mod texts;
+mod table_builder;
 
 pub use builder::SegmentBuilder;
 pub use druid_filter::Filter;
 pub use fault::RowFault;
 pub use filter::matches;
+pub use laws::values_have_one_dictionary;
 pub use lent::MAX_VALUE;
 pub use row::Row;
 pub use schema::{MAX_NAME, Schema};

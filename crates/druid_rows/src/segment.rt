@@ -1,15 +1,17 @@
-ghost use Rattle.std.specs.Prelude.{◌≡◌, ◌↔◌, ◌-◌, ◌<◌, ◌≤◌, ◌==◌, length, map, sum, slice_index_or, None, All, IsTrue, SomeIff, IfOk, OnSome, OnOk, OnErr, IsOk, IsErrOf, IsOkUnless};
+ghost use Rattle.std.specs.Prelude.{◌≡◌, ◌↔◌, ◌*◌, List, ℕ, ◌-◌, ◌<◌, ◌≤◌, ◌==◌, length, map, sum, slice_index_or, None, All, IsTrue, SomeIff, IfOk, OnSome, OnOk, OnErr, IsOk, IsErrOf, IsOkUnless};
+ghost use Rattle.std.specs.List.Sorted.{IsNonDecreasing};
 ghost use Rattle.std.specs.Option.{option_map};
-ghost use Rattle.druid_rows.specs.Rows.{IsSchema, HasShape, IsInside, HasShortValues, HasWords};
+ghost use Rattle.druid_time.specs.Extent.{Has};
+ghost use Rattle.druid_rows.specs.Rows.{IsSchema, HasShape, IsInside, HasShortValues, HasWords, texts_of};
+ghost use Rattle.druid_rows.specs.Columns.{column, IsDictionary, AreCodes};
 ghost use Rattle.druid_rows.specs.Segment.{Segment, IsWithinLimits, HaveShape, AreInside, HaveWords, IsSegment, row_at, segment_of, with_row, row_length, head_length, text_length, max_text};
 
-use crate::lent::LentRow;
 use crate::table::Table;
+use crate::table_builder::table_of_rows;
 use crate::{Row, RowFault, Schema};
 use druid_shard::Descriptor;
 use druid_time::{Instant, Interval};
 use std::alloc::{AllocError, Global};
-use std::convert::AsStr;
 use std::marker::Model;
 
 /// The most dimensions of a segment, and the most metrics.
@@ -30,13 +32,11 @@ pub struct Segment {
     pub(crate) descriptor: Descriptor,
     pub(crate) schema: Schema,
     pub(crate) table: Table,
-    pub(crate) len: usize,
-    pub(crate) room: usize,
 }
 
 impl Model for Segment {
-    ghost use Rattle.std.specs.Prelude.{◌≡◌, ◌-◌, length};
-    ghost use Rattle.druid_rows.specs.Segment.{Segment, IsSegment, HaveWords, segment_of, text_length, max_text};
+    ghost use Rattle.std.specs.Prelude.{◌≡◌, length};
+    ghost use Rattle.druid_rows.specs.Segment.{Segment, IsSegment, HaveWords, segment_of};
 
     ghost Value = { Segment };
 
@@ -44,10 +44,8 @@ impl Model for Segment {
 
     ghost invariant = { λ a. IsSegment (segment_of a.descriptor a.schema a.table.rows)
         × HaveWords (segment_of a.descriptor a.schema a.table.rows)
-        × (a.room ≡ max_text - text_length (segment_of a.descriptor a.schema a.table.rows))
         × (a.table.dimensions ≡ length a.schema.dimensions)
-        × (a.table.metrics ≡ length a.schema.metrics)
-        × (a.len ≡ length a.table.rows) };
+        × (a.table.metrics ≡ length a.schema.metrics) };
 }
 
 // The room that the head of a segment leaves in its text. None where it is longer.
@@ -106,7 +104,11 @@ fn are_inside(interval: Interval, rows: &[Row]) -> bool
 }
 
 // The room that is left in the text of a segment of these rows, or why they make none. Does not allocate.
-fn judge(descriptor: &Descriptor, schema: &Schema, rows: &[Row]) -> Result<usize, RowFault>
+pub(crate) fn judge(
+    descriptor: &Descriptor,
+    schema: &Schema,
+    rows: &[Row],
+) -> Result<usize, RowFault>
     ensures valid { OnOk result (IsSegment (segment_of descriptor.now schema.now rows.now)) }
     ensures words { OnOk result (HaveWords (segment_of descriptor.now schema.now rows.now)) }
     ensures room { IfOk result (λ room. room ≡ max_text - text_length (segment_of descriptor.now schema.now rows.now)) }
@@ -172,57 +174,29 @@ impl Segment {
             × (¬ AreInside (segment_of descriptor schema rows.items))) }
     {
         match judge(&descriptor, &schema, &rows) {
-            Ok(room) => Ok(Segment::of_judged(alloc, descriptor, schema, rows, room)?),
+            Ok(_) => Ok(Segment::of_judged(alloc, descriptor, schema, rows)?),
             Err(fault) => Err(fault),
         }
     }
 
-    // The segment of rows that make one, of which the text leaves this room.
+    // The segment of rows that make one.
     fn of_judged(
         alloc: Global,
         descriptor: Descriptor,
         schema: Schema,
         rows: Vec<Row>,
-        room: usize,
     ) -> Result<Segment, AllocError>
         requires valid { IsSegment (segment_of descriptor schema rows.items) }
         requires words { HaveWords (segment_of descriptor schema rows.items) }
-        requires room { room ≡ max_text - text_length (segment_of descriptor schema rows.items) }
         ensures value { IfOk result (λ segment. segment ≡ segment_of descriptor schema rows.items) }
     {
         let (dimensions, metrics) = (schema.dimensions().len(), schema.metrics().len());
-        let len = rows.len();
-        let table = Table::of_rows(alloc, dimensions, metrics, rows)?;
+        let table = table_of_rows(alloc, dimensions, metrics, rows)?;
         Ok(Segment {
             descriptor,
             schema,
             table,
-            len,
-            room,
         })
-    }
-
-    // The room that is left after one more row. None where a limit would be passed.
-    pub(crate) fn room_behind<T: AsStr>(&self, row: &LentRow<'_, T>) -> Option<usize>
-        ensures value { SomeIff result (IsWithinLimits (with_row self.now row.now))
-            (max_text - text_length (with_row self.now row.now)) }
-        ensures words { OnSome result (HasWords row.now) }
-    {
-        if self.len == MAX_ROWS {
-            return None;
-        }
-        if !row.has_short_values() {
-            return None;
-        }
-        row.room_after(self.room)
-    }
-
-    // Gives back the memory that it does not need.
-    pub(crate) fn shrink(&mut self)
-        ensures value { self.new ≡ self.old }
-        ensures valid { IsSegment self.new }
-    {
-        self.table.shrink();
     }
 
     /// What is announced of it.
@@ -249,14 +223,14 @@ impl Segment {
         ensures valid { IsSegment self.now }
         ensures words { HaveWords self.now }
     {
-        self.len
+        self.table.len()
     }
 
     /// Whether it has no rows.
     pub fn is_empty(&self) -> bool
         ensures { result ≡ (length self.now.rows == 0) }
     {
-        self.len == 0
+        self.table.len() == 0
     }
 
     /// The instant of the row at that place.
@@ -284,6 +258,56 @@ impl Segment {
         ensures { result ≡ slice_index_or (row_at self.now row).metrics metric None }
     {
         self.table.metric(row, metric)
+    }
+
+    /// The texts that rows have for the dimension at that place, each once, rising by their bytes.
+    pub fn values(&self, dimension: usize) -> &[String]
+        requires { dimension < length self.now.fields.dimensions }
+        ensures { IsDictionary (column dimension self.now.rows) (texts_of result.now) }
+    {
+        self.table.values(dimension)
+    }
+
+    /// A code for each row: 0 where its value for that dimension is null, and k where it is the k-th of `values`.
+    pub fn codes(&self, dimension: usize) -> &[u32]
+        requires { dimension < length self.now.fields.dimensions }
+        ensures { (texts : List (List ℕ)) → IsDictionary (column dimension self.now.rows) texts
+            → AreCodes texts (column dimension self.now.rows) result.now }
+    {
+        self.table.codes(dimension)
+    }
+
+    /// The instant of each row.
+    pub fn times(&self) -> &[Instant]
+        ensures { result.now ≡ map (λ row. row.time) self.now.rows }
+    {
+        self.table.times()
+    }
+
+    /// The number or null of each row for the metric at that place.
+    pub fn numbers(&self, metric: usize) -> &[Option<i64>]
+        requires { metric < length self.now.fields.metrics }
+        ensures { result.now ≡ map (λ row. slice_index_or row.metrics metric None) self.now.rows }
+    {
+        self.table.numbers(metric)
+    }
+
+    /// Whether no row's instant is below that of the row before it.
+    pub fn is_rising(&self) -> bool
+        ensures { IsTrue result ↔ IsNonDecreasing (map (λ row. row.time) self.now.rows) }
+    {
+        self.table.is_rising()
+    }
+
+    /// Where the rows of the interval stand: the place of the first, and the place after the last. Found by halving
+    /// where instants rise; else all places.
+    pub fn places_in(&self, interval: Interval) -> (usize, usize)
+        ensures order { result.0 ≤ result.1 }
+        ensures end { result.1 ≤ length self.now.rows }
+        ensures all { (place : ℕ) → place < length self.now.rows → Has interval (row_at self.now place).time
+            → (result.0 ≤ place) × (place < result.1) }
+    {
+        self.table.places_in(interval)
     }
 
     /// A copy of the row at that place.

@@ -1,101 +1,78 @@
-ghost use Rattle.std.specs.Prelude.{◌≡◌, ◌+◌, ◌<◌, ◌≤◌, [], ◌∷◌, ◌++◌, length, map, sum, slice_index_or, None, All, IfOk, OnOk, OnErr};
+ghost use Rattle.std.specs.Prelude.{◌≡◌, ◌↔◌, ◌*◌, List, ℕ, ◌<◌, ◌≤◌, length, map, slice_index_or, string_bytes, None, All, IsTrue, IfOk};
+ghost use Rattle.std.specs.List.Sorted.{IsNonDecreasing};
 ghost use Rattle.std.specs.Option.{option_map};
-ghost use Rattle.druid_rows.specs.Rows.{no_row};
-ghost use Rattle.druid_rows.specs.Segment.{row_length, max_text};
-ghost use Rattle.druid_rows.specs.Sheet.{HasWidths, with_one_more};
+ghost use Rattle.druid_time.specs.Extent.{Has};
+ghost use Rattle.druid_rows.specs.Rows.{no_row, texts_of, nullable_texts_of};
+ghost use Rattle.druid_rows.specs.Columns.{column, IsDictionary, AreCodes};
+ghost use Rattle.druid_rows.specs.Table.{across, table_of, AreLong};
 
 use crate::Row;
-use crate::lent::LentRow;
-use crate::page::Page;
-use druid_time::Instant;
+use crate::column::Column;
+use crate::numbers::Numbers;
+use druid_time::{Instant, Interval};
 use std::alloc::{AllocError, Global};
-use std::convert::AsStr;
 use std::marker::Model;
-use std::mem;
 
-// The rows of a full page.
-const PAGE_ROWS: usize = 256;
-
-// Rows that have the same number of values, in pages: as the table grows, no row moves, and no memory is left over.
+// Rows that have the same number of values, by columns, and whether their instants never fall.
 #[derive(Debug, Drop)]
 pub(crate) struct Table {
-    full: Vec<Page>,
-    last: Page,
+    alloc: Global,
+    times: Vec<Instant>,
+    dimensions: Vec<Column>,
+    metrics: Vec<Numbers>,
+    is_rising: bool,
 }
 
 impl Model for Table {
-    ghost use Rattle.std.specs.Prelude.{All};
-    ghost use Rattle.druid_rows.specs.Sheet.{Sheet};
-    ghost use Rattle.druid_rows.specs.Pages.{IsFull, page_rows, sheet_in};
+    ghost use Rattle.std.specs.Prelude.{◌*◌, ◌↔◌, IsTrue, length};
+    ghost use Rattle.std.specs.List.Sorted.{IsNonDecreasing};
+    ghost use Rattle.druid_rows.specs.Table.{Table, table_of, AreLong};
 
-    ghost Value = { Sheet };
+    ghost Value = { Table };
 
-    ghost view = { λ a. sheet_in a.full.items a.last };
+    ghost view = { λ a. table_of a.times.items a.dimensions.items a.metrics.items };
 
-    ghost invariant = { λ a. All (IsFull page_rows a.last) a.full.items };
+    ghost invariant = { λ a. AreLong (length a.times.items) a.dimensions.items
+        × AreLong (length a.times.items) a.metrics.items
+        × (IsTrue a.is_rising ↔ IsNonDecreasing a.times.items) };
 }
 
-// Puts the last page after the full ones, and an empty one in its place.
-fn turn(full: &mut Vec<Page>, last: &mut Page) -> Result<(), AllocError>
-    ensures full { OnOk result (full.new.items ≡ full.old.items ++ last.old ∷ []) }
-    ensures last { OnOk result
-        (last.new ≡ record { dimensions = last.old.dimensions; metrics = last.old.metrics; rows = [] }) }
-    ensures kept_full { OnErr result (full.new.items ≡ full.old.items) }
-    ensures kept_last { OnErr result (last.new ≡ last.old) }
+fn copy_of(alloc: Global, value: Option<&str>) -> Result<Option<String>, AllocError>
+    ensures { IfOk result (λ copy. option_map string_bytes copy ≡ option_map (λ text. text.now) value.entry) }
 {
-    full.reserve(1)?;
-    let empty = last.empty();
-    let mut page = mem::replace(last, empty);
-    page.shrink();
-    let Ok(()) = full.push(page) else {
-        unreachable!();
-    };
-    Ok(())
+    match value {
+        Some(text) => Ok(Some(String::from_str(alloc, text)?)),
+        None => Ok(None),
+    }
 }
 
 impl Table {
-    // No rows, of that many values of each kind.
-    pub(crate) fn new(alloc: Global, dimensions: usize, metrics: usize) -> Table
-        ensures { result ≡ record { dimensions = dimensions; metrics = metrics; rows = [] } }
-    {
-        Table {
-            full: Vec::new(alloc),
-            last: Page::new(alloc, dimensions, metrics),
-        }
-    }
-
-    // These rows, of that many values of each kind. It takes them one by one, so that each is kept once only.
-    pub(crate) fn of_rows(
+    // The table of these columns.
+    pub(crate) fn new(
         alloc: Global,
-        dimensions: usize,
-        metrics: usize,
-        rows: Vec<Row>,
-    ) -> Result<Table, AllocError>
-        requires widths { All (HasWidths dimensions metrics) rows.items }
-        requires room { sum (map row_length rows.items) ≤ max_text }
-        ensures { IfOk result
-            (λ table. table ≡ record { dimensions = dimensions; metrics = metrics; rows = rows.items }) }
+        times: Vec<Instant>,
+        dimensions: Vec<Column>,
+        metrics: Vec<Numbers>,
+    ) -> Table
+        requires texts { AreLong (length times.items) dimensions.items }
+        requires numbers { AreLong (length times.items) metrics.items }
+        ensures { result ≡ table_of times.items dimensions.items metrics.items }
     {
-        let mut table = Table::new(alloc, dimensions, metrics);
-        for row in rows {
-            table.push(&row.lend())?;
+        let is_rising = never_fall(&times);
+        Table {
+            alloc,
+            times,
+            dimensions,
+            metrics,
+            is_rising,
         }
-        table.shrink();
-        Ok(table)
     }
 
-    // The page of a row, and its place there.
-    fn page(&self, row: usize) -> (&Page, usize)
-        requires { row < length self.now.rows }
-        ensures place { result.1 < length result.0.now.rows }
-        ensures row { slice_index_or result.0.now.rows result.1 no_row ≡ slice_index_or self.now.rows row no_row }
-        ensures dimensions { result.0.now.dimensions ≡ self.now.dimensions }
-        ensures metrics { result.0.now.metrics ≡ self.now.metrics }
+    // How many rows there are.
+    pub(crate) fn len(&self) -> usize
+        ensures { result ≡ length self.now.rows }
     {
-        match self.full.get(row / PAGE_ROWS) {
-            Some(page) => (page, row % PAGE_ROWS),
-            None => (&self.last, row - self.full.len() * PAGE_ROWS),
-        }
+        self.times.len()
     }
 
     // The instant of the row at that place.
@@ -103,29 +80,95 @@ impl Table {
         requires { row < length self.now.rows }
         ensures { result ≡ (slice_index_or self.now.rows row no_row).time }
     {
-        let (page, place) = self.page(row);
-        page.time(place)
+        self.times[row]
+    }
+
+    fn metric_column(&self, metric: usize) -> &Numbers
+        requires { metric < self.now.metrics }
+        ensures { result.now ≡ map (λ row. slice_index_or row.metrics metric None) self.now.rows }
+    {
+        &self.metrics[metric]
+    }
+
+    fn dimension_column(&self, dimension: usize) -> &Column
+        requires { dimension < self.now.dimensions }
+        ensures { result.now ≡ column dimension self.now.rows }
+    {
+        &self.dimensions[dimension]
     }
 
     // The value of a row for the dimension at that place. None for null.
+    #[tactic(auto, using(crate::proofs::TableLemmas::cell_steps))]
     pub(crate) fn dimension(&self, row: usize, dimension: usize) -> Option<&str>
         requires row { row < length self.now.rows }
         requires dimension { dimension < self.now.dimensions }
         ensures { option_map (λ text. text.now) result
             ≡ slice_index_or (slice_index_or self.now.rows row no_row).dimensions dimension None }
     {
-        let (page, place) = self.page(row);
-        page.dimension(place, dimension)
+        self.dimension_column(dimension).get(row)
     }
 
     // The value of a row for the metric at that place. None for null.
+    #[tactic(auto, using(crate::proofs::TableLemmas::cell_steps))]
     pub(crate) fn metric(&self, row: usize, metric: usize) -> Option<i64>
         requires row { row < length self.now.rows }
         requires metric { metric < self.now.metrics }
         ensures { result ≡ slice_index_or (slice_index_or self.now.rows row no_row).metrics metric None }
     {
-        let (page, place) = self.page(row);
-        page.metric(place, metric)
+        self.metric_column(metric).get(row)
+    }
+
+    // The texts that rows have for that dimension, each once, in order.
+    pub(crate) fn values(&self, dimension: usize) -> &[String]
+        requires { dimension < self.now.dimensions }
+        ensures { IsDictionary (column dimension self.now.rows) (texts_of result.now) }
+    {
+        self.dimension_column(dimension).values()
+    }
+
+    // A code for each row's value for that dimension.
+    pub(crate) fn codes(&self, dimension: usize) -> &[u32]
+        requires { dimension < self.now.dimensions }
+        ensures { (texts : List (List ℕ)) → IsDictionary (column dimension self.now.rows) texts
+            → AreCodes texts (column dimension self.now.rows) result.now }
+    {
+        self.dimension_column(dimension).codes()
+    }
+
+    // The instant of each row.
+    pub(crate) fn times(&self) -> &[Instant]
+        ensures { result.now ≡ map (λ row. row.time) self.now.rows }
+    {
+        &self.times
+    }
+
+    // The number or null of each row for that metric.
+    pub(crate) fn numbers(&self, metric: usize) -> &[Option<i64>]
+        requires { metric < self.now.metrics }
+        ensures { result.now ≡ map (λ row. slice_index_or row.metrics metric None) self.now.rows }
+    {
+        self.metric_column(metric).values()
+    }
+
+    // Whether no row's instant is below that of the row before it.
+    pub(crate) fn is_rising(&self) -> bool
+        ensures { IsTrue result ↔ IsNonDecreasing (map (λ row. row.time) self.now.rows) }
+    {
+        self.is_rising
+    }
+
+    // The place of the first row of the interval, and the place after its last, or wider.
+    pub(crate) fn places_in(&self, interval: Interval) -> (usize, usize)
+        ensures order { result.0 ≤ result.1 }
+        ensures end { result.1 ≤ length self.now.rows }
+        ensures all { (place : ℕ) → place < length self.now.rows → Has interval (slice_index_or self.now.rows place no_row).time
+            → (result.0 ≤ place) × (place < result.1) }
+    {
+        if self.is_rising {
+            places_among(&self.times, interval)
+        } else {
+            (0, self.times.len())
+        }
     }
 
     // A copy of the row at that place.
@@ -133,30 +176,71 @@ impl Table {
         requires { row < length self.now.rows }
         ensures { IfOk result (λ copy. copy ≡ slice_index_or self.now.rows row no_row) }
     {
-        let (page, place) = self.page(row);
-        page.row(place)
+        let dimensions = texts_across(self.alloc, &self.dimensions, row)?;
+        let metrics = numbers_across(self.alloc, &self.metrics, row)?;
+        Ok(Row::new(self.time(row), dimensions, metrics))
     }
+}
 
-    // Adds a row after the others, or nothing.
-    pub(crate) fn push<T: AsStr>(&mut self, row: &LentRow<'_, T>) -> Result<(), AllocError>
-        requires widths { HasWidths self.old.dimensions self.old.metrics row.now }
-        requires room { sum (map row_length self.old.rows)
-            + row_length row.now ≤ max_text }
-        ensures ok { OnOk result (self.new
-            ≡ with_one_more self.old row.now) }
-        ensures err { OnErr result (self.new ≡ self.old) }
-    {
-        if self.last.len() == PAGE_ROWS {
-            turn(&mut self.full, &mut self.last)?;
-        }
-        self.last.push(row)
-    }
+// Whether no instant is below the one before it.
+fn never_fall(times: &[Instant]) -> bool
+    ensures { IsTrue result ↔ IsNonDecreasing times.now }
+{
+    times.is_sorted()
+}
 
-    // Gives back the memory that it does not need.
-    pub(crate) fn shrink(&mut self)
-        ensures { self.new ≡ self.old }
-    {
-        self.full.shrink_to_fit();
-        self.last.shrink();
+// A copy of what each column has at that place.
+fn texts_across(
+    alloc: Global,
+    columns: &[Column],
+    row: usize,
+) -> Result<Vec<Option<String>>, AllocError>
+    requires { All (λ column. row < length column) columns.now }
+    ensures { IfOk result (λ values. nullable_texts_of values.items ≡ across columns.now row) }
+{
+    let mut values = Vec::with_capacity(alloc, columns.len())?;
+    for column in columns {
+        values.push(copy_of(alloc, column.get(row))?)?;
     }
+    Ok(values)
+}
+
+// The number or null that each column has at that place.
+fn numbers_across(
+    alloc: Global,
+    columns: &[Numbers],
+    row: usize,
+) -> Result<Vec<Option<i64>>, AllocError>
+    requires { All (λ column. row < length column) columns.now }
+    ensures { IfOk result (λ values. values.items ≡ across columns.now row) }
+{
+    let mut values = Vec::with_capacity(alloc, columns.len())?;
+    for column in columns {
+        values.push(column.get(row))?;
+    }
+    Ok(values)
+}
+
+// Where the instants that lie in the interval stand, where none falls: the place of the first, and the place after
+// the last.
+fn places_among(times: &[Instant], interval: Interval) -> (usize, usize)
+    requires { IsNonDecreasing times.now }
+    ensures order { result.0 ≤ result.1 }
+    ensures end { result.1 ≤ length times.now }
+    ensures all { (place : ℕ) → place < length times.now → Has interval (slice_index_or times.now place 0)
+        → (result.0 ≤ place) × (place < result.1) }
+{
+    let start = place_from(times, interval.start());
+    let end = place_from(times, interval.end());
+    (start, end)
+}
+
+// The place of the first instant that is not below that one.
+fn place_from(times: &[Instant], from: Instant) -> usize
+    requires { IsNonDecreasing times.now }
+    ensures bound { result ≤ length times.now }
+    ensures below { (place : ℕ) → place < result → slice_index_or times.now place 0 < from }
+    ensures from { (place : ℕ) → result ≤ place → place < length times.now → from ≤ slice_index_or times.now place 0 }
+{
+    times.partition_point(|time| *time < from)
 }

@@ -2,7 +2,7 @@ use Rattle.std.proofs.Common.{refl, subst, sym, ◌∙◌}
 use Rattle.std.proofs.lemmas.Bool.{false≢true}
 use Rattle.std.proofs.lemmas.List.{take_all}
 use Rattle.druid_rows.specs.Rows.{texts_by, AreShort}
-use Rattle.druid_rows.proofs.TextsLemmas.{none_short, one_short, one_long}
+use Rattle.druid_rows.proofs.ShortLemmas.{none_short, one_short, one_long}
 use Rattle.druid_rows.proofs.lent.are_short.Goals as goal
 
 pub loop-value-init : goal.loop-value-init

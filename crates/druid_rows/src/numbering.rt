@@ -1,0 +1,200 @@
+ghost use Rattle.std.specs.Prelude.{◌≡◌, ◌*◌, ◌↔◌, List, ℕ, suc, ◌+◌, ◌-◌, ◌^◌, ◌<◌, ◌≤◌, [], ◌∷◌, ◌++◌, set, length, map, take, slice_index_or, vec_capacity, All, Contains, IfOk, OnOk, OnErr};
+ghost use Rattle.std.specs.Option.{option_map};
+ghost use Rattle.druid_rows.specs.Rows.{texts_of};
+ghost use Rattle.druid_rows.specs.Columns.{IsDictionary, value_at};
+ghost use Rattle.druid_rows.specs.Numbering.{IsNumbered, texts_by_number, code_by_rank, with_mark, HavePlaces};
+
+use std::alloc::{AllocError, Global};
+use std::collections::BTreeMap;
+use std::marker::Model;
+
+// Texts by numbers, which count from 1 on as the texts come. It has the room that putting them in order takes.
+#[derive(Debug, Drop)]
+pub(crate) struct Numbering {
+    alloc: Global,
+    numbers: BTreeMap<String, u32>,
+    values: Vec<String>,
+    ranks: Vec<u32>,
+}
+
+impl Model for Numbering {
+    ghost use Rattle.std.specs.Prelude.{◌≡◌, ◌*◌, ◌^◌, ◌<◌, ◌≤◌, List, ℕ, [], length, All, vec_capacity};
+    ghost use Rattle.druid_rows.specs.Numbering.{texts_by_number, IsNumbered};
+
+    ghost Value = { List (List ℕ) };
+
+    ghost view = { λ a. texts_by_number a.numbers.entries };
+
+    ghost invariant = { λ a. IsNumbered a.numbers.entries
+        × (a.values.items ≡ [])
+        × (length a.numbers.entries ≤ vec_capacity a.values)
+        × (length a.ranks.items ≡ length a.numbers.entries)
+        × (length a.numbers.entries < 2 ^ 32)
+        × All (λ rank. rank ≡ 0) a.ranks.items };
+}
+
+impl Numbering {
+    // No texts.
+    pub(crate) fn new(alloc: Global) -> Numbering
+        ensures { result ≡ [] }
+    {
+        Numbering {
+            alloc,
+            numbers: BTreeMap::new(alloc),
+            values: Vec::new(alloc),
+            ranks: Vec::new(alloc),
+        }
+    }
+
+    // The number of a text, and 0 of null.
+    pub(crate) fn code_of(&mut self, value: Option<&str>) -> Result<u32, AllocError>
+        ensures kept { take (length self.old) self.new ≡ self.old }
+        ensures code { IfOk result (λ code. value_at self.new code ≡ option_map (λ text. text.now) value.entry) }
+        ensures bounded { IfOk result (λ code. code ≤ length self.new) }
+    {
+        match value {
+            Some(text) => self.number_of(text),
+            None => Ok(0),
+        }
+    }
+
+    // The number of a text, which gets one where it has none.
+    fn number_of(&mut self, text: &str) -> Result<u32, AllocError>
+        ensures kept { take (length self.old) self.new ≡ self.old }
+        ensures number { IfOk result (λ number. value_at self.new number ≡ Some text.now) }
+        ensures bounded { IfOk result (λ number. number ≤ length self.new) }
+    {
+        if let Some(number) = self.numbers.get(text) {
+            return Ok(*number);
+        }
+        let Ok(number) = u32::try_from(self.numbers.len() + 1) else {
+            return Err(AllocError);
+        };
+        self.values.reserve(number as usize)?;
+        self.ranks.reserve(1)?;
+        self.numbers
+            .insert(String::from_str(self.alloc, text)?, number)?;
+        self.ranks.push_reserved(0);
+        Ok(number)
+    }
+
+    // The texts that the codes stand for, in order. The codes become those among these texts.
+    pub(crate) fn sort(self, codes: &mut [u32]) -> Vec<String>
+        requires { All (λ code. code ≤ length self) codes.old }
+        ensures dictionary { IsDictionary (map (value_at self) codes.old) (texts_of result.items) }
+        ensures stand { map (value_at (texts_of result.items)) codes.new ≡ map (value_at self) codes.old }
+        ensures bounded { All (λ code. code ≤ length (texts_of result.items)) codes.new }
+    {
+        let Numbering {
+            numbers,
+            mut values,
+            mut ranks,
+            ..
+        } = self;
+        put_in_order(numbers, &mut values, &mut ranks, codes);
+        values.shrink_to_fit();
+        values
+    }
+}
+
+fn mark_one(code: u32, ranks: &mut [u32])
+    requires { code ≤ length ranks.old }
+    ensures { ranks.new ≡ with_mark ranks.old code }
+{
+    if code != 0 {
+        ranks[code as usize - 1] = 1;
+    }
+}
+
+// Marks the numbers that the codes have.
+fn mark(codes: &[u32], ranks: &mut [u32])
+    requires within { All (λ code. code ≤ length ranks.old) codes.now }
+    requires none { All (λ rank. rank ≡ 0) ranks.old }
+    ensures len { length ranks.new ≡ length ranks.old }
+    ensures marks { (number : ℕ) → number < length ranks.new
+        → 0 < slice_index_or ranks.new number 0 ↔ Contains codes.now (suc number) }
+{
+    for code in codes {
+        mark_one(*code, ranks);
+    }
+}
+
+// Puts a text after the values where its number has a mark, and writes its place over that.
+fn place_one(text: String, number: u32, values: &mut Vec<String>, ranks: &mut [u32])
+    requires low { 1 ≤ number }
+    requires high { number ≤ length ranks.old }
+    requires room { length values.old.items < vec_capacity values.old }
+    requires fits { length values.old.items + 1 < 2 ^ 32 }
+    ensures skips { slice_index_or ranks.old (number - 1) 0 ≡ 0
+        → (values.new.items ≡ values.old.items) × (ranks.new ≡ ranks.old) }
+    ensures takes { 0 < slice_index_or ranks.old (number - 1) 0
+        → (values.new.items ≡ values.old.items ++ text ∷ [])
+        × (ranks.new ≡ set ranks.old (number - 1) (suc (length values.old.items))) }
+    ensures capacity { vec_capacity values.new ≡ vec_capacity values.old }
+{
+    let place = number as usize - 1;
+    if ranks[place] == 0 {
+        return;
+    }
+    values.push_reserved(text);
+    ranks[place] = values.len() as u32;
+}
+
+// Takes the texts out in order, those with a mark to the values.
+fn place(mut numbers: BTreeMap<String, u32>, values: &mut Vec<String>, ranks: &mut [u32])
+    requires within { All (λ entry. (1 ≤ entry.1) × (entry.1 ≤ length ranks.old)) numbers.entries }
+    requires none { values.old.items ≡ [] }
+    requires room { length numbers.entries ≤ vec_capacity values.old }
+    requires fits { length numbers.entries < 2 ^ 32 }
+    ensures len { length ranks.new ≡ length ranks.old }
+    ensures places { (texts : List (List ℕ)) (codes : List ℕ) → HavePlaces texts codes numbers.entries [] ranks.old
+        → HavePlaces texts codes [] (texts_of values.new.items) ranks.new }
+{
+    while let Some((text, number)) = numbers.pop_first() {
+        place_one(text, number, values, ranks);
+    }
+}
+
+fn rank_one(code: u32, ranks: &[u32]) -> u32
+    requires { code ≤ length ranks.now }
+    ensures { result ≡ code_by_rank ranks.now code }
+{
+    match code {
+        0 => 0,
+        code => ranks[code as usize - 1],
+    }
+}
+
+// The codes by these ranks.
+fn rank(codes: &mut [u32], ranks: &[u32])
+    requires { All (λ code. code ≤ length ranks.now) codes.old }
+    ensures { codes.new ≡ map (code_by_rank ranks.now) codes.old }
+{
+    for place in 0..codes.len() {
+        codes[place] = rank_one(codes[place], ranks);
+    }
+}
+
+// Takes the texts that codes stand for out to the values, in order. The codes become those among the values.
+fn put_in_order(
+    numbers: BTreeMap<String, u32>,
+    values: &mut Vec<String>,
+    ranks: &mut [u32],
+    codes: &mut [u32],
+)
+    requires numbers { IsNumbered numbers.entries }
+    requires within { All (λ code. code ≤ length (texts_by_number numbers.entries)) codes.old }
+    requires none { values.old.items ≡ [] }
+    requires room { length numbers.entries ≤ vec_capacity values.old }
+    requires long { length ranks.old ≡ length numbers.entries }
+    requires fits { length numbers.entries < 2 ^ 32 }
+    requires zero { All (λ rank. rank ≡ 0) ranks.old }
+    ensures places { HavePlaces (texts_by_number numbers.entries) codes.old [] (texts_of values.new.items) ranks.new }
+    ensures codes { codes.new ≡ map (code_by_rank ranks.new) codes.old }
+{
+    // For the proof: reading it exposes the invariant of its type.
+    let _ = numbers.len();
+    mark(codes, ranks);
+    place(numbers, values, ranks);
+    rank(codes, ranks);
+}
