@@ -1,4 +1,4 @@
--- Segments in a map by identifier, and in its order.
+-- Segments in the order of their identifiers: one more, and one less.
 use Rattle.std.proofs.Common.{◌≡◌, ◌⊎◌, ◌↔◌, Bool, true, false, not, cond, ◌||◌, List, [], ◌∷◌, map, Option, Some, None, refl, sym, ap, ◌∙◌, subst, arith, inl, inr}
 use Rattle.std.specs.BTreeMap.{insert_entry, is_at}
 use Rattle.std.specs.List.{All, Contains, list_any}
@@ -24,69 +24,11 @@ use Rattle.druid_changes.proofs.SetLemmas as sets
 use Rattle.druid_rows.specs.Segment.{Segment}
 use Rattle.druid_node.specs.State.{descriptor_of, descriptors_of, HoldsMore, HoldsLess}
 use Rattle.druid_partial.specs.Once.{segment_named}
-use Rattle.druid_node.specs.Held.{IsWhole, IsHeld, Entry, IsAtKey, IsKeyed, with_held, without_held}
-
--- ---- the map and the list of its values
-
--- a search for an identifier finds the segments of that identifier
-at_same : (id : Identifier) (e : Entry) → IsAtKey e → is_at (identifier_cmp id) e.0 ≡ same_identifier id e.1.descriptor.id
-at_same id e key = sym (identifier_cmp-ties id e.0) ∙ ap (same_identifier id) key
-
-pub lookup-values : (es : List Entry) (id : Identifier) → All IsAtKey es → lookup (is_at (identifier_cmp id)) es ≡ segment_named id (values_of es)
-lookup-values [] id keys = refl
-lookup-values (e ∷ es) id keys =
-    let here = at_same id e (All-head IsAtKey e es keys) in
-    let rest = lookup-values es id (All-tail IsAtKey e es keys) in
-    λ i. cond (here i) (Some e.1) (rest i)
-
-insert_step : (o : Ordering) (id : Identifier) (s : Segment) (e : Entry) (es more : List Entry)
-    → values_of (match_ordering o ((id, s) ∷ e ∷ es) ((e.0, s) ∷ es) (e ∷ more)) ≡ match_ordering o (s ∷ e.1 ∷ values_of es) (s ∷ values_of es) (e.1 ∷ values_of more)
-insert_step Less id s e es more = refl
-insert_step Equal id s e es more = refl
-insert_step Greater id s e es more = refl
-
-inserted-values : (es : List Entry) (id : Identifier) (s : Segment) → id ≡ s.descriptor.id → All IsAtKey es → values_of (insert_entry identifier_cmp es id s) ≡ with_held s (values_of es)
-inserted-values [] id s same keys = refl
-inserted-values (e ∷ es) id s same keys =
-    let key : e.0 ≡ e.1.descriptor.id = All-head IsAtKey e es keys in
-    let rest = inserted-values es id s same (All-tail IsAtKey e es keys) in
-    insert_step (identifier_cmp id e.0) id s e es (insert_entry identifier_cmp es id s)
-    ∙ (λ i. match_ordering (identifier_cmp (same i) (key i)) (s ∷ e.1 ∷ values_of es) (s ∷ values_of es) (e.1 ∷ rest i))
+use Rattle.druid_node.specs.Held.{IsWhole, IsHeld, with_held, without_held}
 
 -- two identifiers that tie are one
 tied : (a b : Identifier) → identifier_cmp a b ≡ Equal → a ≡ b
 tied a b e = same_identifier-true a b (identifier_cmp-ties a b ∙ ap is_eq e)
-
-inserted_at : (o : Ordering) (id : Identifier) (s : Segment) (e : Entry) (es more : List Entry) → id ≡ s.descriptor.id → (o ≡ Equal → id ≡ e.0) → All IsAtKey (e ∷ es) → All IsAtKey more
-    → All IsAtKey (match_ordering o ((id, s) ∷ e ∷ es) ((e.0, s) ∷ es) (e ∷ more))
-inserted_at Less id s e es more same level keys rest = All-cons IsAtKey (id, s) (e ∷ es) same keys
-inserted_at Equal id s e es more same level keys rest = All-cons IsAtKey (e.0, s) es (sym (level refl) ∙ same) (All-tail IsAtKey e es keys)
-inserted_at Greater id s e es more same level keys rest = All-cons IsAtKey e more (All-head IsAtKey e es keys) rest
-
-inserted-keys : (es : List Entry) (id : Identifier) (s : Segment) → id ≡ s.descriptor.id → All IsAtKey es → All IsAtKey (insert_entry identifier_cmp es id s)
-inserted-keys [] id s same keys = All-cons IsAtKey (id, s) [] same keys
-inserted-keys (e ∷ es) id s same keys =
-    inserted_at (identifier_cmp id e.0) id s e es (insert_entry identifier_cmp es id s) same (tied id e.0) keys (inserted-keys es id s same (All-tail IsAtKey e es keys))
-
-remove_step : (b : Bool) (e : Entry) (es more : List Entry) → values_of (cond b es (e ∷ more)) ≡ cond b (values_of es) (e.1 ∷ values_of more)
-remove_step true e es more = refl
-remove_step false e es more = refl
-
-removed-values : (es : List Entry) (id : Identifier) → All IsAtKey es → values_of (remove_entry (is_at (identifier_cmp id)) es) ≡ without_held id (values_of es)
-removed-values [] id keys = refl
-removed-values (e ∷ es) id keys =
-    let here = at_same id e (All-head IsAtKey e es keys) in
-    let rest = removed-values es id (All-tail IsAtKey e es keys) in
-    remove_step (is_at (identifier_cmp id) e.0) e es (remove_entry (is_at (identifier_cmp id)) es)
-    ∙ (λ i. cond (here i) (values_of es) (e.1 ∷ rest i))
-
-kept_at : (b : Bool) (e : Entry) (es more : List Entry) → All IsAtKey (e ∷ es) → All IsAtKey more → All IsAtKey (cond b es (e ∷ more))
-kept_at true e es more keys rest = All-tail IsAtKey e es keys
-kept_at false e es more keys rest = All-cons IsAtKey e more (All-head IsAtKey e es keys) rest
-
-removed-keys : (es : List Entry) (test : Identifier → Bool) → All IsAtKey es → All IsAtKey (remove_entry test es)
-removed-keys [] test keys = keys
-removed-keys (e ∷ es) test keys = kept_at (test e.0) e es (remove_entry test es) keys (removed-keys es test (All-tail IsAtKey e es keys))
 
 -- ---- the list and its descriptors
 
@@ -372,14 +314,7 @@ inserted-held xs s whole held strict room =
       each = All-with_held IsWhole s xs whole held.each;
     }
 
-pub insert-is : (es new : List Entry) (s : Segment) (id : Identifier) (vs : List Segment) → id ≡ s.descriptor.id → IsWhole s → IsKeyed es → values_of es ≡ vs → new ≡ insert_entry identifier_cmp es id s
-    → is_strict (descriptors_of vs) (Load s.descriptor) ≡ true → has_room (descriptors_of vs) (Load s.descriptor) ≡ true → IsKeyed new × (values_of new ≡ with_held s vs)
-insert-is es new s id vs same whole kept view e strict room =
-    let values : values_of new ≡ with_held s vs = ap values_of e ∙ inserted-values es id s same kept.keys ∙ ap (with_held s) view in
-    let held : IsHeld (with_held s vs) = inserted-held vs s whole (subst IsHeld view kept.held) strict room in
-    (record { keys = subst (All IsAtKey) (sym e) (inserted-keys es id s same kept.keys); held = subst IsHeld (sym values) held }, values)
-
-some_is : (o : Option Segment) → is_some o ≡ true → (s : Segment) × (o ≡ Some s)
+pub some_is : (o : Option Segment) → is_some o ≡ true → (s : Segment) × (o ≡ Some s)
 some_is None e = absurd (false≢true e)
 some_is (Some s) e = (s, refl)
 
@@ -393,16 +328,3 @@ removed-held xs id held there =
       set = subst IsSegmentSet (sym made) (after-set (descriptors_of xs) (Drop found.0.descriptor) held.set strict refl);
       each = All-without_held IsWhole id xs held.each;
     }
-
-pub remove-is : (es new : List Entry) (id : Identifier) (vs : List Segment) → IsKeyed es → values_of es ≡ vs → new ≡ remove_entry (is_at (identifier_cmp id)) es → is_some (segment_named id vs) ≡ true
-    → IsKeyed new × (values_of new ≡ without_held id vs)
-remove-is es new id vs kept view e there =
-    let values : values_of new ≡ without_held id vs = ap values_of e ∙ removed-values es id kept.keys ∙ ap (without_held id) view in
-    let held : IsHeld (without_held id vs) = removed-held vs id (subst IsHeld view kept.held) there in
-    (record { keys = subst (All IsAtKey) (sym e) (removed-keys es (is_at (identifier_cmp id)) kept.keys); held = subst IsHeld (sym values) held }, values)
-
-pub gone-is : (new : List Entry) (id : Identifier) → IsKeyed new → lookup (is_at (identifier_cmp id)) new ≡ None → segment_named id (values_of new) ≡ None
-gone-is new id kept none = sym (lookup-values new id kept.keys) ∙ none
-
-pub find-is : (es : List Entry) (id : Identifier) (vs : List Segment) (o : Option Segment) → IsKeyed es → values_of es ≡ vs → o ≡ lookup (is_at (identifier_cmp id)) es → o ≡ segment_named id vs
-find-is es id vs o kept view e = e ∙ lookup-values es id kept.keys ∙ ap (segment_named id) view

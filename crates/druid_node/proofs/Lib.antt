@@ -4,3 +4,4 @@ pub mod AnswerLemmas
 pub mod FileLemmas
 pub mod SeenLemmas
 pub mod RowLemmas
+pub mod PlaceLemmas

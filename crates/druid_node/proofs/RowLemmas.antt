@@ -20,7 +20,7 @@ use Rattle.std.proofs.lemmas.List.Elements.{All-contains, All-contains_itself}
 use Rattle.druid_partial.specs.Once.{told, told_once}
 
 -- in the order of their identifiers none stands twice
-have_own : (held : List Segment) → AreInOrder (descriptors_of held) → HaveOwnSegments held
+pub have_own : (held : List Segment) → AreInOrder (descriptors_of held) → HaveOwnSegments held
 have_own [] order = tt
 have_own (s ∷ more) order = (by_found (segment_named s.descriptor.id more) refl, have_own more (rest_in_order s.descriptor (descriptors_of more) order)) where
   by_found : (o : Option Segment) → segment_named s.descriptor.id more ≡ o → segment_named s.descriptor.id more ≡ None

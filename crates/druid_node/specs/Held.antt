@@ -1,12 +1,12 @@
 -- How a node keeps the segments that it holds. Only proofs and private functions use this.
-use Rattle.std.specs.Prelude.{◌≡◌, List, [], ◌∷◌, All, if◌then◌else◌}
-use Rattle.std.specs.Map.{values_of}
+use Rattle.std.specs.Prelude.{List, [], ◌∷◌, All, if◌then◌else◌}
 use Rattle.std.specs.Ordering.{match_ordering}
 use Rattle.druid_segid.specs.Identifier.{Identifier, same_identifier, identifier_cmp}
 use Rattle.druid_shard.specs.Described.{IsDescribed}
 use Rattle.druid_shard.specs.Replay.{IsSegmentSet}
 use Rattle.druid_rows.specs.Segment.{Segment, IsSegment, HaveWords}
-use Rattle.druid_node.specs.State.{descriptors_of}
+use Rattle.druid_changes.specs.Kept.{Kept}
+use Rattle.druid_node.specs.State.{State, descriptors_of}
 
 -- what a segment that is held keeps
 pub record IsWhole (s : Segment) : Type 0 where
@@ -19,17 +19,6 @@ pub record IsHeld (held : List Segment) : Type 0 where
   pub set : IsSegmentSet (descriptors_of held)
   pub each : All IsWhole held
 
-abbrev pub Entry : Type 0
-Entry = Identifier × Segment
-
--- a segment at its identifier
-abbrev pub IsAtKey : Entry → Type 0
-IsAtKey e = e.0 ≡ e.1.descriptor.id
-
-pub record IsKeyed (entries : List Entry) : Type 0 where
-  pub keys : All IsAtKey entries
-  pub held : IsHeld (values_of entries)
-
 -- the segment put at its place
 abbrev pub with_held : Segment → List Segment → List Segment
 with_held s [] = s ∷ []
@@ -40,3 +29,7 @@ with_held s (x ∷ xs) =
 abbrev pub without_held : Identifier → List Segment → List Segment
 without_held id [] = []
 without_held id (x ∷ xs) = if same_identifier id x.descriptor.id then xs else x ∷ without_held id xs
+
+-- the state of these parts
+abbrev pub state_of : Kept → List Segment → State
+state_of history held = record { history = history; held = held }

@@ -6,3 +6,4 @@ pub mod Files
 pub mod Seen
 -- words of private contracts
 pub mod Held
+pub mod Questions

@@ -6,8 +6,10 @@ ghost use Rattle.druid_folder.specs.Folder.{IsOwnFault, read_part, bytes_read};
 ghost use Rattle.druid_segfile.specs.Reading.{segment_at};
 ghost use Rattle.druid_node.specs.Files.{file_name, named, file_at, told_as, RefusesFile, IsOfFile, RefusesBytes, RefusesFound, faults_after_load};
 ghost use Rattle.druid_node.specs.Seen.{IsBehind, RefusesLoad, RefusesDrop, AnswersFrom, text_of};
+ghost use Rattle.druid_node.specs.Questions.{IsBasisFrom};
 
-use crate::seen::{Answered, StateIn};
+use crate::question::{Question, question_of};
+use crate::seen::{Answered, Based, StateIn, answer_for};
 use crate::{Incarnation, NodeFault, NodeState};
 use druid_folder::{Folder, StoreFault};
 use druid_message::Request;
@@ -112,8 +114,22 @@ impl<I: Incarnation> DataNode<I> {
         self.alloc
     }
 
-    // What its state answers to a request, and the state's mark.
-    pub(crate) fn respond_under_lock(
+    // What its state gives for the answer to a question, and the state's mark. The lock is held for this alone.
+    fn basis_of(
+        &self,
+        rt: &impl Wait,
+        question: Option<Question>,
+        seen: Mark,
+    ) -> Result<Based, NodeFault>
+        ensures ok { IfOk result (λ b. IsBasisFrom I.number seen b.mark question b.basis) }
+        ensures err { IfErr result (λ fault. (found : Point) × IsBehind I.number found seen × (fault ≡ NodeFault.Behind found)) }
+    {
+        self.state.lock(rt).basis_of(question, seen)
+    }
+
+    // What its state answers to a request, and the state's mark. The request is read before the lock is taken, and the answer
+    // made after it was given back, of the state as it was then.
+    pub(crate) fn respond(
         &self,
         rt: &impl Wait,
         request: &Request,
@@ -122,7 +138,11 @@ impl<I: Incarnation> DataNode<I> {
         ensures ok { IfOk result (λ a. AnswersFrom I.number seen a.mark request.now a.status (text_of a.body)) }
         ensures err { IfErr result (λ fault. (found : Point) × IsBehind I.number found seen × (fault ≡ NodeFault.Behind found)) }
     {
-        self.state.lock(rt).respond(request, seen)
+        let question = question_of(self.alloc, request).ok();
+        match self.basis_of(rt, question, seen) {
+            Ok(based) => Ok(answer_for(self.alloc, based)),
+            Err(fault) => Err(fault),
+        }
     }
 
     fn load(&self, rt: &impl Wait, segment: Segment, seen: &mut Mark) -> Result<(), NodeFault>

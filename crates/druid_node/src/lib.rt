@@ -2,11 +2,13 @@
 #![tactic(auto)]
 
 mod answering;
+mod basis;
 mod data_node;
 mod fault;
 mod held;
 mod incarnation;
 mod laws;
+mod question;
 mod responding;
 mod routes;
 mod seen;

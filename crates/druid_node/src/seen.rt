@@ -7,16 +7,26 @@ ghost use Rattle.druid_rows.specs.Segment.{Segment};
 ghost use Rattle.druid_changes.specs.Kept.{IsKept};
 ghost use Rattle.druid_partial.specs.Once.{segment_named};
 ghost use Rattle.druid_node.specs.State.{IsState, Takes, Leaves, Refuses, RefusesToDrop};
-ghost use Rattle.druid_node.specs.Routes.{RespondsInTurn};
-ghost use Rattle.druid_node.specs.Seen.{mark_of, IsBehind, IsAtLeast, RefusesAsSeen, AnswersFrom, text_of};
+ghost use Rattle.druid_node.specs.Seen.{mark_of, IsBehind, IsAtLeast, RefusesAsSeen};
+ghost use Rattle.druid_node.specs.Questions.{IsBasisInTurn, IsBasisFrom, IsMadeInTurn};
 
+use crate::basis::{Basis, answer_from};
+use crate::question::Question;
 use crate::{Incarnation, NodeFault, NodeState};
-use druid_message::Request;
 use druid_rows::Segment;
 use druid_segid::SegmentId;
 use druid_shard::Mark;
 use http::StatusCode;
+use std::alloc::Global;
 use std::marker::{Model, PhantomData};
+
+// What a state gave for an answer, and its mark.
+#[derive(Drop)]
+pub(crate) struct Based {
+    // None where memory ran out.
+    pub(crate) basis: Option<Basis>,
+    pub(crate) mark: Mark,
+}
 
 // What a state answers to a request, and its mark.
 #[derive(Drop)]
@@ -58,7 +68,7 @@ impl<I: Incarnation> StateIn<I> {
     }
 
     // Its mark, where it is not older than what was seen.
-    fn mark_as_seen(&self, seen: Mark) -> Result<Mark, NodeFault>
+    pub(crate) fn mark_as_seen(&self, seen: Mark) -> Result<Mark, NodeFault>
         ensures ok { IfOk result (λ mark. (mark ≡ mark_of self.now) × IsAtLeast (mark_of self.now) seen) }
         ensures err { IfErr result (λ fault. IsBehind I.number (mark_of self.now) seen × (fault ≡ NodeFault.Behind (mark_of self.now))) }
         ensures own { self.now.history.incarnation ≡ I.number }
@@ -117,28 +127,63 @@ impl<I: Incarnation> StateIn<I> {
         }
     }
 
-    // What it answers to a request, where it is not older than what was seen. Out of memory is status 500 and no body.
-    pub(crate) fn respond(&self, request: &Request, seen: Mark) -> Result<Answered, NodeFault>
-        ensures ok { IfOk result (λ a. IsAtLeast (mark_of self.now) seen × (a.mark ≡ mark_of self.now)
-            × RespondsInTurn self.now request.now a.status (text_of a.body)) }
-        ensures from { IfOk result (λ a. AnswersFrom I.number seen a.mark request.now a.status (text_of a.body)) }
+    fn basis_in_turn(&self, question: Option<Question>) -> Option<Basis>
+        ensures { IsBasisInTurn self.now question result }
+    {
+        let question = question?;
+        match self.state.basis_of(question) {
+            Ok(basis) => Some(basis),
+            Err(_) => None,
+        }
+    }
+
+    // What its answer to a question is made of, where it is not older than what was seen, and its mark.
+    pub(crate) fn basis_of(
+        &self,
+        question: Option<Question>,
+        seen: Mark,
+    ) -> Result<Based, NodeFault>
+        ensures ok { IfOk result (λ b. IsAtLeast (mark_of self.now) seen × (b.mark ≡ mark_of self.now)
+            × IsBasisInTurn self.now question b.basis) }
+        ensures from { IfOk result (λ b. IsBasisFrom I.number seen b.mark question b.basis) }
         ensures err { IfErr result (λ fault. IsBehind I.number (mark_of self.now) seen × (fault ≡ NodeFault.Behind (mark_of self.now))) }
     {
         let mark = match self.mark_as_seen(seen) {
             Ok(mark) => mark,
             Err(fault) => return Err(fault),
         };
-        match self.state.respond(request) {
-            Ok((status, body)) => Ok(Answered {
-                status,
-                body: Some(body),
-                mark,
-            }),
-            Err(_) => Ok(Answered {
-                status: StatusCode::INTERNAL_SERVER_ERROR,
-                body: None,
-                mark,
-            }),
-        }
+        Ok(Based {
+            basis: self.basis_in_turn(question),
+            mark,
+        })
+    }
+}
+
+fn answer_in_turn(alloc: Global, basis: Option<Basis>) -> Result<(StatusCode, Vec<u8>), NodeFault>
+    ensures { IfOk result (λ r. IsMadeInTurn basis r.0 (Some r.1)) }
+{
+    match basis {
+        Some(basis) => answer_from(alloc, basis),
+        None => Err(NodeFault::Memory),
+    }
+}
+
+// The answer that is made of that. Out of memory is status 500 and no body.
+pub(crate) fn answer_for(alloc: Global, based: Based) -> Answered
+    ensures mark { result.mark ≡ based.mark }
+    ensures made { IsMadeInTurn based.basis result.status result.body }
+{
+    let mark = based.mark;
+    match answer_in_turn(alloc, based.basis) {
+        Ok((status, body)) => Answered {
+            status,
+            body: Some(body),
+            mark,
+        },
+        Err(_) => Answered {
+            status: StatusCode::INTERNAL_SERVER_ERROR,
+            body: None,
+            mark,
+        },
     }
 }

@@ -59,7 +59,7 @@ impl<I: Incarnation> DataNode<I> {
             × IsCutShort (W.contents writer.old) (W.contents writer.new) status body told)) }
         ensures unseen { OnErr result (seen.new ≡ seen.old) }
     {
-        let answered = match self.respond_under_lock(rt, request, *seen) {
+        let answered = match self.respond(rt, request, *seen) {
             Ok(answered) => answered,
             Err(fault) => return Err(fault),
         };

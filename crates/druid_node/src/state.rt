@@ -1,13 +1,15 @@
 ghost use Rattle.std.specs.Prelude.{◌≡◌, ◌≤◌, [], List, Some, None, IfOk, IfErr, OnOk, OnErr};
+ghost use Rattle.std.specs.Arc.{arc_value};
 ghost use Rattle.druid_shard.specs.Reply.{max_changes};
 ghost use Rattle.druid_shard.specs.declared.change.Change.{Change as Event};
-ghost use Rattle.druid_shard.specs.declared.change.Change.TheVariants.{Load};
+ghost use Rattle.druid_shard.specs.declared.change.Change.TheVariants.{Load, Drop as Dropped};
 ghost use Rattle.druid_rows.specs.Segment.{Segment};
 ghost use Rattle.druid_changes.specs.Kept.{StandsFor, IsKept, refusal};
 ghost use Rattle.druid_changes.specs.Answer.{answer, HasCopies, mark_behind};
 ghost use Rattle.druid_node.specs.State.{State, IsState, Takes, Leaves, Refuses, RefusesToDrop};
 ghost use Rattle.druid_partial.specs.Once.{segment_named};
 ghost use Rattle.druid_node.specs.Answers.{IsAnswerOf};
+ghost use Rattle.druid_node.specs.Held.{state_of};
 
 use crate::NodeFault;
 use crate::answering::answer_of;
@@ -20,23 +22,73 @@ use druid_segid::SegmentId;
 use druid_shard::{Ask, Change, Descriptor, MAX_SEGMENTS, Mark, Reply};
 use std::alloc::Global;
 use std::marker::Model;
+use std::sync::Arc;
 
 /// The segments that a node holds, and the history of its loads and drops in this incarnation.
 #[derive(Debug, Drop)]
 pub struct NodeState {
     alloc: Global,
     history: History,
-    held: Held,
+    // Answers that are being made may share it. It is copied before it is edited, where they do.
+    held: Arc<Held, Global>,
 }
 
 impl Model for NodeState {
+    ghost use Rattle.std.specs.Arc.{arc_value};
     ghost use Rattle.druid_node.specs.State.{State, IsState};
 
     ghost Value = { State };
 
-    ghost view = { λ a. record { history = a.history; held = a.held } };
+    ghost view = { λ a. record { history = a.history; held = arc_value a.held } };
 
-    ghost invariant = { λ a. IsState (record { history = a.history; held = a.held }) };
+    ghost invariant = { λ a. IsState (record { history = a.history; held = arc_value a.held }) };
+}
+
+// Puts a segment that is not refused among those that are held, and records that. Out of memory leaves all as it was.
+fn put(
+    alloc: Global,
+    held: &mut Held,
+    history: &mut History,
+    segment: Segment,
+) -> Result<(), NodeFault>
+    requires state { IsState (state_of history.old held.old) }
+    requires taken { refusal history.old (Load segment.descriptor) ≡ None }
+    ensures ok { OnOk result (Takes (state_of history.old held.old) (state_of history.new held.new) segment) }
+    ensures err { IfErr result (λ fault. fault ≡ NodeFault.Memory) }
+    ensures unchanged { OnErr result (state_of history.new held.new ≡ state_of history.old held.old) }
+    ensures state { IsState (state_of history.new held.new) }
+{
+    // For the proof: reading it exposes the invariant of its type.
+    let _held = held.len();
+    let _mark = history.mark();
+    let descriptor = segment.descriptor().clone()?;
+    let id = descriptor.id().clone()?;
+    held.insert(alloc, segment)?;
+    match history.record(Change::Load(descriptor)) {
+        Ok(()) => Ok(()),
+        Err(_) => {
+            held.remove(&id);
+            Err(NodeFault::Memory)
+        }
+    }
+}
+
+// Takes a segment, whose drop is not refused, out of those that are held, and records that.
+fn take_out(held: &mut Held, history: &mut History, id: &SegmentId, descriptor: Descriptor)
+    requires state { IsState (state_of history.old held.old) }
+    requires taken { refusal history.old (Dropped descriptor) ≡ None }
+    requires found { (s : Segment) × (Some s ≡ segment_named id.now held.old) × (descriptor ≡ s.descriptor) }
+    ensures left { (s : Segment) × (segment_named id.now held.old ≡ Some s)
+        × Leaves (state_of history.old held.old) (state_of history.new held.new) s }
+    ensures state { IsState (state_of history.new held.new) }
+{
+    // For the proof: reading it exposes the invariant of its type.
+    let _held = held.len();
+    let _mark = history.mark();
+    let Ok(()) = history.record(Change::Drop(descriptor)) else {
+        unreachable!()
+    };
+    held.remove(id);
 }
 
 impl NodeState {
@@ -51,14 +103,14 @@ impl NodeState {
         ensures nothing { IfOk result (λ state. state.held ≡ []) }
         ensures memory { IfErr result (λ fault. fault ≡ NodeFault.Memory) }
     {
-        match History::new(alloc, incarnation, kept) {
-            Ok(history) => Ok(NodeState {
-                alloc,
-                history,
-                held: Held::new(alloc),
-            }),
-            Err(_) => Err(NodeFault::Memory),
-        }
+        let Ok(history) = History::new(alloc, incarnation, kept) else {
+            return Err(NodeFault::Memory);
+        };
+        Ok(NodeState {
+            alloc,
+            history,
+            held: Arc::new(alloc, Held::new(alloc))?,
+        })
     }
 
     // The allocator of what it keeps.
@@ -91,19 +143,8 @@ impl NodeState {
         ensures err { IfErr result (λ fault. fault ≡ NodeFault.Memory) }
         ensures unchanged { OnErr result (self.new ≡ self.old) }
     {
-        // For the proof: reading it exposes the invariant of its type.
-        let _held = self.held.len();
-        let _mark = self.history.mark();
-        let descriptor = segment.descriptor().clone()?;
-        let id = descriptor.id().clone()?;
-        self.held.insert(segment)?;
-        match self.history.record(Change::Load(descriptor)) {
-            Ok(()) => Ok(()),
-            Err(_) => {
-                self.held.remove(&id);
-                Err(NodeFault::Memory)
-            }
-        }
+        let held = Arc::make_mut(&mut self.held)?;
+        put(self.alloc, held, &mut self.history, segment)
     }
 
     /// Loads a segment, and records it. N4 where the history refuses that: H1 where a segment of that identifier is held, then
@@ -137,10 +178,8 @@ impl NodeState {
             return Err(NodeFault::History(HistoryFault::CountAtEnd));
         }
         let descriptor = segment.descriptor().clone()?;
-        let Ok(()) = self.history.record(Change::Drop(descriptor)) else {
-            unreachable!()
-        };
-        self.held.remove(id);
+        let held = Arc::make_mut(&mut self.held)?;
+        take_out(held, &mut self.history, id, descriptor);
         Ok(())
     }
 
@@ -152,6 +191,17 @@ impl NodeState {
     {
         match answer_of(self.alloc, &self.held, sub) {
             Ok(answer) => Ok(answer),
+            Err(_) => Err(NodeFault::Memory),
+        }
+    }
+
+    // The segments that it holds, shared: they stay as they are, whatever it loads or drops then.
+    pub(crate) fn share_held(&self) -> Result<Arc<Held, Global>, NodeFault>
+        ensures ok { IfOk result (λ held. arc_value held ≡ self.now.held) }
+        ensures err { IfErr result (λ fault. fault ≡ NodeFault.Memory) }
+    {
+        match Arc::try_clone(&self.held) {
+            Ok(held) => Ok(held),
             Err(_) => Err(NodeFault::Memory),
         }
     }

@@ -1,0 +1,68 @@
+//! What an answer is made of. No state is at hand where it is made.
+ghost use Rattle.std.specs.Prelude.{◌≡◌, IfOk, IfErr};
+ghost use Rattle.druid_sync.specs.Back.{IsReadBack};
+ghost use Rattle.druid_sync.specs.Written.{reply_text};
+ghost use Rattle.druid_wire.specs.Served.{Tells};
+ghost use Rattle.druid_node.specs.Routes.{AnswersSub};
+ghost use Rattle.druid_node.specs.Questions.{IsMadeOf};
+
+use crate::NodeFault;
+use crate::answering::answer_of;
+use crate::held::Held;
+use druid_partial_text::node_answer_text;
+use druid_query::SubQuery;
+use druid_shard::Reply;
+use druid_sync::reply_text;
+use http::StatusCode;
+use std::alloc::Global;
+use std::sync::Arc;
+
+/// What a state gave for an answer.
+#[derive(Drop)]
+pub(crate) enum Basis {
+    // The answer.
+    Settled(StatusCode, Vec<u8>),
+    // The reply of its history.
+    Reply(Reply),
+    // The segments that it held, shared with it, and the subquery.
+    Held(Arc<Held, Global>, SubQuery),
+}
+
+fn answer_with(alloc: Global, reply: &Reply) -> Result<(StatusCode, Vec<u8>), NodeFault>
+    ensures ok { IfOk result (λ r. IsReadBack reply.now × Tells 200 (reply_text reply.now) r.0 r.1.items) }
+    ensures err { IfErr result (λ fault. fault ≡ NodeFault.Memory) }
+{
+    match reply_text(alloc, reply) {
+        Ok(text) => Ok((StatusCode::OK, text.into_bytes())),
+        Err(_) => Err(NodeFault::Memory),
+    }
+}
+
+fn answer_sub(
+    alloc: Global,
+    held: &Held,
+    sub: &SubQuery,
+) -> Result<(StatusCode, Vec<u8>), NodeFault>
+    ensures ok { IfOk result (λ r. AnswersSub held.now sub.now r.0 r.1.items) }
+    ensures err { IfErr result (λ fault. fault ≡ NodeFault.Memory) }
+{
+    let Ok(answer) = answer_of(alloc, held, sub) else {
+        return Err(NodeFault::Memory);
+    };
+    match node_answer_text(alloc, &answer) {
+        Ok(text) => Ok((StatusCode::OK, text.into_bytes())),
+        Err(_) => Err(NodeFault::Memory),
+    }
+}
+
+// The answer that is made of it.
+pub(crate) fn answer_from(alloc: Global, basis: Basis) -> Result<(StatusCode, Vec<u8>), NodeFault>
+    ensures ok { IfOk result (λ r. IsMadeOf basis r.0 r.1.items) }
+    ensures err { IfErr result (λ fault. fault ≡ NodeFault.Memory) }
+{
+    match basis {
+        Basis::Settled(status, body) => Ok((status, body)),
+        Basis::Reply(reply) => answer_with(alloc, &reply),
+        Basis::Held(held, sub) => answer_sub(alloc, &held, &sub),
+    }
+}

@@ -1,0 +1,132 @@
+//! What a request asks of a node's state. No state is at hand where that is read.
+ghost use Rattle.std.specs.Prelude.{◌≡◌, ◌≢◌, codes, IfOk, IfErr};
+ghost use Rattle.druid_query.specs.Refused.{refusal_text};
+ghost use Rattle.druid_wire.specs.Served.{Tells};
+ghost use Rattle.druid_node.specs.Routes.{AnswersAsk, AnswersQuery, AnswersAt, Responds};
+ghost use Rattle.druid_node.specs.Questions.{Asks};
+
+use crate::NodeFault;
+use crate::routes::{Route, route_of};
+use druid_message::Request;
+use druid_query::{QueryFault, SubQuery, refusal_text};
+use druid_query_text::read_subquery;
+use druid_shard::Ask;
+use druid_sync::read_ask;
+use http::StatusCode;
+use std::alloc::Global;
+
+/// A question to a state.
+#[derive(Drop)]
+pub(crate) enum Question {
+    // None: each state answers so.
+    Settled(StatusCode, Vec<u8>),
+    // What its history replies to an ask.
+    Reply(Ask),
+    // What the segments that it holds answer to a subquery.
+    Answer(SubQuery),
+}
+
+fn settled(alloc: Global, status: StatusCode, text: &str) -> Result<Question, NodeFault>
+    ensures ok { IfOk result (λ q. Asks q (λ state. Tells status text.now)) }
+    ensures err { IfErr result (λ fault. fault ≡ NodeFault.Memory) }
+{
+    match text.as_bytes().to_vec(alloc) {
+        Ok(body) => Ok(Question::Settled(status, body)),
+        Err(_) => Err(NodeFault::Memory),
+    }
+}
+
+fn other_method(alloc: Global) -> Result<Question, NodeFault>
+    ensures ok { IfOk result (λ q. Asks q (λ state. Tells 405 (codes "{\"error\":\"Method\"}"))) }
+    ensures err { IfErr result (λ fault. fault ≡ NodeFault.Memory) }
+{
+    settled(
+        alloc,
+        StatusCode::METHOD_NOT_ALLOWED,
+        "{\"error\":\"Method\"}",
+    )
+}
+
+// What is no subquery.
+fn refuse(alloc: Global, fault: QueryFault) -> Result<Question, NodeFault>
+    ensures ok { IfOk result (λ q. (fault ≢ QueryFault.Memory) × Asks q (λ state. Tells 400 (refusal_text fault))) }
+    ensures err { IfErr result (λ fault. fault ≡ NodeFault.Memory) }
+{
+    match fault {
+        QueryFault::Memory => Err(NodeFault::Memory),
+        fault => match refusal_text(alloc, fault) {
+            Ok(text) => Ok(Question::Settled(StatusCode::BAD_REQUEST, text.into_bytes())),
+            Err(_) => Err(NodeFault::Memory),
+        },
+    }
+}
+
+fn of_parameters(alloc: Global, parameters: &str) -> Result<Question, NodeFault>
+    ensures ok { IfOk result (λ q. Asks q (λ state. AnswersAsk state.history parameters.now)) }
+    ensures err { IfErr result (λ fault. fault ≡ NodeFault.Memory) }
+{
+    match read_ask(parameters) {
+        Ok(ask) => Ok(Question::Reply(ask)),
+        Err(_) => settled(alloc, StatusCode::BAD_REQUEST, "{\"error\":\"Y6\"}"),
+    }
+}
+
+fn of_body(alloc: Global, body: &[u8]) -> Result<Question, NodeFault>
+    ensures ok { IfOk result (λ q. Asks q (λ state. AnswersQuery state.held body.now)) }
+    ensures err { IfErr result (λ fault. fault ≡ NodeFault.Memory) }
+{
+    match read_subquery(alloc, body) {
+        Ok(sub) => Ok(Question::Answer(sub)),
+        Err(fault) => refuse(alloc, fault),
+    }
+}
+
+fn health(alloc: Global, request: &Request) -> Result<Question, NodeFault>
+    ensures ok { IfOk result (λ q. Asks q (λ state. AnswersAt Route.Health state request.now)) }
+    ensures err { IfErr result (λ fault. fault ≡ NodeFault.Memory) }
+{
+    if !request.has_method("GET") {
+        return other_method(alloc);
+    }
+    settled(alloc, StatusCode::OK, "true")
+}
+
+fn segments(alloc: Global, request: &Request) -> Result<Question, NodeFault>
+    ensures ok { IfOk result (λ q. Asks q (λ state. AnswersAt Route.Segments state request.now)) }
+    ensures err { IfErr result (λ fault. fault ≡ NodeFault.Memory) }
+{
+    if !request.has_method("GET") {
+        return other_method(alloc);
+    }
+    of_parameters(alloc, request.parameters())
+}
+
+fn query(alloc: Global, request: &Request) -> Result<Question, NodeFault>
+    ensures ok { IfOk result (λ q. Asks q (λ state. AnswersAt Route.Query state request.now)) }
+    ensures err { IfErr result (λ fault. fault ≡ NodeFault.Memory) }
+{
+    if !request.has_method("POST") {
+        return other_method(alloc);
+    }
+    of_body(alloc, request.body())
+}
+
+fn question_at(alloc: Global, route: Route, request: &Request) -> Result<Question, NodeFault>
+    ensures ok { IfOk result (λ q. Asks q (λ state. AnswersAt route state request.now)) }
+    ensures err { IfErr result (λ fault. fault ≡ NodeFault.Memory) }
+{
+    match route {
+        Route::Health => health(alloc, request),
+        Route::Segments => segments(alloc, request),
+        Route::Query => query(alloc, request),
+        Route::Nowhere => settled(alloc, StatusCode::NOT_FOUND, "{\"error\":\"NoRoute\"}"),
+    }
+}
+
+// What the request asks of a state.
+pub(crate) fn question_of(alloc: Global, request: &Request) -> Result<Question, NodeFault>
+    ensures ok { IfOk result (λ q. Asks q (λ state. Responds state request.now)) }
+    ensures err { IfErr result (λ fault. fault ≡ NodeFault.Memory) }
+{
+    question_at(alloc, route_of(request.path()), request)
+}
