@@ -1,6 +1,6 @@
 #!/usr/bin/env python3
 """Builds the proved program of `bench/node`, a data node of 100 segments of 10,000 rows each, and prints how fast it loads them
-from a folder, its memory, and how many requests a second it answers over readers and writers in memory.
+from a folder, its memory, and how many requests a second it answers over readers and writers in memory, to one client and to four.
 
 It is built in the folder for temporary files, over copies of the crates; the first time that proves them, which takes some
 minutes.
@@ -23,6 +23,8 @@ def main():
         parts = [(name.split(':')[1], spent / count) for name, count, spent, _ in told if name.startswith(kind + ':')]
         whole = sum(spent for _, spent in parts)
         print(f'{kind:12} ' + ', '.join(f'{name} {spent:,.1f} us ({spent / whole:.1%})' for name, spent in parts))
+    one, four = ((count / spent * 1e6) for name, count, spent, _ in told if name.startswith('clients:'))
+    print(f'{"clients":12} one {one:,.1f} a second, four {four:,.1f} a second ({four / one:.2f} times as many)')
     print(f'{size:.0f} MiB of files, {peak:.0f} MiB of memory')
 
 
