@@ -9,3 +9,11 @@ pub mod EntryLemmas
 pub mod TellLemmas
 pub mod TestLemmas
 pub mod OnceLemmas
+pub mod CellLemmas
+pub mod RadixLemmas
+pub mod IntoLemmas
+pub mod RankLemmas
+pub mod CodeLemmas
+pub mod SourceLemmas
+pub mod RunLemmas
+pub mod PutLemmas

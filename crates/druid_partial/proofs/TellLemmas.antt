@@ -1,6 +1,6 @@
 -- What rows tell, one after another.
-use Rattle.std.proofs.Common.{◌≡◌, ◌∙◌, ℕ, zero, suc, ◌+◌, ◌<◌, ℤ, List, [], ◌∷◌, ◌++◌, length, map, take, Bool, true, false, cond, Option, Some, None, refl, sym, ap, subst, arith}
-use Rattle.std.specs.Prelude.{Contains, filter, slice_get, slice_index_or, IsSome, unwrap_or}
+use Rattle.std.proofs.Common.{◌≡◌, ◌∙◌, ℕ, zero, suc, ◌+◌, ◌<◌, ℤ, List, [], ◌∷◌, ◌++◌, length, map, Bool, true, false, cond, Option, Some, None, refl, sym, ap, subst, arith}
+use Rattle.std.specs.Prelude.{Contains, slice_get, slice_index_or, IsSome, unwrap_or}
 use Rattle.std.proofs.lemmas.List.{map-append, append-nil, length-map}
 use Rattle.std.proofs.lemmas.List.Elements.{All-nil, All-cons, All-contains, filter_more}
 use Rattle.druid_time.specs.Extent.{Extent}
@@ -15,7 +15,7 @@ use Rattle.druid_query.specs.declared.aggregator.AggregatorKind.TheVariants.{Cou
 use Rattle.druid_partial.specs.Groups.{Group, AreWords, IsResult}
 use Rattle.druid_partial.specs.Joined.{merged}
 use Rattle.druid_partial.specs.Rows.{earliest, one_or, taken, tells, is_asked, kinds_of, HasNumbers, IsGroupFor}
-use Rattle.druid_partial.specs.Plans.{AreTold}
+use Rattle.druid_partial.specs.Plans.{AreTold, told_upto}
 use Rattle.druid_partial.proofs.OrderLemmas.{no_rows}
 use Rattle.druid_partial.proofs.NumberLemmas.{contains_none}
 use Rattle.druid_partial.proofs.GroupLemmas.{merge_of_results, result_swap, in_order_more}
@@ -49,7 +49,7 @@ row_for query fields row = record {
   counted = λ place k. count_told fields row query.aggregations place k;
 }
 
-row_numbers : (query : Query) (fields : Schema) (row : Row) → AreWords (tells query fields row).numbers → HasNumbers (kinds_of query) (tells query fields row)
+pub row_numbers : (query : Query) (fields : Schema) (row : Row) → AreWords (tells query fields row).numbers → HasNumbers (kinds_of query) (tells query fields row)
 row_numbers query fields row w = record {
   one_each = length-map query.aggregations (taken fields row) ∙ sym (kinds_length query);
   words = w;
@@ -77,11 +77,7 @@ told_and query rows groups more g t n f e =
         settled kinds (g ∷ []) (in_order_more g [] (λ h c. absurd (contains_none h c)) (no_rows kinds [] refl).ordered)
         (λ h c. All-contains (HasNumbers kinds) (g ∷ []) h (All-cons (HasNumbers kinds) g [] n (All-nil (HasNumbers kinds))) c)
 
--- the rows so far
-abbrev pub told_upto : Query → Segment → Extent → ℕ → List Group
-told_upto query segment interval i = map (tells query segment.fields) (filter (is_asked query interval segment.fields) (take i segment.rows))
-
-upto_more : (query : Query) (segment : Segment) (interval : Extent) (i : ℕ) (b : Bool) → i < length segment.rows → is_asked query interval segment.fields (row_at segment i) ≡ b → told_upto query segment interval (i + 1) ≡ told_upto query segment interval i ++ cond b (tells query segment.fields (row_at segment i) ∷ []) []
+pub upto_more : (query : Query) (segment : Segment) (interval : Extent) (i : ℕ) (b : Bool) → i < length segment.rows → is_asked query interval segment.fields (row_at segment i) ≡ b → told_upto query segment interval (i + 1) ≡ told_upto query segment interval i ++ cond b (tells query segment.fields (row_at segment i) ∷ []) []
 upto_more query segment interval i b h e =
     ap (map (tells query segment.fields)) (filter_more (is_asked query interval segment.fields) segment.rows i no_row h)
     ∙ map-append (tells query segment.fields) _ _

@@ -10,3 +10,4 @@ pub mod Places
 pub mod Entries
 pub mod Tests
 pub mod Plans
+pub mod Cells

@@ -1,31 +1,41 @@
--- Filters over the rows of one segment. Only proofs and private functions use this: what a filter means is in druid_filter.
-use Rattle.std.specs.Prelude.{ℕ, List, [], ◌∷◌, map, Bool, true, false, ◌&&◌, ◌||◌, not, Option, Some, None}
+-- Filters over the codes of one segment. Only proofs and private functions use this: what a filter means is in druid_filter.
+use Rattle.std.specs.Prelude.{◌≡◌, ◌≤◌, ℕ, ◌==◌, List, [], ◌∷◌, length, map, slice_get, slice_index_or, Bool, true, false, ◌&&◌, ◌||◌, not, Option, Some, None}
 use Rattle.std.specs.Box.{box_value}
-use Rattle.std.specs.BTreeSet.{contains}
-use Rattle.druid_filter.specs.Filters.{same_value}
-use Rattle.druid_partial.specs.Groups.{value_cmp}
-use Rattle.druid_partial.specs.Places.{at_place}
+use Rattle.druid_filter.specs.Filters.{same_value, value_in}
+use Rattle.druid_rows.specs.Columns.{value_at}
+use Rattle.druid_rows.specs.Segment.{Segment, row_at}
 use Rattle.druid_partial.specs.declared.test.Test.{Test, fold-Test}
 use Rattle.druid_partial.specs.declared.test.Test.TheOpen.{Test-F}
 
--- which rows pass, by their values of the dimensions
+-- which rows pass
 abbrev pub Judge : Type 0
-Judge = List (Option (List ℕ)) → Bool
+Judge = ℕ → Bool
+
+-- it is that code; none is no code
+abbrev pub code_is : Option ℕ → ℕ → Bool
+code_is None wanted = false
+code_is (Some code) wanted = code == wanted
+
+-- it is one of the codes that are marked
+abbrev pub code_among : Option ℕ → List Bool → Bool
+code_among None marks = false
+code_among (Some code) marks = slice_index_or marks code false
 
 abbrev pub all_judge : List Judge → Judge
-all_judge [] values = true
-all_judge (j ∷ js) values = j values && all_judge js values
+all_judge [] row = true
+all_judge (j ∷ js) row = j row && all_judge js row
 
 abbrev pub any_judges : List Judge → Judge
-any_judges [] values = false
-any_judges (j ∷ js) values = j values || any_judges js values
+any_judges [] row = false
+any_judges (j ∷ js) row = j row || any_judges js row
 
 abbrev pub judge_step : Test-F Judge → Judge
-judge_step (Test-F.Is place wanted) values = same_value (at_place values place) wanted
-judge_step (Test-F.Among place wanted) values = contains value_cmp wanted (at_place values place)
-judge_step (Test-F.All tests) values = all_judge tests.items values
-judge_step (Test-F.Any tests) values = any_judges tests.items values
-judge_step (Test-F.Not test) values = not (box_value test values)
+judge_step (Test-F.Same answer) row = answer
+judge_step (Test-F.Is codes wanted) row = code_is (slice_get codes.now row) wanted
+judge_step (Test-F.Among codes marks) row = code_among (slice_get codes.now row) marks.items
+judge_step (Test-F.All tests) row = all_judge tests.items row
+judge_step (Test-F.Any tests) row = any_judges tests.items row
+judge_step (Test-F.Not test) row = not (box_value test row)
 
 abbrev pub holds : Test → Judge
 holds = fold-Test Judge judge_step
@@ -38,5 +48,20 @@ any_holds tests = any_judges (map holds tests)
 
 -- without a filter all rows pass
 abbrev pub judge_if : Option Test → Judge
-judge_if None values = true
-judge_if (Some test) values = holds test values
+judge_if None row = true
+judge_if (Some test) row = holds test row
+
+-- ---- codes of values
+
+-- whether a code was found, and is that one
+abbrev pub found_is : Option ℕ → ℕ → Bool
+found_is None code = false
+found_is (Some found) code = code == found
+
+-- the code of a value, if a dictionary has it
+abbrev pub IsCodeOf : List (List ℕ) → Option (List ℕ) → Option ℕ → Type 0
+IsCodeOf texts wanted found = (code : ℕ) → code ≤ length texts → same_value (value_at texts code) wanted ≡ found_is found code
+
+-- a row's value of the dimension of that name
+abbrev pub value_of : Segment → ℕ → List ℕ → Option (List ℕ)
+value_of segment row name = value_in segment.fields.dimensions (row_at segment row).dimensions name

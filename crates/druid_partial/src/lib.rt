@@ -2,12 +2,13 @@
 #![tactic(auto)]
 
 mod buckets;
+mod cells;
+mod column;
 mod found;
 mod group;
 mod joining;
 mod key;
 mod laws;
-mod lent_value;
 mod located;
 mod merging;
 mod partial;

@@ -1,11 +1,13 @@
 //! Where the fields that a query names stand in a segment.
-ghost use Rattle.std.specs.Prelude.{◌≡◌, ◌<◌, length, map, All, IfOk, IfSome, option_map, option_and_then, FitsSigned};
-ghost use Rattle.std.specs.Int.{w64};
-ghost use Rattle.druid_rows.specs.Rows.{texts_of};
+ghost use Rattle.std.specs.Prelude.{◌≡◌, ◌<◌, length, map, All, IfOk, option_map, option_and_then, string_bytes};
+ghost use Rattle.druid_rows.specs.Rows.{texts_of, nullable_texts_of};
 ghost use Rattle.druid_rows.specs.Segment.{row_at};
-ghost use Rattle.druid_partial.specs.Groups.{AreWords};
-ghost use Rattle.druid_partial.specs.Places.{place_in, at_place, places_of, source_at, source_of, sources_of, source_number, IsSource, IsPlace};
+ghost use Rattle.druid_partial.specs.Cells.{IsColumn, AreColumns};
+ghost use Rattle.druid_partial.specs.Plans.{AreFrom, AreNumbers};
+ghost use Rattle.druid_partial.specs.Places.{place_in, at_place, places_of, source_at, source_of, sources_of, IsSource, IsPlace};
 
+use crate::cells::Numbers;
+use crate::column::Column;
 use druid_query::{Aggregator, AggregatorKind, Query};
 use druid_rows::{Schema, Segment};
 use std::alloc::{AllocError, Global};
@@ -116,35 +118,84 @@ pub(crate) fn values_at<'a>(
     Ok(values)
 }
 
-// A row's number.
-fn number_at(segment: &Segment, row: usize, source: Source) -> Option<i64>
-    requires row { row < length segment.now.rows }
-    requires source { IsSource segment.now.fields source }
-    ensures value { result ≡ source_number (row_at segment.now row) source }
-    ensures word { IfSome result (FitsSigned w64) }
+// The codes of a dimension.
+fn column_of<'a>(segment: &'a Segment, place: Option<usize>) -> Column<'a>
+    requires { IsPlace segment.now.fields place }
+    ensures { IsColumn segment.now place result }
 {
-    match source {
-        Source::One => Some(1),
-        Source::Null => None,
-        Source::Metric(place) => segment.metric(row, place),
+    match place {
+        Some(place) => Column::new(segment.values(place).len() + 1, Some(segment.codes(place))),
+        None => Column::new(1, None),
     }
 }
 
-// A row's numbers.
-pub(crate) fn numbers_at(
+// The codes of these dimensions.
+pub(crate) fn columns_of<'a>(
     alloc: Global,
-    segment: &Segment,
-    row: usize,
+    segment: &'a Segment,
+    places: &[Option<usize>],
+) -> Result<Vec<Column<'a>>, AllocError>
+    requires { All (IsPlace segment.now.fields) places.now }
+    ensures { IfOk result (λ columns. AreColumns segment.now places.now columns.items) }
+{
+    let mut columns = Vec::with_capacity(alloc, places.len())?;
+    for place in places {
+        columns.push(column_of(segment, *place))?;
+    }
+    Ok(columns)
+}
+
+// The numbers of a source.
+fn numbers_from<'a>(segment: &'a Segment, source: Source) -> Numbers<'a>
+    requires { IsSource segment.now.fields source }
+    ensures { AreFrom segment.now source result }
+{
+    match source {
+        Source::One => Numbers::One,
+        Source::Null => Numbers::Null,
+        Source::Metric(place) => Numbers::Metric(segment.numbers(place)),
+    }
+}
+
+// The numbers of these sources.
+pub(crate) fn numbers_of<'a>(
+    alloc: Global,
+    segment: &'a Segment,
     sources: &[Source],
-) -> Result<Vec<Option<i64>>, AllocError>
-    requires row { row < length segment.now.rows }
-    requires sources { All (IsSource segment.now.fields) sources.now }
-    ensures values { IfOk result (λ numbers. numbers.items ≡ map (source_number (row_at segment.now row)) sources.now) }
-    ensures words { IfOk result (λ numbers. AreWords numbers.items) }
+) -> Result<Vec<Numbers<'a>>, AllocError>
+    requires { All (IsSource segment.now.fields) sources.now }
+    ensures { IfOk result (λ numbers. AreNumbers segment.now sources.now numbers.items) }
 {
     let mut numbers = Vec::with_capacity(alloc, sources.len())?;
     for source in sources {
-        numbers.push(number_at(segment, row, *source))?;
+        numbers.push(numbers_from(segment, *source))?;
     }
     Ok(numbers)
+}
+
+fn copy_of(alloc: Global, text: Option<&str>) -> Result<Option<String>, AllocError>
+    ensures { IfOk result (λ copy. option_map string_bytes copy ≡ option_map (λ text. text.now) text.entry) }
+{
+    match text {
+        Some(text) => Ok(Some(String::from_str(alloc, text)?)),
+        None => Ok(None),
+    }
+}
+
+// Copies of a row's values at these places.
+pub(crate) fn texts_at(
+    alloc: Global,
+    segment: &Segment,
+    row: usize,
+    places: &[Option<usize>],
+) -> Result<Vec<Option<String>>, AllocError>
+    requires row { row < length segment.now.rows }
+    requires places { All (IsPlace segment.now.fields) places.now }
+    ensures { IfOk result (λ texts. nullable_texts_of texts.items ≡ map (at_place (row_at segment.now row).dimensions) places.now) }
+{
+    let mut texts = Vec::with_capacity(alloc, places.len())?;
+    for place in places {
+        texts.push(copy_of(alloc, value_at(segment, row, *place))?)?;
+    }
+    Ok(texts)
 }

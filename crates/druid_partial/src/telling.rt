@@ -1,35 +1,40 @@
 //! What a segment tells a query.
-ghost use Rattle.std.specs.Prelude.{◌≡◌, ◌<◌, ◌∷◌, [], length, All, IfOk, OnOk};
+ghost use Rattle.std.specs.Prelude.{◌≡◌, ◌≢◌, ◌<◌, ◌≤◌, ◌∷◌, ◌++◌, [], ℕ, List, length, All, IfOk, IfSome, OnOk, IsTrue, slice_index_or};
 ghost use Rattle.druid_rows.specs.Segment.{Segment, row_at};
 ghost use Rattle.druid_query.specs.Query.{Query};
-ghost use Rattle.druid_partial.specs.Groups.{AreWords, IsResult};
+ghost use Rattle.druid_partial.specs.Groups.{AreWords, Group, IsResult};
 ghost use Rattle.druid_partial.specs.Joined.{merged};
 ghost use Rattle.druid_partial.specs.Rows.{bucket_of, earliest, is_asked, kinds_of, told_by, IsPartialFor};
 ghost use Rattle.druid_partial.specs.Entries.{groups_of};
-ghost use Rattle.druid_partial.specs.Plans.{told_at, AreTold};
+ghost use Rattle.druid_partial.specs.Cells.{room_from};
+ghost use Rattle.druid_partial.specs.Plans.{told_at, bucket_at, groups_in, IsKept, IsJoined, AreTold, AreUpto, AreCells, ComeBefore, HaveBucket, BucketsRise};
 
 use crate::buckets::earliest;
+use crate::cells::{Cell, Numbers, add_row, empty_cells, numbers_at};
+use crate::column::{Column, cell_of, room_of};
 use crate::found::{Found, add};
 use crate::key::LentKey;
-use crate::located::{Source, numbers_at, places_of, sources_of, values_at};
+use crate::located::{columns_of, numbers_of, places_of, sources_of, texts_at, values_at};
 use crate::partial::kinds_of;
 use crate::test::{Test, filter_of, holds};
 use crate::{Group, Partial};
 use druid_query::{AggregatorKind, Query};
 use druid_rows::Segment;
-use druid_time::{Instant, Interval};
+use druid_time::{Granularity, Instant, Interval};
 use std::alloc::{AllocError, Global};
 use std::collections::BTreeMap;
 use std::marker::Model;
 
-// A query over a segment. The names of the query are looked up once.
+// A query over a segment. The names of the query are looked up once, and so are the columns of the segment.
 #[derive(Drop)]
 struct Plan<'a> {
     query: &'a Query,
     segment: &'a Segment,
+    times: &'a [Instant],
     first: Instant,
     places: Vec<Option<usize>>,
-    sources: Vec<Source>,
+    columns: Vec<Column<'a>>,
+    numbers: Vec<Numbers<'a>>,
     kinds: Vec<AggregatorKind>,
     test: Option<Test<'a>>,
 }
@@ -43,9 +48,9 @@ impl<'a> Model for Plan<'a> {
 
     ghost coded = { Prim.hlevel (codes, coded_condition) };
 
-    ghost view = { λ a. record { query = a.query.now; segment = a.segment.now } };
+    ghost view = { λ a. record { query = a.query.now; segment = a.segment.now; columns = a.columns.items } };
 
-    ghost invariant = { λ a. IsPlan a.query.now a.segment.now a.first a.places.items a.sources.items a.kinds.items a.test };
+    ghost invariant = { λ a. IsPlan a.query.now a.segment.now a.times.now a.first a.places.items a.columns.items a.numbers.items a.kinds.items a.test };
 }
 
 fn bucket_of(query: &Query, first: Instant, time: Instant) -> Instant
@@ -58,24 +63,43 @@ fn bucket_of(query: &Query, first: Instant, time: Instant) -> Instant
     }
 }
 
+fn time_at(times: &[Instant], row: usize) -> Instant
+    requires { row < length times.now }
+    ensures { result ≡ slice_index_or times.now row 0 }
+{
+    times[row]
+}
+
 impl<'a> Plan<'a> {
     fn new(alloc: Global, query: &'a Query, segment: &'a Segment) -> Result<Plan<'a>, AllocError>
-        ensures { IfOk result (λ plan. plan ≡ record { query = query.now; segment = segment.now }) }
+        ensures query { IfOk result (λ plan. plan.query ≡ query.now) }
+        ensures segment { IfOk result (λ plan. plan.segment ≡ segment.now) }
     {
         let schema = segment.schema();
         let places = places_of(alloc, query, schema)?;
+        let columns = columns_of(alloc, segment, &places)?;
         let sources = sources_of(alloc, query, schema)?;
+        let numbers = numbers_of(alloc, segment, &sources)?;
         let kinds = kinds_of(alloc, query)?;
-        let test = filter_of(alloc, query, schema)?;
+        let test = filter_of(alloc, query, segment)?;
         Ok(Plan {
             query,
             segment,
+            times: segment.times(),
             first: earliest(query),
             places,
-            sources,
+            columns,
+            numbers,
             kinds,
             test,
         })
+    }
+
+    fn time(&self, row: usize) -> Instant
+        requires { row < length self.now.segment.rows }
+        ensures { result ≡ (row_at self.now.segment row).time }
+    {
+        time_at(self.times, row)
     }
 
     // Whether the query asks for a row. Its instant is looked at first.
@@ -83,13 +107,49 @@ impl<'a> Plan<'a> {
         requires { row < length self.now.segment.rows }
         ensures { result ≡ is_asked self.now.query interval self.now.segment.fields (row_at self.now.segment row) }
     {
-        if !interval.contains(self.segment.time(row)) {
+        if !interval.contains(self.time(row)) {
             return false;
         }
         match &self.test {
-            Some(test) => holds(test, self.segment, row),
+            Some(test) => holds(test, row),
             None => true,
         }
+    }
+
+    fn bucket(&self, row: usize) -> Instant
+        requires { row < length self.now.segment.rows }
+        ensures { result ≡ bucket_at self.now row }
+    {
+        bucket_of(self.query, self.first, self.time(row))
+    }
+
+    // Whether no row's bucket is below that of a row before it.
+    fn buckets_rise(&self) -> bool
+        ensures { IsTrue result → BucketsRise self.now }
+    {
+        match self.query.granularity() {
+            Granularity::All => true,
+            Granularity::Second | Granularity::Minute | Granularity::Hour | Granularity::Day => {
+                self.segment.is_rising()
+            }
+        }
+    }
+
+    // The place after the rows that have the bucket of a row and follow it.
+    fn run_end(&self, from: usize, end: usize) -> usize
+        requires from { from < end }
+        requires end { end ≤ length self.now.segment.rows }
+        ensures after { from < result }
+        ensures inside { result ≤ end }
+        ensures same { HaveBucket self.now (bucket_at self.now from) from result }
+        ensures next { result < end → bucket_at self.now result ≢ bucket_at self.now from }
+    {
+        let bucket = self.bucket(from);
+        let mut to = from + 1;
+        while to < end && self.bucket(to) == bucket {
+            to += 1;
+        }
+        to
     }
 
     // The key that a row tells.
@@ -97,7 +157,7 @@ impl<'a> Plan<'a> {
         requires { row < length self.now.segment.rows }
         ensures { IfOk result (λ key. key ≡ (told_at self.now row).key) }
     {
-        let bucket = bucket_of(self.query, self.first, self.segment.time(row));
+        let bucket = self.bucket(row);
         let values = values_at(alloc, self.segment, row, &self.places)?;
         Ok(LentKey::new(bucket, values))
     }
@@ -108,7 +168,7 @@ impl<'a> Plan<'a> {
         ensures value { IfOk result (λ numbers. numbers.items ≡ (told_at self.now row).numbers) }
         ensures words { IfOk result (λ numbers. AreWords numbers.items) }
     {
-        numbers_at(alloc, self.segment, row, &self.sources)
+        numbers_at(alloc, &self.numbers, row)
     }
 
     // Joins what a row tells.
@@ -123,32 +183,207 @@ impl<'a> Plan<'a> {
         add(&self.kinds, found, key, numbers)
     }
 
-    // The groups of all rows that the query asks for.
-    fn tally(&self, alloc: Global, interval: Interval) -> Result<Found<'a>, AllocError>
-        ensures { IfOk result (λ found. AreTold self.now.query (told_by self.now.query self.now.segment interval)
-            (groups_of found.entries)) }
+    // What the rows from one place to another tell, in order.
+    fn tally_keys(
+        &self,
+        alloc: Global,
+        interval: Interval,
+        from: usize,
+        to: usize,
+    ) -> Result<Found<'a>, AllocError>
+        requires order { from ≤ to }
+        requires end { to ≤ length self.now.segment.rows }
+        ensures { IfOk result (λ found. (groups : List Group) → ComeBefore self.now groups from to
+            → AreUpto self.now interval from groups → AreUpto self.now interval to (groups ++ groups_of found.entries)) }
     {
         let mut found = BTreeMap::new(alloc);
-        for row in 0..self.segment.len() {
+        for row in from..to {
             if self.asks(interval, row) {
                 self.tell(alloc, row, &mut found)?;
             }
         }
         Ok(found)
     }
+
+    // Adds the groups of the rows from one place to another, which come after those that are there.
+    fn add_keys(
+        &self,
+        alloc: Global,
+        interval: Interval,
+        from: usize,
+        to: usize,
+        groups: &mut Vec<Group>,
+    ) -> Result<(), AllocError>
+        requires order { from ≤ to }
+        requires end { to ≤ length self.now.segment.rows }
+        requires before { ComeBefore self.now groups.now.items from to }
+        requires upto { AreUpto self.now interval from groups.now.items }
+        ensures { OnOk result (AreUpto self.now interval to groups.new.items) }
+    {
+        let found = self.tally_keys(alloc, interval, from, to)?;
+        add_found(alloc, found, groups)
+    }
+
+    // Joins a row to the group of its cell.
+    fn put(&self, alloc: Global, row: usize, cells: &mut [Option<Cell>]) -> Result<(), AllocError>
+        requires row { row < length self.now.segment.rows }
+        requires room { length cells.now ≡ room_from self.now.columns 1 }
+        requires small { room_from self.now.columns 1 ≤ 1000000 }
+        ensures joined { OnOk result (IsJoined self.now row cells.old cells.new) }
+        ensures words { AreWords (told_at self.now row).numbers }
+    {
+        let cell = cell_of(&self.columns, row);
+        add_row(alloc, &self.kinds, &self.numbers, cells, cell, row)
+    }
+
+    // What the rows of one bucket from one place to another tell, in their cells.
+    fn tally_cells(
+        &self,
+        alloc: Global,
+        interval: Interval,
+        from: usize,
+        to: usize,
+        room: usize,
+    ) -> Result<Vec<Option<Cell>>, AllocError>
+        requires order { from ≤ to }
+        requires end { to ≤ length self.now.segment.rows }
+        requires bucket { HaveBucket self.now (bucket_at self.now from) from to }
+        requires room { room ≡ room_from self.now.columns 1 }
+        requires small { room ≤ 1000000 }
+        ensures cells { IfOk result (λ cells. AreCells self.now (bucket_at self.now from) cells.items) }
+        ensures groups { IfOk result (λ cells. (groups : List Group) → ComeBefore self.now groups from to
+            → AreUpto self.now interval from groups → AreUpto self.now interval to (groups ++ groups_in self.now cells.items)) }
+    {
+        let mut cells = empty_cells(alloc, room)?;
+        for row in from..to {
+            if self.asks(interval, row) {
+                self.put(alloc, row, &mut cells)?;
+            }
+        }
+        Ok(cells)
+    }
+
+    // The group of a row, with these numbers.
+    fn group(
+        &self,
+        alloc: Global,
+        row: usize,
+        numbers: Vec<Option<i64>>,
+    ) -> Result<Group, AllocError>
+        requires row { row < length self.now.segment.rows }
+        requires words { AreWords numbers.items }
+        ensures { IfOk result (λ group. group ≡ record { key = (told_at self.now row).key; numbers = numbers.items }) }
+    {
+        let values = texts_at(alloc, self.segment, row, &self.places)?;
+        Ok(Group::new(self.bucket(row), values, numbers))
+    }
+
+    // Adds the groups that are in cells.
+    fn add_groups(
+        &self,
+        alloc: Global,
+        cells: Vec<Option<Cell>>,
+        groups: &mut Vec<Group>,
+    ) -> Result<(), AllocError>
+        requires { All (IsKept self.now) cells.items }
+        ensures { OnOk result (groups.new.items ≡ groups.old.items ++ groups_in self.now cells.items) }
+    {
+        for cell in cells {
+            if let Some(cell) = cell {
+                let (row, numbers) = cell.into_parts();
+                groups.push(self.group(alloc, row, numbers)?)?;
+            }
+        }
+        Ok(())
+    }
+
+    // Adds the groups of the rows of one bucket from one place to another, which come after those that are there.
+    fn add_cells(
+        &self,
+        alloc: Global,
+        interval: Interval,
+        from: usize,
+        to: usize,
+        room: usize,
+        groups: &mut Vec<Group>,
+    ) -> Result<(), AllocError>
+        requires order { from ≤ to }
+        requires end { to ≤ length self.now.segment.rows }
+        requires bucket { HaveBucket self.now (bucket_at self.now from) from to }
+        requires room { room ≡ room_from self.now.columns 1 }
+        requires small { room ≤ 1000000 }
+        requires before { ComeBefore self.now groups.now.items from to }
+        requires upto { AreUpto self.now interval from groups.now.items }
+        ensures { OnOk result (AreUpto self.now interval to groups.new.items) }
+    {
+        let cells = self.tally_cells(alloc, interval, from, to, room)?;
+        self.add_groups(alloc, cells, groups)
+    }
+
+    // The number of cells, where an array of them is worth its room for so many rows.
+    fn room_for(&self, rows: usize) -> Option<usize>
+        ensures room { IfSome result (λ room. room ≡ room_from self.now.columns 1) }
+        ensures small { IfSome result (λ room. room ≤ 1000000) }
+    {
+        let room = room_of(&self.columns)?;
+        if room / 4 > rows.saturating_add(64) {
+            return None;
+        }
+        Some(room)
+    }
+
+    // Adds the groups of the rows of one bucket from one place to another, which come after those that are there.
+    fn add_run(
+        &self,
+        alloc: Global,
+        interval: Interval,
+        from: usize,
+        to: usize,
+        groups: &mut Vec<Group>,
+    ) -> Result<(), AllocError>
+        requires order { from ≤ to }
+        requires end { to ≤ length self.now.segment.rows }
+        requires bucket { HaveBucket self.now (bucket_at self.now from) from to }
+        requires before { ComeBefore self.now groups.now.items from to }
+        requires upto { AreUpto self.now interval from groups.now.items }
+        ensures { OnOk result (AreUpto self.now interval to groups.new.items) }
+    {
+        match self.room_for(to - from) {
+            Some(room) => self.add_cells(alloc, interval, from, to, room, groups),
+            None => self.add_keys(alloc, interval, from, to, groups),
+        }
+    }
+
+    // The groups of all rows that the query asks for.
+    fn tally(&self, alloc: Global, interval: Interval) -> Result<Vec<Group>, AllocError>
+        ensures { IfOk result (λ groups. AreTold self.now.query (told_by self.now.query self.now.segment interval) groups.items) }
+    {
+        let (start, end) = self.segment.places_in(interval);
+        let mut groups = Vec::new(alloc);
+        if !self.buckets_rise() {
+            self.add_keys(alloc, interval, start, end, &mut groups)?;
+            return Ok(groups);
+        }
+        let mut at = start;
+        while at < end {
+            let to = self.run_end(at, end);
+            self.add_run(alloc, interval, at, to, &mut groups)?;
+            at = to;
+        }
+        Ok(groups)
+    }
 }
 
-// The groups that were found. Each text is copied once for each group.
-fn groups_of(alloc: Global, mut found: Found<'_>) -> Result<Vec<Group>, AllocError>
+// Adds the groups that were found. Each text is copied once for each group.
+fn add_found(alloc: Global, mut found: Found<'_>, groups: &mut Vec<Group>) -> Result<(), AllocError>
     requires { All (λ group. AreWords group.numbers) (groups_of found.entries) }
-    ensures { IfOk result (λ groups. groups.items ≡ groups_of found.entry.entries) }
+    ensures { OnOk result (groups.new.items ≡ groups.old.items ++ groups_of found.entry.entries) }
 {
-    let mut groups = Vec::with_capacity(alloc, found.len())?;
     while let Some((key, numbers)) = found.pop_first() {
         let values = key.texts(alloc)?;
         groups.push(Group::new(key.bucket(), values, numbers))?;
     }
-    Ok(groups)
+    Ok(())
 }
 
 /// What the query tells of the rows of the segment that lie in the interval and pass its filter. A row costs the
@@ -164,8 +399,7 @@ pub fn partial_of(
     ensures of_query { IfOk result (IsPartialFor query.now) }
 {
     let plan = Plan::new(alloc, query, segment)?;
-    let found = plan.tally(alloc, interval)?;
-    let groups = groups_of(alloc, found)?;
+    let groups = plan.tally(alloc, interval)?;
     let kinds = kinds_of(alloc, query)?;
     Ok(Partial::new(kinds, groups))
 }

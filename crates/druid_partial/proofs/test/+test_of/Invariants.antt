@@ -1,11 +1,10 @@
-use Rattle.std.proofs.Common.{◌≡◌, ℕ, List, Option, take}
-use Rattle.druid_filter.specs.Filters.{all_pass, any_passes, value_in, each_says}
-use Rattle.druid_rows.specs.Rows.{texts_of}
-use Rattle.druid_partial.specs.Tests.{all_hold, any_holds}
+use Rattle.std.proofs.Common.{◌≡◌, ◌<◌, ℕ, length, take}
+use Rattle.druid_filter.specs.Filters.{all_pass, any_passes, each_says}
+use Rattle.druid_partial.specs.Tests.{all_hold, any_holds, value_of}
 use Rattle.druid_partial.proofs.test.+test_of.Given as goal
 
 abbrev pub invariant-tests_of-loop-filter : goal.invariant-tests_of-loop-filter
 invariant-tests_of-loop-filter l = record {
-  all : (values : List (Option (List ℕ))) → all_hold l.tests.items values ≡ all_pass (value_in (texts_of l.names) values) (each_says (take l.filter-index l.filters));
-  any : (values : List (Option (List ℕ))) → any_holds l.tests.items values ≡ any_passes (value_in (texts_of l.names) values) (each_says (take l.filter-index l.filters));
+  all : (row : ℕ) → row < length l.segment.rows → all_hold l.tests.items row ≡ all_pass (value_of l.segment row) (each_says (take l.filter-index l.filters));
+  any : (row : ℕ) → row < length l.segment.rows → any_holds l.tests.items row ≡ any_passes (value_of l.segment row) (each_says (take l.filter-index l.filters));
 }

@@ -1,24 +1,57 @@
-use Rattle.std.proofs.Common.{◌≡◌, ◌∙◌, ◌<◌, length, ap, arith}
-use Rattle.druid_rows.specs.Segment.{row_at}
-use Rattle.druid_partial.specs.Rows.{is_asked}
+use Rattle.std.proofs.Common.{◌≤◌, length, refl, subst, arith}
 use Rattle.druid_partial.specs.Plans.{Plan}
-use Rattle.druid_partial.specs.Entries.{groups_of}
-use Rattle.druid_partial.proofs.TellLemmas.{told_asked, told_passed}
-use Rattle.druid_partial.proofs.telling.Plan.tally.Goals.{then-asks+in_ok-tell, else-asks}
+use Rattle.druid_partial.proofs.RunLemmas.{StandIn, upto_start, upto_end, come_before, apart_start}
 use Rattle.druid_partial.proofs.telling.Plan.tally.Goals as goal
 
-pub loop-row-preserved : goal.loop-row-preserved
-loop-row-preserved c =
-    let plan = c.args.self.now in
-    let row = c.loop-row.row in
-    let asked : c.asks.result ≡ is_asked plan.query c.args.interval plan.segment.fields (row_at plan.segment row) =
-    c.asks.ensures in
-    let len : c.len-row-end.result ≡ length plan.segment.rows = c.len-row-end.ensures.value ∙ ap (λ (p : Plan). length p.segment.rows) c.self.view_is in
-    let below : row < length plan.segment.rows = omega arith in
-    elim c.if-asks.branch [
-      | then-asks+in_ok-tell w ↦
-          rw w.found-is (told_asked plan.query plan.segment c.args.interval row (groups_of c.loop-row.found.entries) _ below (let t = w.if-asks.true in cc)
-          w.in_ok-tell.ensures.words w.in_ok-tell.ensures.told c.loop-row.invariant)
-      | else-asks w ↦
-          rw w.found-is (told_passed plan.query plan.segment c.args.interval row (groups_of c.loop-row.found.entries) below (let t = w.if-asks.false in cc) c.loop-row.invariant)
-    ]
+pub add_keys-requires-clause-upto : goal.add_keys-requires-clause-upto
+add_keys-requires-clause-upto c =
+    let start = c.places_in-start.result.0 in
+    let end = c.places_in-start.result.1 in
+    let S : Plan → Type 0 = λ p. StandIn p c.args.interval start end in
+    let L : Plan → Type 0 = λ p. end ≤ length p.segment.rows in
+    let last = subst L c.self.view_is c.places_in-start.ensures.end in
+    let order = c.places_in-start.ensures.order in
+    upto_start c.args.self.now c.args.interval start end c.new-groups.result.items (subst S c.self.view_is c.places_in-start.ensures.all) (omega (arith, last, order)) c.new-groups.ensures.items
+
+pub returns-then-not-buckets_rise : goal.returns-then-not-buckets_rise
+returns-then-not-buckets_rise c =
+    let start = c.places_in-start.result.0 in
+    let end = c.places_in-start.result.1 in
+    let S : Plan → Type 0 = λ p. StandIn p c.args.interval start end in
+    let L : Plan → Type 0 = λ p. end ≤ length p.segment.rows in
+    upto_end c.args.self.now c.args.interval start end end c.add_keys.new.groups.items (subst S c.self.view_is c.places_in-start.ensures.all) refl
+    (subst L c.self.view_is c.places_in-start.ensures.end) c.in_ok-add_keys.ensures
+
+pub loop-at-init : goal.loop-at-init
+loop-at-init c =
+    let start = c.places_in-start.result.0 in
+    let end = c.places_in-start.result.1 in
+    let S : Plan → Type 0 = λ p. StandIn p c.args.interval start end in
+    let L : Plan → Type 0 = λ p. end ≤ length p.segment.rows in
+    let last = subst L c.self.view_is c.places_in-start.ensures.end in
+    let order = c.places_in-start.ensures.order in
+    record {
+      inside = order;
+      upto = upto_start c.args.self.now c.args.interval start end c.new-groups.result.items (subst S c.self.view_is c.places_in-start.ensures.all) (omega (arith, last, order)) c.new-groups.ensures.items;
+      apart = apart_start c.args.self.now start end;
+    }
+
+pub add_run-requires-clause-before : goal.add_run-requires-clause-before
+add_run-requires-clause-before c =
+    let start = c.places_in-start.result.0 in
+    let end = c.places_in-start.result.1 in
+    let S : Plan → Type 0 = λ p. StandIn p c.args.interval start end in
+    let L : Plan → Type 0 = λ p. end ≤ length p.segment.rows in
+    come_before c.args.self.now c.args.interval start c.loop-at.at end c.run_end-to.result c.loop-at.groups.items (subst S c.self.view_is c.places_in-start.ensures.all)
+    c.loop-at.invariant.inside c.run_end-to.ensures.inside (subst L c.self.view_is c.places_in-start.ensures.end) c.loop-at.invariant.apart c.loop-at.invariant.upto
+
+pub returns : goal.returns
+returns c =
+    let start = c.places_in-start.result.0 in
+    let end = c.places_in-start.result.1 in
+    let S : Plan → Type 0 = λ p. StandIn p c.args.interval start end in
+    let L : Plan → Type 0 = λ p. end ≤ length p.segment.rows in
+    let inside = c.loop-at.invariant.inside in
+    let done = c.loop-at-test.false in
+    upto_end c.args.self.now c.args.interval start end c.loop-at.at c.loop-at.groups.items (subst S c.self.view_is c.places_in-start.ensures.all) (omega (arith, inside, done))
+    (subst L c.self.view_is c.places_in-start.ensures.end) c.loop-at.invariant.upto

@@ -1,7 +1,13 @@
-use Rattle.druid_partial.specs.Entries.{groups_of}
-use Rattle.druid_partial.specs.Plans.{AreTold}
-use Rattle.druid_partial.proofs.TellLemmas.{told_upto}
+use Rattle.std.proofs.Common.{◌≤◌, ◌-◌}
+use Rattle.druid_partial.specs.Plans.{AreUpto, AreApart}
 use Rattle.druid_partial.proofs.telling.Plan.tally.Given as goal
 
-abbrev pub invariant-loop-row : goal.invariant-loop-row
-invariant-loop-row l = AreTold l.self.query (told_upto l.self.query l.self.segment l.interval l.row) (groups_of l.found.entries)
+abbrev pub invariant-loop-at : goal.invariant-loop-at
+invariant-loop-at l = record {
+  inside : l.at ≤ l.end;
+  upto : AreUpto l.self l.interval l.at l.groups.items;
+  apart : AreApart l.self l.start l.at l.end;
+}
+
+abbrev pub decreases-loop-at : goal.decreases-loop-at
+decreases-loop-at l = l.end - l.at

@@ -4,7 +4,7 @@ use Rattle.std.proofs.lemmas.List.Elements.{All-head, All-tail}
 use Rattle.druid_partial.specs.Groups.{Key, Group, AreWords}
 use Rattle.druid_partial.specs.Entries.{groups_of}
 use Rattle.druid_partial.proofs.PlaceLemmas.{group_is}
-use Rattle.druid_partial.proofs.telling.groups_of.Goals as goal
+use Rattle.druid_partial.proofs.telling.add_found.Goals as goal
 
 pub new-requires : goal.new-requires
 new-requires c =

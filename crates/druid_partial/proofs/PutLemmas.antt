@@ -1,0 +1,218 @@
+-- A row joined to the group of its cell is its group merged.
+use Rattle.std.proofs.Common.{◌≡◌, ◌∙◌, ℕ, zero, suc, ◌+◌, ◌<◌, ℤ, List, [], ◌∷◌, ◌++◌, length, map, set, replicate, Option, Some, None, refl, sym, ap, subst, arith, ⊎_elim, ◌⊎◌, inl, inr, ◌≤◌, true, false}
+use Rattle.std.proofs.lemmas.List.{append-nil, take-append-le}
+use Rattle.std.proofs.Math.Seq.{take-length}
+use Rattle.std.proofs.lemmas.List.Elements.{All-nil, All-cons, All-tail, All-contains, Contains-append_right}
+use Rattle.std.proofs.Common.{append_assoc, take, drop}
+use Rattle.std.specs.Prelude.{All, Contains, slice_get, slice_index_or}
+use Rattle.std.specs.Ordering.{nat_cmp, ordering_then, ordering_reverse, match_ordering}
+use Rattle.std.specs.declared.cmp.Ordering.TheVariants.{Less, Equal, Greater}
+use Rattle.std.specs.Cmp.Lexicographic.{slice_cmp}
+use Rattle.std.proofs.lemmas.List.{length-set}
+use Rattle.std.proofs.lemmas.Option.{slice_get-get_or}
+use Rattle.druid_time.specs.Extent.{Extent}
+use Rattle.druid_rows.specs.Segment.{row_at}
+use Rattle.druid_query.specs.declared.aggregator.AggregatorKind.{AggregatorKind}
+use Rattle.druid_partial.specs.Groups.{Group, AreWords, value_cmp, key_cmp}
+use Rattle.druid_partial.specs.Joined.{join_numbers, join_groups, put, merged}
+use Rattle.druid_partial.specs.Rows.{kinds_of, is_asked, HasNumbers}
+use Rattle.druid_partial.specs.Places.{at_place, places_of}
+use Rattle.druid_partial.specs.Cells.{Cell, AreColumns, join_into, with_row}
+use Rattle.druid_partial.specs.Plans.{Plan, told_at, bucket_at, cell_at, group_at, groups_in, IsCell, AreCells, AreUpto, ComeBefore, IsJoined, IsKept}
+use Rattle.druid_partial.specs.Orders.{key_cmp-total}
+use Rattle.druid_partial.proofs.NumberLemmas.{contains_here, contains_there}
+use Rattle.druid_partial.proofs.GroupLemmas.{key_same}
+use Rattle.druid_partial.proofs.MergedLemmas.{joined_length}
+use Rattle.druid_partial.proofs.JoinLemmas.{joined_words}
+use Rattle.druid_partial.proofs.PlaceLemmas.{values_told}
+use Rattle.druid_partial.proofs.RadixLemmas.{less_is, equal_is, greater_is, cells_order}
+use Rattle.druid_partial.proofs.RankLemmas.{next_rank}
+use Rattle.druid_partial.proofs.IntoLemmas.{into_is}
+use Rattle.druid_partial.proofs.TellLemmas.{told_asked, told_passed, row_numbers}
+
+abbrev pub HasColumns : Plan → Type 0
+HasColumns plan = AreColumns plan.segment (places_of plan.query plan.segment.fields) plan.columns
+
+-- keys of one bucket are in the order of their cells
+pub keys_order : (plan : Plan) (a b : ℕ) → HasColumns plan → a < length plan.segment.rows → b < length plan.segment.rows → bucket_at plan a ≡ bucket_at plan b → key_cmp (told_at plan a).key (told_at plan b).key ≡ nat_cmp (cell_at plan a) (cell_at plan b)
+keys_order plan a b columns p q same =
+    let mine = (told_at plan a).key.values in
+    let theirs = (told_at plan b).key.values in
+    let places = places_of plan.query plan.segment.fields in
+    ap (λ o. ordering_then o (slice_cmp value_cmp mine theirs)) (equal_is (bucket_at plan a) (bucket_at plan b) same)
+    ∙ ap (λ l. slice_cmp value_cmp l theirs) (sym (values_told plan.query plan.segment.fields (row_at plan.segment a)))
+    ∙ ap (slice_cmp value_cmp (map (at_place (row_at plan.segment a).dimensions) places)) (sym (values_told plan.query plan.segment.fields (row_at plan.segment b)))
+    ∙ sym (cells_order plan.segment places plan.columns a b 0 0 columns p q)
+
+-- a group before all others
+put_first : (kinds : List AggregatorKind) (plan : Plan) (g : Group) (cells : List (Option Cell)) → ((i : ℕ) (c : Cell) → slice_get cells i ≡ Some (Some c) → key_cmp g.key (group_at plan c).key ≡ Less) → put kinds g (merged kinds []) (groups_in plan cells) ≡ g ∷ groups_in plan cells
+put_first kinds plan g [] each = refl
+put_first kinds plan g (None ∷ cells) each = put_first kinds plan g cells (λ i c e. each (suc i) c e)
+put_first kinds plan g (Some c ∷ cells) each =
+    ap (λ o. match_ordering o (g ∷ group_at plan c ∷ groups_in plan cells) (join_groups kinds g (group_at plan c) ∷ groups_in plan cells) (group_at plan c ∷ put kinds g (merged kinds []) (groups_in plan cells))) (each 0 c refl)
+
+-- a group in its cell
+put_cell : (kinds : List AggregatorKind) (plan : Plan) (row : ℕ) (cells : List (Option Cell)) (j : ℕ) → j < length cells → ((i : ℕ) (c : Cell) → slice_get cells i ≡ Some (Some c) → key_cmp (told_at plan row).key (group_at plan c).key ≡ nat_cmp j i) → ((i : ℕ) (c : Cell) → slice_get cells i ≡ Some (Some c) → length c.numbers ≡ length kinds) → length (told_at plan row).numbers ≡ length kinds → groups_in plan (set cells j (Some (with_row kinds row (told_at plan row).numbers (slice_index_or cells j None)))) ≡ put kinds (told_at plan row) (merged kinds []) (groups_in plan cells)
+put_cell kinds plan row [] j h each wide mine = absurd (omega arith)
+put_cell kinds plan row (None ∷ cells) zero h each wide mine =
+    sym (put_first kinds plan (told_at plan row) cells (λ i c e. each (suc i) c e ∙ less_is zero (suc i) (omega arith)))
+put_cell kinds plan row (Some d ∷ cells) zero h each wide mine =
+    let g = told_at plan row in
+    let tied : key_cmp g.key (group_at plan d).key ≡ Equal = each 0 d refl ∙ equal_is 0 0 refl in
+    let keys : (told_at plan d.row).key ≡ g.key = sym (key_same g.key (group_at plan d).key tied) in
+    let numbers : join_into kinds g.numbers d.numbers ≡ join_numbers kinds g.numbers d.numbers = into_is kinds g.numbers d.numbers mine (wide 0 d refl) in
+    let head : group_at plan (with_row kinds row g.numbers (Some d)) ≡ join_groups kinds g (group_at plan d) = (λ i. record { key = keys i; numbers = numbers i }) in
+    ap (λ x. x ∷ groups_in plan cells) head
+    ∙ sym (ap (λ o. match_ordering o (g ∷ group_at plan d ∷ groups_in plan cells) (join_groups kinds g (group_at plan d) ∷ groups_in plan cells) (group_at plan d ∷ put kinds g (merged kinds []) (groups_in plan cells))) tied)
+put_cell kinds plan row (None ∷ cells) (suc j) h each wide mine =
+    put_cell kinds plan row cells j (omega (arith, h)) (λ i c e. each (suc i) c e ∙ sym (next_rank j i)) (λ i c e. wide (suc i) c e) mine
+put_cell kinds plan row (Some d ∷ cells) (suc j) h each wide mine =
+    let g = told_at plan row in
+    let later = put_cell kinds plan row cells j (omega (arith, h)) (λ i c e. each (suc i) c e ∙ sym (next_rank j i)) (λ i c e. wide (suc i) c e) mine in
+    let after : key_cmp g.key (group_at plan d).key ≡ Greater = each 0 d refl ∙ greater_is (suc j) 0 (omega arith) in
+    ap (λ l. group_at plan d ∷ l) later
+    ∙ sym (ap (λ o. match_ordering o (g ∷ group_at plan d ∷ groups_in plan cells) (join_groups kinds g (group_at plan d) ∷ groups_in plan cells) (group_at plan d ∷ put kinds g (merged kinds []) (groups_in plan cells))) after)
+
+-- what is at a place after one was written
+set_get : {X : Type 0} (xs : List X) (j : ℕ) (v : X) (place : ℕ) (c : X) → slice_get (set xs j v) place ≡ Some c → (slice_get xs place ≡ Some c) ⊎ ((place ≡ j) × (v ≡ c))
+set_get [] j v place c e = inl e
+set_get (x ∷ xs) zero v zero c e = inr (refl, cc)
+set_get (x ∷ xs) zero v (suc place) c e = inl e
+set_get (x ∷ xs) (suc j) v zero c e = inl e
+set_get (x ∷ xs) (suc j) v (suc place) c e = ⊎_elim (λ l. inl l) (λ r. inr (ap suc r.0, r.1)) (set_get xs j v place c e)
+
+with_kept : (plan : Plan) (bucket place row : ℕ) (old : Option Cell) → row < length plan.segment.rows → bucket_at plan row ≡ bucket → cell_at plan row ≡ place → HasNumbers (kinds_of plan.query) (told_at plan row) → ((d : Cell) → old ≡ Some d → IsCell plan bucket place d) → IsCell plan bucket place (with_row (kinds_of plan.query) row (told_at plan row).numbers old)
+with_kept plan bucket place row None h b p n f = record { inside = h; bucket_is = b; place_is = p; numbers = n }
+with_kept plan bucket place row (Some d) h b p n f =
+    let k = f d refl in
+    let kinds = kinds_of plan.query in
+    let same : join_into kinds (told_at plan row).numbers d.numbers ≡ join_numbers kinds (told_at plan row).numbers d.numbers = into_is kinds (told_at plan row).numbers d.numbers n.one_each k.numbers.one_each in
+    let P : List (Option ℤ) → Type 0 = λ l. length l ≡ length kinds in
+    let Q : List (Option ℤ) → Type 0 = AreWords in
+    record {
+      inside = k.inside;
+      bucket_is = k.bucket_is;
+      place_is = k.place_is;
+      numbers = record {
+        one_each = subst P (sym same) (joined_length kinds (told_at plan row).numbers d.numbers n.one_each k.numbers.one_each);
+        words = subst Q (sym same) (joined_words kinds (told_at plan row).numbers d.numbers n.words k.numbers.words);
+      };
+    }
+
+cells_kept : (plan : Plan) (bucket row : ℕ) (cells : List (Option Cell)) → row < length plan.segment.rows → cell_at plan row < length cells → bucket_at plan row ≡ bucket → HasNumbers (kinds_of plan.query) (told_at plan row) → AreCells plan bucket cells → AreCells plan bucket (set cells (cell_at plan row) (Some (with_row (kinds_of plan.query) row (told_at plan row).numbers (slice_index_or cells (cell_at plan row) None))))
+cells_kept plan bucket row cells h k b n are place c e =
+    ⊎_elim (λ old. are place c old) (λ r. written r.0 r.1)
+    (set_get cells (cell_at plan row) (Some (with_row (kinds_of plan.query) row (told_at plan row).numbers (slice_index_or cells (cell_at plan row) None))) place (Some c) e)
+  where
+    written : place ≡ cell_at plan row → Some (with_row (kinds_of plan.query) row (told_at plan row).numbers (slice_index_or cells (cell_at plan row) None)) ≡ Some c → IsCell plan bucket place c
+    written p v =
+        let same : with_row (kinds_of plan.query) row (told_at plan row).numbers (slice_index_or cells (cell_at plan row) None) ≡ c = cc in
+        let P : Cell → Type 0 = IsCell plan bucket place in
+        let Q : ℕ → Type 0 = λ i. slice_get cells i ≡ Some (slice_index_or cells (cell_at plan row) None) in
+        subst P same (with_kept plan bucket place row (slice_index_or cells (cell_at plan row) None) h b (sym p) n
+        (λ d f. are place d (subst Q (sym p) (slice_get-get_or cells (cell_at plan row) None k) ∙ ap (λ o. Some o) f)))
+
+-- the row's group is merged
+pub cells_joined : (plan : Plan) (row cell : ℕ) (kinds : List AggregatorKind) (numbers : List (Option ℤ)) (old new : List (Option Cell)) → HasColumns plan → row < length plan.segment.rows → AreWords (told_at plan row).numbers → kinds ≡ kinds_of plan.query → numbers ≡ (told_at plan row).numbers → cell ≡ cell_at plan row → cell < length old → new ≡ set old cell (Some (with_row kinds row numbers (slice_index_or old cell None))) → IsJoined plan row old new
+cells_joined plan row cell kinds numbers old new columns h words k ns at inside is =
+    let own = kinds_of plan.query in
+    let told = (told_at plan row).numbers in
+    let own_cell = cell_at plan row in
+    let whole : List (Option Cell) = set old own_cell (Some (with_row own row told (slice_index_or old own_cell None))) in
+    let same : new ≡ whole =
+    is ∙ ap (λ i. set old i (Some (with_row kinds row numbers (slice_index_or old i None)))) at
+    ∙ ap (λ ks. set old own_cell (Some (with_row ks row numbers (slice_index_or old own_cell None)))) k
+    ∙ ap (λ xs. set old own_cell (Some (with_row own row xs (slice_index_or old own_cell None)))) ns in
+    let has = row_numbers plan.query plan.segment.fields (row_at plan.segment row) words in
+    let there : own_cell < length old = omega (arith, at, inside) in
+    let P : List (Option Cell) → Type 0 = IsJoined plan row old in
+    subst P (sym same) (record {
+      long = length-set old own_cell _;
+      groups = λ bucket b are.
+          put_cell own plan row old own_cell there
+          (λ i c e. let cell = are i c e in keys_order plan row c.row columns h cell.inside (b ∙ sym cell.bucket_is) ∙ ap (nat_cmp own_cell) cell.place_is)
+          (λ i c e. (are i c e).numbers.one_each) has.one_each;
+      cells = λ bucket b are. cells_kept plan bucket row old h there b has are;
+    })
+
+-- ---- no groups
+
+pub none_in : (plan : Plan) (n : ℕ) → groups_in plan (replicate n None) ≡ []
+none_in plan zero = refl
+none_in plan (suc n) = none_in plan n
+
+pub no_cells : (plan : Plan) (bucket n : ℕ) → AreCells plan bucket (replicate n None)
+no_cells plan bucket zero place c e = absurd (cc)
+no_cells plan bucket (suc n) zero c e = absurd (cc)
+no_cells plan bucket (suc n) (suc place) c e = let k = no_cells plan bucket n place c e in record { inside = k.inside; bucket_is = k.bucket_is; place_is = absurd (none n place c e); numbers = k.numbers }
+  where
+    none : (n place : ℕ) (c : Cell) → slice_get (replicate n None) place ≡ Some (Some c) → ⊥
+    none zero place c e = absurd (cc)
+    none (suc n) zero c e = absurd (cc)
+    none (suc n) (suc place) c e = none n place c e
+
+-- ---- groups that come before
+
+put_after : (kinds : List AggregatorKind) (x : Group) (before ys : List Group) → ((g : Group) → Contains before g → key_cmp g.key x.key ≡ Less) → put kinds x (merged kinds []) (before ++ ys) ≡ before ++ put kinds x (merged kinds []) ys
+put_after kinds x [] ys all = refl
+put_after kinds x (b ∷ bs) ys all =
+    let after : key_cmp x.key b.key ≡ Greater = key_cmp-total.antisymm x.key b.key ∙ ap ordering_reverse (all b (contains_here b bs)) in
+    ap (λ o. match_ordering o (x ∷ b ∷ (bs ++ ys)) (join_groups kinds x b ∷ (bs ++ ys)) (b ∷ put kinds x (merged kinds []) (bs ++ ys))) after
+    ∙ ap (λ l. b ∷ l) (put_after kinds x bs ys (λ g c. all g (contains_there b bs g c)))
+
+-- a row that is asked for, after groups that come before it
+pub upto_asked : (plan : Plan) (interval : Extent) (from to row : ℕ) (groups now more : List Group) → from ≤ row → row < to → row < length plan.segment.rows → is_asked plan.query interval plan.segment.fields (row_at plan.segment row) ≡ true → AreWords (told_at plan row).numbers → more ≡ merged (kinds_of plan.query) (told_at plan row ∷ []) now → ComeBefore plan groups from to → AreUpto plan interval row (groups ++ now) → AreUpto plan interval (row + 1) (groups ++ more)
+upto_asked plan interval from to row groups now more after inside h asked words e before upto =
+    told_asked plan.query plan.segment interval row (groups ++ now) (groups ++ more) h asked words
+    (ap (λ l. groups ++ l) e ∙ sym (put_after (kinds_of plan.query) (told_at plan row) groups now (before row after inside))) upto
+
+-- another row
+pub upto_passed : (plan : Plan) (interval : Extent) (row : ℕ) (groups : List Group) → row < length plan.segment.rows → is_asked plan.query interval plan.segment.fields (row_at plan.segment row) ≡ false → AreUpto plan interval row groups → AreUpto plan interval (row + 1) groups
+upto_passed plan interval row groups h asked upto = told_passed plan.query plan.segment interval row groups h asked upto
+
+-- no group more
+pub upto_none : (plan : Plan) (interval : Extent) (row : ℕ) (groups none : List Group) → none ≡ [] → AreUpto plan interval row groups → AreUpto plan interval row (groups ++ none)
+upto_none plan interval row groups none e upto =
+    let P : List Group → Type 0 = AreUpto plan interval row in
+    subst P (sym (ap (λ l. groups ++ l) e ∙ append-nil groups)) upto
+
+-- ---- groups handed out
+
+-- what is written through a slice
+pub written_all : {X : Type 0} (n : ℕ) (new old : List X) → n ≡ length new → take n (new ++ drop (length new) old) ≡ new
+written_all n new old e = rw e (take-append-le (length new) new _ (omega arith) ∙ take-length new)
+
+pub group_pushed : (plan : Plan) (before pushed whole : List Group) (group : Group) (c : Cell) (o : Option Cell) (left rest : List (Option Cell)) → left ≡ o ∷ rest → o ≡ Some c → group ≡ group_at plan c → pushed ≡ before ++ group ∷ [] → before ++ groups_in plan left ≡ whole → pushed ++ groups_in plan rest ≡ whole
+group_pushed plan before pushed whole group c o left rest l s g p e =
+    ap (λ gs. gs ++ groups_in plan rest) p ∙ append_assoc before (group ∷ []) (groups_in plan rest)
+    ∙ ap (λ x. before ++ x ∷ groups_in plan rest) g
+    ∙ ap (λ x. before ++ groups_in plan (x ∷ rest)) (sym s) ∙ ap (λ x. before ++ groups_in plan x) (sym l) ∙ e
+
+pub group_skipped : (plan : Plan) (before whole : List Group) (o : Option Cell) (left rest : List (Option Cell)) → left ≡ o ∷ rest → o ≡ None → before ++ groups_in plan left ≡ whole → before ++ groups_in plan rest ≡ whole
+group_skipped plan before whole o left rest l n e =
+    ap (λ x. before ++ groups_in plan (x ∷ rest)) (sym n) ∙ ap (λ x. before ++ groups_in plan x) (sym l) ∙ e
+
+pub kept_rest : (plan : Plan) (o : Option Cell) (left rest : List (Option Cell)) → left ≡ o ∷ rest → All (IsKept plan) left → All (IsKept plan) rest
+kept_rest plan o left rest l k = let P : List (Option Cell) → Type 0 = All (IsKept plan) in All-tail (IsKept plan) o rest (subst P l k)
+
+pub group_same : (plan : Plan) (c : Cell) (row : ℕ) (numbers : List (Option ℤ)) (g : Group) → row ≡ c.row → numbers ≡ c.numbers → g ≡ record { key = (told_at plan row).key; numbers = numbers } → g ≡ group_at plan c
+group_same plan c row numbers g r n e = e ∙ (λ i. record { key = (told_at plan (r i)).key; numbers = n i })
+
+cells_as_kept : (plan : Plan) (cells : List (Option Cell)) → ((i : ℕ) (c : Cell) → slice_get cells i ≡ Some (Some c) → (c.row < length plan.segment.rows) × HasNumbers (kinds_of plan.query) (group_at plan c)) → All (IsKept plan) cells
+cells_as_kept plan [] f = All-nil (IsKept plan)
+cells_as_kept plan (None ∷ cells) f = All-cons (IsKept plan) None cells tt (cells_as_kept plan cells (λ i c e. f (suc i) c e))
+cells_as_kept plan (Some c ∷ cells) f = All-cons (IsKept plan) (Some c) cells (f 0 c refl) (cells_as_kept plan cells (λ i c e. f (suc i) c e))
+
+-- cells of one bucket are kept
+pub all_kept : (plan : Plan) (bucket : ℕ) (cells : List (Option Cell)) → AreCells plan bucket cells → All (IsKept plan) cells
+all_kept plan bucket cells are = cells_as_kept plan cells (λ i c e. let k = are i c e in (k.inside, k.numbers))
+
+-- the numbers of groups that were added are of 64 bits
+pub words_after : (plan : Plan) (interval : Extent) (to : ℕ) (groups more : List Group) → AreUpto plan interval to (groups ++ more) → All (λ (g : Group). AreWords g.numbers) more
+words_after plan interval to groups more upto =
+    each_of more
+    (λ g c. (All-contains (HasNumbers (kinds_of plan.query)) (groups ++ more) g upto.numbers (Contains-append_right groups more g c)).words)
+  where
+    each_of : (gs : List Group) → ((g : Group) → Contains gs g → AreWords g.numbers) → All (λ (g : Group). AreWords g.numbers) gs
+    each_of [] f = All-nil (λ (g : Group). AreWords g.numbers)
+    each_of (g ∷ gs) f = All-cons (λ (g : Group). AreWords g.numbers) g gs (f g (contains_here g gs)) (each_of gs (λ h c. f h (contains_there g gs h c)))
