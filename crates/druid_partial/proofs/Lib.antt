@@ -17,3 +17,4 @@ pub mod CodeLemmas
 pub mod SourceLemmas
 pub mod RunLemmas
 pub mod PutLemmas
+pub mod SparseLemmas

@@ -81,7 +81,7 @@ set_get (x ∷ xs) zero v (suc place) c e = inl e
 set_get (x ∷ xs) (suc j) v zero c e = inl e
 set_get (x ∷ xs) (suc j) v (suc place) c e = ⊎_elim (λ l. inl l) (λ r. inr (ap suc r.0, r.1)) (set_get xs j v place c e)
 
-with_kept : (plan : Plan) (bucket place row : ℕ) (old : Option Cell) → row < length plan.segment.rows → bucket_at plan row ≡ bucket → cell_at plan row ≡ place → HasNumbers (kinds_of plan.query) (told_at plan row) → ((d : Cell) → old ≡ Some d → IsCell plan bucket place d) → IsCell plan bucket place (with_row (kinds_of plan.query) row (told_at plan row).numbers old)
+pub with_kept : (plan : Plan) (bucket place row : ℕ) (old : Option Cell) → row < length plan.segment.rows → bucket_at plan row ≡ bucket → cell_at plan row ≡ place → HasNumbers (kinds_of plan.query) (told_at plan row) → ((d : Cell) → old ≡ Some d → IsCell plan bucket place d) → IsCell plan bucket place (with_row (kinds_of plan.query) row (told_at plan row).numbers old)
 with_kept plan bucket place row None h b p n f = record { inside = h; bucket_is = b; place_is = p; numbers = n }
 with_kept plan bucket place row (Some d) h b p n f =
     let k = f d refl in

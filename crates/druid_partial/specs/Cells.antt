@@ -2,6 +2,9 @@
 -- this: what it means is in Groups.
 use Rattle.std.specs.Prelude.{◌≡◌, ℕ, ◌+◌, ◌*◌, ◌<◌, ℤ, pos, List, [], ◌∷◌, length, slice_index_or, Option, Some, None, IfSome, ⊤}
 use Rattle.std.specs.Ordering.{nat_cmp}
+use Rattle.std.specs.List.Sorted.{IsStrictlySortedBy}
+use Rattle.std.specs.Map.{keys_of, lookup, set_value}
+use Rattle.std.specs.BTreeMap.{insert_entry, is_at}
 use Rattle.druid_rows.specs.Segment.{Segment, row_at}
 use Rattle.druid_partial.specs.Groups.{value_cmp}
 use Rattle.druid_partial.specs.Places.{at_place}
@@ -78,3 +81,15 @@ HasNumber row (numbers.Metric of) = row < length of.now
 abbrev pub with_row : List AggregatorKind → ℕ → List (Option ℤ) → Option Cell → Cell
 with_row kinds row numbers None = record { row = row; numbers = numbers }
 with_row kinds row numbers (Some c) = record { row = c.row; numbers = join_into kinds numbers c.numbers }
+
+-- ---- cells by their numbers
+
+-- a row more in the cell of that number, if it is there; else a cell more
+abbrev pub entered_at : List AggregatorKind → ℕ → List (Option ℤ) → ℕ → List (ℕ × Cell) → Option Cell → List (ℕ × Cell)
+entered_at kinds row numbers cell entries None = insert_entry nat_cmp entries cell (with_row kinds row numbers None)
+entered_at kinds row numbers cell entries (Some c) = set_value (is_at (nat_cmp cell)) entries (with_row kinds row numbers (Some c))
+
+-- the entries of a map, before and after
+pub record IsEntered (kinds : List AggregatorKind) (row : ℕ) (numbers : List (Option ℤ)) (cell : ℕ) (old new : List (ℕ × Cell)) : Type 0 where
+  pub sorted : IsStrictlySortedBy nat_cmp (keys_of old)
+  pub is : new ≡ entered_at kinds row numbers cell old (lookup (is_at (nat_cmp cell)) old)

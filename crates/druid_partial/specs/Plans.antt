@@ -1,6 +1,7 @@
 -- A query over a segment, with where it looks. Only proofs and private functions use this: what it means is in Rows.
 use Rattle.std.specs.Prelude.{◌≡◌, ◌<◌, ◌≤◌, ℕ, List, [], ◌∷◌, length, map, filter, take, slice_get, All, Contains, Option, Some, None, ⊤}
 use Rattle.std.specs.declared.cmp.Ordering.TheVariants.{Less}
+use Rattle.std.specs.List.{AllByRecursion}
 use Rattle.druid_time.specs.Extent.{Extent}
 use Rattle.druid_rows.specs.Segment.{Segment, HaveWords, row_at}
 use Rattle.druid_query.specs.Query.{Query}
@@ -120,3 +121,20 @@ pub record IsJoined (plan : Plan) (row : ℕ) (old new : List (Option Cell)) : T
   pub groups : (bucket : ℕ) → bucket_at plan row ≡ bucket → AreCells plan bucket old
       → groups_in plan new ≡ merged (kinds_of plan.query) (told_at plan row ∷ []) (groups_in plan old)
   pub cells : (bucket : ℕ) → bucket_at plan row ≡ bucket → AreCells plan bucket old → AreCells plan bucket new
+
+-- ---- the same in a map by the numbers of cells
+
+abbrev pub groups_by : Plan → List (ℕ × Cell) → List Group
+groups_by plan entries = map (λ e. group_at plan e.1) entries
+
+abbrev pub AreEntries : Plan → ℕ → List (ℕ × Cell) → Type 0
+AreEntries plan bucket entries = AllByRecursion (λ e. IsCell plan bucket e.0 e.1) entries
+
+pub record IsJoinedBy (plan : Plan) (row : ℕ) (old new : List (ℕ × Cell)) : Type 0 where
+  pub groups : (bucket : ℕ) → bucket_at plan row ≡ bucket → AreEntries plan bucket old
+      → groups_by plan new ≡ merged (kinds_of plan.query) (told_at plan row ∷ []) (groups_by plan old)
+  pub entries : (bucket : ℕ) → bucket_at plan row ≡ bucket → AreEntries plan bucket old → AreEntries plan bucket new
+
+-- groups in cells, as they are handed out
+abbrev pub AreKept : Plan → List (ℕ × Cell) → Type 0
+AreKept plan entries = All (λ e. IsKept plan (Some e.1)) entries

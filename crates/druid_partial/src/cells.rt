@@ -1,11 +1,12 @@
 //! Groups of one bucket in an array, each at the number that the codes of its values make.
 ghost use Rattle.std.specs.Prelude.{◌≡◌, ◌<◌, map, set, length, All, Some, None, IfOk, IfSome, OnOk, FitsSigned, slice_index_or, replicate};
 ghost use Rattle.std.specs.Int.{w64};
-ghost use Rattle.druid_partial.specs.Cells.{number_from, HasNumber, join_into, with_row};
+ghost use Rattle.druid_partial.specs.Cells.{number_from, HasNumber, join_into, with_row, IsEntered};
 
 use crate::joining::join_number;
 use druid_query::AggregatorKind;
 use std::alloc::{AllocError, Global};
+use std::collections::BTreeMap;
 use std::marker::Model;
 
 // The number that an aggregator takes of each row.
@@ -137,5 +138,31 @@ pub(crate) fn add_row(
     }
     let numbers = numbers_at(alloc, columns, row)?;
     cells[cell] = Some(Cell { row, numbers });
+    Ok(())
+}
+
+// Groups by the numbers of their cells, where these are too many for an array.
+pub(crate) type Sparse = BTreeMap<usize, Cell>;
+
+// Joins a row to the group of a cell.
+pub(crate) fn enter_row(
+    alloc: Global,
+    kinds: &[AggregatorKind],
+    columns: &[Numbers<'_>],
+    cells: &mut Sparse,
+    cell: usize,
+    row: usize,
+) -> Result<(), AllocError>
+    requires { All (HasNumber row) columns.now }
+    ensures { OnOk result (IsEntered kinds.now row (map (number_from row) columns.now) cell cells.old.entries cells.new.entries) }
+{
+    // For the proof: reading it exposes the invariant of its type.
+    let _ = cells.len();
+    if let Some(group) = cells.get_mut(&cell) {
+        group.join(kinds, columns, row);
+        return Ok(());
+    }
+    let numbers = numbers_at(alloc, columns, row)?;
+    cells.insert(cell, Cell { row, numbers })?;
     Ok(())
 }

@@ -1,11 +1,8 @@
 //! Codes of a dimension's values, and the number that those of a row make.
-ghost use Rattle.std.specs.Prelude.{◌≡◌, ◌<◌, ◌≤◌, All, IfSome, length, option_map, slice_index_or};
+ghost use Rattle.std.specs.Prelude.{◌≡◌, ◌<◌, ◌^◌, All, IfSome, length, option_map, slice_index_or};
 ghost use Rattle.druid_partial.specs.Cells.{code_at, cell_from, room_from, HasCode};
 
 use std::marker::Model;
-
-/// The most cells of an array.
-pub(crate) const MAX_CELLS: usize = 1_000_000;
 
 // The codes of the rows' values of a dimension: 0 for null, and the others in the order of the values. Without codes, all
 // are null.
@@ -57,17 +54,13 @@ impl<'a> Column<'a> {
     }
 }
 
-// How many cells there are. None where there are too many for an array.
+// How many cells there are. None where that is more than a word.
 pub(crate) fn room_of(columns: &[Column<'_>]) -> Option<usize>
-    ensures room { IfSome result (λ room. room ≡ room_from columns.now 1) }
-    ensures bounded { IfSome result (λ room. room ≤ 1000000) }
+    ensures { IfSome result (λ room. room ≡ room_from columns.now 1) }
 {
     let mut room: usize = 1;
     for column in columns {
         room = room.checked_mul(column.size())?;
-    }
-    if room > MAX_CELLS {
-        return None;
     }
     Some(room)
 }
@@ -75,7 +68,7 @@ pub(crate) fn room_of(columns: &[Column<'_>]) -> Option<usize>
 // The cell of a row.
 pub(crate) fn cell_of(columns: &[Column<'_>], row: usize) -> usize
     requires codes { All (HasCode row) columns.now }
-    requires room { room_from columns.now 1 ≤ 1000000 }
+    requires room { room_from columns.now 1 < 2 ^ 64 }
     ensures value { result ≡ cell_from columns.now row 0 }
     ensures inside { result < room_from columns.now 1 }
 {

@@ -1,5 +1,5 @@
 //! What a segment tells a query.
-ghost use Rattle.std.specs.Prelude.{◌≡◌, ◌≢◌, ◌<◌, ◌≤◌, ◌∷◌, ◌++◌, [], ℕ, List, length, All, IfOk, IfSome, OnOk, IsTrue, slice_index_or};
+ghost use Rattle.std.specs.Prelude.{◌≡◌, ◌≢◌, ◌<◌, ◌≤◌, ◌^◌, ◌∷◌, ◌++◌, [], ℕ, List, length, All, IfOk, IfSome, OnOk, IsTrue, slice_index_or};
 ghost use Rattle.druid_rows.specs.Segment.{Segment, row_at};
 ghost use Rattle.druid_query.specs.Query.{Query};
 ghost use Rattle.druid_partial.specs.Groups.{AreWords, Group, IsResult};
@@ -7,10 +7,10 @@ ghost use Rattle.druid_partial.specs.Joined.{merged};
 ghost use Rattle.druid_partial.specs.Rows.{bucket_of, earliest, is_asked, kinds_of, told_by, IsPartialFor};
 ghost use Rattle.druid_partial.specs.Entries.{groups_of};
 ghost use Rattle.druid_partial.specs.Cells.{room_from};
-ghost use Rattle.druid_partial.specs.Plans.{told_at, bucket_at, groups_in, IsKept, IsJoined, AreTold, AreUpto, AreCells, ComeBefore, HaveBucket, BucketsRise};
+ghost use Rattle.druid_partial.specs.Plans.{told_at, bucket_at, groups_in, groups_by, IsKept, IsJoined, IsJoinedBy, AreEntries, AreKept, AreTold, AreUpto, AreCells, ComeBefore, HaveBucket, BucketsRise};
 
 use crate::buckets::earliest;
-use crate::cells::{Cell, Numbers, add_row, empty_cells, numbers_at};
+use crate::cells::{Cell, Numbers, Sparse, add_row, empty_cells, enter_row, numbers_at};
 use crate::column::{Column, cell_of, room_of};
 use crate::found::{Found, add};
 use crate::key::LentKey;
@@ -228,7 +228,7 @@ impl<'a> Plan<'a> {
     fn put(&self, alloc: Global, row: usize, cells: &mut [Option<Cell>]) -> Result<(), AllocError>
         requires row { row < length self.now.segment.rows }
         requires room { length cells.now ≡ room_from self.now.columns 1 }
-        requires small { room_from self.now.columns 1 ≤ 1000000 }
+        requires small { room_from self.now.columns 1 < 2 ^ 64 }
         ensures joined { OnOk result (IsJoined self.now row cells.old cells.new) }
         ensures words { AreWords (told_at self.now row).numbers }
     {
@@ -249,7 +249,6 @@ impl<'a> Plan<'a> {
         requires end { to ≤ length self.now.segment.rows }
         requires bucket { HaveBucket self.now (bucket_at self.now from) from to }
         requires room { room ≡ room_from self.now.columns 1 }
-        requires small { room ≤ 1000000 }
         ensures cells { IfOk result (λ cells. AreCells self.now (bucket_at self.now from) cells.items) }
         ensures groups { IfOk result (λ cells. (groups : List Group) → ComeBefore self.now groups from to
             → AreUpto self.now interval from groups → AreUpto self.now interval to (groups ++ groups_in self.now cells.items)) }
@@ -311,7 +310,6 @@ impl<'a> Plan<'a> {
         requires end { to ≤ length self.now.segment.rows }
         requires bucket { HaveBucket self.now (bucket_at self.now from) from to }
         requires room { room ≡ room_from self.now.columns 1 }
-        requires small { room ≤ 1000000 }
         requires before { ComeBefore self.now groups.now.items from to }
         requires upto { AreUpto self.now interval from groups.now.items }
         ensures { OnOk result (AreUpto self.now interval to groups.new.items) }
@@ -320,16 +318,78 @@ impl<'a> Plan<'a> {
         self.add_groups(alloc, cells, groups)
     }
 
-    // The number of cells, where an array of them is worth its room for so many rows.
-    fn room_for(&self, rows: usize) -> Option<usize>
-        ensures room { IfSome result (λ room. room ≡ room_from self.now.columns 1) }
-        ensures small { IfSome result (λ room. room ≤ 1000000) }
+    // Joins a row to the group of its cell.
+    fn enter(&self, alloc: Global, row: usize, cells: &mut Sparse) -> Result<(), AllocError>
+        requires row { row < length self.now.segment.rows }
+        requires small { room_from self.now.columns 1 < 2 ^ 64 }
+        ensures joined { OnOk result (IsJoinedBy self.now row cells.old.entries cells.new.entries) }
+        ensures words { AreWords (told_at self.now row).numbers }
     {
-        let room = room_of(&self.columns)?;
-        if room / 4 > rows.saturating_add(64) {
-            return None;
+        let cell = cell_of(&self.columns, row);
+        enter_row(alloc, &self.kinds, &self.numbers, cells, cell, row)
+    }
+
+    // What the rows of one bucket from one place to another tell, by the numbers of their cells.
+    fn tally_sparse(
+        &self,
+        alloc: Global,
+        interval: Interval,
+        from: usize,
+        to: usize,
+    ) -> Result<Sparse, AllocError>
+        requires order { from ≤ to }
+        requires end { to ≤ length self.now.segment.rows }
+        requires bucket { HaveBucket self.now (bucket_at self.now from) from to }
+        requires small { room_from self.now.columns 1 < 2 ^ 64 }
+        ensures cells { IfOk result (λ cells. AreEntries self.now (bucket_at self.now from) cells.entries) }
+        ensures groups { IfOk result (λ cells. (groups : List Group) → ComeBefore self.now groups from to
+            → AreUpto self.now interval from groups → AreUpto self.now interval to (groups ++ groups_by self.now cells.entries)) }
+    {
+        let mut cells = BTreeMap::new(alloc);
+        for row in from..to {
+            if self.asks(interval, row) {
+                self.enter(alloc, row, &mut cells)?;
+            }
         }
-        Some(room)
+        Ok(cells)
+    }
+
+    // Adds the groups that are in cells.
+    fn add_entries(
+        &self,
+        alloc: Global,
+        mut cells: Sparse,
+        groups: &mut Vec<Group>,
+    ) -> Result<(), AllocError>
+        requires { AreKept self.now cells.entries }
+        ensures { OnOk result (groups.new.items ≡ groups.old.items ++ groups_by self.now cells.entries) }
+    {
+        while let Some((_, cell)) = cells.pop_first() {
+            let (row, numbers) = cell.into_parts();
+            groups.push(self.group(alloc, row, numbers)?)?;
+        }
+        Ok(())
+    }
+
+    // Adds the groups of the rows of one bucket from one place to another, which come after those that are there.
+    fn add_sparse(
+        &self,
+        alloc: Global,
+        interval: Interval,
+        from: usize,
+        to: usize,
+        groups: &mut Vec<Group>,
+    ) -> Result<(), AllocError>
+        requires order { from ≤ to }
+        requires end { to ≤ length self.now.segment.rows }
+        requires bucket { HaveBucket self.now (bucket_at self.now from) from to }
+        requires small { room_from self.now.columns 1 < 2 ^ 64 }
+        requires before { ComeBefore self.now groups.now.items from to }
+        requires upto { AreUpto self.now interval from groups.now.items }
+        ensures { OnOk result (AreUpto self.now interval to groups.new.items) }
+    {
+        let cells = self.tally_sparse(alloc, interval, from, to)?;
+        self.add_entries(alloc, cells, groups)
     }
 
     // Adds the groups of the rows of one bucket from one place to another, which come after those that are there.
@@ -348,10 +408,14 @@ impl<'a> Plan<'a> {
         requires upto { AreUpto self.now interval from groups.now.items }
         ensures { OnOk result (AreUpto self.now interval to groups.new.items) }
     {
-        match self.room_for(to - from) {
-            Some(room) => self.add_cells(alloc, interval, from, to, room, groups),
-            None => self.add_keys(alloc, interval, from, to, groups),
+        let Some(room) = room_of(&self.columns) else {
+            return self.add_keys(alloc, interval, from, to, groups);
+        };
+        // An array costs its room, and each row of a map a search.
+        if room / 4 <= (to - from).saturating_add(64) {
+            return self.add_cells(alloc, interval, from, to, room, groups);
         }
+        self.add_sparse(alloc, interval, from, to, groups)
     }
 
     // The groups of all rows that the query asks for.
@@ -386,8 +450,9 @@ fn add_found(alloc: Global, mut found: Found<'_>, groups: &mut Vec<Group>) -> Re
     Ok(())
 }
 
-/// What the query tells of the rows of the segment that lie in the interval and pass its filter. A row costs the
-/// logarithm of the number of groups.
+/// What the query tells of the rows of the segment that lie in the interval and pass its filter. A row costs no
+/// allocation and one step, or, where its bucket has few rows beside the values of the dimensions, the logarithm of the
+/// number of groups.
 pub fn partial_of(
     alloc: Global,
     query: &Query,
