@@ -178,3 +178,16 @@ apart_next plan start at to end rise h after same next apart i j low high from b
         let up : bucket_at plan at ≤ bucket_at plan to = rise at to (omega (arith, after)) (omega (arith, from, below, h)) in
         let further : bucket_at plan to ≤ bucket_at plan j = rise to j from (omega (arith, below, h)) in
         omega (arith, mine, apart_at, up, further)
+
+-- where buckets rise, rows between two of one bucket have it
+pub same_between : (plan : Plan) (bucket from low : ℕ) → BucketsRise plan → low < length plan.segment.rows → bucket_at plan from ≡ bucket → bucket_at plan low ≡ bucket → (row : ℕ) → from ≤ row → row ≤ low → bucket_at plan row ≡ bucket
+same_between plan bucket from low rise h first last row p q =
+    let up : bucket_at plan from ≤ bucket_at plan row = rise from row p (omega (arith, q, h)) in
+    let down : bucket_at plan row ≤ bucket_at plan low = rise row low q h in
+    omega (arith, first, last, up, down)
+
+-- up to the place after the last of them
+pub run_same : (plan : Plan) (bucket from to end : ℕ) → BucketsRise plan → from < to → to ≤ end → end ≤ length plan.segment.rows → bucket_at plan from ≡ bucket → ((row : ℕ) → row + 1 ≡ to → bucket_at plan row ≡ bucket) → HaveBucket plan bucket from to
+run_same plan bucket from zero end rise p q h first last row low high = absurd (omega (arith, p))
+run_same plan bucket from (suc to) end rise p q h first last row low high =
+    same_between plan bucket from to rise (omega (arith, q, h)) first (last to (omega arith)) row low (omega (arith, high))

@@ -1,5 +1,5 @@
 //! What a segment tells a query.
-ghost use Rattle.std.specs.Prelude.{◌≡◌, ◌≢◌, ◌<◌, ◌≤◌, ◌^◌, ◌∷◌, ◌++◌, [], ℕ, List, length, All, IfOk, IfSome, OnOk, IsTrue, slice_index_or};
+ghost use Rattle.std.specs.Prelude.{◌≡◌, ◌≢◌, ◌+◌, ◌<◌, ◌≤◌, ◌^◌, ◌∷◌, ◌++◌, [], ℕ, List, length, All, IfOk, IfSome, OnOk, IsTrue, slice_index_or};
 ghost use Rattle.druid_rows.specs.Segment.{Segment, row_at};
 ghost use Rattle.druid_query.specs.Query.{Query};
 ghost use Rattle.druid_partial.specs.Groups.{AreWords, Group, IsResult};
@@ -135,8 +135,33 @@ impl<'a> Plan<'a> {
         }
     }
 
-    // The place after the rows that have the bucket of a row and follow it.
+    // The place after the last row that has that bucket, from one that has it to the place after others.
+    fn last_of(&self, bucket: Instant, from: usize, to: usize) -> usize
+        requires order { from < to }
+        requires end { to ≤ length self.now.segment.rows }
+        requires first { bucket_at self.now from ≡ bucket }
+        ensures after { from < result }
+        ensures inside { result ≤ to }
+        ensures there { result ≤ length self.now.segment.rows }
+        ensures last { (row : ℕ) → row + 1 ≡ result → bucket_at self.now row ≡ bucket }
+        ensures next { result < to → bucket_at self.now result ≢ bucket }
+    {
+        let mut low = from;
+        let mut high = to;
+        while high - low > 1 {
+            let middle = low + (high - low) / 2;
+            if self.bucket(middle) == bucket {
+                low = middle;
+            } else {
+                high = middle;
+            }
+        }
+        high
+    }
+
+    // The place after the rows that have the bucket of a row and follow it, by steps that double and then by halving.
     fn run_end(&self, from: usize, end: usize) -> usize
+        requires rise { BucketsRise self.now }
         requires from { from < end }
         requires end { end ≤ length self.now.segment.rows }
         ensures after { from < result }
@@ -145,11 +170,14 @@ impl<'a> Plan<'a> {
         ensures next { result < end → bucket_at self.now result ≢ bucket_at self.now from }
     {
         let bucket = self.bucket(from);
-        let mut to = from + 1;
-        while to < end && self.bucket(to) == bucket {
-            to += 1;
+        let mut low = from;
+        let mut step: usize = 1;
+        while step < end - low && self.bucket(low + step) == bucket {
+            low += step;
+            step = step.saturating_add(step);
         }
-        to
+        let high = if step < end - low { low + step } else { end };
+        self.last_of(bucket, low, high)
     }
 
     // The key that a row tells.
@@ -450,9 +478,9 @@ fn add_found(alloc: Global, mut found: Found<'_>, groups: &mut Vec<Group>) -> Re
     Ok(())
 }
 
-/// What the query tells of the rows of the segment that lie in the interval and pass its filter. A row costs no
-/// allocation and one step, or, where its bucket has few rows beside the values of the dimensions, the logarithm of the
-/// number of groups.
+/// What the query tells of the rows of the segment that lie in the interval and pass its filter. Where
+/// instants rise, or there is one bucket, a row allocates nothing and costs one step, or, where the dimensions have many
+/// values beside the rows of its bucket, the logarithm of the number of groups; else it costs that and a key.
 pub fn partial_of(
     alloc: Global,
     query: &Query,

@@ -1,13 +1,14 @@
-use Rattle.std.proofs.Common.{◌<◌, ◌≤◌, ◌-◌}
-use Rattle.druid_partial.specs.Plans.{HaveBucket}
+use Rattle.std.proofs.Common.{◌≡◌, ◌<◌, ◌≤◌, ◌-◌}
+use Rattle.druid_partial.specs.Plans.{bucket_at}
 use Rattle.druid_partial.proofs.telling.Plan.run_end.Given as goal
 
-abbrev pub invariant-loop-to : goal.invariant-loop-to
-invariant-loop-to l = record {
-  after : l.from < l.to;
-  inside : l.to ≤ l.end;
-  same : HaveBucket l.self l.bucket l.from l.to;
+abbrev pub invariant-loop-step : goal.invariant-loop-step
+invariant-loop-step l = record {
+  after : l.from ≤ l.low;
+  inside : l.low < l.end;
+  some : 1 ≤ l.step;
+  same : bucket_at l.self l.low ≡ l.bucket;
 }
 
-abbrev pub decreases-loop-to : goal.decreases-loop-to
-decreases-loop-to l = l.end - l.to
+abbrev pub decreases-loop-step : goal.decreases-loop-step
+decreases-loop-step l = l.end - l.low
