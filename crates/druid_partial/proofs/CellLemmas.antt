@@ -26,14 +26,14 @@ room_grows (c ∷ cs) row n h =
     omega (arith, rest, wide)
 
 -- one column more
-pub record Stepped (cs : List Column) (i row n : ℕ) (c : Column) : Type 0 where
+pub record ColumnStep (cs : List Column) (i row n : ℕ) (c : Column) : Type 0 where
   pub there : IfSome c.codes (λ codes. row < length codes)
   pub value : cell_from (drop (i + 1) cs) row (n * c.size + code_at c row) ≡ cell_from (drop i cs) row n
   pub inside : room_from (drop (i + 1) cs) (n * c.size + code_at c row + 1) ≤ room_from (drop i cs) (n + 1)
   pub fits : n * c.size + code_at c row + 1 ≤ room_from (drop i cs) (n + 1)
 
-pub stepped : (cs : List Column) (i row n : ℕ) (c : Column) → i < length cs → c ≡ get_or cs i c → All (HasCode row) cs → Stepped cs i row n c
-stepped cs i row n c h is all = record {
+pub column_step : (cs : List Column) (i row n : ℕ) (c : Column) → i < length cs → c ≡ get_or cs i c → All (HasCode row) cs → ColumnStep cs i row n c
+column_step cs i row n c h is all = record {
   there = has.there;
   value = sym (ap (λ l. cell_from l row n) left);
   inside = let e = ap (λ l. room_from l (n + 1)) left in

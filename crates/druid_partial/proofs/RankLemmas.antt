@@ -192,11 +192,11 @@ null_column segment c is =
 
 -- ---- marks of codes
 
-abbrev pub marked : List Bool → Option ℕ → List Bool
-marked marks None = marks
-marked marks (Some k) = set marks k true
+abbrev pub with_mark : List Bool → Option ℕ → List Bool
+with_mark marks None = marks
+with_mark marks (Some k) = set marks k true
 
-mark_at : (marks : List Bool) (found : Option ℕ) (code : ℕ) → IfSome found (λ k. k < length marks) → get_or (marked marks found) code false ≡ (get_or marks code false || found_is found code)
+mark_at : (marks : List Bool) (found : Option ℕ) (code : ℕ) → IfSome found (λ k. k < length marks) → get_or (with_mark marks found) code false ≡ (get_or marks code false || found_is found code)
 mark_at marks None code h = or_nothing' (get_or marks code false)
   where
     or_nothing' : (b : Bool) → b ≡ (b || false)
@@ -223,7 +223,7 @@ mark_at marks (Some k) code h =
     here e t = get_or-set_at marks k code true false e h ∙ or_true (get_or marks code false) ∙ ap (λ b. get_or marks code false || b) (sym (unsigned_ties code k ∙ t))
 
 -- one value more
-pub mark_more : (ts : List (List ℕ)) (wanted : List (Option (String Global))) (i : ℕ) (item : Option (String Global)) (found : Option ℕ) (old new : List Bool) → i < length wanted → item ≡ get_or wanted i item → IsCodeOf ts (option_map string_bytes item) found → IfSome found (λ k. k < length old) → new ≡ marked old found
+pub mark_more : (ts : List (List ℕ)) (wanted : List (Option (String Global))) (i : ℕ) (item : Option (String Global)) (found : Option ℕ) (old new : List Bool) → i < length wanted → item ≡ get_or wanted i item → IsCodeOf ts (option_map string_bytes item) found → IfSome found (λ k. k < length old) → new ≡ with_mark old found
     → ((code : ℕ) → code ≤ length ts → get_or old code false ≡ list_any (same_value (value_at ts code)) (nullable_texts_of (take i wanted)))
     → (code : ℕ) → code ≤ length ts → get_or new code false ≡ list_any (same_value (value_at ts code)) (nullable_texts_of (take (i + 1) wanted))
 mark_more ts wanted i item found old new h is of inside e was code p =

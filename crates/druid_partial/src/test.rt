@@ -61,7 +61,7 @@ fn has_null(wanted: &[Option<String>]) -> bool
     false
 }
 
-fn unmarked(alloc: Global, len: usize) -> Result<Vec<bool>, AllocError>
+fn no_marks(alloc: Global, len: usize) -> Result<Vec<bool>, AllocError>
     ensures { IfOk result (λ marks. marks.items ≡ replicate len false) }
 {
     let mut marks = Vec::with_capacity(alloc, len)?;
@@ -80,7 +80,7 @@ fn marks_of(
     ensures { IfOk result (λ marks. IsStrictlySortedBy (slice_cmp nat_cmp) (texts_of texts.now) → (code : ℕ) → code ≤ length (texts_of texts.now)
         → slice_index_or marks.items code false ≡ list_any (same_value (value_at (texts_of texts.now) code)) (nullable_texts_of wanted.now)) }
 {
-    let mut marks = unmarked(alloc, texts.len() + 1)?;
+    let mut marks = no_marks(alloc, texts.len() + 1)?;
     for value in wanted {
         if let Some(code) = code_of(texts, value) {
             marks[code] = true;
