@@ -59,9 +59,3 @@ lent_by_bytes (Some x ∷ xs) (Some y ∷ ys) = ap (ordering_then (slice_cmp nat
 pub lent_tied : (s t : ℕ) (xs ys : List (Option (Bor (List ℕ)))) (p o : Ordering) → p ≡ nat_cmp s t → p ≡ Equal → o ≡ slice_cmp (option_cmp (λ (a b : Bor (List ℕ)). slice_cmp nat_cmp a.now b.now)) xs ys → o ≡ key_cmp (record { bucket = s; values = lent xs }) (record { bucket = t; values = lent ys })
 lent_tied s t xs ys p o buckets tied e =
     e ∙ lent_by_bytes xs ys ∙ ap (λ q. ordering_then q (slice_cmp value_cmp (lent xs) (lent ys))) (sym tied ∙ buckets)
-
-pub lent_one : (x y : Option (Bor (List ℕ))) → option_cmp (λ (a b : Bor (List ℕ)). slice_cmp nat_cmp a.now b.now) x y ≡ value_cmp (option_map (λ text. text.now) x) (option_map (λ text. text.now) y)
-lent_one None None = refl
-lent_one None (Some y) = refl
-lent_one (Some x) None = refl
-lent_one (Some x) (Some y) = refl

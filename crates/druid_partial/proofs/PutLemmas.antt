@@ -198,15 +198,6 @@ kept_rest plan o left rest l k = let P : List (Option Cell) → Type 0 = All (Is
 pub group_same : (plan : Plan) (c : Cell) (row : ℕ) (numbers : List (Option ℤ)) (g : Group) → row ≡ c.row → numbers ≡ c.numbers → g ≡ record { key = (told_at plan row).key; numbers = numbers } → g ≡ group_at plan c
 group_same plan c row numbers g r n e = e ∙ (λ i. record { key = (told_at plan (r i)).key; numbers = n i })
 
-cells_as_kept : (plan : Plan) (cells : List (Option Cell)) → ((i : ℕ) (c : Cell) → slice_get cells i ≡ Some (Some c) → (c.row < length plan.segment.rows) × HasNumbers (kinds_of plan.query) (group_at plan c)) → All (IsKept plan) cells
-cells_as_kept plan [] f = All-nil (IsKept plan)
-cells_as_kept plan (None ∷ cells) f = All-cons (IsKept plan) None cells tt (cells_as_kept plan cells (λ i c e. f (suc i) c e))
-cells_as_kept plan (Some c ∷ cells) f = All-cons (IsKept plan) (Some c) cells (f 0 c refl) (cells_as_kept plan cells (λ i c e. f (suc i) c e))
-
--- cells of one bucket are kept
-pub all_kept : (plan : Plan) (bucket : ℕ) (cells : List (Option Cell)) → AreCells plan bucket cells → All (IsKept plan) cells
-all_kept plan bucket cells are = cells_as_kept plan cells (λ i c e. let k = are i c e in (k.inside, k.numbers))
-
 -- the numbers of groups that were added are of 64 bits
 pub words_after : (plan : Plan) (interval : Extent) (to : ℕ) (groups more : List Group) → AreUpto plan interval to (groups ++ more) → All (λ (g : Group). AreWords g.numbers) more
 words_after plan interval to groups more upto =

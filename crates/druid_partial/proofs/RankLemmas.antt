@@ -1,6 +1,6 @@
 -- Codes of a dictionary are in the order of their values, so equal codes are equal values.
-use Rattle.std.proofs.Common.{◌≡◌, ◌∙◌, ℕ, zero, suc, ◌+◌, ◌<◌, ◌≤◌, List, [], ◌∷◌, length, option_map, get_or, set, take, replicate, Bool, true, false, ◌||◌, ◌≢◌, Option, Some, None, refl, sym, ap, subst, arith, String, Global, string_bytes, ◌⊎◌, inl, inr}
-use Rattle.std.specs.Prelude.{◌==◌, slice_get, slice_index_or, IfSome}
+use Rattle.std.proofs.Common.{◌≡◌, ◌∙◌, ℕ, zero, suc, ◌+◌, ◌<◌, ◌≤◌, List, [], ◌∷◌, length, get_or, false, Some, None, refl, sym, ap, subst, arith, String, Global, string_bytes, ◌⊎◌, inl, inr}
+use Rattle.std.specs.Prelude.{◌==◌, slice_get, slice_index_or}
 use Rattle.std.specs.List.{AllByRecursion}
 use Rattle.std.specs.List.Sorted.{IsStrictlySortedBy, IsNonDecreasingBy, IsPartitionPoint}
 use Rattle.std.specs.Ordering.{nat_cmp, is_eq, ordering_index, ordering_reverse}
@@ -12,27 +12,18 @@ use Rattle.std.proofs.lemmas.Cmp.{nat_list_cmp_total, tied_itself, ranked, by_ra
 use Rattle.std.proofs.lemmas.Map.Keys.{sorted_head, sorted_tail}
 use Rattle.std.proofs.lemmas.Map.Lookups.{exact_bytes}
 use Rattle.std.proofs.lemmas.Option.{slice_get-get_or}
-use Rattle.std.proofs.lemmas.List.{get_or-map, length-map, get_or-set_other}
-use Rattle.std.proofs.lemmas.Grind.{get_or-set_at}
+use Rattle.std.proofs.lemmas.List.{get_or-map, length-map}
 use Rattle.std.proofs.lemmas.List.Elements.{All-get_or}
 use Rattle.druid_filter.specs.Filters.{same_value}
-use Rattle.druid_rows.specs.Rows.{Row, no_row, texts_of, nullable_texts_of}
+use Rattle.druid_rows.specs.Rows.{Row, no_row, texts_of}
 use Rattle.druid_rows.specs.Segment.{Segment, row_at}
 use Rattle.druid_rows.specs.Columns.{column, value_at, IsDictionary, AreCodes}
 use Rattle.druid_partial.specs.Groups.{value_cmp}
 use Rattle.druid_partial.specs.Places.{at_place}
 use Rattle.druid_partial.specs.Cells.{Column, IsColumn}
-use Rattle.druid_partial.specs.Tests.{found_is, IsCodeOf}
-use Rattle.druid_partial.proofs.TestLemmas.{value_tie, any_push}
-use Rattle.std.specs.List.{list_any}
-use Rattle.std.proofs.lemmas.List.{take_more}
+use Rattle.druid_partial.specs.Tests.{IsCodeOf}
+use Rattle.druid_partial.proofs.TestLemmas.{value_tie}
 use Rattle.druid_partial.proofs.RadixLemmas.{less_is, equal_is, greater_is}
-
-Text : Type 0
-Text = List ℕ
-
-by_bytes : List ℕ → List ℕ → Ordering
-by_bytes = slice_cmp nat_cmp
 
 above : (t : List ℕ) (ts : List (List ℕ)) (j : ℕ) (d : List ℕ) → AllByRecursion (λ y. slice_cmp nat_cmp t y ≡ Less) ts → j < length ts → slice_cmp nat_cmp t (get_or ts j d) ≡ Less
 above t [] j d all h = absurd (omega arith)
@@ -123,10 +114,6 @@ code_found texts x k s h e code p =
     ap (same_value (value_at (texts_of texts) code)) (sym there)
     ∙ value_same_code (texts_of texts) code (suc k) s p (omega (arith, h, long)) ∙ ap (λ n. code == n) next
 
--- null is in all dictionaries
-pub code_null : (ts : List (List ℕ)) → IsStrictlySortedBy (slice_cmp nat_cmp) ts → IsCodeOf ts None (Some 0)
-code_null ts s code p = value_same_code ts code zero s p (omega arith)
-
 -- a text that is not there
 pub code_absent : (texts : List (String Global)) (x : String Global) (i : ℕ) → IsPartitionPoint (λ y. slice_cmp nat_cmp (string_bytes y) (string_bytes x) ≡ Less) (λ y. slice_cmp nat_cmp (string_bytes y) (string_bytes x) ≡ Greater) texts i → IsCodeOf (texts_of texts) (Some (string_bytes x)) None
 code_absent texts x i part zero p = refl
@@ -180,60 +167,3 @@ coded_column segment place size ts codes c dictionary are wide is =
           ∙ ap (value_cmp (value_at ts (get_or codes a 0))) (sym (row_value segment place b ts codes are q))
           ∙ value_rank ts (get_or codes a 0) (get_or codes b 0) dictionary.rising (row_bounded segment place a ts codes are p) (row_bounded segment place b ts codes are q);
     })
-
--- that of one that is not there
-pub null_column : (segment : Segment) (c : Column) → c ≡ record { size = 1; codes = None } → IsColumn segment None c
-null_column segment c is =
-    let P : Column → Type 0 = λ d. IsColumn segment None d in
-    subst P (sym is) (record {
-      has = λ row h. record { there = tt; below = omega arith };
-      order = λ a b p q. refl;
-    })
-
--- ---- marks of codes
-
-abbrev pub with_mark : List Bool → Option ℕ → List Bool
-with_mark marks None = marks
-with_mark marks (Some k) = set marks k true
-
-mark_at : (marks : List Bool) (found : Option ℕ) (code : ℕ) → IfSome found (λ k. k < length marks) → get_or (with_mark marks found) code false ≡ (get_or marks code false || found_is found code)
-mark_at marks None code h = or_nothing' (get_or marks code false)
-  where
-    or_nothing' : (b : Bool) → b ≡ (b || false)
-    or_nothing' true = refl
-    or_nothing' false = refl
-mark_at marks (Some k) code h =
-    by_ranked (code < k) (code ≡ k) (k < code) (nat_cmp code k) (ranked code k (nat_cmp code k) refl)
-    (λ o l. apart (omega (arith, l)) o (ap is_eq o))
-    (λ o e. here e (ap is_eq o))
-    (λ o g. apart (omega (arith, g)) o (ap is_eq o))
-  where
-    or_false : (b : Bool) → b ≡ (b || false)
-    or_false true = refl
-    or_false false = refl
-
-    or_true : (b : Bool) → true ≡ (b || true)
-    or_true true = refl
-    or_true false = refl
-
-    apart : (code ≢ k) → {o : Ordering} → nat_cmp code k ≡ o → is_eq (nat_cmp code k) ≡ false → get_or (set marks k true) code false ≡ (get_or marks code false || (code == k))
-    apart n o f = get_or-set_other marks k code true false n ∙ or_false (get_or marks code false) ∙ ap (λ b. get_or marks code false || b) (sym (unsigned_ties code k ∙ f))
-
-    here : code ≡ k → is_eq (nat_cmp code k) ≡ true → get_or (set marks k true) code false ≡ (get_or marks code false || (code == k))
-    here e t = get_or-set_at marks k code true false e h ∙ or_true (get_or marks code false) ∙ ap (λ b. get_or marks code false || b) (sym (unsigned_ties code k ∙ t))
-
--- one value more
-pub mark_more : (ts : List (List ℕ)) (wanted : List (Option (String Global))) (i : ℕ) (item : Option (String Global)) (found : Option ℕ) (old new : List Bool) → i < length wanted → item ≡ get_or wanted i item → IsCodeOf ts (option_map string_bytes item) found → IfSome found (λ k. k < length old) → new ≡ with_mark old found
-    → ((code : ℕ) → code ≤ length ts → get_or old code false ≡ list_any (same_value (value_at ts code)) (nullable_texts_of (take i wanted)))
-    → (code : ℕ) → code ≤ length ts → get_or new code false ≡ list_any (same_value (value_at ts code)) (nullable_texts_of (take (i + 1) wanted))
-mark_more ts wanted i item found old new h is of inside e was code p =
-    ap (λ l. get_or l code false) e ∙ mark_at old found code inside ∙ ap (λ b. b || found_is found code) (was code p)
-    ∙ ap (λ b. list_any (same_value (value_at ts code)) (nullable_texts_of (take i wanted)) || b) (sym (of code p) ∙ ap (λ v. same_value (value_at ts code) (option_map string_bytes v)) is)
-    ∙ sym (any_push (same_value (value_at ts code)) (take i wanted) (get_or wanted i item))
-    ∙ ap (λ l. list_any (same_value (value_at ts code)) (nullable_texts_of l)) (sym (take_more wanted i item h))
-
--- no mark
-pub none_marked : (n code : ℕ) (ts : List (List ℕ)) → get_or (replicate n false) code false ≡ false
-none_marked zero code ts = refl
-none_marked (suc n) zero ts = refl
-none_marked (suc n) (suc code) ts = none_marked n code ts

@@ -1,6 +1,6 @@
 -- Rows of one bucket after each other.
 use Rattle.std.proofs.Common.{◌≡◌, ◌∙◌, ◌≢◌, ℕ, zero, suc, ◌+◌, ◌<◌, ◌≤◌, List, [], ◌∷◌, length, map, get_or, Bool, true, false, cond, refl, sym, ap, subst, arith, ⊎_elim, ◌⊎◌, inl, inr}
-use Rattle.std.specs.Prelude.{Contains, filter, ◌&&◌, nat_le, nat_lt, ◌-◌}
+use Rattle.std.specs.Prelude.{filter, ◌&&◌, nat_le, nat_lt, ◌-◌}
 use Rattle.std.specs.Cmp.Lexicographic.{slice_cmp}
 use Rattle.std.proofs.lemmas.Bool.Decides.{nat_tests}
 use Rattle.std.proofs.lemmas.Cmp.{ranked, by_ranked}
@@ -22,7 +22,6 @@ use Rattle.druid_partial.specs.Rows.{bucket_of, is_asked, tells, told_by, kinds_
 use Rattle.druid_partial.specs.Plans.{Plan, told_at, bucket_at, AreTold, AreUpto, told_upto, ComeBefore, HaveBucket, BucketsRise, AreApart}
 use Rattle.std.specs.Prelude.{unwrap_or}
 use Rattle.druid_partial.proofs.OrderLemmas.{no_rows}
-use Rattle.druid_partial.proofs.NumberLemmas.{contains_none}
 use Rattle.druid_partial.proofs.GroupLemmas.{occurs_both, occurs_cases, no_occurrence}
 use Rattle.druid_partial.proofs.RadixLemmas.{less_is}
 use Rattle.druid_partial.proofs.TellLemmas.{upto_more}
@@ -152,12 +151,6 @@ come_before plan interval start at end to groups all p q h apart upto row low hi
     let from = (all o.row (omega (arith, below, p, h)) (asked_has plan.query interval plan.segment o.row o.asked)).0 in
     let P : Key → Type 0 = λ k. key_cmp k (told_at plan row).key ≡ Less in
     subst P o.key_is (bucket_less (told_at plan o.row).key (told_at plan row).key (apart o.row row from below low (omega (arith, high, q))))
-
--- nothing comes before nothing
-pub none_before : (plan : Plan) (from to : ℕ) (groups : List Group) → groups ≡ [] → ComeBefore plan groups from to
-none_before plan from to groups e row low high g c =
-    let P : List Group → Type 0 = λ gs. Contains gs g in
-    absurd (contains_none g (subst P e c))
 
 -- at the first place
 pub apart_start : (plan : Plan) (start end : ℕ) → AreApart plan start start end

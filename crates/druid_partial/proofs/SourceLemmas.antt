@@ -1,19 +1,17 @@
 -- Numbers by their sources.
-use Rattle.std.proofs.Common.{◌≡◌, ◌∙◌, ℕ, ◌+◌, ◌<◌, ℤ, List, [], ◌∷◌, ◌++◌, length, map, get_or, take, Option, Some, None, Bool, true, false, refl, sym, ap, subst, arith, Bor, rules}
-use Rattle.std.specs.Prelude.{All, IfSome, FitsSigned, slice_index_or, option_and_then, pos, if◌then◌else◌}
+use Rattle.std.proofs.Common.{◌≡◌, ◌∙◌, ℕ, ◌+◌, ◌<◌, ℤ, List, [], ◌∷◌, ◌++◌, length, map, get_or, take, Option, Some, None, Bool, true, false, refl, sym, subst, rules}
+use Rattle.std.specs.Prelude.{All, IfSome, FitsSigned, option_and_then, pos, if◌then◌else◌}
 use Rattle.std.specs.Str.{bytes_eq}
 use Rattle.std.specs.Int.{w64}
-use Rattle.std.proofs.lemmas.List.{get_or-map, length-map, take_more}
+use Rattle.std.proofs.lemmas.List.{take_more}
 use Rattle.std.proofs.lemmas.List.Elements.{All-nil, All-cons, All-get_or, All-head, All-tail}
-use Rattle.druid_rows.specs.Rows.{Row, no_row, HasWords}
+use Rattle.druid_rows.specs.Rows.{no_row, HasWords}
 use Rattle.druid_rows.specs.Segment.{Segment, HaveWords, row_at}
 use Rattle.druid_query.specs.Query.{Query, Aggregator}
 use Rattle.druid_query.specs.declared.aggregator.AggregatorKind.{AggregatorKind}
 use Rattle.druid_query.specs.declared.aggregator.AggregatorKind.TheVariants.{Count, LongSum, LongMin, LongMax}
 use Rattle.druid_partial.specs.declared.located.Source.{Source}
-use Rattle.druid_partial.specs.declared.located.Source.TheVariants as sources
 use Rattle.druid_partial.specs.declared.cells.Numbers.{Numbers}
-use Rattle.druid_partial.specs.declared.cells.Numbers.TheVariants as numbers
 use Rattle.druid_partial.specs.Groups.{AreWords}
 use Rattle.druid_partial.specs.Rows.{number_in, one_or, taken, tells}
 use Rattle.druid_partial.specs.Places.{sources_of, source_number}
@@ -21,20 +19,6 @@ use Rattle.druid_partial.specs.Cells.{Column, IsColumn, AreColumns, HasNumber, n
 use Rattle.druid_partial.specs.Plans.{AreFrom, AreNumbers}
 use Rattle.druid_partial.proofs.RadixLemmas.{columns_more}
 use Rattle.druid_partial.proofs.PlaceLemmas.{numbers_told}
-
--- the numbers of a metric
-pub metric_from : (segment : Segment) (place : ℕ) (of : Bor (List (Option ℤ))) → of.now ≡ map (λ (row : Row). slice_index_or row.metrics place None) segment.rows → AreFrom segment (sources.Metric place) (numbers.Metric of)
-metric_from segment place of e = record {
-  has = λ row h. let wide : length of.now ≡ length segment.rows = ap length e ∙ length-map segment.rows (λ (r : Row). slice_index_or r.metrics place None) in omega (arith, h, wide);
-  same = λ row h.
-      ap (λ l. get_or l row None) e ∙ get_or-map (λ (r : Row). slice_index_or r.metrics place None) segment.rows row no_row None h;
-}
-
-pub one_from : (segment : Segment) → AreFrom segment sources.One numbers.One
-one_from segment = record { has = λ row h. tt; same = λ row h. refl }
-
-pub null_from : (segment : Segment) → AreFrom segment sources.Null numbers.Null
-null_from segment = record { has = λ row h. tt; same = λ row h. refl }
 
 numbers_push : (segment : Segment) (ss : List Source) (ns : List Numbers) (s : Source) (n : Numbers) → AreNumbers segment ss ns → AreFrom segment s n → AreNumbers segment (ss ++ s ∷ []) (ns ++ n ∷ [])
 numbers_push segment [] [] s n are one = (one, tt)
