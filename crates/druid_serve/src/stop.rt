@@ -32,12 +32,7 @@ impl Stop {
     }
 
     /// The node at a place does not start.
-    pub(crate) fn at_node(
-        alloc: Global,
-        place: usize,
-        node: &NodeConfig,
-        start: StartFault,
-    ) -> Stop
+    pub(crate) fn at_node(alloc: Global, place: usize, node: &NodeConfig, start: StartFault) -> Stop
         ensures { result.fault ≡ start.fault }
     {
         Stop {

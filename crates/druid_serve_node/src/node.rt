@@ -337,7 +337,12 @@ pub fn start_node<
         + 'static,
     D: Device,
     L: Device + Send + Sync + 'static,
->(rt: &R, alloc: Global, config: &NodeConfig, kept: usize) -> Result<JoinHandle<EndOfLoads>, StartFault>
+>(
+    rt: &R,
+    alloc: Global,
+    config: &NodeConfig,
+    kept: usize,
+) -> Result<JoinHandle<EndOfLoads>, StartFault>
 where
     R::Dir: Send,
     requires some { 1 ≤ kept }
