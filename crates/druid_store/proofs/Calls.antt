@@ -7,8 +7,8 @@ use Rattle.std.specs.Str.{bytes_eq}
 use Rattle.std.specs.String.{string_bytes}
 use Rattle.druid_folder.specs.FileName.{is_file_name}
 use Rattle.druid_folder.specs.Folder.{Content, nothing, with_file, without, renamed, Torn, DoneOrNot, Follows, SameLeft, Elapses}
-use Rattle.druid_store.specs.declared.memory.Call.{Call}
-use Rattle.druid_store.specs.declared.memory.Call.TheVariants.{Looked, Wrote, Synced, Renamed, Removed, Failed}
+use Rattle.druid_store.specs.declared.record.Call.{Call}
+use Rattle.druid_store.specs.declared.record.Call.TheVariants.{Looked, Wrote, Synced, Renamed, Removed, Failed}
 use Rattle.druid_folder.proofs.Files.{torn_same}
 use Rattle.druid_store.specs.Record.{done, content_after, LeftBy, LeftAfter, IsLeft, LeftSince}
 

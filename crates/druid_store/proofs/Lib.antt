@@ -1,4 +1,5 @@
 mod Calls
+mod Lost
 mod Model
 mod Names
 mod Order

@@ -13,8 +13,8 @@ use Rattle.std.specs.declared.string.String.{String}
 use Rattle.druid_folder.specs.FileName.{IsFileName}
 use Rattle.druid_store.specs.declared.name.FileName.{FileName}
 use Rattle.druid_folder.specs.Folder.{Content, nothing, with_file, AreNames, names_of}
-use Rattle.druid_store.specs.declared.memory.Call.{Call}
-use Rattle.druid_store.specs.declared.memory.Call.TheVariants.{Looked, Wrote, Synced, Renamed, Removed, Failed}
+use Rattle.druid_store.specs.declared.record.Call.{Call}
+use Rattle.druid_store.specs.declared.record.Call.TheVariants.{Looked, Wrote, Synced, Renamed, Removed, Failed}
 use Rattle.druid_store.specs.Record.{done, puts, content_after}
 
 -- one of the calls may have put a file there

@@ -1,6 +1,7 @@
 -- what public contracts rest on
 pub mod Disk
 pub mod Event
+pub mod Fuse
 pub mod Honest
 pub mod HonestLaws
 pub mod Noted

@@ -1,18 +1,18 @@
 -- For proofs alone: what the calls of a folder in memory have made of it. Of such a folder its clauses say enough.
-use Rattle.std.specs.Prelude.{◌≡◌, ℕ, ◌≤◌, List, [], ◌∷◌, length, take, Option, Some, None, string_bytes}
+use Rattle.std.specs.Prelude.{◌≡◌, ℕ, ◌≤◌, Bool, true, false, List, [], ◌∷◌, length, take, Option, Some, None, string_bytes}
 use Rattle.druid_folder.specs.Folder.{Content, nothing, with_file, without, renamed, Torn, DoneOrNot}
-use Rattle.druid_store.specs.declared.memory.Call.{Call}
-use Rattle.druid_store.specs.declared.memory.Call.TheVariants.{Looked, Wrote, Synced, Renamed, Removed, Failed}
-use Rattle.druid_store.specs.declared.memory.MemoryFolder.{MemoryFolder}
-use Rattle.druid_store.specs.declared.memory.Source.{Source}
-use Rattle.druid_store.specs.declared.memory.Source.TheVariants.{Bytes, NoFile, Before}
+use Rattle.druid_store.specs.declared.record.Call.{Call}
+use Rattle.druid_store.specs.declared.record.Call.TheVariants.{Looked, Wrote, Synced, Renamed, Removed, Failed}
+use Rattle.druid_store.specs.declared.record.CallRecord.{CallRecord}
+use Rattle.druid_store.specs.declared.record.Source.{Source}
+use Rattle.druid_store.specs.declared.record.Source.TheVariants.{Bytes, NoFile, Before}
 
 -- the calls that a folder in memory has had, the oldest first
-abbrev pub calls_of : MemoryFolder → List Call
+abbrev pub calls_of : CallRecord → List Call
 calls_of folder = folder.calls.items
 
 -- how many of them have failed
-abbrev pub failures_of : MemoryFolder → ℕ
+abbrev pub failures_of : CallRecord → ℕ
 failures_of folder = folder.faults
 
 -- what is read after a call, from what was read before it
@@ -67,3 +67,32 @@ IsLeft calls c = LeftAfter nothing (λ d. d ≡ nothing) calls c
 -- what a stop after the first t calls, or later, might have left
 abbrev pub LeftSince : List Call → ℕ → Content → Type 0
 LeftSince calls t c = (k : ℕ) × (t ≤ k) × (k ≤ length calls) × IsLeft (take k calls) c
+
+-- whether a call is a sync
+abbrev pub is_sync : Call → Bool
+is_sync Looked = false
+is_sync (Wrote name bytes) = false
+is_sync Synced = true
+is_sync (Renamed from to) = false
+is_sync (Removed name) = false
+is_sync Failed = false
+
+-- what a stop after a call leaves where it keeps nothing but what was synced, from what was read before the call and what
+-- such a stop would have left before it: a file written since is empty
+abbrev pub lost : Call → Content → Content → Content
+lost Looked files kept = kept
+lost (Wrote name bytes) files kept = with_file kept (string_bytes name.text) (Some [])
+lost Synced files kept = files
+lost (Renamed from to) files kept = kept
+lost (Removed name) files kept = kept
+lost Failed files kept = kept
+
+-- and after these calls
+abbrev pub lost_after : Content → Content → List Call → Content
+lost_after files kept [] = kept
+lost_after files kept (call ∷ calls) = lost_after (done call files) (lost call files kept) calls
+
+-- what a stop leaves after these calls where it keeps all that was done, or nothing but what was synced
+abbrev pub stopped : Bool → List Call → Content
+stopped true calls = content_after nothing calls
+stopped false calls = lost_after nothing nothing calls

@@ -3,8 +3,8 @@ use Rattle.std.specs.Prelude.{◌≡◌, ℕ, ◌≤◌, List, [], ◌∷◌, le
 use Rattle.std.proofs.Common.{inr, sym, subst, arith}
 use Rattle.std.proofs.lemmas.List.{take_all}
 use Rattle.druid_folder.specs.Folder.{Content, nothing}
-use Rattle.druid_store.specs.declared.memory.Call.{Call}
-use Rattle.druid_store.specs.declared.memory.Call.TheVariants.{Looked, Wrote, Synced, Renamed, Removed, Failed}
+use Rattle.druid_store.specs.declared.record.Call.{Call}
+use Rattle.druid_store.specs.declared.record.Call.TheVariants.{Looked, Wrote, Synced, Renamed, Removed, Failed}
 use Rattle.druid_store.specs.Record.{done, content_after, LeftBy, LeftAfter, IsLeft, LeftSince}
 
 done_may_stay : (call : Call) (files : Content) (left : Content → Type 0) → left files → LeftBy call files left (done call files)

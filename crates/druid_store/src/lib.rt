@@ -6,6 +6,7 @@ mod disk;
 mod log;
 mod memory;
 mod name;
+mod record;
 
 pub use device::{Device, honest_model};
 pub use disk::DiskFolder;

@@ -1,32 +1,19 @@
-ghost use Rattle.std.specs.Prelude.{◌≡◌, ◌∷◌, [], ◌++◌, ◌+◌, ◌≤◌, List, ℕ, Some, IfOk, string_bytes, length, OnOk, OnErr, IfErr};
-ghost use Rattle.std.specs.Option.{option_copied, option_map};
+ghost use Rattle.std.specs.Prelude.{◌≡◌, true, false, Some, None, IfErr, OnOk, OnErr};
 ghost use Rattle.druid_folder.specs.declared.fault.StoreFault.TheVariants.{Memory};
-ghost use Rattle.druid_folder.specs.Folder.{Content, AreNames, Only, nothing, max_file, names_of, read_part};
-ghost use Rattle.druid_store.specs.Record.{done, puts, content_after, file_from};
+ghost use Rattle.druid_folder.specs.Folder.{Only, SameLeft, nothing};
+ghost use Rattle.druid_store.specs.Fuse.{fuse_of, fuse_after, fails, lost_of};
 
-use crate::name::{FileName, put_in_order};
-use druid_folder::{Folder, MAX_FILE, StoreFault, is_file_name};
-use std::alloc::{AllocError, Global};
-
-// A call on a folder, with what it was given.
-#[derive(Drop)]
-enum Call {
-    Looked,
-    Wrote(FileName, Vec<u8>),
-    Synced,
-    Renamed(FileName, FileName),
-    Removed(FileName),
-    Failed,
-}
+use crate::record::CallRecord;
+use druid_folder::{Folder, StoreFault, is_file_name};
+use std::alloc::Global;
 
 /// A folder in memory, which is honest. It keeps each call but those of `faults`, and its files
 /// are what those calls made of them: a call that finds no memory for that is O9 and changes
-/// nothing.
+/// nothing. `fuse` has one of its calls fail, and `stop` leaves it as a stop does.
 #[derive(Drop)]
 pub struct MemoryFolder {
-    alloc: Global,
-    calls: Vec<Call>,
-    faults: u64,
+    files: CallRecord,
+    fuse: Option<u64>,
 }
 
 impl MemoryFolder {
@@ -36,180 +23,142 @@ impl MemoryFolder {
         ensures content { ⟦<MemoryFolder as Folder>⟧.content result ≡ nothing }
         ensures stop { Only nothing (⟦<MemoryFolder as Folder>⟧.may_leave result) }
         ensures faults { ⟦<MemoryFolder as Folder>⟧.faults result ≡ 0 }
+        ensures fuse { fuse_of result ≡ None }
     {
         MemoryFolder {
-            alloc,
-            calls: Vec::new(alloc),
-            faults: 0,
+            files: CallRecord::new(alloc),
+            fuse: None,
         }
+    }
+
+    /// Of the calls made after this, numbered from 0, call `k` fails: it is O1, does not do its
+    /// work, and counts in `faults`. A call that is O4, a read under a name that no file can have,
+    /// and `faults` have no number. A later `fuse` replaces this one.
+    pub fn fuse(&mut self, k: u64)
+        ensures fuse { fuse_of self.new ≡ Some k }
+        ensures content { ⟦<MemoryFolder as Folder>⟧.content self.new
+            ≡ ⟦<MemoryFolder as Folder>⟧.content self.old }
+        ensures stop { SameLeft (⟦<MemoryFolder as Folder>⟧.may_leave self.old)
+            (⟦<MemoryFolder as Folder>⟧.may_leave self.new) }
+        ensures faults { ⟦<MemoryFolder as Folder>⟧.faults self.new
+            ≡ ⟦<MemoryFolder as Folder>⟧.faults self.old }
+        ensures honest { ⟦<MemoryFolder as Folder>⟧.is_honest self.new }
+    {
+        self.fuse = Some(k);
+    }
+
+    /// Makes it the folder after a stop. Where the stop keeps what was not synced, all is there;
+    /// where it does not, what was not synced is undone, and a file written since is there and
+    /// empty. The fuse stays. O9 where there is no memory for that, and then nothing changes.
+    pub fn stop(&mut self, keep: bool) -> Result<(), StoreFault>
+        ensures kept { keep ≡ true → ⟦<MemoryFolder as Folder>⟧.content self.new
+            ≡ ⟦<MemoryFolder as Folder>⟧.content self.old }
+        ensures lost { keep ≡ false → OnOk result
+            (⟦<MemoryFolder as Folder>⟧.content self.new ≡ lost_of self.old) }
+        ensures left { OnOk result (⟦<MemoryFolder as Folder>⟧.may_leave self.old
+            (⟦<MemoryFolder as Folder>⟧.content self.new)) }
+        ensures stable { OnOk result (Only (⟦<MemoryFolder as Folder>⟧.content self.new)
+            (⟦<MemoryFolder as Folder>⟧.may_leave self.new)) }
+        ensures refused { OnErr result (⟦<MemoryFolder as Folder>⟧.content self.new
+            ≡ ⟦<MemoryFolder as Folder>⟧.content self.old) }
+        ensures refused_left { OnErr result (SameLeft (⟦<MemoryFolder as Folder>⟧.may_leave self.old)
+            (⟦<MemoryFolder as Folder>⟧.may_leave self.new)) }
+        ensures fault { IfErr result (λ e. e ≡ Memory) }
+        ensures faults { ⟦<MemoryFolder as Folder>⟧.faults self.new
+            ≡ ⟦<MemoryFolder as Folder>⟧.faults self.old }
+        ensures fuse { fuse_of self.new ≡ fuse_of self.old }
+        ensures honest { ⟦<MemoryFolder as Folder>⟧.is_honest self.new }
+    {
+        self.files.stop(keep)
     }
 }
 
 impl Folder for MemoryFolder {
-    ghost use Rattle.std.specs.Prelude.{◌≡◌, length};
+    ghost use Rattle.std.specs.Prelude.{length};
     ghost use Rattle.druid_folder.specs.Folder.{nothing};
-    ghost use Rattle.druid_store.specs.Record.{calls_of, failures_of, content_after, IsLeft, LeftSince};
+    ghost use Rattle.druid_store.specs.Fuse.{calls_in, failures_in};
+    ghost use Rattle.druid_store.specs.Record.{content_after, IsLeft, LeftSince};
     ghost use Rattle.druid_store.specs.RecordLaws.{content_may_stay, now_counts, now_alone};
 
     ghost is_honest = { λ m. Unit {0} };
 
-    ghost content = { λ m. content_after nothing (calls_of m) };
+    ghost content = { λ m. content_after nothing (calls_in m) };
 
-    ghost may_leave = { λ m. IsLeft (calls_of m) };
+    ghost may_leave = { λ m. IsLeft (calls_in m) };
 
-    ghost moment = { λ m. length (calls_of m) };
+    ghost moment = { λ m. length (calls_in m) };
 
-    ghost left_since = { λ m. LeftSince (calls_of m) };
+    ghost left_since = { λ m. LeftSince (calls_in m) };
 
-    ghost faults = { failures_of };
+    ghost faults = { failures_in };
 
-    ghost may_stay = { λ m h. content_may_stay (calls_of m) };
+    ghost may_stay = { λ m h. content_may_stay (calls_in m) };
 
-    ghost counts_now = { λ m t c h le left. now_counts (calls_of m) t c le left };
+    ghost counts_now = { λ m t c h le left. now_counts (calls_in m) t c le left };
 
-    ghost only_now = { λ m c h left. now_alone (calls_of m) c left };
+    ghost only_now = { λ m c h left. now_alone (calls_in m) c left };
 
     fn list(&mut self, alloc: Global) -> Result<Vec<String>, StoreFault> {
-        note(&mut self.calls, Call::Looked)?;
-        let mut names = names_in(alloc, &self.calls)?;
-        put_in_order(&mut names);
-        Ok(names)
+        if burns(&mut self.fuse) {
+            return Err(self.files.fail());
+        }
+        self.files.list(alloc)
     }
 
     fn read(&mut self, alloc: Global, name: &str) -> Result<Option<Vec<u8>>, StoreFault> {
-        note(&mut self.calls, Call::Looked)?;
-        match find(&self.calls, name.as_bytes()) {
-            None => Ok(None),
-            Some(bytes) => Ok(Some(read_part(alloc, bytes)?)),
+        if is_file_name(name) && burns(&mut self.fuse) {
+            return Err(self.files.fail());
         }
+        self.files.read(alloc, name)
     }
 
     fn write(&mut self, name: &str, bytes: &[u8]) -> Result<(), StoreFault> {
-        if !is_file_name(name) {
-            return Err(StoreFault::BadName);
+        if is_file_name(name) && burns(&mut self.fuse) {
+            return Err(self.files.fail());
         }
-        let name = FileName::new(self.alloc, name)?;
-        let bytes = bytes.to_vec(self.alloc)?;
-        note(&mut self.calls, Call::Wrote(name, bytes))?;
-        Ok(())
+        self.files.write(name, bytes)
     }
 
     fn sync(&mut self) -> Result<(), StoreFault> {
-        note(&mut self.calls, Call::Synced)?;
-        Ok(())
+        if burns(&mut self.fuse) {
+            return Err(self.files.fail());
+        }
+        self.files.sync()
     }
 
     fn rename(&mut self, from: &str, to: &str) -> Result<(), StoreFault> {
-        if !is_file_name(from) || !is_file_name(to) {
-            return Err(StoreFault::BadName);
+        if is_file_name(from) && is_file_name(to) && burns(&mut self.fuse) {
+            return Err(self.files.fail());
         }
-        if find(&self.calls, from.as_bytes()).is_none() {
-            note(&mut self.calls, Call::Failed)?;
-            self.faults = self.faults.saturating_add(1);
-            return Err(StoreFault::Device);
-        }
-        let from = FileName::new(self.alloc, from)?;
-        let to = FileName::new(self.alloc, to)?;
-        note(&mut self.calls, Call::Renamed(from, to))?;
-        Ok(())
+        self.files.rename(from, to)
     }
 
     fn remove(&mut self, name: &str) -> Result<(), StoreFault> {
-        if !is_file_name(name) {
-            return Err(StoreFault::BadName);
+        if is_file_name(name) && burns(&mut self.fuse) {
+            return Err(self.files.fail());
         }
-        let name = FileName::new(self.alloc, name)?;
-        note(&mut self.calls, Call::Removed(name))?;
-        Ok(())
+        self.files.remove(name)
     }
 
     fn faults(&self) -> u64 {
-        self.faults
+        self.files.faults()
     }
 }
 
-// The names of the files, after these calls. A name may come more than once.
-fn names_in(alloc: Global, calls: &[Call]) -> Result<Vec<String>, AllocError>
-    ensures { IfOk result
-        (λ names. AreNames (content_after nothing calls.now) (names_of names.items)) }
+// Whether the call that begins is the one that fails. The fuse goes on to the next.
+fn burns(fuse: &mut Option<u64>) -> bool
+    ensures now { result ≡ fails fuse.old }
+    ensures next { fuse.new ≡ fuse_after fuse.old }
 {
-    let mut names = Vec::new(alloc);
-    for call in calls {
-        if let Some(name) = named(call) {
-            if find(calls, name.text.as_bytes()).is_some() {
-                names.push(String::from_str(alloc, name.text.as_str())?)?;
-            }
+    match *fuse {
+        None => false,
+        Some(0) => {
+            *fuse = None;
+            true
+        }
+        Some(k) => {
+            *fuse = Some(k - 1);
+            false
         }
     }
-    Ok(names)
-}
-
-// The name under which a call may have put a file.
-fn named(call: &Call) -> Option<&FileName>
-    ensures { option_map (λ name. string_bytes name.now.text) result ≡ puts call.now }
-{
-    match call {
-        Call::Wrote(name, _) | Call::Renamed(_, name) => Some(name),
-        _ => None,
-    }
-}
-
-// What a read gives of these bytes.
-fn read_part(alloc: Global, bytes: &[u8]) -> Result<Vec<u8>, AllocError>
-    ensures part { IfOk result (λ part. Some part.items ≡ read_part (Some bytes.now)) }
-    ensures bound { IfOk result (λ part. length part.items ≤ max_file + 1) }
-{
-    if bytes.len() <= MAX_FILE {
-        return Vec::from_slice(alloc, bytes);
-    }
-    Vec::from_slice(alloc, &bytes[..MAX_FILE + 1])
-}
-
-// Puts a call after the others.
-fn note(calls: &mut Vec<Call>, call: Call) -> Result<(), StoreFault>
-    ensures ok { OnOk result (calls.new.items ≡ calls.old.items ++ call ∷ []) }
-    ensures err { OnErr result (calls.new.items ≡ calls.old.items) }
-    ensures fault { IfErr result (λ e. e ≡ Memory) }
-{
-    calls.push(call)?;
-    Ok(())
-}
-
-// What a call made of the file of a name.
-enum Source<'a> {
-    Bytes(&'a [u8]),
-    NoFile,
-    // The file that had this name before the call.
-    Before(&'a [u8]),
-}
-
-fn source_of<'a>(call: &'a Call, name: &'a [u8]) -> Source<'a>
-    ensures { (files : Content) → done call.now files name.now ≡ file_from result files }
-{
-    match call {
-        Call::Wrote(at, bytes) if name == at.text.as_bytes() => Source::Bytes(bytes.as_slice()),
-        Call::Renamed(from, to) if name == to.text.as_bytes() => Source::Before(
-            from.text.as_bytes(),
-        ),
-        Call::Renamed(from, _) if name == from.text.as_bytes() => Source::NoFile,
-        Call::Removed(at) if name == at.text.as_bytes() => Source::NoFile,
-        _ => Source::Before(name),
-    }
-}
-
-// The bytes of the file of a name, after these calls.
-fn find<'a>(calls: &'a [Call], name: &'a [u8]) -> Option<&'a [u8]>
-    ensures { option_copied result ≡ content_after nothing calls.now name.now }
-{
-    let mut wanted = name;
-    let mut rest = calls;
-    while let Some((call, before)) = rest.split_last() {
-        match source_of(call, wanted) {
-            Source::Bytes(bytes) => return Some(bytes),
-            Source::NoFile => return None,
-            Source::Before(name) => wanted = name,
-        }
-        rest = before;
-    }
-    None
 }

@@ -5,8 +5,8 @@ use Rattle.std.specs.declared.string.String.{String}
 use Rattle.druid_folder.specs.Folder.{nothing, names_of}
 use Rattle.druid_store.specs.Record.{content_after}
 use Rattle.druid_store.proofs.Names.{Collected, turn_found, turn_absent, turn_other, names_collected}
-use Rattle.druid_store.proofs.memory.names_in.Goals as goal
-use Rattle.druid_store.proofs.memory.names_in.Goals.{in-Some+then-is_some+in_ok-from_str+in_ok-push, in-Some+else-is_some, in_default}
+use Rattle.druid_store.proofs.record.names_in.Goals as goal
+use Rattle.druid_store.proofs.record.names_in.Goals.{in-Some+then-is_some+in_ok-from_str+in_ok-push, in-Some+else-is_some, in_default}
 
 pub loop-call-preserved : goal.loop-call-preserved
 loop-call-preserved c =

@@ -1,7 +1,7 @@
 use Rattle.std.proofs.Common.{◌+◌, refl, arith}
 use Rattle.druid_folder.specs.Folder.{max_file}
 use Rattle.druid_folder.proofs.ReadPart.{whole_read, cut_read, cut_length}
-use Rattle.druid_store.proofs.memory.read_part.Goals as goal
+use Rattle.druid_store.proofs.record.read_part.Goals as goal
 
 pub returns-then-bytes-le-MAX_FILE-clause-part : goal.returns-then-bytes-le-MAX_FILE-clause-part
 returns-then-bytes-le-MAX_FILE-clause-part c = whole_read c.from_slice.result c.args.bytes.now (omega arith) c.from_slice.ensures.items

@@ -1,10 +1,10 @@
 use Rattle.std.proofs.Common.{◌≡◌, ◌∙◌, ap, subst}
 use Rattle.druid_folder.specs.Folder.{nothing, AreNames, names_of}
 use Rattle.druid_store.specs.Record.{content_after}
-use Rattle.druid_store.specs.declared.memory.Call.TheVariants.{Looked}
+use Rattle.druid_store.specs.declared.record.Call.TheVariants.{Looked}
 use Rattle.druid_store.proofs.Calls.{content_pushed, left_looked, elapses_pushed}
 use Rattle.druid_store.proofs.Order.{valid_names, same_names}
-use Rattle.druid_store.proofs.memory.MemoryFolderFolder.list.Goals as goal
+use Rattle.druid_store.proofs.record.CallRecordFolder.list.Goals as goal
 
 pub returns-in_err-names-clause-unchanged : goal.returns-in_err-names-clause-unchanged
 returns-in_err-names-clause-unchanged c honest = content_pushed _ _ Looked c.in_ok-note.ensures.ok

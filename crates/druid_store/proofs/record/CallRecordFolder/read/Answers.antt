@@ -1,10 +1,10 @@
 use Rattle.std.proofs.Common.{refl, sym, ◌∙◌, ap}
 use Rattle.druid_folder.specs.Folder.{nothing, read_part}
 use Rattle.druid_store.specs.Record.{content_after}
-use Rattle.druid_store.specs.declared.memory.Call.TheVariants.{Looked}
+use Rattle.druid_store.specs.declared.record.Call.TheVariants.{Looked}
 use Rattle.druid_store.proofs.Calls.{content_pushed, left_looked, absent}
 use Rattle.druid_folder.proofs.ReadPart.{read_part-None}
-use Rattle.druid_store.proofs.memory.MemoryFolderFolder.read.Goals as goal
+use Rattle.druid_store.proofs.record.CallRecordFolder.read.Goals as goal
 
 pub returns-in_err-read_part-in-Some-clause-unchanged : goal.returns-in_err-read_part-in-Some-clause-unchanged
 returns-in_err-read_part-in-Some-clause-unchanged c honest = content_pushed _ _ Looked c.in_ok-note.ensures.ok

@@ -1,9 +1,9 @@
 use Rattle.std.proofs.Common.{◌∙◌, ap}
 use Rattle.druid_folder.specs.Folder.{nothing, without}
 use Rattle.druid_store.specs.Record.{content_after}
-use Rattle.druid_store.specs.declared.memory.Call.TheVariants.{Removed}
+use Rattle.druid_store.specs.declared.record.Call.TheVariants.{Removed}
 use Rattle.druid_store.proofs.Calls.{content_pushed, left_before, without_named}
-use Rattle.druid_store.proofs.memory.MemoryFolderFolder.remove.Goals as goal
+use Rattle.druid_store.proofs.record.CallRecordFolder.remove.Goals as goal
 
 pub returns-clause-done : goal.returns-clause-done
 returns-clause-done c honest =

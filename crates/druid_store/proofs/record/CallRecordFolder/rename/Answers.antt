@@ -2,9 +2,9 @@ use Rattle.std.proofs.Common.{inl, ◌∙◌, ap}
 use Rattle.std.specs.String.{string_bytes}
 use Rattle.druid_folder.specs.Folder.{nothing, renamed}
 use Rattle.druid_store.specs.Record.{content_after}
-use Rattle.druid_store.specs.declared.memory.Call.TheVariants.{Renamed, Failed}
+use Rattle.druid_store.specs.declared.record.Call.TheVariants.{Renamed, Failed}
 use Rattle.druid_store.proofs.Calls.{content_pushed, left_before, left_failed, elapses_pushed, undone_left, renamed_named}
-use Rattle.druid_store.proofs.memory.MemoryFolderFolder.rename.Goals as goal
+use Rattle.druid_store.proofs.record.CallRecordFolder.rename.Goals as goal
 
 pub returns-then-is_none-clause-failed : goal.returns-then-is_none-clause-failed
 returns-then-is_none-clause-failed c honest = inl (content_pushed _ _ Failed c.in_ok-note.ensures.ok)

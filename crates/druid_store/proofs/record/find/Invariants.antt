@@ -1,7 +1,7 @@
 use Rattle.std.proofs.Common.{◌≡◌, length}
 use Rattle.druid_folder.specs.Folder.{nothing}
 use Rattle.druid_store.specs.Record.{content_after}
-use Rattle.druid_store.proofs.memory.find.Given as goal
+use Rattle.druid_store.proofs.record.find.Given as goal
 
 abbrev pub invariant-loop-call : goal.invariant-loop-call
 invariant-loop-call l = content_after nothing l.rest l.wanted ≡ content_after nothing l.fn.calls l.fn.name

@@ -1,9 +1,9 @@
-use Rattle.druid_store.specs.declared.memory.Call.TheVariants.{Synced}
+use Rattle.druid_store.specs.declared.record.Call.TheVariants.{Synced}
 use Rattle.druid_store.proofs.Calls.{content_pushed, left_before}
 use Rattle.std.proofs.Common.{sym, subst}
 use Rattle.druid_store.specs.Record.{IsLeft}
 use Rattle.druid_store.specs.RecordLaws.{content_may_stay}
-use Rattle.druid_store.proofs.memory.MemoryFolderFolder.sync.Goals as goal
+use Rattle.druid_store.proofs.record.CallRecordFolder.sync.Goals as goal
 
 pub returns-clause-stable : goal.returns-clause-stable
 returns-clause-stable c honest = left_before _ _ Synced c.in_ok-note.ensures.ok

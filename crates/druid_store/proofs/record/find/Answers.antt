@@ -2,7 +2,7 @@ use Rattle.std.proofs.Common.{sym, ◌∙◌}
 use Rattle.druid_folder.specs.Folder.{nothing}
 use Rattle.druid_store.specs.Record.{content_after}
 use Rattle.druid_store.proofs.Calls.{last_call}
-use Rattle.druid_store.proofs.memory.find.Goals as goal
+use Rattle.druid_store.proofs.record.find.Goals as goal
 
 pub returns-in-Bytes : goal.returns-in-Bytes
 returns-in-Bytes c =
