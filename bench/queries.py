@@ -17,10 +17,10 @@ sys.path.insert(0, os.path.join(TOP, 'tools'))
 from make_segments import DAY, Segment, file_of
 from serve import ask, free_ports, running, wait_for
 
-DAYS, ROWS, SOURCE = 10, 100_000, 'bench'
+FIRST, DAYS, ROWS, SOURCE = 19_723, 10, 100_000, 'bench'
 RUNS, CLIENTS, WORKERS = 5, 4, 4
 AMONG = [f'p{k * 19 % 1_000:03}' for k in range(50)]
-ALL, ONE = (0, DAYS), (3, 4)
+ALL, ONE = (FIRST, FIRST + DAYS), (FIRST + 3, FIRST + 4)
 
 COUNT, SUM = {'type': 'count', 'name': 'n'}, {'type': 'longSum', 'name': 's', 'fieldName': 'm0'}
 FILTER = {'type': 'and', 'fields': [{'type': 'selector', 'dimension': 'd0', 'value': 'c3'},
@@ -49,7 +49,7 @@ def rows_of(day):
     for i in range(ROWS):
         x = ((day * ROWS + i) * 2654435761 + 12345) % 2**32
         values = [f'c{x % 10}', f'p{x // 16 % 1_000:03}', f'u{(day * ROWS + i) * 7919 % 50_000:05}']
-        yield day * DAY + i * DAY // ROWS, values, [x % 1_000, i]
+        yield (FIRST + day) * DAY + i * DAY // ROWS, values, [x % 1_000, i]
 
 
 def query(kind, granularity, dimensions, days, filter=None):
@@ -86,7 +86,7 @@ QUERIES = [
 def write_segments(folder):
     os.makedirs(folder)
     for day in range(DAYS):
-        segment = Segment(SOURCE, day * DAY, (day + 1) * DAY, 'v1', 0, 1, 0, ['d0', 'd1', 'd2'], ['m0', 'm1'], list(rows_of(day)))
+        segment = Segment(SOURCE, (FIRST + day) * DAY, (FIRST + day + 1) * DAY, 'v1', 0, 1, 0, ['d0', 'd1', 'd2'], ['m0', 'm1'], list(rows_of(day)))
         with open(os.path.join(folder, segment.identifier() + '.seg'), 'wb') as file:
             file.write(file_of(segment))
 
@@ -102,20 +102,10 @@ def ours(program, folder):
     with open(path, 'w') as file:
         json.dump(config, file)
     start = time.monotonic()
-    with open(path) as given, running_on(given, [program, 'serve']) as child:
+    with running([program, 'serve', path]) as child:
         wait_for(child, broker)
         print(f'{DAYS * ROWS:,} rows stand after {time.monotonic() - start:.2f} s', flush=True)
         yield broker
-
-
-@contextlib.contextmanager
-def running_on(given, words):
-    child = subprocess.Popen(words, stdin=given)
-    try:
-        yield child
-    finally:
-        child.kill()
-        child.wait()
 
 
 def tell(port, text, body=None):
@@ -207,12 +197,14 @@ def compare(name, asked, text, answers):
 
 
 def main():
-    words = argparse.ArgumentParser()
-    words.add_argument('--program', default=os.path.join(TOP, 'crates', 'druid_cluster_program', 'out', 'druid_cluster_program'))
-    words.add_argument('--seconds', type=int, default=5)
-    given = words.parse_args()
+    parser = argparse.ArgumentParser(description='Asks druid_cluster serve and ClickHouse the same queries.')
+    parser.add_argument('--program', default=os.path.join(TOP, 'druid_cluster'), help='druid_cluster of this repository')
+    parser.add_argument('--seconds', type=int, default=5, help='how long four clients ask')
+    given = parser.parse_args()
     if not shutil.which('clickhouse-server'):
-        sys.exit('not installed: clickhouse-server')
+        sys.exit('clickhouse-server is not there: apt-get install clickhouse-server')
+    # Where the program is not built yet, this builds it.
+    subprocess.run([given.program, 'replay'], stdin=subprocess.DEVNULL, check=True)
     with tempfile.TemporaryDirectory() as folder, ours(given.program, os.path.join(folder, 'ours')) as broker, \
             theirs(os.path.join(folder, 'theirs')) as house:
         for name, asked, text in QUERIES:

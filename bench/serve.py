@@ -333,4 +333,5 @@ def main():
     sys.exit(0 if last[0] == 200 else 1)
 
 
-main()
+if __name__ == '__main__':
+    main()
