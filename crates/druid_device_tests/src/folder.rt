@@ -48,7 +48,9 @@ fn try_size(rt: &impl Abort, alloc: Global, size: usize) {
     write_all(rt, alloc, &mut folder, size, &patterned(rt, alloc, size));
     assert_eq!(rt; listed(rt, alloc, &mut folder), size);
     folder.sync().expect(rt, "a sync");
+    folder.stop(false).expect(rt, "a stop");
     remove_all(rt, alloc, &mut folder, size);
+    folder.stop(true).expect(rt, "a stop");
     assert_eq!(rt; listed(rt, alloc, &mut folder), 0);
     assert_eq!(rt; folder.faults(), 0);
 }

@@ -64,6 +64,69 @@ fn many_starts(rt: HostRuntime) {
     }
 }
 
+// Which folder call of a start fails (read, write, sync, rename, sync), and the number of the next start.
+const FAILING_CALLS: [(u64, u64); 5] = [(0, 8), (1, 8), (2, 8), (3, 8), (4, 9)];
+
+// Whether a start of which that call fails is O1, once counted, and the next has this number.
+fn fails_at(rt: &impl Abort, alloc: Global, call: u64, next: u64) -> bool {
+    let mut folder = folder_with(rt, alloc, b"7\n");
+    folder.fuse(call);
+    next_incarnation(alloc, &mut folder) == Err(StoreFault::Device)
+        && folder.faults() == 1
+        && next_incarnation(alloc, &mut folder) == Ok(next)
+}
+
+#[test]
+fn failing_incarnation(rt: HostRuntime) {
+    for (call, next) in &FAILING_CALLS {
+        assert!(rt; fails_at(&rt, rt.alloc(), *call, *next), "{call}");
+    }
+}
+
+// Before which folder call of a start a stop falls, or after the last one; whether it keeps what was not synced; and the
+// number of the next start. It is above 7, and above 8 where that was handed out.
+const STOPS: [(u64, bool, u64); 12] = [
+    (0, false, 8),
+    (0, true, 8),
+    (1, false, 8),
+    (1, true, 8),
+    (2, false, 8),
+    (2, true, 8),
+    (3, false, 8),
+    (3, true, 8),
+    (4, false, 8),
+    (4, true, 9),
+    (5, false, 9),
+    (5, true, 9),
+];
+
+// Whether a start that does so many of its five calls has the number 8.
+fn starts(alloc: Global, folder: &mut MemoryFolder, calls: u64) -> bool {
+    if calls < 5 {
+        folder.fuse(calls);
+    }
+    next_incarnation(alloc, folder) == Ok(8)
+}
+
+// Whether the next start after such a stop has this number.
+fn goes_on(rt: &impl Abort, alloc: Global, calls: u64, keep: bool, next: u64) -> bool {
+    let mut folder = folder_with(rt, alloc, b"7\n");
+    folder.sync().expect(rt, "a sync");
+    let is_started = starts(alloc, &mut folder, calls);
+    folder.stop(keep).expect(rt, "a stop");
+    is_started == (calls == 5) && next_incarnation(alloc, &mut folder) == Ok(next)
+}
+
+#[test]
+fn stopped_starts(rt: HostRuntime) {
+    for (calls, keep, next) in &STOPS {
+        assert!(rt;
+            goes_on(&rt, rt.alloc(), *calls, *keep, *next),
+            "{calls} {keep}"
+        );
+    }
+}
+
 // Whether these bytes are no number.
 fn is_bad(rt: &impl Abort, alloc: Global, bytes: &[u8]) -> bool {
     let mut folder = folder_with(rt, alloc, bytes);

@@ -143,6 +143,38 @@ fn ample_memory(rt: HostRuntime) {
     try_all(&rt, rt.alloc(), &mut MemoryFolder::new(rt.alloc()));
 }
 
+// A folder that after its sync wrote two files, one of them anew, moved one and removed one.
+fn unsynced(rt: &impl Abort, alloc: Global) -> MemoryFolder {
+    let mut folder = MemoryFolder::new(alloc);
+    write_three(rt, &mut folder);
+    folder.sync().expect(rt, "a sync");
+    write(rt, &mut folder, "b", "new");
+    write(rt, &mut folder, "d", "first");
+    rename(rt, &mut folder, "c", "e");
+    remove(rt, &mut folder, "a.seg");
+    folder
+}
+
+// Whether a stop leaves these names, `b` with this text, and the third file under that name.
+fn is_left(
+    rt: &impl Abort,
+    alloc: Global,
+    keep: bool,
+    (names, text, third): (&str, &str, &str),
+) -> bool {
+    let mut folder = unsynced(rt, alloc);
+    folder.stop(keep).expect(rt, "a stop");
+    lists(rt, alloc, &mut folder, names)
+        && has(rt, alloc, &mut folder, "b", text)
+        && has(rt, alloc, &mut folder, third, "third")
+}
+
+#[test]
+fn stops(rt: HostRuntime) {
+    assert!(rt; is_left(&rt, rt.alloc(), true, ("b d e ", "new", "e")));
+    assert!(rt; is_left(&rt, rt.alloc(), false, ("a.seg b c d ", "", "c")));
+}
+
 // The path of a folder of this run, for one test.
 pub(crate) fn path_for(rt: &HostRuntime, test: &str) -> io::Result<PathBuf> {
     let name = format!(in rt.alloc(); "druid_store_{}_{test}", process::id(rt.process()))?;

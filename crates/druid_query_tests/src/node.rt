@@ -103,6 +103,19 @@ fn load<R: Abort + Wait>(
     node.load_file(rt, &mut folder(rt, alloc), name, seen)
 }
 
+// What it tells where the device fails.
+fn load_in_vain<R: Abort + Wait>(
+    rt: &R,
+    alloc: Global,
+    node: &DataNode<First>,
+    name: &str,
+    seen: &mut Mark,
+) -> Result<(), NodeFault> {
+    let mut failing = folder(rt, alloc);
+    failing.fuse(0);
+    node.load_file(rt, &mut failing, name, seen)
+}
+
 // What dropping a segment of `w` tells, by the text of its identifier.
 fn drop_named<R: Abort + Wait>(
     rt: &R,
@@ -392,7 +405,8 @@ const AFTER_DROP: &str =
 const AFTER_MORE: &str =
     "?counter=0&hash=1 = 200 {\"counter\":{\"counter\":3,\"hash\":1},\"from\":null,\"requests\":[],\"resetCause\":\"TooOld\",\"resetCounter\":true}";
 
-// What is done to the node: a file is loaded, or a segment dropped by the text of its identifier.
+// What is done to the node: a file is loaded, from a device that works or one that fails, or a segment is dropped by the
+// text of its identifier.
 fn done<R: Abort + Wait>(
     rt: &R,
     alloc: Global,
@@ -403,6 +417,7 @@ fn done<R: Abort + Wait>(
     let (what, name) = step.split_once(" ").expect(rt, "a name");
     match what {
         "load" => load(rt, alloc, node, name, seen),
+        "fail" => load_in_vain(rt, alloc, node, name, seen),
         _ => drop_named(rt, alloc, node, name, seen),
     }
 }
@@ -430,6 +445,8 @@ const REFUSED: &str =
 load other.seg = N3: a segment under another name
 load broken.seg = N2: F2: a cut file
 load none.seg = N6: no such file
+fail w_1970-01-01T00:00:00.000Z_1970-01-02T00:00:00.000Z_v.seg = N1: the device failed
+fail wiki_2024-01-01T00:00:00.000Z_2024-01-02T00:00:00.000Z_v1_3.seg = N1: the device failed
 drop w_1970-01-01T00:00:00.000Z_1970-01-02T00:00:00.000Z_v_1 = N4: H2: not served";
 
 const DROPPED: &str = "drop w_1970-01-01T00:00:00.000Z_1970-01-02T00:00:00.000Z_v = ok";

@@ -7,9 +7,9 @@ use crate::record::CallRecord;
 use druid_folder::{Folder, StoreFault, is_file_name};
 use std::alloc::Global;
 
-/// A folder in memory, which is honest. It keeps each call but those of `faults`, and its files
-/// are what those calls made of them: a call that finds no memory for that is O9 and changes
-/// nothing. `fuse` has one of its calls fail, and `stop` leaves it as a stop does.
+/// A folder in memory, which is honest. It keeps each call but those of `faults` and the one that
+/// `fuse` has fail, and its files are what those calls made of them: a call that finds no memory
+/// for that is O9 and changes nothing. `stop` leaves it as a stop does.
 #[derive(Drop)]
 pub struct MemoryFolder {
     files: CallRecord,
