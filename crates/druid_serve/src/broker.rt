@@ -1,11 +1,7 @@
 //! A broker: the threads that follow the nodes, and those that answer.
-ghost use Rattle.std.specs.Prelude.{◌≡◌, ◌<◌, ◌≤◌, ◌+◌, ◌-◌, ◌^◌, min, if◌then◌else◌, IfOk, IfErr, OnOk, length, vec_len};
+ghost use Rattle.std.specs.Prelude.{◌≡◌, ◌<◌, ◌≤◌, ◌+◌, ◌-◌, ◌^◌, min, if◌then◌else◌, IfOk, OnOk, length, vec_len};
 ghost use Rattle.druid_config.specs.Limits.{max_workers};
 ghost use Rattle.druid_inventory.specs.Entry.{max_nodes};
-ghost use Rattle.druid_wire.specs.Served.{IsServed, FailsToServe};
-ghost use Rattle.druid_link.specs.TcpLinks.{ExchangesOverTcp};
-ghost use Rattle.druid_scatter.specs.Order.{turned};
-ghost use Rattle.druid_broker.specs.Views.{RespondsBy};
 ghost use Rattle.druid_broker.specs.Turns.{MakesTurns};
 ghost use mathlib.Core.List.{IsPrefix};
 
@@ -14,7 +10,6 @@ use druid_broker::{Routes, follow, serve_one};
 use druid_config::NodeConfig;
 use druid_inventory::Inventory;
 use druid_link::{Link, TcpLink};
-use druid_message::WireFault;
 use druid_published::{Opened, Publication, Publisher, View, open};
 use druid_scatter::Rotate;
 use druid_serve_node::{DeviceFailed, REST_MILLISECONDS, limit};
@@ -129,7 +124,7 @@ fn start_syncer<
     }
 }
 
-// Answers what comes by a reader, in the worker's turn.
+// Answers what comes by a reader, and tells whether that was done.
 fn respond<
     R: Net<Listener = TcpListener, Stream = TcpStream>
         + Wait
@@ -141,23 +136,11 @@ fn respond<
     J: Publication,
     I: BufRead,
     O: Write,
->(
-    rt: &R,
-    alloc: Global,
-    worker: &mut Worker<R, J>,
-    reader: &mut I,
-    writer: &mut O,
-) -> Result<u16, WireFault>
-    ensures ok { IfOk result (IsServed (RespondsBy ExchangesOverTcp (turned worker.old.turn) J.opening worker.old.view worker.new.view worker.old.links.items worker.new.links.items)
-        ((worker.new.view ≡ worker.old.view) × (worker.new.links.items ≡ worker.old.links.items))
-        (I.remaining reader.old) (I.remaining reader.new) (O.contents writer.old) (O.contents writer.new)) }
-    ensures err { IfErr result (FailsToServe (RespondsBy ExchangesOverTcp (turned worker.old.turn) J.opening worker.old.view worker.new.view worker.old.links.items worker.new.links.items)
-        ((worker.new.view ≡ worker.old.view) × (worker.new.links.items ≡ worker.old.links.items))
-        (I.remaining reader.old) (I.remaining reader.new) (O.contents writer.old) (O.contents writer.new)) }
+>(rt: &R, alloc: Global, worker: &mut Worker<R, J>, reader: &mut I, writer: &mut O) -> bool
     ensures view { IsPrefix worker.old.view worker.new.view }
     ensures turn { worker.new.turn ≡ worker.old.turn }
 {
-    serve_one(
+    let served = serve_one(
         rt,
         alloc,
         &worker.routes,
@@ -167,7 +150,8 @@ fn respond<
         worker.turn,
         &Rotate,
         &mut worker.links,
-    )
+    );
+    served.is_ok()
 }
 
 // Answers one connection, and tells whether that was done.
@@ -193,7 +177,7 @@ fn answer<
     let Ok(mut writer) = BufWriter::new(alloc, stream) else {
         return false;
     };
-    respond(rt, alloc, worker, &mut reader, &mut writer).is_ok() && writer.flush().is_ok()
+    respond(rt, alloc, worker, &mut reader, &mut writer) && writer.flush().is_ok()
 }
 
 // Answers a connection, counts it once it is closed, and tells whether it was answered: then the next has the next turn.

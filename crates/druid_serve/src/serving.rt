@@ -166,7 +166,8 @@ fn ends_of<R: Threads>(
     ensures { IfOk result (λ ends. vec_len ends ≡ vec_len loaders) }
 {
     let mut ends = Vec::with_capacity(alloc, loaders.len())?;
-    for loader in loaders {
+    let mut loaders = loaders;
+    while let Some(loader) = loaders.pop() {
         ends.push(loader.join(rt))?;
     }
     Ok(ends)

@@ -1,3 +1,4 @@
+use Rattle.std.proofs.Common.{◌≡◌, vec_len}
 use Rattle.druid_serve.proofs.serving.start_nodes.Given as goal
 use Rattle.druid_store.specs.Unknown.{unknown_content, unknown_left, unknown_during}
 
@@ -15,3 +16,6 @@ ghosts-start_node-L-Device g a = record {
   left = unknown_left a.config.now.folder 1;
   during = unknown_during a.config.now.folder 1;
 }
+
+abbrev pub invariant-loop-place : goal.invariant-loop-place
+invariant-loop-place g l = vec_len l.loaders ≡ l.place
