@@ -479,8 +479,9 @@ fn add_found(alloc: Global, mut found: Found<'_>, groups: &mut Vec<Group>) -> Re
 }
 
 /// What the query tells of the rows of the segment that lie in the interval and pass its filter. Where
-/// instants rise, or there is one bucket, a row allocates nothing and costs one step, or, where the dimensions have many
-/// values beside the rows of its bucket, the logarithm of the number of groups; else it costs that and a key.
+/// instants rise, or there is one bucket, a row of a group that is there allocates nothing and costs one step, or,
+/// where the dimensions have many values beside the rows of its bucket, the logarithm of the number of groups; else
+/// it costs that and a key.
 pub fn partial_of(
     alloc: Global,
     query: &Query,
