@@ -1,5 +1,6 @@
 -- what public contracts rest on
 pub mod Spelling
+pub mod ColumnSpelling
 pub mod Reading
 -- words of private contracts
 pub mod Written
