@@ -5,9 +5,11 @@
         --metrics items,cents --by day --rows 20 --out some/folder examples/cluster/first.csv
     python3 tools/make_segments.py show some/folder/*.seg
 
+With `--columns` files have the layout `DSG2`: each text once for a dimension, and rows by column. Nodes answer the same of both.
+
 The CSV is UTF-8, and its first line names its columns; those that no option names are left out. Rows keep the order of the CSV:
 each hour or day that has rows becomes a chunk, cut into partitions of so many rows, all of them core ones. A file states its own
-length as its size. Where a line of the CSV is bad nothing is written. The format is that of docs/FORMATS.md, `DSG1`.
+length as its size. Where a line of the CSV is bad nothing is written. The formats are those of docs/FORMATS.md.
 """
 import argparse, codecs, csv, io, json, os, re, signal, struct, sys
 from datetime import date
@@ -195,20 +197,46 @@ def row_bytes(row):
     return out
 
 
-def encoded(segment, sized=False):
+def column_bytes(values):
+    """A dimension by its dictionary: how many texts, the texts rising by their bytes, and a code for each row, 0 for null."""
+    texts = sorted({value.encode() for value in values if value is not None})
+    codes = {text: code for code, text in enumerate(texts, 1)}
+    return (struct.pack('>I', len(texts)) + b''.join(struct.pack('>H', len(text)) + text for text in texts)
+            + b''.join(struct.pack('>I', 0 if value is None else codes[value.encode()]) for value in values))
+
+
+def numbers_bytes(numbers):
+    """A metric: a mark for each row, and then the numbers that there are."""
+    return (bytes(number is not None for number in numbers)
+            + b''.join(struct.pack('>q', number) for number in numbers if number is not None))
+
+
+def rows_bytes(segment):
+    return b''.join(map(row_bytes, segment.rows))
+
+
+def columns_bytes(segment):
+    return (b''.join(struct.pack('>q', time) for time, _, _ in segment.rows)
+            + b''.join(column_bytes([texts[place] for _, texts, _ in segment.rows]) for place in range(len(segment.dimensions)))
+            + b''.join(numbers_bytes([numbers[place] for _, _, numbers in segment.rows]) for place in range(len(segment.metrics))))
+
+
+def encoded(segment, sized=False, by_columns=False):
     """The bytes of a segment's file, which state the segment's size, or their own length."""
-    before = (b'DSG1' + short_text(segment.source) + struct.pack('>qq', segment.start, segment.end) + short_text(segment.version)
-              + struct.pack('>HH', segment.partition, segment.core))
+    before = ((b'DSG2' if by_columns else b'DSG1') + short_text(segment.source) + struct.pack('>qq', segment.start, segment.end)
+              + short_text(segment.version) + struct.pack('>HH', segment.partition, segment.core))
     behind = (names_bytes(segment.dimensions) + names_bytes(segment.metrics) + struct.pack('>I', len(segment.rows))
-              + b''.join(map(row_bytes, segment.rows)))
+              + (columns_bytes if by_columns else rows_bytes)(segment))
     size = len(before) + 8 + len(behind) if sized else segment.size
     return before + struct.pack('>Q', size) + behind
 
 
-def file_of(segment):
-    data = encoded(segment, sized=True)
-    if len(data) > MAX_FILE:
-        raise Refused(f'{segment.identifier()} has {len(data):,} bytes, more than {MAX_FILE:,}: take fewer --rows')
+def file_of(segment, by_columns=False):
+    """The bytes of a file, within the limit by rows too, which both layouts have to keep."""
+    data = encoded(segment, sized=True, by_columns=by_columns)
+    most = max(len(data), len(encoded(segment)))
+    if most > MAX_FILE:
+        raise Refused(f'{segment.identifier()} has {most:,} bytes, more than {MAX_FILE:,}: take fewer --rows')
     return data
 
 
@@ -267,19 +295,55 @@ class Parts:
             raise Refused(f'F3: a mark of {mark}')
         return read() if mark else None
 
-    def row(self, start, end, dimensions, metrics):
+    def time(self, start, end):
         time = self.number('q')
         if not start <= time < end:
             raise Refused('F4: a row outside the interval')
+        return time
+
+    def row(self, start, end, dimensions, metrics):
+        time = self.time(start, end)
         texts = [self.value(lambda: self.text('H', MAX_VALUE, None, 'a value')) for _ in dimensions]
         return time, texts, [self.value(lambda: self.number('q')) for _ in metrics]
+
+    def column(self, rows):
+        texts = [None]
+        for _ in range(self.count('I', rows, 'values of a dimension')):
+            text = self.text('H', MAX_VALUE, None, 'a value')
+            if len(texts) > 1 and text.encode() <= texts[-1].encode():
+                raise Refused('F3: values of a dimension that do not rise')
+            texts.append(text)
+        codes = []
+        for _ in range(rows):
+            codes.append(self.number('I'))
+            if codes[-1] >= len(texts):
+                raise Refused(f'F3: a code of {codes[-1]:,} where there are {len(texts) - 1:,} values')
+        if len({0, *codes}) < len(texts):
+            raise Refused('F3: a value that no row has')
+        return [texts[code] for code in codes]
+
+    def numbers(self, rows):
+        marks = []
+        for _ in range(rows):
+            marks.append(self.number('B'))
+            if marks[-1] > 1:
+                raise Refused(f'F3: a mark of {marks[-1]}')
+        return [self.number('q') if mark else None for mark in marks]
+
+    def columns(self, start, end, dimensions, metrics, rows):
+        """The rows of a file by columns."""
+        times = [self.time(start, end) for _ in range(rows)]
+        texts = [self.column(rows) for _ in dimensions]
+        numbers = [self.numbers(rows) for _ in metrics]
+        return [(time, [column[row] for column in texts], [column[row] for column in numbers]) for row, time in enumerate(times)]
 
 
 def decoded(data):
     """The segment that a file of these bytes is. Refused with the fault's number, as docs/FORMATS.md has them."""
     parts = Parts(data)
-    if parts.take(4) != b'DSG1':
-        raise Refused('F1: it does not begin with DSG1')
+    magic = parts.take(4)
+    if magic not in (b'DSG1', b'DSG2'):
+        raise Refused('F1: it begins with neither DSG1 nor DSG2')
     source = parts.text('B', 100, NAME, 'the name of a source')
     start, end = parts.instant(), parts.instant()
     if start >= end:
@@ -291,10 +355,17 @@ def decoded(data):
     size = parts.number('Q')
     dimensions = parts.names([])
     metrics = parts.names(dimensions)
-    rows = [parts.row(start, end, dimensions, metrics) for _ in range(parts.count('I', MAX_ROWS, 'rows'))]
+    count = parts.count('I', MAX_ROWS, 'rows')
+    if magic == b'DSG2':
+        rows = parts.columns(start, end, dimensions, metrics, count)
+    else:
+        rows = [parts.row(start, end, dimensions, metrics) for _ in range(count)]
+    segment = Segment(source, start, end, version, partition, core, size, dimensions, metrics, rows)
+    if magic == b'DSG2' and len(encoded(segment)) > MAX_FILE:
+        raise Refused('F5: more bytes by rows than a segment file may have')
     if parts.is_longer or parts.place < len(parts.data):
         raise Refused('F6: bytes behind the last row')
-    return Segment(source, start, end, version, partition, core, size, dimensions, metrics, rows)
+    return segment
 
 
 # The commands.
@@ -307,7 +378,7 @@ def make(asked):
     length = LENGTHS[asked.by]
     rows = rows_of(asked.csv, asked.time, asked.dimensions, asked.metrics, length)
     segments = segments_of(rows, asked.source, asked.version, asked.dimensions, asked.metrics, length, asked.rows)
-    made = [(segment, file_of(segment)) for segment in segments]
+    made = [(segment, file_of(segment, asked.columns)) for segment in segments]
     os.makedirs(asked.out, exist_ok=True)
     for segment, data in made:
         name = segment.identifier() + '.seg'
@@ -393,6 +464,7 @@ def add_make(commands):
     option('--by', choices=LENGTHS, help='how long a chunk is')
     option('--rows', type=count_of, metavar='N', help='how many rows a partition has at most, 1 to 100,000')
     option('--out', metavar='FOLDER', help='where the files go; files of the same names are replaced')
+    maker.add_argument('--columns', action='store_true', help='write rows by columns, layout DSG2')
     maker.add_argument('csv', metavar='CSV')
     return maker
 
