@@ -4,7 +4,8 @@ use Rattle.std.proofs.lemmas.Bool.{cases_lt}
 use Rattle.std.proofs.lemmas.List.{same_lists, take_at, take_all, get_or_push, get_or_append_left, length_push, set-get_or}
 use Rattle.std.proofs.lemmas.List.Elements.{All-nil, All-cons, All-head, All-tail, All-replicate}
 use Rattle.druid_rows.specs.Rows.{Row, row_of}
-use Rattle.druid_rows.specs.Table.{HasWidths, across, rows_in, table_of, AreLong, with_values, with_one_more}
+use Rattle.druid_rows.specs.Columns.{across, rows_in, AreLong}
+use Rattle.druid_rows.specs.Table.{HasWidths, table_of, with_values, with_one_more}
 use Rattle.druid_rows.proofs.TableLemmas.{length_rows_in, rows_in_at}
 
 module _ {X : Type 0} where

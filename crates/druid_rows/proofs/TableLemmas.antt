@@ -1,14 +1,16 @@
 -- Rows by columns: the row at a place, and the columns again.
-use Rattle.std.proofs.Common.{◌≡◌, ◌↔◌, ◌+◌, Bool, true, false, IsTrue, MatchBool, ◌∙◌, ℕ, ℤ, ◌<◌, List, length, map, get_or, Option, None, All, ap, sym, refl, arith}
-use Rattle.std.proofs.lemmas.List.{same_lists, get_or-map, length-map, get_or_default}
-use Rattle.std.proofs.lemmas.List.Elements.{All-weaker}
-use Rattle.std.proofs.lemmas.Bool.{false≢true}
+use Rattle.std.proofs.Common.{◌≡◌, ◌↔◌, ◌+◌, Bool, true, false, IsTrue, MatchBool, ◌∙◌, ℕ, ℤ, ◌<◌, List, length, map, get_or, Option, None, All, IfSome, FitsSigned, ap, subst, sym, refl, inl, inr, arith}
+use Rattle.std.specs.Int.{w64}
+use Rattle.std.specs.List.{range_with_len}
+use Rattle.std.proofs.lemmas.List.{same_lists, get_or-map, get_or_past, length-map, get_or_default}
+use Rattle.std.proofs.lemmas.List.Elements.{All-weaker, All-map}
+use Rattle.std.proofs.lemmas.Bool.{false≢true, cases_lt}
 use Rattle.std.specs.List.Sorted.{IsNonDecreasing}
 use Rattle.std.proofs.lemmas.Grind.{common_steps}
 use Rattle.std.proofs.lemmas.List.FromFn.{get_or-map-range_with_len, length-map-range_with_len}
-use Rattle.druid_rows.specs.Rows.{Row, row_of, no_row}
-use Rattle.druid_rows.specs.Columns.{column}
-use Rattle.druid_rows.specs.Table.{Table, across, rows_in, table_of, AreLong}
+use Rattle.druid_rows.specs.Rows.{Row, row_of, no_row, AreWords, HasWords}
+use Rattle.druid_rows.specs.Columns.{column, across, rows_in, AreLong}
+use Rattle.druid_rows.specs.Table.{Table, table_of}
 
 -- the row that the columns make at a place
 abbrev row_across : List ℕ → List (List (Option (List ℕ))) → List (List (Option ℤ)) → ℕ → Row
@@ -111,3 +113,21 @@ all_reach {X} row rows columns h all = All-weaker (λ (column : List X). length 
 pub row_of_table : (times : List ℕ) (texts : List (List (Option (List ℕ)))) (numbers : List (List (Option ℤ))) (table : Table) (i : ℕ) → table_of times texts numbers ≡ table → i < length table.rows → get_or table.rows i no_row ≡ row_of (get_or times i 0) (across texts i) (across numbers i)
 row_of_table times texts numbers table i is h =
     ap (λ (t : Table). get_or t.rows i no_row) (sym is) ∙ rows_in_at times texts numbers i no_row (omega (arith, length_of_table times texts numbers table is, h))
+
+-- ---- numbers of 64 bits
+
+word_at : (column : List (Option ℤ)) (place : ℕ) → AreWords column → IfSome (get_or column place None) (FitsSigned w64)
+word_at column place words = elim (cases_lt place (length column)) [
+  | inl within ↦ words place None within
+  | inr past ↦ subst (λ value. IfSome value (FitsSigned w64)) (sym (get_or_past column place None past)) tt
+]
+
+words_across : (numbers : List (List (Option ℤ))) (place : ℕ) → All AreWords numbers → AreWords (across numbers place)
+words_across numbers place all =
+    All-map (λ number. IfSome number (FitsSigned w64)) (λ column. get_or column place None) numbers
+    (All-weaker AreWords (λ column. IfSome (get_or column place None) (FitsSigned w64)) (λ column words. word_at column place words) numbers all)
+
+-- rows of words, from columns of words
+pub words_in : (times : List ℕ) (texts : List (List (Option (List ℕ)))) (numbers : List (List (Option ℤ))) → All AreWords numbers → All HasWords (rows_in times texts numbers)
+words_in times texts numbers all =
+    All-map HasWords (row_across times texts numbers) (range_with_len 0 (length times)) (λ i d h. words_across numbers (get_or (range_with_len 0 (length times)) i d) all)

@@ -1,9 +1,10 @@
--- The values of a dimension by a dictionary: each text once, and a code for each row.
-use Rattle.std.specs.Prelude.{◌≡◌, ◌↔◌, ℕ, zero, suc, ◌≤◌, List, length, map, slice_get, slice_index_or, All, Contains, Option, None, Some}
+-- Rows by columns, and the values of a dimension by a dictionary: each text once, and a code for each row.
+use Rattle.std.specs.Prelude.{◌≡◌, ◌↔◌, ℕ, ℤ, zero, suc, ◌≤◌, List, length, map, slice_get, slice_index_or, All, Contains, Option, None, Some}
+use Rattle.std.specs.List.{range_with_len}
 use Rattle.std.specs.Ordering.{nat_cmp}
 use Rattle.std.specs.Cmp.Lexicographic.{slice_cmp}
 use Rattle.std.specs.List.Sorted.{IsStrictlySortedBy}
-use Rattle.druid_rows.specs.Rows.{Row}
+use Rattle.druid_rows.specs.Rows.{Row, row_of}
 
 -- the value of each row for the dimension at that place; null where it has none
 abbrev pub column : ℕ → List Row → List (Option (List ℕ))
@@ -23,3 +24,16 @@ value_at texts (suc k) = slice_get texts k
 pub record AreCodes (texts : List (List ℕ)) (values : List (Option (List ℕ))) (codes : List ℕ) : Type 0 where
   pub stand : map (value_at texts) codes ≡ values
   pub bounded : All (λ code. code ≤ length texts) codes
+
+-- what each column has at that place
+abbrev pub across : {X : Type 0} → List (List (Option X)) → ℕ → List (Option X)
+across columns place = map (λ column. slice_index_or column place None) columns
+
+-- a row for each instant: at each place what each column has there
+abbrev pub rows_in : List ℕ → List (List (Option (List ℕ))) → List (List (Option ℤ)) → List Row
+rows_in times texts numbers =
+    map (λ place. row_of (slice_index_or times place 0) (across texts place) (across numbers place)) (range_with_len 0 (length times))
+
+-- each column has that many values
+abbrev pub AreLong : {X : Type 0} → ℕ → List (List X) → Type 0
+AreLong rows columns = All (λ column. length column ≡ rows) columns

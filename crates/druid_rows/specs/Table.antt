@@ -1,7 +1,7 @@
--- Rows by columns.
-use Rattle.std.specs.Prelude.{◌≡◌, ℕ, ℤ, List, [], ◌∷◌, ◌++◌, length, map, slice_index_or, All, Option, None}
-use Rattle.std.specs.List.{range_with_len}
-use Rattle.druid_rows.specs.Rows.{Row, row_of}
+-- A table of rows, one row more, one value more of each column.
+use Rattle.std.specs.Prelude.{◌≡◌, ℕ, ℤ, List, [], ◌∷◌, ◌++◌, length, Option}
+use Rattle.druid_rows.specs.Rows.{Row}
+use Rattle.druid_rows.specs.Columns.{rows_in}
 
 -- how many values of each kind each row has, and the rows
 pub record Table : Type 0 where
@@ -14,23 +14,10 @@ pub record HasWidths (dimensions metrics : ℕ) (row : Row) : Type 0 where
   pub dimensions_are : length row.dimensions ≡ dimensions
   pub metrics_are : length row.metrics ≡ metrics
 
--- what each column has at that place
-abbrev pub across : {X : Type 0} → List (List (Option X)) → ℕ → List (Option X)
-across columns place = map (λ column. slice_index_or column place None) columns
-
--- a row for each instant: at each place what each column has there
-abbrev pub rows_in : List ℕ → List (List (Option (List ℕ))) → List (List (Option ℤ)) → List Row
-rows_in times texts numbers =
-    map (λ place. row_of (slice_index_or times place 0) (across texts place) (across numbers place)) (range_with_len 0 (length times))
-
 -- the table of these columns
 abbrev pub table_of : List ℕ → List (List (Option (List ℕ))) → List (List (Option ℤ)) → Table
 table_of times texts numbers =
     record { dimensions = length texts; metrics = length numbers; rows = rows_in times texts numbers }
-
--- each column has that many values
-abbrev pub AreLong : {X : Type 0} → ℕ → List (List X) → Type 0
-AreLong rows columns = All (λ column. length column ≡ rows) columns
 
 -- the table with one more row at its end
 abbrev pub with_one_more : Table → Row → Table

@@ -5,10 +5,10 @@ ghost use Rattle.druid_rows.specs.Columns.{IsDictionary, AreCodes, value_at};
 
 use std::marker::Model;
 
-// The values of a dimension, a text or null for each row. Each text is kept once: 0 is the code of null, and k that of
-// the k-th text in the order of bytes.
+/// The values of a dimension, a text or null for each row. Each text is kept once: 0 is the code of null, and k that of
+/// the k-th text in the order of bytes.
 #[derive(Debug, Drop)]
-pub(crate) struct Column {
+pub struct Column {
     values: Vec<String>,
     codes: Vec<u32>,
 }
@@ -27,8 +27,9 @@ impl Model for Column {
 }
 
 impl Column {
-    // The column of these codes.
-    pub(crate) fn new(values: Vec<String>, codes: Vec<u32>) -> Column
+    /// The column of these codes: 0 stands for null, and k for the k-th of the values, which are those that occur,
+    /// rising by their bytes. Does not allocate.
+    pub fn new(values: Vec<String>, codes: Vec<u32>) -> Column
         requires dictionary { IsDictionary (map (value_at (texts_of values.items)) codes.items) (texts_of values.items) }
         requires bounded { All (λ code. code ≤ length (texts_of values.items)) codes.items }
         ensures { result ≡ map (value_at (texts_of values.items)) codes.items }

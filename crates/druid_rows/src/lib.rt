@@ -17,11 +17,13 @@ mod table;
 mod table_builder;
 
 pub use builder::SegmentBuilder;
+pub use column::Column;
 pub use druid_filter::Filter;
 pub use fault::RowFault;
 pub use filter::matches;
 pub use laws::values_have_one_dictionary;
 pub use lent::MAX_VALUE;
+pub use numbers::Numbers;
 pub use row::Row;
 pub use schema::{MAX_NAME, Schema};
 pub use segment::{MAX_FIELDS, MAX_ROWS, MAX_TEXT, Segment};

@@ -3,9 +3,9 @@ ghost use Rattle.std.specs.Prelude.{◌≡◌, ◌<◌, [], ◌∷◌, ◌++◌,
 use std::alloc::{AllocError, Global};
 use std::marker::Model;
 
-// The values of a metric, a number or null for each row.
+/// The values of a metric, a number or null for each row.
 #[derive(Debug, Drop)]
-pub(crate) struct Numbers {
+pub struct Numbers {
     values: Vec<Option<i64>>,
 }
 
@@ -25,6 +25,13 @@ impl Numbers {
         Numbers {
             values: Vec::new(alloc),
         }
+    }
+
+    /// These values. Does not allocate.
+    pub fn of(values: Vec<Option<i64>>) -> Numbers
+        ensures { result ≡ values.items }
+    {
+        Numbers { values }
     }
 
     // Adds a value after the others, or nothing.

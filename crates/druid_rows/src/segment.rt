@@ -2,10 +2,13 @@ ghost use Rattle.std.specs.Prelude.{◌≡◌, ◌↔◌, ◌*◌, List, ℕ, �
 ghost use Rattle.std.specs.List.Sorted.{IsNonDecreasing};
 ghost use Rattle.std.specs.Option.{option_map};
 ghost use Rattle.druid_time.specs.Extent.{Has};
-ghost use Rattle.druid_rows.specs.Rows.{IsSchema, HasShape, IsInside, HasShortValues, HasWords, texts_of};
-ghost use Rattle.druid_rows.specs.Columns.{column, IsDictionary, AreCodes};
+ghost use Rattle.druid_rows.specs.Rows.{IsSchema, HasShape, IsInside, HasShortValues, AreWords, HasWords, texts_of};
+ghost use Rattle.druid_rows.specs.Columns.{column, IsDictionary, AreCodes, rows_in, AreLong};
 ghost use Rattle.druid_rows.specs.Segment.{Segment, IsWithinLimits, HaveShape, AreInside, HaveWords, IsSegment, row_at, segment_of, with_row, row_length, head_length, text_length, max_text};
 
+use crate::column::Column;
+use crate::lent::read_numbers;
+use crate::numbers::Numbers;
 use crate::table::Table;
 use crate::table_builder::table_of_rows;
 use crate::{Row, RowFault, Schema};
@@ -141,6 +144,15 @@ pub(crate) fn judge(
     Ok(room)
 }
 
+// For the proof: each number that is read is of 64 bits.
+fn read_metrics(columns: &[Numbers])
+    ensures { All AreWords columns.now }
+{
+    for column in columns {
+        read_numbers(column.values());
+    }
+}
+
 impl Segment {
     /// The segment of these rows, in this order.
     ///
@@ -197,6 +209,32 @@ impl Segment {
             schema,
             table,
         })
+    }
+
+    /// The segment of these columns: the row at each place has the instant there, and what each column has there.
+    /// Does not allocate.
+    pub fn of_columns(
+        alloc: Global,
+        descriptor: Descriptor,
+        schema: Schema,
+        times: Vec<Instant>,
+        dimensions: Vec<Column>,
+        metrics: Vec<Numbers>,
+    ) -> Segment
+        requires valid { IsSegment (segment_of descriptor schema (rows_in times.items dimensions.items metrics.items)) }
+        requires texts { AreLong (length times.items) dimensions.items }
+        requires numbers { AreLong (length times.items) metrics.items }
+        requires dimensions { length dimensions.items ≡ length schema.dimensions }
+        requires metrics { length metrics.items ≡ length schema.metrics }
+        ensures { result ≡ segment_of descriptor schema (rows_in times.items dimensions.items metrics.items) }
+    {
+        read_metrics(&metrics);
+        let table = Table::new(alloc, times, dimensions, metrics);
+        Segment {
+            descriptor,
+            schema,
+            table,
+        }
     }
 
     /// What is announced of it.

@@ -3,8 +3,8 @@ ghost use Rattle.std.specs.List.Sorted.{IsNonDecreasing};
 ghost use Rattle.std.specs.Option.{option_map};
 ghost use Rattle.druid_time.specs.Extent.{Has};
 ghost use Rattle.druid_rows.specs.Rows.{no_row, texts_of, nullable_texts_of};
-ghost use Rattle.druid_rows.specs.Columns.{column, IsDictionary, AreCodes};
-ghost use Rattle.druid_rows.specs.Table.{across, table_of, AreLong};
+ghost use Rattle.druid_rows.specs.Columns.{column, IsDictionary, AreCodes, across, AreLong};
+ghost use Rattle.druid_rows.specs.Table.{table_of};
 
 use crate::Row;
 use crate::column::Column;
@@ -26,7 +26,8 @@ pub(crate) struct Table {
 impl Model for Table {
     ghost use Rattle.std.specs.Prelude.{◌*◌, ◌↔◌, IsTrue, length};
     ghost use Rattle.std.specs.List.Sorted.{IsNonDecreasing};
-    ghost use Rattle.druid_rows.specs.Table.{Table, table_of, AreLong};
+    ghost use Rattle.druid_rows.specs.Columns.{AreLong};
+    ghost use Rattle.druid_rows.specs.Table.{Table, table_of};
 
     ghost Value = { Table };
 

@@ -1,7 +1,8 @@
 ghost use Rattle.std.specs.Prelude.{◌≡◌, ℕ, [], ◌∷◌, ◌++◌, ◌≤◌, length, map, take, replicate, vec_capacity, All, IfOk, OnOk, OnErr};
 ghost use Rattle.std.specs.Option.{option_map};
 ghost use Rattle.druid_rows.specs.Rows.{texts_by};
-ghost use Rattle.druid_rows.specs.Table.{HasWidths, AreLong, with_values, with_one_more};
+ghost use Rattle.druid_rows.specs.Columns.{AreLong};
+ghost use Rattle.druid_rows.specs.Table.{HasWidths, with_values, with_one_more};
 
 use crate::Row;
 use crate::column::Column;
@@ -26,7 +27,8 @@ pub(crate) struct TableBuilder {
 
 impl Model for TableBuilder {
     ghost use Rattle.std.specs.Prelude.{◌≡◌, ◌*◌, ◌≤◌, [], length, vec_capacity};
-    ghost use Rattle.druid_rows.specs.Table.{Table, table_of, AreLong};
+    ghost use Rattle.druid_rows.specs.Columns.{AreLong};
+    ghost use Rattle.druid_rows.specs.Table.{Table, table_of};
 
     ghost Value = { Table };
 

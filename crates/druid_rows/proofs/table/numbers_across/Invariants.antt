@@ -1,5 +1,5 @@
 use Rattle.std.proofs.Common.{◌≡◌, take}
-use Rattle.druid_rows.specs.Table.{across}
+use Rattle.druid_rows.specs.Columns.{across}
 use Rattle.druid_rows.proofs.table.numbers_across.Given as goal
 
 abbrev pub invariant-loop-column : goal.invariant-loop-column

@@ -1,6 +1,6 @@
 use Rattle.std.proofs.Common.{◌≡◌, take}
 use Rattle.druid_rows.specs.Rows.{nullable_texts_of}
-use Rattle.druid_rows.specs.Table.{across}
+use Rattle.druid_rows.specs.Columns.{across}
 use Rattle.druid_rows.proofs.table.texts_across.Given as goal
 
 abbrev pub invariant-loop-column : goal.invariant-loop-column

@@ -1,6 +1,6 @@
 use Rattle.std.proofs.Common.{◌∙◌, ◌<◌, length, All, sym, subst, arith, ap}
 use Rattle.druid_rows.specs.Rows.{Row, row_of}
-use Rattle.druid_rows.specs.Table.{across}
+use Rattle.druid_rows.specs.Columns.{across}
 use Rattle.druid_rows.proofs.TableLemmas.{length_of_table, row_of_table, all_reach}
 use Rattle.druid_rows.proofs.table.Table.row.Goals as goal
 

@@ -1,6 +1,7 @@
 use Rattle.std.proofs.Common.{◌≡◌, ◌∙◌, suc, [], ◌∷◌, ◌++◌, length, ap, sym, subst, arith, rules}
 use Rattle.std.proofs.lemmas.List.{with_items_is, length_push}
-use Rattle.druid_rows.specs.Table.{Table, HasWidths, AreLong, with_values, table_of, with_one_more}
+use Rattle.druid_rows.specs.Columns.{AreLong}
+use Rattle.druid_rows.specs.Table.{Table, HasWidths, with_values, table_of, with_one_more}
 use Rattle.druid_rows.proofs.GrowLemmas.{table_push, AreLong_lengthened, length_lengthened}
 use Rattle.druid_rows.proofs.table_builder.TableBuilder.push.Goals as goal
 
