@@ -4,7 +4,7 @@ use Rattle.std.specs.Cmp.Lexicographic.{slice_cmp}
 use Rattle.std.specs.Ordering.{ordering_reverse}
 use Rattle.std.specs.List.Sorted.{IsStrictlySortedBy}
 use native.Mathlib.Numerals.{unary_clauses}
-use Rattle.std.proofs.lemmas.List.{get_or-map, get_or_default, length-map}
+use Rattle.std.proofs.lemmas.List.{same_lists, get_or-map, get_or_default, length-map}
 use Rattle.std.proofs.lemmas.List.Elements.{All-from_recursion, All-contains}
 use Rattle.std.proofs.lemmas.Map.Keys.{sorted_head, sorted_tail, Less-from_sorted}
 use Rattle.std.proofs.lemmas.Map.Made.{Contains-tail}
@@ -114,3 +114,11 @@ one_code values texts (suc a) (suc b) h ha hb same =
     let here : Some (get_or texts a []) ≡ Some (get_or texts b []) = sym (slice_get-get_or texts a [] ha) ∙ same ∙ slice_get-get_or texts b [] hb in
     let text : get_or texts a [] ≡ get_or texts b [] = ap (λ v. unwrap_or v []) here in
     ⊎_elim (λ (eq : a ≡ b). ap suc eq) (λ either. ⊎_elim (λ (lt : a < b). absurd (apart texts a b h.rising hb text lt)) (λ (lt : b < a). absurd (apart texts b a h.rising ha (sym text) lt)) either) (cases_order a b)
+
+-- there are only these codes of the same values
+pub AreCodes_unique : (values : List (Option (List ℕ))) (texts : List (List ℕ)) (codes others : List ℕ) → IsDictionary values texts → AreCodes texts values codes → AreCodes texts values others → codes ≡ others
+AreCodes_unique values texts codes others h a b =
+    let same : length codes ≡ length others = length_codes texts values codes a ∙ sym (length_codes texts values others b) in
+    same_lists codes others same (λ k d lt.
+    let there : k < length others = omega (arith, same, lt) in
+    one_code values texts (get_or codes k d) (get_or others k d) h (a.bounded k d lt) (b.bounded k d there) (decoded texts values codes k d a lt ∙ sym (decoded texts values others k d b there)))

@@ -237,6 +237,14 @@ impl Segment {
         }
     }
 
+    /// The bytes that the text of a segment may have behind its head, which is what stands up to the number of rows.
+    pub fn room_after_head(&self) -> usize
+        ensures room { result ≡ max_text - head_length self.now.descriptor self.now.fields }
+        ensures head { head_length self.now.descriptor self.now.fields ≤ max_text }
+    {
+        room_after_head(&self.descriptor, &self.schema).unwrap_or(0)
+    }
+
     /// What is announced of it.
     pub fn descriptor(&self) -> &Descriptor
         ensures value { result.now ≡ self.now.descriptor }
