@@ -34,7 +34,7 @@ length_row v =
     let numbers = length_each number_value number_value_length length_number_value v.metrics in
     omega (arith, joined, texts, numbers)
 
-length_names : (xs : List (List ℕ)) → length (names xs) ≡ names_length xs
+pub length_names : (xs : List (List ℕ)) → length (names xs) ≡ names_length xs
 length_names xs = omega (arith, length_each short_text (λ name. 1 + length name) (λ name. omega arith) xs)
 
 length_rows : (all : List Row) → length (rows all) ≡ 4 + sum (map row_length all)
@@ -43,11 +43,11 @@ length_rows all = omega (arith, length-append (to_be_bytes w32 (length all)) (fl
 length_six : (a b c d e f : List ℕ) → length (((((a ++ b) ++ c) ++ d) ++ e) ++ f) ≡ length a + length b + length c + length d + length e + length f
 length_six a b c d e f = omega (arith, length-append ((((a ++ b) ++ c) ++ d) ++ e) f, length-append (((a ++ b) ++ c) ++ d) e, length-append ((a ++ b) ++ c) d, length-append (a ++ b) c, length-append a b)
 
-length_descriptor : (d : Described) → length (descriptor d) ≡ (1 + length d.id.source) + 16 + (1 + length d.id.version) + 4 + 8
+pub length_descriptor : (d : Described) → length (descriptor d) ≡ (1 + length d.id.source) + 16 + (1 + length d.id.version) + 4 + 8
 length_descriptor d =
     length_six (short_text d.id.source) (interval d.id.interval) (short_text d.id.version) (to_be_bytes w16 d.id.partition) (to_be_bytes w16 d.core) (to_be_bytes w64 d.size) ∙ omega arith
 
-length_five : (a b c d e : List ℕ) → length ((((a ++ b) ++ c) ++ d) ++ e) ≡ length a + length b + length c + length d + length e
+pub length_five : (a b c d e : List ℕ) → length ((((a ++ b) ++ c) ++ d) ++ e) ≡ length a + length b + length c + length d + length e
 length_five a b c d e = omega (arith, length-append (((a ++ b) ++ c) ++ d) e, length-append ((a ++ b) ++ c) d, length-append (a ++ b) c, length-append a b)
 
 sum_five : (a b c d e b2 c2 d2 e2 : ℕ) → b ≡ b2 → c ≡ c2 → d ≡ d2 → e ≡ e2 → a + b + c + d + e ≡ a + b2 + c2 + d2 + e2

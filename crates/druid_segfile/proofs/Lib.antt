@@ -11,3 +11,5 @@ pub mod LoopLemmas
 pub mod BuildLemmas
 pub mod FrontLemmas
 pub mod WriteLemmas
+pub mod ColumnRoomLemmas
+pub mod ColumnWriteLemmas

@@ -98,11 +98,11 @@ pub spelled_out : (s : Segment) (i : ℕ) (a b c : Option (List ℕ)) (rest : Li
 spelled_out s i a b c rest le p q =
     subst (Appends a c) (rows_done s i le) (wrote_rest a b c (heading s ++ flat_map row (take i s.rows)) rest p q)
 
--- a text of those that are short
-pub short_at : (texts : List (String Global)) (i : ℕ) (item : String Global) (text : List ℕ) → All (λ name. length name < 256) (texts_of texts) → i < length texts → item ≡ get_or texts i item → text ≡ string_bytes item → length text < 256
-short_at texts i item text each lt is e =
+-- what holds of each text holds of that at a place
+pub text_at : (P : List ℕ → Type 0) (texts : List (String Global)) (i : ℕ) (item : String Global) (text : List ℕ) → All P (texts_of texts) → i < length texts → item ≡ get_or texts i item → text ≡ string_bytes item → P text
+text_at P texts i item text each lt is e =
     let same : get_or (texts_of texts) i (string_bytes item) ≡ text = get_or-map string_bytes texts i item (string_bytes item) lt ∙ ap string_bytes (sym is) ∙ sym e in
-    subst (λ (t : List ℕ). length t < 256) same (each i (string_bytes item) (omega (arith, length-map texts string_bytes)))
+    subst P same (each i (string_bytes item) (omega (arith, length-map texts string_bytes)))
 
 -- ---- a descriptor, part by part
 

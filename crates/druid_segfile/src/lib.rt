@@ -1,6 +1,8 @@
-//! Segments in files, in the layout `DSG1`.
+//! Segments in files, in the layouts `DSG1` and, by columns, `DSG2`.
 #![tactic(auto)]
 
+mod columns_room;
+mod columns_writing;
 mod cursor;
 mod fault;
 mod fields;
@@ -11,6 +13,7 @@ mod rows;
 mod spelling;
 mod writing;
 
+pub use columns_writing::write_columns;
 pub use fault::FileFault;
 pub use laws::{
     cut_files_are_cut, faults_stay, lengths_agree, longer_files_have_trailing_bytes,

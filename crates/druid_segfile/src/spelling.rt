@@ -5,7 +5,8 @@ ghost use Rattle.std.specs.List.{flat_map};
 ghost use Rattle.druid_rows.specs.Rows.{texts_of, max_value};
 ghost use Rattle.druid_rows.specs.Segment.{row_at};
 ghost use Rattle.druid_segfile.specs.Spelling.{instant, interval, short_text, names, descriptor, text_value, number_value, row};
-ghost use Rattle.druid_segfile.specs.Heading.{heading};
+ghost use Rattle.druid_segfile.specs.ColumnSpelling.{column_magic};
+ghost use Rattle.druid_segfile.specs.Heading.{heading, heading_after};
 
 use druid_rows::Segment;
 use druid_shard::Descriptor;
@@ -15,7 +16,10 @@ use std::alloc::{AllocError, Global};
 // What a file begins with.
 pub(crate) const MAGIC: [u8; 4] = *b"DSG1";
 
-fn append_instant(out: &mut Vec<u8>, time: Instant) -> Result<(), AllocError>
+// What a file of the layout by columns begins with.
+pub(crate) const COLUMN_MAGIC: [u8; 4] = *b"DSG2";
+
+pub(crate) fn append_instant(out: &mut Vec<u8>, time: Instant) -> Result<(), AllocError>
     ensures { OnOk result (out.new.items ≡ out.old.items ++ instant time) }
 {
     out.extend_from_slice(&time.ms().to_be_bytes())
@@ -73,9 +77,23 @@ fn append_descriptor(
 pub(crate) fn heading(alloc: Global, segment: &Segment) -> Result<Vec<u8>, AllocError>
     ensures { IfOk result (λ out. out.items ≡ heading segment.now) }
 {
+    heading_after(alloc, &MAGIC, segment)
+}
+
+// By columns, what stands before the instants.
+pub(crate) fn column_heading(alloc: Global, segment: &Segment) -> Result<Vec<u8>, AllocError>
+    ensures { IfOk result (λ out. out.items ≡ heading_after column_magic segment.now) }
+{
+    heading_after(alloc, &COLUMN_MAGIC, segment)
+}
+
+// What stands up to the number of rows, after these first bytes.
+fn heading_after(alloc: Global, first: &[u8], segment: &Segment) -> Result<Vec<u8>, AllocError>
+    ensures { IfOk result (λ out. out.items ≡ heading_after first.now segment.now) }
+{
     let schema = segment.schema();
     let mut out = Vec::new(alloc);
-    out.extend_from_slice(&MAGIC)?;
+    out.extend_from_slice(first)?;
     append_descriptor(alloc, &mut out, segment.descriptor())?;
     append_names(&mut out, schema.dimensions())?;
     append_names(&mut out, schema.metrics())?;

@@ -28,7 +28,7 @@ fn write_fault(error: &Error) -> FileFault
 }
 
 // Writes all of the bytes.
-fn write_out<W: Write>(writer: &mut W, bytes: &[u8]) -> Result<(), FileFault>
+pub(crate) fn write_out<W: Write>(writer: &mut W, bytes: &[u8]) -> Result<(), FileFault>
     ensures ok { OnOk result (Appends (W.contents writer.old) (W.contents writer.new) bytes.now) }
     ensures err { OnErr result (AppendsFront (W.contents writer.old) (W.contents writer.new) bytes.now) }
     ensures faults { IfErr result (λ fault. (fault ≡ FileFault.Write) ⊎ (fault ≡ FileFault.Memory)) }
@@ -40,7 +40,10 @@ fn write_out<W: Write>(writer: &mut W, bytes: &[u8]) -> Result<(), FileFault>
 }
 
 // Writes out what was gathered, once it is enough for a write.
-fn write_gathered<W: Write>(writer: &mut W, gathered: &mut Vec<u8>) -> Result<(), FileFault>
+pub(crate) fn write_gathered<W: Write>(
+    writer: &mut W,
+    gathered: &mut Vec<u8>,
+) -> Result<(), FileFault>
     ensures ok { OnOk result (AppendsUpTo (W.contents writer.old) (W.contents writer.new) gathered.old.items gathered.new.items) }
     ensures few { OnOk result (length gathered.new.items < GATHERED) }
     ensures err { OnErr result (AppendsFront (W.contents writer.old) (W.contents writer.new) gathered.old.items) }

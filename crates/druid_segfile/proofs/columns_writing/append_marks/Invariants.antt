@@ -1,0 +1,8 @@
+use Rattle.std.proofs.Common.{◌≡◌, ◌++◌, take}
+use Rattle.std.specs.List.{flat_map}
+use Rattle.druid_segfile.specs.ColumnSpelling.{mark}
+use Rattle.druid_segfile.proofs.columns_writing.append_marks.Given as goal
+
+abbrev pub invariant-loop-number : goal.invariant-loop-number
+invariant-loop-number l =
+    l.out.items ≡ l.fn.out.items ++ flat_map mark (take l.number-index l.numbers)
