@@ -1,5 +1,5 @@
--- What a writer got of a text that is spelled part by part, and of a segment by columns.
-use Rattle.std.proofs.Common.{◌≡◌, ◌↔◌, ◌*◌, ℕ, suc, ◌+◌, ◌<◌, ◌≤◌, List, [], ◌∷◌, ◌++◌, length, map, take, drop, get_or, Option, Some, None, All, IfSome, Contains, Bool, false, IsTrue, inl, inr, refl, sym, ap, subst, ◌∙◌, append_assoc, append-nil, arith, length-append, drop-cons}
+-- What a writer got of a segment by columns.
+use Rattle.std.proofs.Common.{◌≡◌, ◌↔◌, ℕ, ◌+◌, ◌<◌, ◌≤◌, List, [], ◌∷◌, ◌++◌, length, map, get_or, Option, Some, None, All, IfSome, Bool, false, IsTrue, inl, inr, refl, sym, ap, subst, ◌∙◌, append_assoc, append-nil, arith, length-append}
 use Rattle.std.specs.List.{flat_map, range_with_len}
 use Rattle.std.proofs.lemmas.Bool.{cases_lt, false≢true}
 use Rattle.std.proofs.lemmas.List.Elements.{All-map, All-weaker, All-contains, Contains-get_or}
@@ -15,58 +15,10 @@ use Rattle.druid_segfile.specs.Spelling.{instant}
 use Rattle.druid_segfile.specs.Heading.{heading_after, column_front}
 use Rattle.druid_segfile.proofs.ColumnRoomLemmas.{length_column_spelling}
 use Rattle.std.proofs.KnownBytes.{Appends-nil}
-use Rattle.std.specs.Io.KnownBytes.{Appends}
 use Rattle.druid_stream.specs.Fronts.{AppendsFront}
-use Rattle.std.proofs.lemmas.List.{take-append-drop, take_all, take_more, flat_map_more}
-use Rattle.std.proofs.lemmas.List.Concat.{flat_map-append}
 use Rattle.std.proofs.lemmas.List.Folds.{flat_map-map}
 use Rattle.druid_segfile.specs.Written.{AppendsUpTo}
-use Rattle.druid_segfile.proofs.WriteLemmas.{up_to_then, up_to_more, front_then, wrote_rest}
-
--- ---- parts that are spelled one by one after a text
-
-pub parts_behind : {A : Type 0} (spell : A → List ℕ) (head : List ℕ) (parts : List A) (i : ℕ) → (head ++ flat_map spell (take i parts)) ++ flat_map spell (drop i parts) ≡ head ++ flat_map spell parts
-parts_behind spell head parts i =
-    append_assoc head (flat_map spell (take i parts)) (flat_map spell (drop i parts))
-    ∙ ap (λ (t : List ℕ). head ++ t) (sym (flat_map-append spell (take i parts) (drop i parts)) ∙ ap (flat_map spell) (take-append-drop i parts))
-
--- nothing is written yet
-pub no_parts : (a : Option (List ℕ)) (head : List ℕ) → AppendsUpTo a a (head ++ []) head
-no_parts a head = ([], append-nil head, Appends-nil a)
-
--- the writer fails before a part is spelled
-pub part_unwritten : {A : Type 0} (spell : A → List ℕ) (head : List ℕ) (parts : List A) (i : ℕ) (a b c : Option (List ℕ)) (rest : List ℕ) → AppendsUpTo a b (head ++ flat_map spell (take i parts)) rest → AppendsFront b c rest → AppendsFront a c (head ++ flat_map spell parts)
-part_unwritten spell head parts i a b c rest p q =
-    subst (AppendsFront a c) (parts_behind spell head parts i) (front_then a b c (head ++ flat_map spell (take i parts)) rest (flat_map spell (drop i parts)) p q)
-
-some_left : {A : Type 0} (spell : A → List ℕ) (parts : List A) (i : ℕ) (d : A) → i < length parts → 0 < length (spell (get_or parts i d)) → 0 < length (flat_map spell (drop i parts))
-some_left spell parts i d lt some =
-    omega (arith, ap (λ left. length (flat_map spell left)) (drop-cons parts i d lt), length-append (spell (get_or parts i d)) (flat_map spell (drop (suc i) parts)), some)
-
--- a part, which is not empty, is not spelled
-pub part_unspelled : {A : Type 0} (spell : A → List ℕ) (head : List ℕ) (parts : List A) (i : ℕ) (d : A) (a b : Option (List ℕ)) (rest : List ℕ) → i < length parts → 0 < length (spell (get_or parts i d)) → AppendsUpTo a b (head ++ flat_map spell (take i parts)) rest → AppendsFront a b (head ++ flat_map spell parts)
-part_unspelled spell head parts i d a b rest lt some p =
-    let left = flat_map spell (drop i parts) in (
-      p.0,
-      rest ++ left,
-      sym (parts_behind spell head parts i) ∙ ap (λ (t : List ℕ). t ++ left) p.1 ∙ append_assoc p.0 rest left,
-      omega (arith, some_left spell parts i d lt some, length-append rest left),
-      p.2,
-    )
-
--- one part more waits to be written
-pub part_waits : {A : Type 0} (spell : A → List ℕ) (head : List ℕ) (parts : List A) (i : ℕ) (d : A) (a b : Option (List ℕ)) (rest more : List ℕ) → i < length parts → more ≡ rest ++ spell (get_or parts i d) → AppendsUpTo a b (head ++ flat_map spell (take i parts)) rest → AppendsUpTo a b (head ++ flat_map spell (take (i + 1) parts)) more
-part_waits spell head parts i d a b rest more lt e p =
-    let one = spell (get_or parts i d) in
-    let before = head ++ flat_map spell (take i parts) in
-    let all : before ++ one ≡ head ++ flat_map spell (take (i + 1) parts) =
-    flat_map_more spell head (take i parts) (get_or parts i d) ∙ ap (λ ps. head ++ flat_map spell ps) (sym (take_more parts i d lt)) in
-    subst (λ (t : List ℕ). AppendsUpTo a b t more) all (subst (AppendsUpTo a b (before ++ one)) (sym e) (up_to_more a b before rest one p))
-
--- all parts are spelled
-pub parts_done : {A : Type 0} (spell : A → List ℕ) (head : List ℕ) (parts : List A) (i : ℕ) (a b : Option (List ℕ)) (rest : List ℕ) → length parts ≤ i → AppendsUpTo a b (head ++ flat_map spell (take i parts)) rest → AppendsUpTo a b (head ++ flat_map spell parts) rest
-parts_done spell head parts i a b rest le p =
-    subst (λ ps. AppendsUpTo a b (head ++ flat_map spell ps) rest) (take_all i parts le) p
+use Rattle.druid_segfile.proofs.WriteLemmas.{up_to_then, up_to_more, front_then}
 
 -- ---- parts after parts
 

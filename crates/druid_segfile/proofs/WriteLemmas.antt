@@ -1,5 +1,5 @@
--- What a writer got, front by front.
-use Rattle.std.proofs.Common.{◌≡◌, ℕ, suc, ◌+◌, ◌<◌, ◌≤◌, List, [], ◌++◌, length, take, drop, get_or, Option, String, string_bytes, refl, sym, ap, subst, ◌∙◌, append_assoc, arith, length-append, drop-cons}
+-- What a writer got, front by front, of a text that is spelled part by part.
+use Rattle.std.proofs.Common.{◌≡◌, ℕ, suc, ◌+◌, ◌<◌, ◌≤◌, List, [], ◌++◌, length, take, drop, get_or, Option, String, string_bytes, refl, sym, ap, subst, ◌∙◌, append_assoc, append-nil, arith, length-append, drop-cons}
 use Rattle.std.specs.Prelude.{All}
 use Rattle.std.specs.Global.{Global}
 use Rattle.std.specs.List.{flat_map}
@@ -38,40 +38,64 @@ front_then a b c text rest more p q = (
 pub wrote_rest : (a b c : Option (List ℕ)) (text rest : List ℕ) → AppendsUpTo a b text rest → Appends b c rest → Appends a c text
 wrote_rest a b c text rest p q = subst (λ (t : List ℕ). Appends a c t) (sym p.1) (Appends-trans a b c p.0 rest p.2 q)
 
+-- ---- parts that are spelled one by one after a text
+
+pub parts_behind : {A : Type 0} (spell : A → List ℕ) (head : List ℕ) (parts : List A) (i : ℕ) → (head ++ flat_map spell (take i parts)) ++ flat_map spell (drop i parts) ≡ head ++ flat_map spell parts
+parts_behind spell head parts i =
+    append_assoc head (flat_map spell (take i parts)) (flat_map spell (drop i parts))
+    ∙ ap (λ (t : List ℕ). head ++ t) (sym (flat_map-append spell (take i parts) (drop i parts)) ∙ ap (flat_map spell) (take-append-drop i parts))
+
+-- nothing is written yet
+pub no_parts : (a : Option (List ℕ)) (head : List ℕ) → AppendsUpTo a a (head ++ []) head
+no_parts a head = ([], append-nil head, Appends-nil a)
+
+-- the writer fails before a part is spelled
+pub part_unwritten : {A : Type 0} (spell : A → List ℕ) (head : List ℕ) (parts : List A) (i : ℕ) (a b c : Option (List ℕ)) (rest : List ℕ) → AppendsUpTo a b (head ++ flat_map spell (take i parts)) rest → AppendsFront b c rest → AppendsFront a c (head ++ flat_map spell parts)
+part_unwritten spell head parts i a b c rest p q =
+    subst (AppendsFront a c) (parts_behind spell head parts i) (front_then a b c (head ++ flat_map spell (take i parts)) rest (flat_map spell (drop i parts)) p q)
+
+some_left : {A : Type 0} (spell : A → List ℕ) (parts : List A) (i : ℕ) (d : A) → i < length parts → 0 < length (spell (get_or parts i d)) → 0 < length (flat_map spell (drop i parts))
+some_left spell parts i d lt some =
+    omega (arith, ap (λ left. length (flat_map spell left)) (drop-cons parts i d lt), length-append (spell (get_or parts i d)) (flat_map spell (drop (suc i) parts)), some)
+
+-- a part, which is not empty, is not spelled
+pub part_unspelled : {A : Type 0} (spell : A → List ℕ) (head : List ℕ) (parts : List A) (i : ℕ) (d : A) (a b : Option (List ℕ)) (rest : List ℕ) → i < length parts → 0 < length (spell (get_or parts i d)) → AppendsUpTo a b (head ++ flat_map spell (take i parts)) rest → AppendsFront a b (head ++ flat_map spell parts)
+part_unspelled spell head parts i d a b rest lt some p =
+    let left = flat_map spell (drop i parts) in (
+      p.0,
+      rest ++ left,
+      sym (parts_behind spell head parts i) ∙ ap (λ (t : List ℕ). t ++ left) p.1 ∙ append_assoc p.0 rest left,
+      omega (arith, some_left spell parts i d lt some, length-append rest left),
+      p.2,
+    )
+
+-- one part more waits to be written
+pub part_waits : {A : Type 0} (spell : A → List ℕ) (head : List ℕ) (parts : List A) (i : ℕ) (d : A) (a b : Option (List ℕ)) (rest more : List ℕ) → i < length parts → more ≡ rest ++ spell (get_or parts i d) → AppendsUpTo a b (head ++ flat_map spell (take i parts)) rest → AppendsUpTo a b (head ++ flat_map spell (take (i + 1) parts)) more
+part_waits spell head parts i d a b rest more lt e p =
+    let one = spell (get_or parts i d) in
+    let before = head ++ flat_map spell (take i parts) in
+    let all : before ++ one ≡ head ++ flat_map spell (take (i + 1) parts) =
+    flat_map_more spell head (take i parts) (get_or parts i d) ∙ ap (λ ps. head ++ flat_map spell ps) (sym (take_more parts i d lt)) in
+    subst (λ (t : List ℕ). AppendsUpTo a b t more) all (subst (AppendsUpTo a b (before ++ one)) (sym e) (up_to_more a b before rest one p))
+
+-- all parts are spelled
+pub parts_done : {A : Type 0} (spell : A → List ℕ) (head : List ℕ) (parts : List A) (i : ℕ) (a b : Option (List ℕ)) (rest : List ℕ) → length parts ≤ i → AppendsUpTo a b (head ++ flat_map spell (take i parts)) rest → AppendsUpTo a b (head ++ flat_map spell parts) rest
+parts_done spell head parts i a b rest le p =
+    subst (λ ps. AppendsUpTo a b (head ++ flat_map spell ps) rest) (take_all i parts le) p
+
 -- ---- the spelling of a segment, row by row
 
-pub heading_rows : (s : Segment) → heading s ++ flat_map row s.rows ≡ spelling s
+heading_rows : (s : Segment) → heading s ++ flat_map row s.rows ≡ spelling s
 heading_rows s =
     append_assoc (((magic ++ descriptor s.descriptor) ++ names s.fields.dimensions) ++ names s.fields.metrics) (to_be_bytes w32 (length s.rows)) (flat_map row s.rows)
 
-pub rows_behind : (s : Segment) (i : ℕ) → (heading s ++ flat_map row (take i s.rows)) ++ flat_map row (drop i s.rows) ≡ spelling s
-rows_behind s i =
-    append_assoc (heading s) (flat_map row (take i s.rows)) (flat_map row (drop i s.rows))
-    ∙ ap (λ (t : List ℕ). heading s ++ t) (sym (flat_map-append row (take i s.rows) (drop i s.rows)) ∙ ap (λ (all : List Row). flat_map row all) (take-append-drop i s.rows))
-    ∙ heading_rows s
-
-pub one_row_more : (s : Segment) (i : ℕ) → i < length s.rows → (heading s ++ flat_map row (take i s.rows)) ++ row (row_at s i) ≡ heading s ++ flat_map row (take (i + 1) s.rows)
-one_row_more s i lt =
-    flat_map_more row (heading s) (take i s.rows) (row_at s i)
-    ∙ ap (λ (all : List Row). heading s ++ flat_map row all) (sym (take_more s.rows i no_row lt))
-
-pub rows_done : (s : Segment) (i : ℕ) → length s.rows ≤ i → heading s ++ flat_map row (take i s.rows) ≡ spelling s
-rows_done s i le = ap (λ (all : List Row). heading s ++ flat_map row all) (take_all i s.rows le) ∙ heading_rows s
-
 -- a front of the spelling that was written before a row was
 pub spelled_front : (s : Segment) (i : ℕ) (a b c : Option (List ℕ)) (rest : List ℕ) → AppendsUpTo a b (heading s ++ flat_map row (take i s.rows)) rest → AppendsFront b c rest → AppendsFront a c (spelling s)
-spelled_front s i a b c rest p q =
-    subst (AppendsFront a c) (rows_behind s i) (front_then a b c (heading s ++ flat_map row (take i s.rows)) rest (flat_map row (drop i s.rows)) p q)
+spelled_front s i a b c rest p q = subst (AppendsFront a c) (heading_rows s) (part_unwritten row (heading s) s.rows i a b c rest p q)
 
 some_row : (values : Row) → 0 < length (row values)
 some_row values =
     omega (arith, length-append (instant values.time ++ flat_map text_value values.dimensions) (flat_map number_value values.metrics), length-append (instant values.time) (flat_map text_value values.dimensions))
-
-some_rows : (all : List Row) (i : ℕ) → i < length all → 0 < length (flat_map row (drop i all))
-some_rows all i lt =
-    let first = get_or all i no_row in
-    let behind = flat_map row (drop (suc i) all) in
-    omega (arith, ap (λ (left : List Row). length (flat_map row left)) (drop-cons all i no_row lt), length-append (row first) behind, some_row first)
 
 -- nothing is written yet
 pub nothing_spelled : (s : Segment) (known : Option (List ℕ)) → AppendsFront known known (spelling s)
@@ -80,23 +104,15 @@ nothing_spelled s known = ([], spelling s, refl, omega (arith, length_spelling s
 -- a front of the spelling that was written before the next row is spelled
 pub before_row : (s : Segment) (i : ℕ) (a b : Option (List ℕ)) (rest : List ℕ) → i < length s.rows → AppendsUpTo a b (heading s ++ flat_map row (take i s.rows)) rest → AppendsFront a b (spelling s)
 before_row s i a b rest lt p =
-    let left = flat_map row (drop i s.rows) in (
-      p.0,
-      rest ++ left,
-      sym (rows_behind s i) ∙ ap (λ (t : List ℕ). t ++ left) p.1 ∙ append_assoc p.0 rest left,
-      omega (arith, some_rows s.rows i lt, length-append rest left),
-      p.2,
-    )
+    subst (AppendsFront a b) (heading_rows s) (part_unspelled row (heading s) s.rows i no_row a b rest lt (some_row (row_at s i)) p)
 
 -- one row more waits to be written
 pub row_waits : (s : Segment) (i : ℕ) (a b : Option (List ℕ)) (rest more : List ℕ) → i < length s.rows → more ≡ rest ++ row (row_at s i) → AppendsUpTo a b (heading s ++ flat_map row (take i s.rows)) rest → AppendsUpTo a b (heading s ++ flat_map row (take (i + 1) s.rows)) more
-row_waits s i a b rest more lt e p =
-    subst (λ (t : List ℕ). AppendsUpTo a b t more) (one_row_more s i lt)
-    (subst (AppendsUpTo a b ((heading s ++ flat_map row (take i s.rows)) ++ row (row_at s i))) (sym e) (up_to_more a b (heading s ++ flat_map row (take i s.rows)) rest (row (row_at s i)) p))
+row_waits s i a b rest more lt e p = part_waits row (heading s) s.rows i no_row a b rest more lt e p
 
 pub spelled_out : (s : Segment) (i : ℕ) (a b c : Option (List ℕ)) (rest : List ℕ) → length s.rows ≤ i → AppendsUpTo a b (heading s ++ flat_map row (take i s.rows)) rest → Appends b c rest → Appends a c (spelling s)
 spelled_out s i a b c rest le p q =
-    subst (Appends a c) (rows_done s i le) (wrote_rest a b c (heading s ++ flat_map row (take i s.rows)) rest p q)
+    subst (Appends a c) (heading_rows s) (wrote_rest a b c (heading s ++ flat_map row s.rows) rest (parts_done row (heading s) s.rows i a b rest le p) q)
 
 -- what holds of each text holds of that at a place
 pub text_at : (P : List ℕ → Type 0) (texts : List (String Global)) (i : ℕ) (item : String Global) (text : List ℕ) → All P (texts_of texts) → i < length texts → item ≡ get_or texts i item → text ≡ string_bytes item → P text

@@ -4,9 +4,9 @@ use Rattle.std.proofs.lemmas.List.{length-map}
 use Rattle.druid_stream.proofs.WriteLemmas.{any_err}
 use Rattle.druid_rows.specs.Rows.{Schema, texts_of}
 use Rattle.druid_segfile.specs.ColumnSpelling.{no_values, dimension}
-use Rattle.druid_segfile.proofs.WriteLemmas.{up_to_then}
+use Rattle.druid_segfile.proofs.WriteLemmas.{up_to_then, no_parts, part_unwritten, part_unspelled, part_waits, parts_done}
 use Rattle.druid_segfile.proofs.ColumnRoomLemmas.{length_dimension}
-use Rattle.druid_segfile.proofs.ColumnWriteLemmas.{no_parts, part_unwritten, part_unspelled, part_waits, parts_done, same_coded, texts_short}
+use Rattle.druid_segfile.proofs.ColumnWriteLemmas.{same_coded, texts_short}
 use Rattle.druid_segfile.proofs.columns_writing.write_dimensions.Goals as goal
 
 pub append_dimension-requires : goal.append_dimension-requires

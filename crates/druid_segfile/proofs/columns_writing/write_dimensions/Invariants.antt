@@ -1,4 +1,4 @@
-use Rattle.std.proofs.Common.{◌++◌, List, length, take}
+use Rattle.std.proofs.Common.{◌++◌, List, take}
 use Rattle.std.specs.List.{flat_map}
 use Rattle.druid_segfile.specs.Written.{AppendsUpTo}
 use Rattle.druid_segfile.specs.ColumnSpelling.{Coded, AreCoded, dimension}

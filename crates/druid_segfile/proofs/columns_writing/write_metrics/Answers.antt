@@ -2,12 +2,11 @@ use Rattle.std.proofs.Common.{◌<◌, ◌≤◌, ◌++◌, ℕ, List, length, s
 use Rattle.std.specs.List.{flat_map, range_with_len}
 use Rattle.std.proofs.lemmas.List.{length-map}
 use Rattle.std.proofs.lemmas.List.FromFn.{length-range_with_len}
-use Rattle.druid_stream.proofs.WriteLemmas.{any_err, err_more}
+use Rattle.druid_stream.proofs.WriteLemmas.{any_err}
 use Rattle.druid_rows.specs.Rows.{Schema}
 use Rattle.druid_segfile.specs.ColumnSpelling.{metric, numbers_of}
-use Rattle.druid_segfile.proofs.WriteLemmas.{up_to_then}
+use Rattle.druid_segfile.proofs.WriteLemmas.{up_to_then, no_parts, part_unwritten, part_unspelled, part_waits, parts_done}
 use Rattle.druid_segfile.proofs.ColumnRoomLemmas.{metric_at, some_metric}
-use Rattle.druid_segfile.proofs.ColumnWriteLemmas.{no_parts, part_unwritten, part_unspelled, part_waits, parts_done}
 use Rattle.druid_segfile.proofs.columns_writing.write_metrics.Goals as goal
 
 pub loop-place-init : goal.loop-place-init
