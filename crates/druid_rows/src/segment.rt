@@ -237,7 +237,7 @@ impl Segment {
         }
     }
 
-    /// The bytes that the text of a segment may have behind its head, which is what stands up to the number of rows.
+    /// The bytes that the text of a segment may have after its head, which is what stands up to the number of rows.
     pub fn room_after_head(&self) -> usize
         ensures room { result ≡ max_text - head_length self.now.descriptor self.now.fields }
         ensures head { head_length self.now.descriptor self.now.fields ≤ max_text }

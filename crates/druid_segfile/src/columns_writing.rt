@@ -117,7 +117,7 @@ fn append_metric(out: &mut Vec<u8>, numbers: &[Option<i64>]) -> Result<(), Alloc
     append_numbers(out, numbers)
 }
 
-// Writes the dimensions behind what was gathered, and gathers the last of them.
+// Writes the dimensions after what was gathered, and gathers the last of them.
 fn write_dimensions<W: Write>(
     writer: &mut W,
     gathered: &mut Vec<u8>,
@@ -136,7 +136,7 @@ fn write_dimensions<W: Write>(
     Ok(())
 }
 
-// Writes the metrics behind what was gathered, and gathers the last of them.
+// Writes the metrics after what was gathered, and gathers the last of them.
 fn write_metrics<W: Write>(
     writer: &mut W,
     gathered: &mut Vec<u8>,
