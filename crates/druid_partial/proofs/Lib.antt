@@ -18,3 +18,4 @@ pub mod SourceLemmas
 pub mod RunLemmas
 pub mod PutLemmas
 pub mod SparseLemmas
+pub mod MovedLemmas

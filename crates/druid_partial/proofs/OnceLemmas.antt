@@ -33,7 +33,7 @@ pub alike_equal : (kinds : List AggregatorKind) (a b : List Group) → a ≡ b �
 alike_equal kinds a b e = subst (Alike kinds a) e (alike_itself kinds a)
 
 -- the second of three lists put first
-second_first : (kinds : List AggregatorKind) (a b c : List Group) → Alike kinds (a ++ (b ++ c)) (b ++ (a ++ c))
+pub second_first : (kinds : List AggregatorKind) (a b c : List Group) → Alike kinds (a ++ (b ++ c)) (b ++ (a ++ c))
 second_first kinds a b c =
     alike_through kinds (a ++ (b ++ c)) ((b ++ a) ++ c) (b ++ (a ++ c))
     (alike_through kinds (a ++ (b ++ c)) ((a ++ b) ++ c) ((b ++ a) ++ c) (alike_equal kinds (a ++ (b ++ c)) ((a ++ b) ++ c) (sym (append_assoc a b c)))

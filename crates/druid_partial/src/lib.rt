@@ -23,4 +23,4 @@ pub use laws::{
 };
 pub use merging::{MergeRefused, merge};
 pub use partial::{Partial, kinds_of};
-pub use telling::partial_of;
+pub use telling::{partial_of, partial_over};

@@ -4,6 +4,7 @@ ghost use Rattle.druid_rows.specs.Segment.{Segment, row_at};
 ghost use Rattle.druid_query.specs.Query.{Query};
 ghost use Rattle.druid_partial.specs.Groups.{AreWords, Group, IsResult};
 ghost use Rattle.druid_partial.specs.Joined.{merged};
+ghost use Rattle.std.specs.List.{flat_map};
 ghost use Rattle.druid_partial.specs.Rows.{bucket_of, earliest, is_asked, kinds_of, told_by, IsPartialFor};
 ghost use Rattle.druid_partial.specs.Entries.{groups_of};
 ghost use Rattle.druid_partial.specs.Cells.{room_from};
@@ -15,6 +16,7 @@ use crate::column::{Column, cell_of, room_of};
 use crate::found::{Found, add};
 use crate::key::LentKey;
 use crate::located::{columns_of, numbers_of, places_of, sources_of, texts_at, values_at};
+use crate::merging::merge;
 use crate::partial::kinds_of;
 use crate::test::{Test, filter_of, holds};
 use crate::{Group, Partial};
@@ -464,6 +466,39 @@ impl<'a> Plan<'a> {
         }
         Ok(groups)
     }
+
+    // What the rows that lie in one interval tell.
+    fn partial(&self, alloc: Global, interval: Interval) -> Result<Partial, AllocError>
+        ensures result { IfOk result (λ partial.
+            IsResult (kinds_of self.now.query) (told_by self.now.query self.now.segment interval) partial.groups) }
+        ensures of_query { IfOk result (IsPartialFor self.now.query) }
+    {
+        let groups = self.tally(alloc, interval)?;
+        let kinds = kinds_of(alloc, self.query)?;
+        Ok(Partial::new(kinds, groups))
+    }
+
+    // What the rows that lie in these intervals tell. They are halved, so that merges move each group a logarithmic
+    // number of times.
+    fn partial_of_all(&self, alloc: Global, pieces: &[Interval]) -> Result<Partial, AllocError>
+        ensures result { IfOk result (λ partial.
+            IsResult (kinds_of self.now.query) (flat_map (told_by self.now.query self.now.segment) pieces.now) partial.groups) }
+        ensures of_query { IfOk result (IsPartialFor self.now.query) }
+    {
+        if pieces.is_empty() {
+            return Partial::empty(alloc, self.query);
+        }
+        if pieces.len() == 1 {
+            return self.partial(alloc, pieces[0]);
+        }
+        let (front, back) = pieces.split_at(pieces.len() / 2);
+        let left = self.partial_of_all(alloc, front)?;
+        let right = self.partial_of_all(alloc, back)?;
+        match merge(alloc, left, right) {
+            Ok(both) => Ok(both),
+            Err(_) => Err(AllocError),
+        }
+    }
 }
 
 // Adds the groups that were found. Each text is copied once for each group.
@@ -492,8 +527,20 @@ pub fn partial_of(
         IsResult (kinds_of query.now) (told_by query.now segment.now interval) partial.groups) }
     ensures of_query { IfOk result (IsPartialFor query.now) }
 {
-    let plan = Plan::new(alloc, query, segment)?;
-    let groups = plan.tally(alloc, interval)?;
-    let kinds = kinds_of(alloc, query)?;
-    Ok(Partial::new(kinds, groups))
+    Plan::new(alloc, query, segment)?.partial(alloc, interval)
+}
+
+/// The same of several intervals, each of them for itself: a row that lies in two of them counts twice. The names of the query
+/// and the values of its filter are looked up once for all.
+pub fn partial_over(
+    alloc: Global,
+    query: &Query,
+    segment: &Segment,
+    pieces: &[Interval],
+) -> Result<Partial, AllocError>
+    ensures result { IfOk result (λ partial.
+        IsResult (kinds_of query.now) (flat_map (told_by query.now segment.now) pieces.now) partial.groups) }
+    ensures of_query { IfOk result (IsPartialFor query.now) }
+{
+    Plan::new(alloc, query, segment)?.partial_of_all(alloc, pieces)
 }
