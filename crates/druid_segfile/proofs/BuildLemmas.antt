@@ -11,8 +11,9 @@ use Rattle.druid_rows.specs.Segment.{Segment, IsSegment, segment_of, with_row, t
 use Rattle.druid_segfile.specs.declared.fault.FileFault.{FileFault}
 use Rattle.druid_segfile.specs.Spelling.{row}
 use Rattle.druid_time.specs.Results.{◌>>=◌}
-use Rattle.druid_segfile.specs.Reading.{Cursor, number_at, at_most, Shape, shape_of, each_at, values_at, rows_at, content_at}
-use Rattle.druid_segfile.specs.Building.{row_count_at, IsHead, IsWhole, HasRoom, with_read}
+use Rattle.druid_segfile.specs.Parts.{number_at, at_most, Shape, shape_of, each_at, values_at, rows_at, row_count_at}
+use Rattle.druid_segfile.specs.Reading.{Cursor, content_at}
+use Rattle.druid_segfile.specs.Building.{IsHead, IsWhole, HasRoom, with_read}
 use Rattle.druid_segfile.specs.Lent.{bytes_of, texts_lent, values_lent}
 use Rattle.std.specs.Borrow.{Bor}
 use Rattle.druid_segfile.proofs.PartLemmas.{IsBytes, IsBytes-take, bind_ok, ok_is, step_takes, at_most_ok, wide32, number_read}

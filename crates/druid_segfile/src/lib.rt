@@ -6,6 +6,7 @@ mod fault;
 mod fields;
 mod head;
 mod laws;
+mod layout;
 mod reading;
 mod rows;
 mod spelling;
@@ -14,7 +15,7 @@ mod writing;
 pub use fault::FileFault;
 pub use laws::{
     cut_files_are_cut, faults_stay, lengths_agree, longer_files_have_trailing_bytes,
-    spellings_are_read_back,
+    one_column_spelling, spellings_are_read_back,
 };
 pub use reading::{read_segment, segment_of};
 pub use writing::write_segment;

@@ -4,8 +4,9 @@ ghost use Rattle.std.specs.IoError.{error_kind};
 ghost use Rattle.druid_stream.specs.Taken.{TakesAtMost};
 ghost use Rattle.druid_rows.specs.Segment.{Segment, IsSegment, segment_of, max_text};
 ghost use Rattle.druid_segfile.specs.Spelling.{spelling, Fits};
-ghost use Rattle.druid_segfile.specs.Reading.{Gives, GivesInMemory, GivesOfReader, TakesAs, each_at, values_at, shape_of, magic_at, content_at, short_of, segment_at};
-ghost use Rattle.druid_segfile.specs.Building.{Passes, row_count_at, IsWhole, HasRoom, with_read};
+ghost use Rattle.druid_segfile.specs.Parts.{each_at, values_at, shape_of, row_count_at};
+ghost use Rattle.druid_segfile.specs.Reading.{Gives, GivesInMemory, GivesOfReader, TakesAs, row_content_at, content_at, short_of, segment_at};
+ghost use Rattle.druid_segfile.specs.Building.{IsWhole, HasRoom, with_read};
 
 use crate::FileFault;
 use crate::cursor::{Cursor, at_most};
@@ -101,19 +102,8 @@ fn shape_of(announced: &Announced<'_>, fields: &FieldNames<'_>) -> Shape
 }
 
 impl<'a> Cursor<'a> {
-    // What a file begins with.
-    #[tactic(auto, unfolding(crate::specs::Reading::magic_at))]
-    fn magic(&mut self) -> Result<(), FileFault>
-        ensures { Passes self.old self.new result (magic_at self.old.short self.old.rest) }
-    {
-        if self.bytes(MAGIC.len())? != MAGIC.as_slice() {
-            return Err(FileFault::Magic);
-        }
-        Ok(())
-    }
-
     // How many rows there are.
-    #[tactic(auto, unfolding(crate::specs::Building::row_count_at))]
+    #[tactic(auto, unfolding(crate::specs::Parts::row_count_at))]
     fn row_count(&mut self) -> Result<usize, FileFault>
         ensures { TakesAs (λ count. count) self.old self.new result (row_count_at self.old.short self.old.rest) }
     {
@@ -121,12 +111,11 @@ impl<'a> Cursor<'a> {
     }
 
     // A segment, of which all is judged, and the rows are not kept.
-    #[tactic(auto, unfolding(crate::specs::Reading::content_at, crate::specs::Reading::rows_at, crate::specs::Building::row_count_at))]
+    #[tactic(auto, unfolding(crate::specs::Reading::row_content_at, crate::specs::Parts::rows_at, crate::specs::Parts::row_count_at))]
     fn judged(&mut self) -> Result<Judged<'a>, FileFault>
         ensures whole { IfOk result (λ j. IsWhole self.old.short self.old.rest j.announced j.fields j.count j.rows.now self.new.rest) }
-        ensures fault { IfErr result (λ fault. content_at self.old.short self.old.rest ≡ Err fault) }
+        ensures fault { IfErr result (λ fault. row_content_at self.old.short self.old.rest ≡ Err fault) }
     {
-        self.magic()?;
         let announced = match self.announced() {
             Ok(announced) => announced,
             Err(fault) => return Err(fault),
