@@ -22,7 +22,7 @@ use Rattle.druid_segfile.specs.declared.fault.FileFault.{FileFault}
 use Rattle.druid_segfile.specs.ColumnSpelling.{Coded, value, dimension, IsCoded}
 use Rattle.druid_time.specs.Results.{◌>>=◌}
 use Rattle.druid_segfile.specs.Parts.{number_at, at_most, accepted, text_at, each_at}
-use Rattle.druid_segfile.specs.ColumnReading.{is_above, value_text_at, value_texts_at, code_at, have_rows, codes_at, dimension_at, decoded}
+use Rattle.druid_segfile.specs.ColumnReading.{is_above, value_text_at, value_texts_at, code_at, have_rows, codes_at, coded_at, dimension_at, decoded}
 use Rattle.druid_segfile.proofs.PartLemmas.{bind_ok, ok_is, at_most_ok, at_most_within, accepted_read, IsBytes, Takes, Takes-then, Reads, step_takes, step_again, wide32, number_read, IsText, text_read, AreEach, each_read}
 use Rattle.druid_segfile.proofs.RowLemmas.{IsTextValue}
 
@@ -103,7 +103,7 @@ dimension_joins a b c e texts codes t1 t2 t3 =
     Takes-then a (to_be_bytes w32 (length texts) ++ flat_map value texts) c (flat_map (to_be_bytes w32) codes) e (Takes-then a (to_be_bytes w32 (length texts)) b (flat_map value texts) c t1 t2) t3
 
 dimension_takes : (short : FileFault) (rows : ℕ) (bytes : List ℕ) (x : Coded × List ℕ) → rows ≤ max_rows → IsBytes bytes → dimension_at short rows bytes ≡ Ok x → Takes bytes (dimension x.0) x.1 × IsDimension rows x.0
-unfolding dimension_at
+unfolding dimension_at coded_at
 dimension_takes short rows bytes x few fits e =
     let s = step_takes (number_read short w32 (2 ^ 32) wide32) _ bytes x fits e in
     let m = bind_ok (at_most rows s.0.0) (λ count. value_texts_at short count None s.0.1 >>= λ texts. codes_at short count rows texts.1 >>= λ codes. Ok (coded_of texts.0 codes.0, codes.1)) x s.3 in
@@ -126,7 +126,7 @@ dimension_regroups coded rest =
     ∙ append_assoc (to_be_bytes w32 (length coded.texts)) (flat_map value coded.texts) (flat_map (to_be_bytes w32) coded.codes ++ rest)
 
 dimension_again : (short : FileFault) (rows : ℕ) (coded : Coded) (rest : List ℕ) → rows ≤ max_rows → IsDimension rows coded → dimension_at short rows (dimension coded ++ rest) ≡ Ok (coded, rest)
-unfolding dimension_at
+unfolding dimension_at coded_at
 dimension_again short rows coded rest few h =
     let n = length coded.texts in
     let codes = flat_map (to_be_bytes w32) coded.codes ++ rest in

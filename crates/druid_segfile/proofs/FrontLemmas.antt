@@ -16,7 +16,7 @@ use Rattle.druid_segfile.specs.Spelling.{magic}
 use Rattle.druid_segfile.specs.ColumnSpelling.{column_magic}
 use Rattle.druid_time.specs.Results.{◌>>=◌}
 use Rattle.druid_segfile.specs.Parts.{bytes_at, byte_at, number_at, signed_at, at_most, accepted, short_text_at, text_at, each_at, instant_of, moment_at, interval_at, name_at, version_at, core_at, descriptor_at, is_new_name, field_name_at, field_names_at, names_at, fields_at, instant_in, row_time_at, text_value_at, number_value_at, Shape, shape_of, values_at, row_count_at, rows_at}
-use Rattle.druid_segfile.specs.ColumnReading.{is_above, value_text_at, value_texts_at, code_at, have_rows, codes_at, dimension_at, mark_at, present_at, metric_at, columns_at, rows_of, of_length, column_content_at}
+use Rattle.druid_segfile.specs.ColumnReading.{is_above, value_text_at, value_texts_at, code_at, have_rows, codes_at, coded_at, dimension_at, mark_at, present_at, metric_at, columns_at, rows_of, of_length, column_content_at}
 use Rattle.druid_segfile.specs.Reading.{GivesInMemory, row_content_at, content_in, content_at, short_of, segment_within, segment_at}
 use Rattle.druid_segfile.proofs.PartLemmas.{ok_is}
 
@@ -262,14 +262,19 @@ codes_steady : (short : FileFault) (count rows : ℕ) → IsSteady short (codes_
 unfolding codes_at
 codes_steady short count rows = accepted_steady short (each_at (code_at short count) rows) (each_steady short (code_at short count) (code_steady short count) rows) (have_rows count)
 
+coded_steady : (short : FileFault) (count rows : ℕ) → IsSteady short (coded_at short count rows)
+unfolding coded_at
+coded_steady short count rows bytes more =
+    bound (value_texts_steady short count None bytes more) _ _ (λ texts.
+    bound (codes_steady short count rows texts.1 more) _ _ (λ codes.
+    read_ok _))
+
 dimension_steady : (short : FileFault) (rows : ℕ) → IsSteady short (dimension_at short rows)
 unfolding dimension_at
 dimension_steady short rows bytes more =
     bound (number_steady short w32 bytes more) _ _ (λ part.
     bound (no_more_than short rows part.0) _ _ (λ count.
-    bound (value_texts_steady short count None part.1 more) _ _ (λ texts.
-    bound (codes_steady short count rows texts.1 more) _ _ (λ codes.
-    read_ok _))))
+    coded_steady short count rows part.1 more))
 
 mark_steady : (short : FileFault) → IsSteady short (mark_at short)
 unfolding mark_at

@@ -12,6 +12,7 @@ pub mod ContentLemmas
 pub mod ColumnLemmas
 pub mod SegmentLemmas
 pub mod LoopLemmas
+pub mod JudgeLemmas
 pub mod BuildLemmas
 pub mod FrontLemmas
 pub mod WriteLemmas

@@ -1,9 +1,10 @@
 -- Parts that a loop reads one after the other.
-use Rattle.std.proofs.Common.{◌≡◌, ℕ, suc, ◌-◌, ◌+◌, ◌≤◌, ◌<◌, List, [], ◌∷◌, ◌++◌, Result, Ok, Err, IsOk, refl, sym, ap, ◌∙◌, append_assoc, arith}
+use Rattle.std.proofs.Common.{◌≡◌, ℕ, suc, ◌-◌, ◌+◌, ◌≤◌, ◌<◌, List, [], ◌∷◌, ◌++◌, Option, Some, None, Result, Ok, Err, IsOk, refl, sym, ap, ◌∙◌, append_assoc, arith}
 use Rattle.std.proofs.lemmas.List.{append-nil}
 use Rattle.druid_segfile.specs.declared.fault.FileFault.{FileFault}
 use Rattle.druid_time.specs.Results.{◌>>=◌}
 use Rattle.druid_segfile.specs.Parts.{each_at, field_name_at, field_names_at}
+use Rattle.druid_segfile.specs.ColumnReading.{value_text_at, value_texts_at}
 
 -- what is made of the parts that were read before, and of those that are still read
 abbrev pub gathered : {A B : Type 0} → (List A → B) → List A → Result (List A × List ℕ) FileFault → Result (B × List ℕ) FileFault
@@ -77,6 +78,37 @@ names_done short others front count i bytes total le so_far =
     let k : count - i ≡ 0 = omega arith in
     let one : with_front front (field_names_at short (count - i) (others ++ front) bytes) ≡ Ok (front, bytes) = rw k (ap (λ (xs : List (List ℕ)). Ok (xs, bytes)) (append-nil front)) in
     sym so_far ∙ one
+
+-- ---- the texts of a dictionary, each above the one before it
+
+pub texts_go_on : (short : FileFault) (last : Option (List ℕ)) (front : List (List ℕ)) (count i : ℕ) (bytes text after : List ℕ) (total : Result (List (List ℕ) × List ℕ) FileFault) → i < count → value_text_at short last bytes ≡ Ok (text, after)
+    → with_front front (value_texts_at short (count - i) last bytes) ≡ total → with_front (front ++ text ∷ []) (value_texts_at short (count - (i + 1)) (Some text) after) ≡ total
+unfolding value_texts_at
+texts_go_on short last front count i bytes text after total lt h so_far =
+    let k : count - i ≡ suc (count - (i + 1)) = omega arith in
+    let one : with_front front (value_texts_at short (count - i) last bytes) ≡ with_front (front ++ text ∷ []) (value_texts_at short (count - (i + 1)) (Some text) after) = rw (k, h) (regroup (λ (xs : List (List ℕ)). xs) front text (value_texts_at short (count - (i + 1)) (Some text) after)) in
+    sym one ∙ so_far
+
+pub texts_end : (short fault : FileFault) (last : Option (List ℕ)) (front : List (List ℕ)) (count i : ℕ) (bytes : List ℕ) (total : Result (List (List ℕ) × List ℕ) FileFault) → i < count → value_text_at short last bytes ≡ Err fault
+    → with_front front (value_texts_at short (count - i) last bytes) ≡ total → total ≡ Err fault
+unfolding value_texts_at
+texts_end short fault last front count i bytes total lt h so_far =
+    let k : count - i ≡ suc (count - (i + 1)) = omega arith in
+    let one : with_front front (value_texts_at short (count - i) last bytes) ≡ Err fault = rw (k, h) refl in
+    sym so_far ∙ one
+
+pub texts_done : (short : FileFault) (last : Option (List ℕ)) (front : List (List ℕ)) (count i : ℕ) (bytes : List ℕ) (total : Result (List (List ℕ) × List ℕ) FileFault) → count ≤ i
+    → with_front front (value_texts_at short (count - i) last bytes) ≡ total → total ≡ Ok (front, bytes)
+unfolding value_texts_at
+texts_done short last front count i bytes total le so_far =
+    let k : count - i ≡ 0 = omega arith in
+    let one : with_front front (value_texts_at short (count - i) last bytes) ≡ Ok (front, bytes) = rw k (ap (λ (xs : List (List ℕ)). Ok (xs, bytes)) (append-nil front)) in
+    sym so_far ∙ one
+
+pub no_texts : (short : FileFault) (count : ℕ) (bytes : List ℕ) → with_front [] (value_texts_at short (count - 0) None bytes) ≡ value_texts_at short count None bytes
+no_texts short count bytes =
+    let all : count - 0 ≡ count = omega arith in
+    rw all (nothing_before (value_texts_at short count None bytes))
 
 -- what is made of something that is read in whole is no fault
 pub is_read : {A B : Type 0} (read : Result A FileFault) (make : A → B) (fault : FileFault) → IsOk read → (read >>= λ x. Ok (make x)) ≡ Err fault → ⊥

@@ -16,11 +16,6 @@ abbrev pub Skips : {X A : Type 0} → Cursor → Cursor → Result X FileFault �
 Skips {X} {A} old new (Ok x) read = ((part : A) × (read ≡ Ok (part, new.rest))) × (new.short ≡ old.short)
 Skips old new (Err fault) read = read ≡ Err fault
 
--- the bytes after the part are left, and of the part only a number is kept
-abbrev pub Measures : {A : Type 0} → (A → ℕ) → Cursor → Cursor → Result ℕ FileFault → Result (A × List ℕ) FileFault → Type 0
-Measures {A} measure old new (Ok n) read = ((part : A) × (read ≡ Ok (part, new.rest)) × (n ≡ measure part)) × (new.short ≡ old.short)
-Measures measure old new (Err fault) read = read ≡ Err fault
-
 -- the content in that layout
 abbrev pub content_of : Layout → FileFault → List ℕ → Result (Segment × List ℕ) FileFault
 content_of ByRows short bytes = row_content_at short bytes

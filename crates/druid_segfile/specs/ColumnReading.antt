@@ -55,14 +55,19 @@ codes_at short count rows bytes = do
   codes ← accepted (have_rows count) part.0
   Ok (codes, part.1)
 
+-- so many texts, and the codes of so many rows
+unfoldable pub coded_at : FileFault → ℕ → ℕ → List ℕ → Result (Coded × List ℕ) FileFault
+coded_at short count rows bytes = do
+  texts ← value_texts_at short count None bytes
+  codes ← codes_at short count rows texts.1
+  Ok (record { texts = texts.0; codes = codes.0 }, codes.1)
+
 -- a dimension of so many rows. It has no more texts than rows
 unfoldable pub dimension_at : FileFault → ℕ → List ℕ → Result (Coded × List ℕ) FileFault
 dimension_at short rows bytes = do
   part ← number_at short w32 bytes
   count ← at_most rows part.0
-  texts ← value_texts_at short count None part.1
-  codes ← codes_at short count rows texts.1
-  Ok (record { texts = texts.0; codes = codes.0 }, codes.1)
+  coded_at short count rows part.1
 
 -- ---- A metric
 

@@ -8,5 +8,6 @@ pub mod Reading
 -- words of private contracts
 pub mod Written
 pub mod Building
+pub mod Judging
 pub mod Heading
 pub mod Lent

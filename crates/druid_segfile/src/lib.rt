@@ -1,6 +1,7 @@
 //! Segments in files, in the layout `DSG1`.
 #![tactic(auto)]
 
+mod columns;
 mod cursor;
 mod fault;
 mod fields;

@@ -77,7 +77,7 @@ fn row_time(ms: i64, interval: Interval) -> Result<Instant, FileFault>
 
 impl<'a> Cursor<'a> {
     #[tactic(auto, unfolding(crate::specs::Parts::row_time_at))]
-    fn row_time(&mut self, interval: Interval) -> Result<Instant, FileFault>
+    pub(crate) fn row_time(&mut self, interval: Interval) -> Result<Instant, FileFault>
         ensures { TakesAs (λ time. time) self.old self.new result (row_time_at self.old.short interval self.old.rest) }
     {
         row_time(self.i64()?, interval)
