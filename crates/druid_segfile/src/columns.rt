@@ -179,17 +179,37 @@ impl<'a> Cursor<'a> {
         Ok(len)
     }
 
+    // The same in places that may have more room than so many texts need.
+    fn coded_length(
+        &mut self,
+        count: usize,
+        rows: usize,
+        lens: &mut [u16],
+        marks: &mut [u8],
+    ) -> Result<usize, FileFault>
+        requires rows { rows ≤ max_rows }
+        requires lens { count ≤ length lens.old }
+        requires marks { count ≤ length marks.old }
+        requires none { All (λ mark. mark ≡ 0) marks.old }
+        ensures found { Finds (λ len coded. len ≡ texts_length (decoded coded)) self.old self.new result
+            (coded_at self.old.short count rows self.old.rest) }
+        ensures bound { IfOk result (λ len. len ≤ 6553800000) }
+    {
+        self.texts_length(rows, &mut lens[..count], &mut marks[..count])
+    }
+
+    #[tactic(auto, unfolding(crate::specs::ColumnReading::dimension_at))]
     fn dimension_length(&mut self, rows: usize) -> Result<usize, FileFault>
         requires { rows ≤ max_rows }
         ensures found { Finds (λ len coded. len ≡ texts_length (decoded coded)) self.old self.new result
             (dimension_at self.old.short rows self.old.rest) }
         ensures bound { IfOk result (λ len. len ≤ 6553800000) }
     {
-        let count = self.u32()? as usize;
-        let count = at_most(rows, count)?;
+        let texts = self.u32()? as usize;
+        let count = at_most(rows, texts)?;
         let mut lens = [0; MAX_ROWS];
         let mut marks = [0; MAX_ROWS];
-        self.texts_length(rows, &mut lens[..count], &mut marks[..count])
+        self.coded_length(count, rows, &mut lens, &mut marks)
     }
 
     // The length in rows of that many dimensions.
