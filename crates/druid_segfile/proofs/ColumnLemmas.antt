@@ -11,8 +11,7 @@ use Rattle.std.proofs.lemmas.Option.{slice_get-get_or, slice_get_past}
 use Rattle.std.proofs.lemmas.Bool.{cases_lt}
 use Rattle.druid_shard.specs.Described.{Described, IsDescribed}
 use Rattle.druid_rows.specs.Rows.{Schema, Row, row_of, no_row}
-use Rattle.druid_rows.specs.Columns.{column, value_at}
-use Rattle.druid_rows.specs.Table.{across, rows_in, AreLong}
+use Rattle.druid_rows.specs.Columns.{column, value_at, across, AreLong}
 use Rattle.druid_rows.specs.Segment.{Segment, segment_of, text_length, max_rows, max_text}
 use Rattle.druid_rows.proofs.TableLemmas.{length_rows_in, rows_in_at, times_again, texts_again, numbers_again, text_cell, number_cell}
 use Rattle.druid_segfile.specs.declared.fault.FileFault.{FileFault}
@@ -99,11 +98,11 @@ module _ (shape : Shape) (rows : ℕ) (columns : Columns) (h : AreColumns shape 
   abbrev texts : List (List (Option (List ℕ)))
   texts = map decoded columns.dimensions
 
-  long_texts : AreLong (length columns.times) texts
+  pub long_texts : AreLong (length columns.times) texts
   long_texts =
       All-map (λ (values : List (Option (List ℕ))). length values ≡ length columns.times) decoded columns.dimensions (λ i d lt. length_decoded (get_or columns.dimensions i d) ∙ (h.dimensions.1 i d lt).codes.each.0 ∙ sym h.times.0)
 
-  long_numbers : AreLong (length columns.times) columns.metrics
+  pub long_numbers : AreLong (length columns.times) columns.metrics
   long_numbers i d lt = (h.metrics.1 i d lt).0 ∙ sym h.times.0
 
   is_row : (k : ℕ) → k < length columns.times → IsRow shape (row_of (get_or columns.times k 0) (across texts k) (across columns.metrics k))
@@ -257,7 +256,7 @@ module _ (s : Segment) (dimensions : List Coded) (h : IsContent s) (coded : AreC
 
 -- ---- the content
 
-count_read : (short : FileFault) → Reads ℕ (row_count_at short) (to_be_bytes w32) (λ n. n ≤ max_rows)
+pub count_read : (short : FileFault) → Reads ℕ (row_count_at short) (to_be_bytes w32) (λ n. n ≤ max_rows)
 unfolding row_count_at
 count_read short = record {
   takes = λ bytes x fits e.
@@ -277,7 +276,7 @@ of_length_ok s x e =
     let a = at_most_ok max_text (text_length s) m.0 m.1 in
     (ok_is s x m.2, omega (arith, a.0, a.1))
 
-of_length_within : (s : Segment) → text_length s ≤ max_text → of_length s ≡ Ok s
+pub of_length_within : (s : Segment) → text_length s ≤ max_text → of_length s ≡ Ok s
 unfolding of_length
 of_length_within s h = ap (λ r. r >>= λ len. Ok s) (at_most_within max_text (text_length s) h)
 

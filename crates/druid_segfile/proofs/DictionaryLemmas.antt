@@ -8,7 +8,7 @@ use Rattle.std.specs.Cmp.Lexicographic.{slice_cmp}
 use Rattle.std.specs.Int.{w32, to_be_bytes}
 use Rattle.std.proofs.lemmas.Bool.{and_parts, and_from, leb-true, le-leb, eqb-true, eq-eqb, true≢false, cases_lt, cases_eq}
 use Rattle.std.proofs.lemmas.Cmp.{nat_list_cmp_total}
-use Rattle.std.proofs.lemmas.List.{get_or-map, get_or_default, length-map, same_lists}
+use Rattle.std.proofs.lemmas.List.{get_or-map, get_or_default, length-map}
 use Rattle.std.proofs.lemmas.List.Concat.{flat_map-cons}
 use Rattle.std.proofs.lemmas.List.Elements.{All-nil, All-cons, All-head, All-tail, All-contains}
 use Rattle.std.proofs.lemmas.List.Folds.{list_any_at, Any-from_list_any}
@@ -17,7 +17,7 @@ use Rattle.std.proofs.lemmas.Option.{slice_get-get_or, get_or_from_slice_get, sl
 use Rattle.druid_shard.proofs.MemberLemmas.{Contains-map, Contains-map_back}
 use Rattle.druid_rows.specs.Columns.{value_at, IsDictionary, AreCodes}
 use Rattle.druid_rows.specs.Segment.{max_rows}
-use Rattle.druid_rows.proofs.ColumnLemmas.{IsDictionary_unique, one_code}
+use Rattle.druid_rows.proofs.ColumnLemmas.{IsDictionary_unique, AreCodes_unique, one_code}
 use Rattle.druid_segfile.specs.declared.fault.FileFault.{FileFault}
 use Rattle.druid_segfile.specs.ColumnSpelling.{Coded, value, dimension, IsCoded}
 use Rattle.druid_time.specs.Results.{◌>>=◌}
@@ -256,12 +256,6 @@ is_dimension rows values coded h long fine =
 pub one_coded : (values : List (Option (List ℕ))) (a b : Coded) → IsCoded values a → IsCoded values b → a ≡ b
 one_coded values a b h k =
     let texts : a.texts ≡ b.texts = IsDictionary_unique values a.texts b.texts h.dictionary k.dictionary in
-    let stand : map (value_at a.texts) b.codes ≡ values = ap (λ ts. map (value_at ts) b.codes) texts ∙ k.codes.stand in
-    let bounded : All (λ code. code ≤ length a.texts) b.codes = subst (λ (ts : List (List ℕ)). All (λ code. code ≤ length ts) b.codes) (sym texts) k.codes.bounded in
-    let long : length a.codes ≡ length b.codes = sym (length-map a.codes (value_at a.texts)) ∙ ap length (h.codes.stand ∙ sym stand) ∙ length-map b.codes (value_at a.texts) in
-    let codes : a.codes ≡ b.codes = same_lists a.codes b.codes long (λ i d lt.
-    let there : i < length b.codes = omega (arith, long, lt) in
-    let same : value_at a.texts (get_or a.codes i d) ≡ value_at a.texts (get_or b.codes i d) =
-        sym (get_or-map (value_at a.texts) a.codes i d None lt) ∙ ap (λ vs. get_or vs i None) (h.codes.stand ∙ sym stand) ∙ get_or-map (value_at a.texts) b.codes i d None there in
-    one_code values a.texts (get_or a.codes i d) (get_or b.codes i d) h.dictionary (h.codes.bounded i d lt) (bounded i d there) same) in
-    λ i. coded_of (texts i) (codes i)
+    let codes : AreCodes a.texts values b.codes = subst (λ (ts : List (List ℕ)). AreCodes ts values b.codes) (sym texts) k.codes in
+    let same : a.codes ≡ b.codes = AreCodes_unique values a.texts a.codes b.codes h.dictionary h.codes codes in
+    λ i. coded_of (texts i) (same i)

@@ -13,6 +13,7 @@ pub mod ColumnLemmas
 pub mod SegmentLemmas
 pub mod LoopLemmas
 pub mod JudgeLemmas
+pub mod SumLemmas
 pub mod BuildLemmas
 pub mod FrontLemmas
 pub mod WriteLemmas

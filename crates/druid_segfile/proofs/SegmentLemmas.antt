@@ -122,7 +122,7 @@ text_value_from : (value : Option (List ℕ)) → IfSome value (λ text. length 
 text_value_from None short utf8 = tt
 text_value_from (Some text) short utf8 = (short, utf8)
 
-content_segment : (s : Segment) → IsContent s → text_length s ≤ max_text → IsSegment s
+pub content_segment : (s : Segment) → IsContent s → text_length s ≤ max_text → IsSegment s
 content_segment s h short = record {
   schema = h.fields.schema;
   within = record {

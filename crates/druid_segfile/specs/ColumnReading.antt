@@ -5,8 +5,7 @@ use Rattle.std.specs.Int.{w32}
 use Rattle.std.specs.Ordering.{nat_cmp, is_lt}
 use Rattle.std.specs.Cmp.Lexicographic.{slice_cmp}
 use Rattle.druid_rows.specs.Rows.{Row}
-use Rattle.druid_rows.specs.Columns.{value_at}
-use Rattle.druid_rows.specs.Table.{rows_in}
+use Rattle.druid_rows.specs.Columns.{value_at, rows_in}
 use Rattle.druid_rows.specs.Segment.{Segment, segment_of, text_length, max_text}
 use Rattle.druid_time.specs.Results.{◌>>=◌}
 use Rattle.druid_segfile.specs.declared.fault.FileFault.{FileFault}

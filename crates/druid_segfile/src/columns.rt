@@ -143,7 +143,7 @@ impl<'a> Cursor<'a> {
     }
 
     // How many of that many rows have a number.
-    fn count_marks(&mut self, rows: usize) -> Result<usize, FileFault>
+    pub(crate) fn count_marks(&mut self, rows: usize) -> Result<usize, FileFault>
         requires { rows ≤ max_rows }
         ensures found { Finds (λ count marks. count ≡ ones marks) self.old self.new result
             (each_at (mark_at self.old.short) rows self.old.rest) }

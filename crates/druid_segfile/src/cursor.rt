@@ -60,6 +60,16 @@ impl<'a> Cursor<'a> {
         self.rest
     }
 
+    // Another cursor over the same bytes.
+    pub(crate) fn again(&self) -> Cursor<'a>
+        ensures { result ≡ self.now }
+    {
+        Cursor {
+            rest: self.rest,
+            short: self.short,
+        }
+    }
+
     // Whether no bytes are left.
     pub(crate) fn is_at_end(&self) -> bool
         ensures { result ≡ (length self.now.rest == 0) }

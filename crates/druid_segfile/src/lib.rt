@@ -1,6 +1,7 @@
 //! Segments in files, in the layout `DSG1`.
 #![tactic(auto)]
 
+mod column_building;
 mod columns;
 mod cursor;
 mod fault;
