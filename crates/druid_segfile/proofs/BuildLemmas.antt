@@ -156,6 +156,26 @@ text_judged short bytes d fields count rest after columns len fits head read is 
     let sums = rows_length columns (long_texts (shape_of d fields) count columns c) (long_numbers (shape_of d fields) count columns c) in
     omega (arith, t.len, sums, is)
 
+-- ---- for what judges
+
+pub rows_same : (short s2 : FileFault) (shape : Shape) (d : Described) (fields : Schema) (count : ℕ) (rest : List ℕ) (r : Result (List Row × List ℕ) FileFault) → s2 ≡ short → shape ≡ shape_of d fields → each_at (values_at s2 shape) count rest ≡ r → each_at (values_at short (shape_of d fields)) count rest ≡ r
+rows_same short s2 shape d fields count rest r p q e =
+    subst (λ (s : FileFault). each_at (values_at s (shape_of d fields)) count rest ≡ r) p (subst (λ (w : Shape). each_at (values_at s2 w) count rest ≡ r) q e)
+
+pub columns_same : (short s2 : FileFault) (shape : Shape) (d : Described) (fields : Schema) (count : ℕ) (rest : List ℕ) (r : Result (Columns × List ℕ) FileFault) → s2 ≡ short → shape ≡ shape_of d fields → columns_at s2 shape count rest ≡ r → columns_at short (shape_of d fields) count rest ≡ r
+columns_same short s2 shape d fields count rest r p q e =
+    subst (λ (s : FileFault). columns_at s (shape_of d fields) count rest ≡ r) p (subst (λ (w : Shape). columns_at s2 w count rest ≡ r) q e)
+
+pub rows_fault : (short fault : FileFault) (bytes : List ℕ) (d : Described) (fields : Schema) (count : ℕ) (rest : List ℕ) → IsHead short bytes d fields count rest → each_at (values_at short (shape_of d fields)) count rest ≡ Err fault → row_content_at short bytes ≡ Err fault
+unfolding row_content_at
+rows_fault short fault bytes d fields count rest head e =
+    rw (head.described, head.named, rows_counted short (shape_of d fields) head.after_fields, head.counted, e) refl
+
+pub columns_fault : (short fault : FileFault) (bytes : List ℕ) (d : Described) (fields : Schema) (count : ℕ) (rest : List ℕ) → IsHead short bytes d fields count rest → columns_at short (shape_of d fields) count rest ≡ Err fault → column_content_at short bytes ≡ Err fault
+unfolding column_content_at
+columns_fault short fault bytes d fields count rest head e =
+    rw (head.described, head.named, head.counted, e) refl
+
 -- the segment that was judged
 pub judged_content : (layout : Layout) (short : FileFault) (bytes : List ℕ) (d : Described) (fields : Schema) (count : ℕ) (rest after : List ℕ) → IsWholeIn layout short bytes d fields count rest after → (s : Segment) × (content_of layout short bytes ≡ Ok (s, after))
 judged_content ByRows short bytes d fields count rest after w = (segment_of d fields w.rows, whole_content short bytes d fields count rest after w)

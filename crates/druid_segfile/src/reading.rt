@@ -1,4 +1,4 @@
-ghost use Rattle.std.specs.Prelude.{◌≡◌, ◌≢◌, ◌↔◌, ◌⊎◌, ◌+◌, ◌≤◌, ◌<◌, ℕ, List, length, take, Some, Ok, Err, IfOk, IfErr, IfSome, OnErr};
+ghost use Rattle.std.specs.Prelude.{◌≡◌, ◌≢◌, ◌↔◌, ◌⊎◌, ◌+◌, ◌≤◌, ◌<◌, ℕ, List, length, take, slice_index_or, Some, Ok, Err, IfOk, IfErr, IfSome, OnErr};
 ghost use Rattle.std.specs.Io.KnownBytes.{Consumes, IsAtEnd, Keeps};
 ghost use Rattle.std.specs.IoError.{error_kind};
 ghost use Rattle.druid_stream.specs.Taken.{TakesAtMost};
@@ -93,6 +93,13 @@ struct Judged<'a> {
     rows: &'a [u8],
 }
 
+// For the proof: each is a byte.
+fn are_bytes(bytes: &[u8])
+    ensures { (place : ℕ) → slice_index_or bytes.now place 0 < 256 }
+{
+    let _ = bytes.len();
+}
+
 // How the rows of a segment are read.
 #[tactic(auto, using(crate::proofs::BuildLemmas::length_lent))]
 fn shape_of(announced: &Announced<'_>, fields: &FieldNames<'_>) -> Shape
@@ -158,6 +165,7 @@ impl<'a> Cursor<'a> {
         ensures fault { IfErr result (λ fault. column_content_at self.old.short self.old.rest ≡ Err fault) }
     {
         let bytes = self.rest();
+        are_bytes(bytes);
         let judged = self.head(Layout::ByColumns)?;
         let shape = shape_of(&judged.announced, &judged.fields);
         let len = self.columns_length(shape, judged.count)?;
