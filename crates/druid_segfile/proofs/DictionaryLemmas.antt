@@ -156,18 +156,30 @@ rec_weaker : {X : Type 0} (P Q : X → Type 0) → ((x : X) → P x → Q x) →
 rec_weaker P Q f [] h = tt
 rec_weaker P Q f (x ∷ xs) h = (f x h.0, rec_weaker P Q f xs h.1)
 
-sorted_after : (x : List ℕ) (xs : List (List ℕ)) → AreRising (Some x) xs → IsStrictlySortedBy text_cmp (x ∷ xs)
+-- each stands above the one before it
+abbrev pub AreAbove : Option (List ℕ) → List (List ℕ) → Type 0
+AreAbove last [] = Unit {0}
+AreAbove last (text ∷ more) = (is_above last text ≡ true) × AreAbove (Some text) more
+
+sorted_after : (x : List ℕ) (xs : List (List ℕ)) → AreAbove (Some x) xs → IsStrictlySortedBy text_cmp (x ∷ xs)
 unfolding IsStrictlySortedBy
 sorted_after x [] h = (tt, tt)
 sorted_after x (y ∷ ys) h =
-    let less = is_less x y h.0.1 in
+    let less = is_less x y h.0 in
     let rest = sorted_after y ys h.1 in
     ((less, rec_weaker (λ z. text_cmp y z ≡ Less) (λ z. text_cmp x z ≡ Less) (λ z. nat_list_cmp_total.trans x y z less) ys rest.0), rest)
 
-pub rising_sorted : (xs : List (List ℕ)) → AreRising None xs → IsStrictlySortedBy text_cmp xs
+pub above_sorted : (xs : List (List ℕ)) → AreAbove None xs → IsStrictlySortedBy text_cmp xs
 unfolding IsStrictlySortedBy
-rising_sorted [] h = tt
-rising_sorted (x ∷ xs) h = sorted_after x xs h.1
+above_sorted [] h = tt
+above_sorted (x ∷ xs) h = sorted_after x xs h.1
+
+rising_above : (last : Option (List ℕ)) (xs : List (List ℕ)) → AreRising last xs → AreAbove last xs
+rising_above last [] h = tt
+rising_above last (x ∷ xs) h = (h.0.1, rising_above (Some x) xs h.1)
+
+rising_sorted : (xs : List (List ℕ)) → AreRising None xs → IsStrictlySortedBy text_cmp xs
+rising_sorted xs h = above_sorted xs (rising_above None xs h)
 
 pub rising_texts : (last : Option (List ℕ)) (xs : List (List ℕ)) → AreRising last xs → All IsText xs
 rising_texts last [] h = All-nil IsText
@@ -216,19 +228,22 @@ text_coded : (texts : List (List ℕ)) (code : ℕ) (text : List ℕ) → value_
 text_coded texts zero text e = absurd (true≢false (ap is_some (sym e)))
 text_coded texts (suc k) text e = (k, slice_get_within texts k text e, get_or_from_slice_get texts k text text e)
 
+pub is_dictionary : (texts : List (List ℕ)) (codes : List ℕ) → IsStrictlySortedBy text_cmp texts → have_rows (length texts) codes ≡ true → IsDictionary (map (value_at texts) codes) texts
+is_dictionary texts codes sorted used = record {
+  rising = sorted;
+  occur = λ text. (
+    λ there.
+        let row = rows_found (length texts) codes used there.0 there.1 in
+        subst (Contains (map (value_at texts) codes)) (slice_get-get_or texts there.0 text there.1 ∙ ap Some there.2) (Contains-map_back (value_at texts) codes (suc there.0) row),
+    λ there.
+        let code = Contains-map (value_at texts) codes (Some text) there in
+        text_coded texts code.0 text code.2,
+  );
+}
+
 pub is_coded : (rows : ℕ) (coded : Coded) → IsDimension rows coded → IsCoded (decoded coded) coded
 is_coded rows coded h = record {
-  dictionary = record {
-    rising = rising_sorted coded.texts h.texts;
-    occur = λ text. (
-      λ there.
-          let row = rows_found (length coded.texts) coded.codes h.codes.used there.0 there.1 in
-          subst (Contains (decoded coded)) (slice_get-get_or coded.texts there.0 text there.1 ∙ ap Some there.2) (Contains-map_back (value_at coded.texts) coded.codes (suc there.0) row),
-      λ there.
-          let code = Contains-map (value_at coded.texts) coded.codes (Some text) there in
-          text_coded coded.texts code.0 text code.2,
-    );
-  };
+  dictionary = is_dictionary coded.texts coded.codes (rising_sorted coded.texts h.texts) h.codes.used;
   codes = record { stand = refl; bounded = h.codes.each.1 };
 }
 

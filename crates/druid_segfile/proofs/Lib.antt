@@ -14,6 +14,7 @@ pub mod SegmentLemmas
 pub mod LoopLemmas
 pub mod JudgeLemmas
 pub mod SumLemmas
+pub mod KeepLemmas
 pub mod BuildLemmas
 pub mod FrontLemmas
 pub mod WriteLemmas

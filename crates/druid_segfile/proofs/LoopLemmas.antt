@@ -114,3 +114,17 @@ no_texts short count bytes =
 pub is_read : {A B : Type 0} (read : Result A FileFault) (make : A → B) (fault : FileFault) → IsOk read → (read >>= λ x. Ok (make x)) ≡ Err fault → ⊥
 is_read (Ok x) make fault ok e = absurd cc
 is_read (Err of) make fault ok e = absurd cc
+
+pub not_read : {A : Type 0} (read : Result A FileFault) (fault : FileFault) → IsOk read → read ≡ Err fault → ⊥
+not_read (Ok x) fault ok e = absurd cc
+not_read (Err of) fault ok e = absurd cc
+
+-- what was read in whole, is read part by part
+ok_or_fault : {A B : Type 0} (read : Result A FileFault) (total : Result B FileFault) → IsOk total → ((fault : FileFault) → read ≡ Err fault → total ≡ Err fault) → IsOk read
+ok_or_fault (Ok x) total ok fails = refl
+ok_or_fault (Err fault) total ok fails = absurd (not_read total fault ok (fails fault refl))
+
+pub reads_next : {A B : Type 0} (make : List A → B) (read : List ℕ → Result (A × List ℕ) FileFault) (front : List A) (count i : ℕ) (bytes : List ℕ) (total : Result (B × List ℕ) FileFault) → i < count → IsOk total
+    → gathered make front (each_at read (count - i) bytes) ≡ total → IsOk (read bytes)
+reads_next make read front count i bytes total lt ok so_far =
+    ok_or_fault (read bytes) total ok (λ fault e. ends make read fault front count i bytes total lt e so_far)
