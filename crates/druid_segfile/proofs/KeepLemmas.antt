@@ -2,6 +2,7 @@
 use Rattle.std.proofs.Common.{◌≡◌, ℕ, ℤ, zero, suc, ◌-◌, ◌+◌, ◌<◌, ◌≤◌, Bool, true, false, List, [], ◌∷◌, ◌++◌, length, map, Option, None, Some, Result, Ok, Err, IsOk, refl, sym, ap, subst, ◌∙◌, append_assoc, arith}
 use Rattle.std.specs.Prelude.{All}
 use Rattle.std.specs.Int.{w32}
+use Rattle.std.proofs.lemmas.List.{append-nil}
 use Rattle.druid_rows.specs.Columns.{value_at, IsDictionary}
 use Rattle.druid_segfile.specs.declared.fault.FileFault.{FileFault}
 use Rattle.druid_segfile.specs.ColumnSpelling.{Coded}
@@ -20,6 +21,10 @@ ok_value (Err fault) ok = absurd cc
 
 pub ok_from : {A : Type 0} (read : Result A FileFault) (x : A) → read ≡ Ok x → IsOk read
 ok_from read x e = subst IsOk (sym e) refl
+
+-- a part and the bytes after it
+abbrev with_rest : {A : Type 0} → A → List ℕ → A × List ℕ
+with_rest part rest = (part, rest)
 
 -- ---- a dimension
 
@@ -47,7 +52,7 @@ pub record IsDimensionOf (short : FileFault) (rows n : ℕ) (mid : List ℕ) (x 
   pub texts_read : value_texts_at short n None mid ≡ Ok (texts, between)
   pub codes_read : each_at (code_at short n) rows between ≡ Ok (codes, after)
   pub used : have_rows n codes ≡ true
-  pub is : (coded_of texts codes, after) ≡ x
+  pub is : with_rest (coded_of texts codes) after ≡ x
 
 pub dimension_parts : (short : FileFault) (rows : ℕ) (bytes : List ℕ) (n : ℕ) (mid : List ℕ) (x : Coded × List ℕ) → number_at short w32 bytes ≡ Ok (n, mid) → dimension_at short rows bytes ≡ Ok x → IsDimensionOf short rows n mid x
 unfolding dimension_at coded_at codes_at
@@ -61,7 +66,7 @@ dimension_parts short rows bytes n mid x counted e =
     let k = bind_ok (each_at (code_at short n) rows t.0.1) (λ part. accepted (have_rows n) part.0 >>= λ codes. Ok (codes, part.1)) c.0 c.1 in
     let a = bind_ok (accepted (have_rows n) k.0.0) (λ codes. Ok (codes, k.0.1)) c.0 k.2 in
     let g = accepted_ok (have_rows n) k.0.0 a.0 a.1 in
-    let made : (k.0.0, k.0.1) ≡ c.0 = ap (λ (cs : List ℕ). (cs, k.0.1)) g.0 ∙ ok_is (a.0, k.0.1) c.0 a.2 in
+    let made : with_rest k.0.0 k.0.1 ≡ c.0 = ap (λ (cs : List ℕ). (cs, k.0.1)) g.0 ∙ ok_is (a.0, k.0.1) c.0 a.2 in
     record {
       texts = t.0.0;
       between = t.0.1;
@@ -75,14 +80,14 @@ dimension_parts short rows bytes n mid x counted e =
 
 -- what was kept of it
 module _ (short : FileFault) (rows n : ℕ) (mid : List ℕ) (x : Coded × List ℕ) (d : IsDimensionOf short rows n mid x) (texts : List (List ℕ)) (between codes after : List ℕ) (texts_read : value_texts_at short n None mid ≡ Ok (texts, between)) where
-  same_texts : (d.texts, d.between) ≡ (texts, between)
+  same_texts : with_rest d.texts d.between ≡ with_rest texts between
   same_texts = ok_is (d.texts, d.between) (texts, between) (sym d.texts_read ∙ texts_read)
 
   pub codes_are_ok : IsOk (each_at (code_at short n) rows between)
   codes_are_ok = ok_from (each_at (code_at short n) rows between) (d.codes, d.after) (subst (λ (p : List (List ℕ) × List ℕ). each_at (code_at short n) rows p.1 ≡ Ok (d.codes, d.after)) same_texts d.codes_read)
 
   module _ (codes_read : each_at (code_at short n) rows between ≡ Ok (codes, after)) where
-    same_codes : (d.codes, d.after) ≡ (codes, after)
+    same_codes : with_rest d.codes d.after ≡ with_rest codes after
     same_codes = ok_is (d.codes, d.after) (codes, after) (sym (subst (λ (p : List (List ℕ) × List ℕ). each_at (code_at short n) rows p.1 ≡ Ok (d.codes, d.after)) same_texts d.codes_read) ∙ codes_read)
 
     counted : length texts ≡ n
@@ -99,7 +104,7 @@ module _ (short : FileFault) (rows n : ℕ) (mid : List ℕ) (x : Coded × List 
         let bounded = (each_good (code_at short n) (λ code. code ≤ n) (λ bs y e. code_within short n bs y.0 y.1 e) rows between (codes, after) codes_read).1 in
         subst (λ (k : ℕ). All (λ code. code ≤ k) codes) (sym counted) bounded
 
-    pub kept_dimension : (coded_of texts codes, after) ≡ x
+    pub kept_dimension : with_rest (coded_of texts codes) after ≡ x
     kept_dimension =
         ap (λ (p : List ℕ × List ℕ). (coded_of texts p.0, p.1)) (sym same_codes) ∙ ap (λ (p : List (List ℕ) × List ℕ). (coded_of p.0 d.codes, d.after)) (sym same_texts) ∙ d.is
 
@@ -118,16 +123,20 @@ next_present short false left front bytes value after e =
 next_present short true left front bytes value after e =
     let b = bind_ok (signed_at short bytes) (λ number. Ok (Some number.0, number.1)) (value, after) e in
     let same = ok_is (Some b.0.0, b.0.1) (value, after) b.2 in
-    let one : with_front front (present_at short (true ∷ left) bytes) ≡ with_front (front ++ Some b.0.0 ∷ []) (present_at short left b.0.1) = rw b.1 (next_bound front (Some b.0.0) (present_at short left b.0.1)) in
+    let one : with_front front (present_at short (true ∷ left) bytes) ≡ with_front (front ++ Some b.0.0 ∷ []) (present_at short left b.0.1) = ap (λ (r : Result (ℤ × List ℕ) FileFault). with_front front (r >>= λ number. present_at short left number.1 >>= λ others. Ok (Some number.0 ∷ others.0, others.1))) b.1 ∙ next_bound front (Some b.0.0) (present_at short left b.0.1) in
     one ∙ ap (λ (p : Option ℤ × List ℕ). with_front (front ++ p.0 ∷ []) (present_at short left p.1)) same
+
+abbrev some_number : ℤ × List ℕ → Result (Option ℤ × List ℕ) FileFault
+some_number number = Ok (Some number.0, number.1)
+
+no_number : (read : Result (ℤ × List ℕ) FileFault) (fault : FileFault) (front : List (Option ℤ)) (f : ℤ × List ℕ → Result (List (Option ℤ) × List ℕ) FileFault) → (read >>= some_number) ≡ Err fault → with_front front (read >>= f) ≡ Err fault
+no_number (Ok x) fault front f e = absurd cc
+no_number (Err of) fault front f e = let same : of ≡ fault = cc in ap Err same
 
 pub no_present : (short fault : FileFault) (mark : Bool) (left : List Bool) (front : List (Option ℤ)) (bytes : List ℕ) → present_value_at short mark bytes ≡ Err fault → with_front front (present_at short (mark ∷ left) bytes) ≡ Err fault
 unfolding present_at
 no_present short fault false left front bytes e = absurd cc
-no_present short fault true left front bytes e = no_number (signed_at short bytes) fault front (λ number. present_at short left number.1 >>= λ others. Ok (Some number.0 ∷ others.0, others.1)) e where
-  no_number : (read : Result (ℤ × List ℕ) FileFault) (fault : FileFault) (front : List (Option ℤ)) (f : ℤ × List ℕ → Result (List (Option ℤ) × List ℕ) FileFault) → (read >>= λ number. Ok (Some number.0, number.1)) ≡ Err fault → with_front front (read >>= f) ≡ Err fault
-  no_number (Ok x) fault front f e = absurd cc
-  no_number (Err of) fault front f e = let same : of ≡ fault = cc in ap Err same
+no_present short fault true left front bytes e = no_number (signed_at short bytes) fault front (λ number. present_at short left number.1 >>= λ others. Ok (Some number.0 ∷ others.0, others.1)) e
 
 -- the marks that are left
 pub next_mark : (short : FileFault) (count i : ℕ) (bytes : List ℕ) (left : List Bool) (last : List ℕ) (mark : Bool) (after : List ℕ) → i < count → each_at (mark_at short) (count - i) bytes ≡ Ok (left, last) → mark_at short bytes ≡ Ok (mark, after)
@@ -157,3 +166,16 @@ marks_done short count i bytes left last le e =
     let k : count - i ≡ 0 = omega arith in
     let none : each_at (mark_at short) 0 bytes ≡ Ok (left, last) = subst (λ (n : ℕ). each_at (mark_at short) n bytes ≡ Ok (left, last)) k e in
     sym (ap (λ (p : List Bool × List ℕ). p.0) (ok_is ([], bytes) (left, last) none))
+
+pub metric_marked : (short : FileFault) (rows : ℕ) (bytes : List ℕ) (marks : List Bool) (after : List ℕ) → each_at (mark_at short) rows bytes ≡ Ok (marks, after) → metric_at short rows bytes ≡ present_at short marks after
+unfolding metric_at
+metric_marked short rows bytes marks after e = rw e refl
+
+pub all_marks : (short : FileFault) (rows : ℕ) (bytes : List ℕ) (marks : List Bool) (after : List ℕ) → each_at (mark_at short) rows bytes ≡ Ok (marks, after) → each_at (mark_at short) (rows - 0) bytes ≡ Ok (marks, after)
+all_marks short rows bytes marks after e =
+    let all : rows ≡ rows - 0 = omega arith in
+    subst (λ (n : ℕ). each_at (mark_at short) n bytes ≡ Ok (marks, after)) all e
+
+pub present_done : (short : FileFault) (front : List (Option ℤ)) (bytes : List ℕ) → with_front front (present_at short [] bytes) ≡ Ok (front, bytes)
+unfolding present_at
+present_done short front bytes = ap (λ (xs : List (Option ℤ)). Ok (xs, bytes)) (append-nil front)

@@ -13,7 +13,7 @@ gathered make front read = read >>= λ x. Ok (make (front ++ x.0), x.1)
 abbrev pub with_front : {A : Type 0} → List A → Result (List A × List ℕ) FileFault → Result (List A × List ℕ) FileFault
 with_front front read = read >>= λ x. Ok (front ++ x.0, x.1)
 
-nothing_before : {A : Type 0} (read : Result (List A × List ℕ) FileFault) → with_front [] read ≡ read
+pub nothing_before : {A : Type 0} (read : Result (List A × List ℕ) FileFault) → with_front [] read ≡ read
 nothing_before (Ok x) = refl
 nothing_before (Err fault) = refl
 
