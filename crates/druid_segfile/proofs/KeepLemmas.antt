@@ -2,18 +2,23 @@
 use Rattle.std.proofs.Common.{◌≡◌, ℕ, ℤ, zero, suc, ◌-◌, ◌+◌, ◌<◌, ◌≤◌, Bool, true, false, List, [], ◌∷◌, ◌++◌, length, map, Option, None, Some, Result, Ok, Err, IsOk, refl, sym, ap, subst, ◌∙◌, append_assoc, arith}
 use Rattle.std.specs.Prelude.{All}
 use Rattle.std.specs.Int.{w32}
-use Rattle.std.proofs.lemmas.List.{append-nil}
-use Rattle.druid_rows.specs.Columns.{value_at, IsDictionary}
+use Rattle.std.proofs.lemmas.List.{append-nil, length-map}
+use Rattle.std.proofs.lemmas.List.Elements.{All-map}
+use Rattle.druid_shard.specs.Described.{Described}
+use Rattle.druid_rows.specs.Rows.{Schema}
+use Rattle.druid_rows.specs.Segment.{segment_of}
+use Rattle.druid_rows.specs.Columns.{value_at, IsDictionary, rows_in, AreLong}
 use Rattle.druid_segfile.specs.declared.fault.FileFault.{FileFault}
 use Rattle.druid_segfile.specs.ColumnSpelling.{Coded}
 use Rattle.druid_time.specs.Results.{◌>>=◌}
-use Rattle.druid_segfile.specs.Parts.{number_at, signed_at, at_most, accepted, text_at, each_at}
-use Rattle.druid_segfile.specs.ColumnReading.{is_above, value_text_at, value_texts_at, code_at, codes_at, coded_at, dimension_at, have_rows, mark_at, present_at, metric_at, decoded}
+use Rattle.druid_segfile.specs.Parts.{number_at, signed_at, at_most, accepted, text_at, each_at, row_time_at, Shape}
+use Rattle.druid_segfile.specs.ColumnReading.{is_above, value_text_at, value_texts_at, code_at, codes_at, coded_at, dimension_at, have_rows, mark_at, present_at, metric_at, Columns, columns_at, decoded, rows_of}
+use Rattle.druid_segfile.specs.Reading.{Cursor}
 use Rattle.druid_segfile.specs.Building.{present_value_at}
-use Rattle.druid_segfile.proofs.PartLemmas.{bind_ok, ok_is, at_most_ok, accepted_ok}
+use Rattle.druid_segfile.proofs.PartLemmas.{bind_ok, ok_is, at_most_ok, accepted_ok, AreEach}
 use Rattle.druid_segfile.proofs.LoopLemmas.{with_front}
 use Rattle.druid_segfile.proofs.DictionaryLemmas.{AreAbove, above_sorted, is_dictionary}
-use Rattle.druid_segfile.proofs.JudgeLemmas.{each_good, code_within}
+use Rattle.druid_segfile.proofs.JudgeLemmas.{each_good, code_within, columns_found, times_counted}
 
 pub ok_value : {A : Type 0} (read : Result A FileFault) → IsOk read → (x : A) × (read ≡ Ok x)
 ok_value (Ok x) ok = (x, refl)
@@ -77,6 +82,12 @@ dimension_parts short rows bytes n mid x counted e =
       used = subst (λ (cs : List ℕ). have_rows n cs ≡ true) (sym g.0) g.1;
       is = ap (λ (p : List ℕ × List ℕ). (coded_of t.0.0 p.0, p.1)) made ∙ ok_is (coded_of t.0.0 c.0.0, c.0.1) x c.2;
     }
+
+dimension_begins : (short : FileFault) (rows : ℕ) (bytes : List ℕ) (x : Coded × List ℕ) → dimension_at short rows bytes ≡ Ok x → (n : ℕ × List ℕ) × (number_at short w32 bytes ≡ Ok n)
+unfolding dimension_at
+dimension_begins short rows bytes x e =
+    let b = bind_ok (number_at short w32 bytes) (λ part. at_most rows part.0 >>= λ count. coded_at short count rows part.1) x e in
+    (b.0, b.1)
 
 -- what was kept of it
 module _ (short : FileFault) (rows n : ℕ) (mid : List ℕ) (x : Coded × List ℕ) (d : IsDimensionOf short rows n mid x) (texts : List (List ℕ)) (between codes after : List ℕ) (texts_read : value_texts_at short n None mid ≡ Ok (texts, between)) where
@@ -179,3 +190,95 @@ all_marks short rows bytes marks after e =
 pub present_done : (short : FileFault) (front : List (Option ℤ)) (bytes : List ℕ) → with_front front (present_at short [] bytes) ≡ Ok (front, bytes)
 unfolding present_at
 present_done short front bytes = ap (λ (xs : List (Option ℤ)). Ok (xs, bytes)) (append-nil front)
+
+-- ---- lengths
+
+dimension_long : (short : FileFault) (rows : ℕ) (bytes : List ℕ) (x : Coded × List ℕ) → dimension_at short rows bytes ≡ Ok x → length (decoded x.0) ≡ rows
+dimension_long short rows bytes x e =
+    let b = dimension_begins short rows bytes x e in
+    let d = dimension_parts short rows bytes b.0.0 b.0.1 x b.1 e in
+    let long = (each_good (code_at short b.0.0) (λ code. code ≤ b.0.0) (λ bs y i. code_within short b.0.0 bs y.0 y.1 i) rows d.between (d.codes, d.after) d.codes_read).0 in
+    ap (λ (p : Coded × List ℕ). length (decoded p.0)) (sym d.is) ∙ length-map d.codes (value_at d.texts) ∙ long
+
+present_long : (short : FileFault) (marks : List Bool) (bytes : List ℕ) (x : List (Option ℤ) × List ℕ) → present_at short marks bytes ≡ Ok x → length x.0 ≡ length marks
+unfolding present_at
+present_long short [] bytes x e = ap (λ (p : List (Option ℤ) × List ℕ). length p.0) (sym (ok_is ([], bytes) x e))
+present_long short (false ∷ marks) bytes x e =
+    let b = bind_ok (present_at short marks bytes) (λ others. Ok (None ∷ others.0, others.1)) x e in
+    ap (λ (p : List (Option ℤ) × List ℕ). length p.0) (sym (ok_is (None ∷ b.0.0, b.0.1) x b.2)) ∙ ap suc (present_long short marks bytes b.0 b.1)
+present_long short (true ∷ marks) bytes x e =
+    let a = bind_ok (signed_at short bytes) (λ number. present_at short marks number.1 >>= λ others. Ok (Some number.0 ∷ others.0, others.1)) x e in
+    let b = bind_ok (present_at short marks a.0.1) (λ others. Ok (Some a.0.0 ∷ others.0, others.1)) x a.2 in
+    ap (λ (p : List (Option ℤ) × List ℕ). length p.0) (sym (ok_is (Some a.0.0 ∷ b.0.0, b.0.1) x b.2)) ∙ ap suc (present_long short marks a.0.1 b.0 b.1)
+
+metric_long : (short : FileFault) (rows : ℕ) (bytes : List ℕ) (x : List (Option ℤ) × List ℕ) → metric_at short rows bytes ≡ Ok x → length x.0 ≡ rows
+unfolding metric_at
+metric_long short rows bytes x e =
+    let b = bind_ok (each_at (mark_at short) rows bytes) (λ marks. present_at short marks.0 marks.1) x e in
+    present_long short b.0.0 b.0.1 x b.2 ∙ (each_good (mark_at short) (λ mark. Unit {0}) (λ bs y i. tt) rows bytes b.0 b.1).0
+
+abbrev columns_of : List ℕ → List Coded → List (List (Option ℤ)) → Columns
+columns_of times dimensions metrics = record { times = times; dimensions = dimensions; metrics = metrics }
+
+-- ---- all columns
+
+-- the columns with the metrics, which are read last
+abbrev with_metrics : List ℕ → List Coded → List (List (Option ℤ)) × List ℕ → Result (Columns × List ℕ) FileFault
+with_metrics times dimensions metrics = Ok (columns_of times dimensions metrics.0, metrics.1)
+
+first_ok : {A B : Type 0} (read : Result A FileFault) (f : A → Result B FileFault) → IsOk (read >>= f) → IsOk read
+first_ok (Ok x) f ok = refl
+first_ok (Err fault) f ok = absurd cc
+
+module _ (short : FileFault) (shape other : Shape) (count : ℕ) (bytes : List ℕ) (k0 : Cursor) (same : shape ≡ other) (at : k0 ≡ record { rest = bytes; short = short }) where
+  whole_ok : IsOk (columns_at short other count bytes) → IsOk (columns_at k0.short shape count k0.rest)
+  whole_ok ok =
+      subst (λ (k : Cursor). IsOk (columns_at k.short shape count k.rest)) (sym at) (subst (λ (w : Shape). IsOk (columns_at short w count bytes)) (sym same) ok)
+
+  pub times_ok : IsOk (columns_at short other count bytes) → IsOk (each_at (row_time_at k0.short shape.interval) count k0.rest)
+  unfolding columns_at
+  times_ok ok = first_ok (each_at (row_time_at k0.short shape.interval) count k0.rest) _ (whole_ok ok)
+
+  module _ (times : List ℕ) (k1 : Cursor) (short1 : k1.short ≡ k0.short) (read1 : each_at (row_time_at k0.short shape.interval) count k0.rest ≡ Ok (times, k1.rest)) where
+    after_times : IsOk (columns_at short other count bytes) → IsOk (each_at (dimension_at k0.short count) shape.dimensions k1.rest >>= λ dimensions. each_at (metric_at k0.short count) shape.metrics dimensions.1 >>= with_metrics times dimensions.0)
+    unfolding columns_at
+    after_times ok = rw read1 at (whole_ok ok)
+
+    pub dimensions_ok : IsOk (columns_at short other count bytes) → IsOk (each_at (dimension_at k1.short count) shape.dimensions k1.rest)
+    dimensions_ok ok =
+        subst (λ (s : FileFault). IsOk (each_at (dimension_at s count) shape.dimensions k1.rest)) (sym short1) (first_ok (each_at (dimension_at k0.short count) shape.dimensions k1.rest) _ (after_times ok))
+
+    module _ (dimensions : List Coded) (k2 : Cursor) (short2 : k2.short ≡ k1.short) (read2 : each_at (dimension_at k1.short count) shape.dimensions k1.rest ≡ Ok (dimensions, k2.rest)) where
+      dimensions_read : each_at (dimension_at k0.short count) shape.dimensions k1.rest ≡ Ok (dimensions, k2.rest)
+      dimensions_read = subst (λ (s : FileFault). each_at (dimension_at s count) shape.dimensions k1.rest ≡ Ok (dimensions, k2.rest)) short1 read2
+
+      pub metrics_ok : IsOk (columns_at short other count bytes) → IsOk (each_at (metric_at k2.short count) shape.metrics k2.rest)
+      metrics_ok ok =
+          subst (λ (s : FileFault). IsOk (each_at (metric_at s count) shape.metrics k2.rest)) (sym (short2 ∙ short1)) (first_ok (each_at (metric_at k0.short count) shape.metrics k2.rest) (with_metrics times dimensions) (rw dimensions_read at (after_times ok)))
+
+      module _ (metrics : List (List (Option ℤ))) (k3 : Cursor) (read3 : each_at (metric_at k2.short count) shape.metrics k2.rest ≡ Ok (metrics, k3.rest)) where
+        metrics_read : each_at (metric_at k0.short count) shape.metrics k2.rest ≡ Ok (metrics, k3.rest)
+        metrics_read = subst (λ (s : FileFault). each_at (metric_at s count) shape.metrics k2.rest ≡ Ok (metrics, k3.rest)) (short2 ∙ short1) read3
+
+        pub columns_kept : columns_at short other count bytes ≡ Ok (columns_of times dimensions metrics, k3.rest)
+        columns_kept =
+            let here = columns_found k0.short shape count k0.rest k1.rest k2.rest k3.rest times dimensions metrics read1 dimensions_read metrics_read in
+            subst (λ (w : Shape). columns_at short w count bytes ≡ Ok (columns_of times dimensions metrics, k3.rest)) same (subst (λ (k : Cursor). columns_at k.short shape count k.rest ≡ Ok (columns_of times dimensions metrics, k3.rest)) at here)
+
+        pub times_long : length times ≡ count
+        times_long = times_counted k0.short shape count k0.rest k1.rest times read1
+
+        pub dimensions_long : AreEach (λ coded. length (decoded coded) ≡ count) shape.dimensions dimensions
+        dimensions_long = each_good (dimension_at k0.short count) (λ coded. length (decoded coded) ≡ count) (dimension_long k0.short count) shape.dimensions k1.rest (dimensions, k2.rest) dimensions_read
+
+        pub metrics_long : AreEach (λ numbers. length numbers ≡ count) shape.metrics metrics
+        metrics_long = each_good (metric_at k0.short count) (λ numbers. length numbers ≡ count) (metric_long k0.short count) shape.metrics k2.rest (metrics, k3.rest) metrics_read
+
+        pub texts_long : AreLong (length times) (map decoded dimensions)
+        texts_long = All-map (λ (values : List (Option (List ℕ))). length values ≡ length times) decoded dimensions (λ i d lt. dimensions_long.1 i d lt ∙ sym times_long)
+
+        pub numbers_long : AreLong (length times) metrics
+        numbers_long i d lt = metrics_long.1 i d lt ∙ sym times_long
+
+pub segment_kept : (d announced : Described) (schema fields : Schema) (times : List ℕ) (texts : List (List (Option (List ℕ)))) (dimensions : List Coded) (metrics : List (List (Option ℤ))) → d ≡ announced → schema ≡ fields → texts ≡ map decoded dimensions → segment_of d schema (rows_in times texts metrics) ≡ segment_of announced fields (rows_of (columns_of times dimensions metrics))
+segment_kept d announced schema fields times texts dimensions metrics p q r = λ i. segment_of (p i) (q i) (rows_in times (r i) metrics)
