@@ -1,26 +1,35 @@
 -- A segment that is built from the rows that are read: there is always room for them.
-use Rattle.std.proofs.Common.{◌≡◌, ℕ, ◌+◌, ◌-◌, ◌^◌, ◌<◌, ◌≤◌, List, [], ◌∷◌, ◌++◌, map, length, take, Option, ℤ, Result, Ok, Err, refl, sym, ap, subst, ◌∙◌, arith}
+use Rattle.std.proofs.Common.{◌≡◌, ℕ, ◌+◌, ◌-◌, ◌^◌, ◌<◌, ◌≤◌, List, [], ◌∷◌, ◌++◌, map, length, take, Option, ℤ, Result, Ok, Err, IsOk, refl, sym, ap, subst, ◌∙◌, arith}
 use Rattle.std.specs.List.{sum}
 use Rattle.std.specs.Int.{w32, to_be_bytes}
 use Rattle.std.proofs.lemmas.List.{length-append, length-take, length-map, length_push, map_push}
 use Rattle.std.proofs.lemmas.List.Sums.{sum_by_push}
 use Rattle.std.proofs.lemmas.List.Elements.{All-nil, All-push, All-weaker}
-use Rattle.druid_shard.specs.Described.{Described}
+use Rattle.std.proofs.lemmas.Bool.{lt-ltb}
+use Rattle.druid_shard.specs.Described.{Described, IsDescribed}
 use Rattle.druid_rows.specs.Rows.{Schema, Row, row_of, HasShape, IsInside, HasShortValues}
 use Rattle.druid_rows.specs.Segment.{Segment, IsSegment, segment_of, with_row, text_length, head_length, row_length, max_rows, max_text}
 use Rattle.druid_segfile.specs.declared.fault.FileFault.{FileFault}
-use Rattle.druid_segfile.specs.Spelling.{row}
+use Rattle.druid_segfile.specs.declared.fault.FileFault.TheVariants.{TooLong}
+use Rattle.druid_segfile.specs.Spelling.{magic, row}
 use Rattle.druid_time.specs.Results.{◌>>=◌}
-use Rattle.druid_segfile.specs.Reading.{Cursor, number_at, at_most, Shape, shape_of, each_at, values_at, rows_at, content_at}
-use Rattle.druid_segfile.specs.Building.{row_count_at, IsHead, IsWhole, HasRoom, with_read}
+use Rattle.druid_segfile.specs.declared.layout.Layout.{Layout}
+use Rattle.druid_segfile.specs.declared.layout.Layout.TheVariants.{ByRows, ByColumns}
+use Rattle.druid_segfile.specs.ColumnReading.{Columns, columns_at, rows_of, of_length, column_content_at}
+use Rattle.druid_segfile.specs.Judging.{columns_length}
+use Rattle.druid_segfile.specs.Parts.{number_at, at_most, Shape, shape_of, each_at, values_at, rows_at, row_count_at}
+use Rattle.druid_segfile.specs.Reading.{Cursor, row_content_at, content_at}
+use Rattle.druid_segfile.specs.Building.{content_of, IsHead, IsWhole, IsWholeByColumns, IsWholeIn, IsJudged, HasRoom, with_read, CanBuild, IsBuilt}
 use Rattle.druid_segfile.specs.Lent.{bytes_of, texts_lent, values_lent}
 use Rattle.std.specs.Borrow.{Bor}
-use Rattle.druid_segfile.proofs.PartLemmas.{IsBytes, IsBytes-take, bind_ok, ok_is, step_takes, at_most_ok, wide32, number_read}
-use Rattle.druid_segfile.proofs.HeadLemmas.{magic_takes, descriptor_read}
+use Rattle.druid_segfile.proofs.PartLemmas.{IsBytes, IsBytes-take, IsBytes-drop, ok_is}
+use Rattle.druid_segfile.proofs.HeadLemmas.{descriptor_read}
 use Rattle.druid_segfile.proofs.FieldLemmas.{AreFields, fields_read}
 use Rattle.druid_segfile.proofs.RowLemmas.{IsTextValue, IsRow, values_read}
 use Rattle.druid_segfile.proofs.LengthLemmas.{length_row, length_head}
-use Rattle.druid_segfile.proofs.SegmentLemmas.{text_is_short}
+use Rattle.druid_segfile.proofs.ColumnLemmas.{count_read, columns_read, long_texts, long_numbers, is_content, of_length_within}
+use Rattle.druid_segfile.proofs.SumLemmas.{rows_length}
+use Rattle.druid_segfile.proofs.SegmentLemmas.{text_is_short, content_segment}
 
 text_length-with_row : (s : Segment) (v : Row) → text_length (with_row s v) ≡ text_length s + row_length v
 text_length-with_row s v =
@@ -74,25 +83,31 @@ none_yet d fields h short = record {
   inside = All-nil (IsInside d.id.interval);
 }
 
-pub room_behind_head : (short : FileFault) (bytes : List ℕ) (d : Described) (fields : Schema) (count : ℕ) (rest : List ℕ) → IsBytes bytes → length bytes ≤ max_text → IsHead short bytes d fields count rest
+-- what stands before the rows, without the name of the layout
+pub record TakesHead (d : Described) (fields : Schema) (count : ℕ) (bytes rest : List ℕ) : Type 0 where
+  pub described : IsDescribed d
+  pub fields_are : AreFields fields
+  pub few : count ≤ max_rows
+  pub len : 4 + length bytes ≡ head_length d fields + length rest
+  pub rest_fits : IsBytes rest
+
+pub head_takes : (short : FileFault) (bytes : List ℕ) (d : Described) (fields : Schema) (count : ℕ) (rest : List ℕ) → IsBytes bytes → IsHead short bytes d fields count rest → TakesHead d fields count bytes rest
+head_takes short bytes d fields count rest fits h =
+    let t1 = (descriptor_read short).takes bytes (d, h.after_descriptor) fits h.described in
+    let t2 = (fields_read short).takes h.after_descriptor (fields, h.after_fields) t1.0.rest_fits h.named in
+    let t3 = (count_read short).takes h.after_fields (count, rest) t2.0.rest_fits h.counted in
+    let len = length_head d fields (magic ++ bytes) bytes h.after_descriptor h.after_fields rest (to_be_bytes w32 count) refl refl t1.0.parts t2.0.parts t3.0.parts in
+    record { described = t1.1; fields_are = t2.1; few = t3.1; len = omega (arith, len, length-append magic bytes); rest_fits = t3.0.rest_fits }
+
+room_behind_head : (short : FileFault) (bytes : List ℕ) (d : Described) (fields : Schema) (count : ℕ) (rest : List ℕ) → IsBytes bytes → 4 + length bytes ≤ max_text → IsHead short bytes d fields count rest
     → HasRoom (segment_of d fields []) (shape_of d fields) count (length rest)
-unfolding row_count_at
 room_behind_head short bytes d fields count rest fits small h =
-    let t1 = magic_takes short bytes h.behind fits h.layout in
-    let t2 = (descriptor_read short).takes h.behind (d, h.after_descriptor) t1.rest_fits h.described in
-    let t3 = (fields_read short).takes h.after_descriptor (fields, h.after_fields) t2.0.rest_fits h.named in
-    let t4 = step_takes (number_read short w32 (2 ^ 32) wide32) (λ part. at_most max_rows part.0 >>= λ count. Ok (count, part.1)) h.after_fields (count, rest) t3.0.rest_fits h.counted in
-    let m = bind_ok (at_most max_rows t4.0.0) (λ count. Ok (count, t4.0.1)) (count, rest) t4.3 in
-    let limit = at_most_ok max_rows t4.0.0 m.0 m.1 in
-    let same = ok_is (m.0, t4.0.1) (count, rest) m.2 in
-    let len = length_head d fields bytes h.behind h.after_descriptor h.after_fields t4.0.1 (to_be_bytes w32 t4.0.0) refl t1.parts t2.0.parts t3.0.parts t4.1.parts in
-    let counted : m.0 ≡ count = ap (λ (p : ℕ × List ℕ). p.0) same in
-    let left : length t4.0.1 ≡ length rest = ap (λ (p : ℕ × List ℕ). length p.1) same in
+    let t = head_takes short bytes d fields count rest fits h in
     record {
-      valid = none_yet d fields t3.1 (omega (arith, len, small));
+      valid = none_yet d fields t.fields_are (omega (arith, t.len, small));
       shaped = refl;
-      rows = omega (arith, limit.1, counted, limit.0);
-      text = omega (arith, len, small, left);
+      rows = omega (arith, t.few);
+      text = omega (arith, t.len, small);
     }
 
 pub length_lent : (texts : List (Bor (List ℕ))) (names : List (List ℕ)) → texts_lent texts ≡ names → length texts ≡ length names
@@ -116,22 +131,103 @@ pub rows_counted : (short : FileFault) (shape : Shape) (bytes : List ℕ) → ro
 unfolding rows_at row_count_at
 rows_counted short shape bytes = regroup_count (number_at short w32 bytes) max_rows (λ n rest. each_at (values_at short shape) n rest)
 
-pub whole_content : (short : FileFault) (bytes : List ℕ) (d : Described) (fields : Schema) (count : ℕ) (rest after : List ℕ) → (w : IsWhole short bytes d fields count rest after) → content_at short bytes ≡ Ok (segment_of d fields w.rows, after)
-unfolding content_at
+pub whole_content : (short : FileFault) (bytes : List ℕ) (d : Described) (fields : Schema) (count : ℕ) (rest after : List ℕ) → (w : IsWhole short bytes d fields count rest after) → row_content_at short bytes ≡ Ok (segment_of d fields w.rows, after)
+unfolding row_content_at
 whole_content short bytes d fields count rest after w =
-    rw (w.head.layout, w.head.described, w.head.named, rows_counted short (shape_of d fields) w.head.after_fields, w.head.counted, w.read) refl
+    rw (w.head.described, w.head.named, rows_counted short (shape_of d fields) w.head.after_fields, w.head.counted, w.read) refl
+
+column_content : (short : FileFault) (bytes : List ℕ) (d : Described) (fields : Schema) (count : ℕ) (rest after : List ℕ) → (w : IsWholeByColumns short bytes d fields count rest after) → column_content_at short bytes ≡ Ok (segment_of d fields (rows_of w.columns), after)
+unfolding column_content_at
+column_content short bytes d fields count rest after w =
+    rw (w.head.described, w.head.named, w.head.counted, w.read, of_length_within (segment_of d fields (rows_of w.columns)) w.text) refl
+
+-- a segment whose text is too long
+pub columns_too_long : (short : FileFault) (bytes : List ℕ) (d : Described) (fields : Schema) (count : ℕ) (rest after : List ℕ) (columns : Columns) → IsHead short bytes d fields count rest → columns_at short (shape_of d fields) count rest ≡ Ok (columns, after) → max_text < text_length (segment_of d fields (rows_of columns)) → column_content_at short bytes ≡ Err TooLong
+unfolding column_content_at of_length at_most
+columns_too_long short bytes d fields count rest after columns head read long =
+    rw (head.described, head.named, head.counted, read, lt-ltb max_text (text_length (segment_of d fields (rows_of columns))) long) refl
+
+-- the length of the text of columns that were judged
+pub text_judged : (short : FileFault) (bytes : List ℕ) (d : Described) (fields : Schema) (count : ℕ) (rest after : List ℕ) (columns : Columns) (len : ℕ) → IsBytes bytes → IsHead short bytes d fields count rest → columns_at short (shape_of d fields) count rest ≡ Ok (columns, after) → len ≡ columns_length columns
+    → text_length (segment_of d fields (rows_of columns)) + length rest ≡ 4 + length bytes + len
+text_judged short bytes d fields count rest after columns len fits head read is =
+    let t = head_takes short bytes d fields count rest fits head in
+    let c = ((columns_read short (shape_of d fields) count t.few).takes rest (columns, after) t.rest_fits read).1 in
+    let sums = rows_length columns (long_texts (shape_of d fields) count columns c) (long_numbers (shape_of d fields) count columns c) in
+    omega (arith, t.len, sums, is)
+
+-- ---- for what judges
+
+pub rows_same : (short s2 : FileFault) (shape : Shape) (d : Described) (fields : Schema) (count : ℕ) (rest : List ℕ) (r : Result (List Row × List ℕ) FileFault) → s2 ≡ short → shape ≡ shape_of d fields → each_at (values_at s2 shape) count rest ≡ r → each_at (values_at short (shape_of d fields)) count rest ≡ r
+rows_same short s2 shape d fields count rest r p q e =
+    subst (λ (s : FileFault). each_at (values_at s (shape_of d fields)) count rest ≡ r) p (subst (λ (w : Shape). each_at (values_at s2 w) count rest ≡ r) q e)
+
+pub columns_same : (short s2 : FileFault) (shape : Shape) (d : Described) (fields : Schema) (count : ℕ) (rest : List ℕ) (r : Result (Columns × List ℕ) FileFault) → s2 ≡ short → shape ≡ shape_of d fields → columns_at s2 shape count rest ≡ r → columns_at short (shape_of d fields) count rest ≡ r
+columns_same short s2 shape d fields count rest r p q e =
+    subst (λ (s : FileFault). columns_at s (shape_of d fields) count rest ≡ r) p (subst (λ (w : Shape). columns_at s2 w count rest ≡ r) q e)
+
+pub rows_fault : (short fault : FileFault) (bytes : List ℕ) (d : Described) (fields : Schema) (count : ℕ) (rest : List ℕ) → IsHead short bytes d fields count rest → each_at (values_at short (shape_of d fields)) count rest ≡ Err fault → row_content_at short bytes ≡ Err fault
+unfolding row_content_at
+rows_fault short fault bytes d fields count rest head e =
+    rw (head.described, head.named, rows_counted short (shape_of d fields) head.after_fields, head.counted, e) refl
+
+pub columns_fault : (short fault : FileFault) (bytes : List ℕ) (d : Described) (fields : Schema) (count : ℕ) (rest : List ℕ) → IsHead short bytes d fields count rest → columns_at short (shape_of d fields) count rest ≡ Err fault → column_content_at short bytes ≡ Err fault
+unfolding column_content_at
+columns_fault short fault bytes d fields count rest head e =
+    rw (head.described, head.named, head.counted, e) refl
+
+-- the segment that was judged
+pub judged_content : (layout : Layout) (short : FileFault) (bytes : List ℕ) (d : Described) (fields : Schema) (count : ℕ) (rest after : List ℕ) → IsWholeIn layout short bytes d fields count rest after → (s : Segment) × (content_of layout short bytes ≡ Ok (s, after))
+judged_content ByRows short bytes d fields count rest after w = (segment_of d fields w.rows, whole_content short bytes d fields count rest after w)
+judged_content ByColumns short bytes d fields count rest after w = (segment_of d fields (rows_of w.columns), column_content short bytes d fields count rest after w)
+
+is_ok_from : {A : Type 0} (r : Result A FileFault) (x : A) → r ≡ Ok x → IsOk r
+is_ok_from r x e = subst IsOk (sym e) refl
+
+-- what was judged can be built
+can_build : (layout : Layout) (short : FileFault) (bytes : List ℕ) (d : Described) (fields : Schema) (count : ℕ) (rest after : List ℕ) → IsBytes bytes → 4 + length bytes ≤ max_text → IsWholeIn layout short bytes d fields count rest after → CanBuild layout short d fields count rest
+can_build ByRows short bytes d fields count rest after fits small w = (room_behind_head short bytes d fields count rest fits small w.head, is_ok_from (each_at (values_at short (shape_of d fields)) count rest) (w.rows, after) w.read)
+can_build ByColumns short bytes d fields count rest after fits small w = (
+  (head_takes short bytes d fields count rest fits w.head).few,
+  is_ok_from (columns_at short (shape_of d fields) count rest) (w.columns, after) w.read,
+  λ columns left e.
+      let t = head_takes short bytes d fields count rest fits w.head in
+      let c = ((columns_read short (shape_of d fields) count t.few).takes rest (columns, left) t.rest_fits e).1 in
+      let same : w.columns ≡ columns = ap (λ (p : Columns × List ℕ). p.0) (ok_is (w.columns, after) (columns, left) (sym w.read ∙ e)) in
+      content_segment (segment_of d fields (rows_of columns)) (is_content d fields count columns c t.described t.fields_are t.few) (subst (λ (cs : Columns). text_length (segment_of d fields (rows_of cs)) ≤ max_text) same w.text),
+)
 
 -- what was judged is what is built
-pub built_is : (short0 short : FileFault) (d : Described) (fields : Schema) (count : ℕ) (bytes left after : List ℕ) (rows : List Row) (s : Segment) → short0 ≡ short → each_at (values_at short0 (shape_of d fields)) count bytes ≡ Ok (rows, left) → with_read (segment_of d fields []) (each_at (values_at short (shape_of d fields)) count bytes) ≡ Ok (s, after) → segment_of d fields rows ≡ s
-built_is short0 short d fields count bytes left after rows s same read built =
-    let read2 : each_at (values_at short (shape_of d fields)) count bytes ≡ Ok (rows, left) = subst (λ (f : FileFault). each_at (values_at f (shape_of d fields)) count bytes ≡ Ok (rows, left)) same read in
-    let built2 = rw read2 at built in
+rows_built : (short : FileFault) (d : Described) (fields : Schema) (count : ℕ) (bytes left after : List ℕ) (rows : List Row) (s : Segment) → each_at (values_at short (shape_of d fields)) count bytes ≡ Ok (rows, left) → with_read (segment_of d fields []) (each_at (values_at short (shape_of d fields)) count bytes) ≡ Ok (s, after) → segment_of d fields rows ≡ s
+rows_built short d fields count bytes left after rows s read built =
+    let built2 = rw read at built in
     ap (λ (p : Segment × List ℕ). p.0) (ok_is (segment_of d fields rows, left) (s, after) built2)
 
-pub room_at_cursor : (n : ℕ) (bytes : List ℕ) (short : FileFault) (cursor : Cursor) (d : Described) (fields : Schema) (count : ℕ) (rest : List ℕ) → n ≤ max_text → IsBytes bytes → cursor ≡ record { rest = take n bytes; short = short } → IsHead cursor.short cursor.rest d fields count rest → HasRoom (segment_of d fields []) (shape_of d fields) count (length rest)
-room_at_cursor n bytes short cursor d fields count rest few fits at head =
+is_built : (layout : Layout) (short : FileFault) (bytes : List ℕ) (d : Described) (fields : Schema) (count : ℕ) (rest after : List ℕ) (s : Segment) → (w : IsWholeIn layout short bytes d fields count rest after) → IsBuilt layout short d fields count rest s → content_of layout short bytes ≡ Ok (s, after)
+is_built ByRows short bytes d fields count rest after s w b =
+    whole_content short bytes d fields count rest after w ∙ ap (λ (t : Segment). Ok (t, after)) (rows_built short d fields count rest after b.0 w.rows s w.read b.1)
+is_built ByColumns short bytes d fields count rest after s w b =
+    let same : w.columns ≡ b.0 = ap (λ (p : Columns × List ℕ). p.0) (ok_is (w.columns, after) (b.0, b.1) (sym w.read ∙ b.2)) in
+    column_content short bytes d fields count rest after w ∙ ap (λ (t : Segment). Ok (t, after)) (ap (λ (cs : Columns). segment_of d fields (rows_of cs)) same ∙ sym b.3)
+
+-- ---- the same of what the cursor had
+
+pub content_found : (short : FileFault) (bytes : List ℕ) (layout : Layout) (d : Described) (fields : Schema) (count : ℕ) (rest after : List ℕ) → IsJudged short bytes layout d fields count rest after → (s : Segment) × (content_at short bytes ≡ Ok (s, after))
+content_found short bytes layout d fields count rest after j =
+    let c = judged_content layout short j.behind d fields count rest after j.whole in
+    (c.0, j.content ∙ c.1)
+
+pub content_built : (short : FileFault) (bytes : List ℕ) (layout : Layout) (d : Described) (fields : Schema) (count : ℕ) (rest after : List ℕ) (s : Segment) → IsJudged short bytes layout d fields count rest after → IsBuilt layout short d fields count rest s → content_at short bytes ≡ Ok (s, after)
+content_built short bytes layout d fields count rest after s j b =
+    j.content ∙ is_built layout short j.behind d fields count rest after s j.whole b
+
+pub room_at_cursor : (n : ℕ) (bytes : List ℕ) (short : FileFault) (cursor : Cursor) (layout : Layout) (d : Described) (fields : Schema) (count : ℕ) (rest after : List ℕ) → n ≤ max_text → IsBytes bytes → cursor ≡ record { rest = take n bytes; short = short } → IsJudged cursor.short cursor.rest layout d fields count rest after → CanBuild layout short d fields count rest
+room_at_cursor n bytes short cursor layout d fields count rest after few fits at j =
     let window : cursor.rest ≡ take n bytes = ap (λ (c : Cursor). c.rest) at in
-    room_behind_head cursor.short cursor.rest d fields count rest (subst IsBytes (sym window) (IsBytes-take n bytes fits)) (omega (arith, ap length window, length-take n bytes, few)) head
+    let bytes_fit : IsBytes cursor.rest = subst IsBytes (sym window) (IsBytes-take n bytes fits) in
+    let behind_fits : IsBytes j.behind = subst IsBytes (sym j.named) (IsBytes-drop 4 cursor.rest bytes_fit) in
+    let small : 4 + length j.behind ≤ max_text = omega (arith, j.len, ap length window, length-take n bytes, few) in
+    subst (λ (s : FileFault). CanBuild layout s d fields count rest) (ap (λ (c : Cursor). c.short) at) (can_build layout cursor.short j.behind d fields count rest after behind_fits small j.whole)
 
 pub lent_row : (time : ℕ) (texts others : List (Option (Bor (List ℕ)))) (numbers others_numbers : List (Option ℤ)) → others ≡ texts → others_numbers ≡ numbers → row_of time (values_lent others) others_numbers ≡ row_of time (values_lent texts) numbers
 lent_row time texts others numbers others_numbers e f = rw (e, f) refl

@@ -17,7 +17,7 @@ use Rattle.druid_rows.specs.Segment.{max_fields}
 use Rattle.druid_segfile.specs.declared.fault.FileFault.{FileFault}
 use Rattle.druid_segfile.specs.Spelling.{short_text, names}
 use Rattle.druid_time.specs.Results.{◌>>=◌}
-use Rattle.druid_segfile.specs.Reading.{at_most, is_new_name, field_name_at, field_names_at, names_at, fields_at}
+use Rattle.druid_segfile.specs.Parts.{at_most, is_new_name, field_name_at, field_names_at, names_at, fields_at}
 use Rattle.druid_segfile.proofs.TextLemmas.{is_field_name-is, is_field_name-true, no_field_name}
 use Rattle.druid_segfile.proofs.PartLemmas.{bind_ok, ok_is, at_most_ok, at_most_within, accepted_read, IsBytes, Takes, Takes-then, Reads, step_takes, step_again, byte_read, short_text_read}
 

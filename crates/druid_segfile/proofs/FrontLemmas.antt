@@ -9,12 +9,15 @@ use Rattle.druid_time.specs.Extent.{Extent}
 use Rattle.druid_segid.specs.Names.{is_name, is_version}
 use Rattle.druid_shard.specs.Described.{max_core}
 use Rattle.druid_rows.specs.Rows.{max_value}
-use Rattle.druid_rows.specs.Segment.{Segment, max_fields, max_rows, max_text}
+use Rattle.druid_rows.specs.Segment.{Segment, segment_of, text_length, max_fields, max_rows, max_text}
 use Rattle.druid_segfile.specs.declared.fault.FileFault.{FileFault}
 use Rattle.druid_segfile.specs.declared.fault.FileFault.TheVariants.{Magic, Cut, Field, RowOutside, TooLong, Trailing, Read, Write, Memory}
 use Rattle.druid_segfile.specs.Spelling.{magic}
+use Rattle.druid_segfile.specs.ColumnSpelling.{column_magic}
 use Rattle.druid_time.specs.Results.{◌>>=◌}
-use Rattle.druid_segfile.specs.Reading.{GivesInMemory, bytes_at, byte_at, number_at, signed_at, at_most, accepted, short_text_at, text_at, each_at, instant_of, moment_at, interval_at, name_at, version_at, core_at, descriptor_at, is_new_name, field_name_at, field_names_at, names_at, fields_at, instant_in, row_time_at, text_value_at, number_value_at, Shape, shape_of, values_at, rows_at, magic_at, content_at, short_of, segment_within, segment_at}
+use Rattle.druid_segfile.specs.Parts.{bytes_at, byte_at, number_at, signed_at, at_most, accepted, short_text_at, text_at, each_at, instant_of, moment_at, interval_at, name_at, version_at, core_at, descriptor_at, is_new_name, field_name_at, field_names_at, names_at, fields_at, instant_in, row_time_at, text_value_at, number_value_at, Shape, shape_of, values_at, row_count_at, rows_at}
+use Rattle.druid_segfile.specs.ColumnReading.{is_above, value_text_at, value_texts_at, code_at, have_rows, codes_at, coded_at, dimension_at, mark_at, present_at, metric_at, columns_at, rows_of, of_length, column_content_at}
+use Rattle.druid_segfile.specs.Reading.{GivesInMemory, row_content_at, content_in, content_at, short_of, segment_within, segment_at}
 use Rattle.druid_segfile.proofs.PartLemmas.{ok_is}
 
 -- the same value, with more bytes after it
@@ -237,22 +240,115 @@ rows_steady short shape bytes more =
     bound (no_more_than short max_rows part.0) _ _ (λ count.
     each_steady short (values_at short shape) (values_steady short shape) count part.1 more))
 
+-- ---- the columns
+
+value_text_steady : (short : FileFault) (last : Option (List ℕ)) → IsSteady short (value_text_at short last)
+unfolding value_text_at
+value_text_steady short last = accepted_steady short (text_at short) (text_steady short) (is_above last)
+
+value_texts_steady : (short : FileFault) (n : ℕ) (last : Option (List ℕ)) → IsSteady short (value_texts_at short n last)
+unfolding value_texts_at
+value_texts_steady short zero last bytes more = read_ok _
+value_texts_steady short (suc n) last bytes more =
+    bound (value_text_steady short last bytes more) _ _ (λ text.
+    bound (value_texts_steady short n (Some text.0) text.1 more) _ _ (λ others.
+    read_ok _))
+
+code_steady : (short : FileFault) (count : ℕ) → IsSteady short (code_at short count)
+unfolding code_at
+code_steady short count = accepted_steady short (number_at short w32) (number_steady short w32) (λ n. nat_le n count)
+
+codes_steady : (short : FileFault) (count rows : ℕ) → IsSteady short (codes_at short count rows)
+unfolding codes_at
+codes_steady short count rows = accepted_steady short (each_at (code_at short count) rows) (each_steady short (code_at short count) (code_steady short count) rows) (have_rows count)
+
+coded_steady : (short : FileFault) (count rows : ℕ) → IsSteady short (coded_at short count rows)
+unfolding coded_at
+coded_steady short count rows bytes more =
+    bound (value_texts_steady short count None bytes more) _ _ (λ texts.
+    bound (codes_steady short count rows texts.1 more) _ _ (λ codes.
+    read_ok _))
+
+dimension_steady : (short : FileFault) (rows : ℕ) → IsSteady short (dimension_at short rows)
+unfolding dimension_at
+dimension_steady short rows bytes more =
+    bound (number_steady short w32 bytes more) _ _ (λ part.
+    bound (no_more_than short rows part.0) _ _ (λ count.
+    coded_steady short count rows part.1 more))
+
+mark_steady : (short : FileFault) → IsSteady short (mark_at short)
+unfolding mark_at
+mark_steady short [] more = record { stays = inl refl }
+mark_steady short (zero ∷ bytes) more = read_ok (false, bytes)
+mark_steady short (suc zero ∷ bytes) more = read_ok (true, bytes)
+mark_steady short (suc (suc mark) ∷ bytes) more = refused Field tt
+
+present_steady : (short : FileFault) (marks : List Bool) → IsSteady short (present_at short marks)
+unfolding present_at
+present_steady short [] bytes more = read_ok _
+present_steady short (false ∷ marks) bytes more =
+    bound (present_steady short marks bytes more) _ _ (λ others.
+    read_ok _)
+present_steady short (true ∷ marks) bytes more =
+    bound (signed_steady short bytes more) _ _ (λ number.
+    bound (present_steady short marks number.1 more) _ _ (λ others.
+    read_ok _))
+
+metric_steady : (short : FileFault) (rows : ℕ) → IsSteady short (metric_at short rows)
+unfolding metric_at
+metric_steady short rows bytes more =
+    bound (each_steady short (mark_at short) (mark_steady short) rows bytes more) _ _ (λ marks.
+    present_steady short marks.0 marks.1 more)
+
+columns_steady : (short : FileFault) (shape : Shape) (rows : ℕ) → IsSteady short (columns_at short shape rows)
+unfolding columns_at
+columns_steady short shape rows bytes more =
+    bound (each_steady short (row_time_at short shape.interval) (row_time_steady short shape.interval) rows bytes more) _ _ (λ times.
+    bound (each_steady short (dimension_at short rows) (dimension_steady short rows) shape.dimensions times.1 more) _ _ (λ dimensions.
+    bound (each_steady short (metric_at short rows) (metric_steady short rows) shape.metrics dimensions.1 more) _ _ (λ metrics.
+    read_ok _)))
+
+count_steady : (short : FileFault) → IsSteady short (row_count_at short)
+unfolding row_count_at
+count_steady short bytes more =
+    bound (number_steady short w32 bytes more) _ _ (λ part.
+    bound (no_more_than short max_rows part.0) _ _ (λ count.
+    read_ok _))
+
+no_longer : (short : FileFault) (segment : Segment) → IsPlain short (of_length segment)
+unfolding of_length
+no_longer short segment = bound (no_more_than short max_text (text_length segment)) _ _ (λ len. read_ok segment)
+
 -- ---- the whole
 
-magic_steady : (short : FileFault) (bytes more : List ℕ) → Keeps (List ℕ) short (λ behind. behind ++ more) (magic_at short bytes) (magic_at short (bytes ++ more))
-unfolding magic_at
-magic_steady short bytes more =
-    bound (bytes_steady short 4 bytes more) _ _ (λ part.
-    either (bytes_eq part.0 magic) (read_ok part.1) (refused Magic tt))
+row_content_steady : (short : FileFault) → IsSteady short (row_content_at short)
+unfolding row_content_at
+row_content_steady short bytes more =
+    bound (descriptor_steady short bytes more) _ _ (λ descriptor.
+    bound (fields_steady short descriptor.1 more) _ _ (λ fields.
+    bound (rows_steady short (shape_of descriptor.0 fields.0) fields.1 more) _ _ (λ rows.
+    read_ok _)))
+
+column_content_steady : (short : FileFault) → IsSteady short (column_content_at short)
+unfolding column_content_at
+column_content_steady short bytes more =
+    bound (descriptor_steady short bytes more) _ _ (λ descriptor.
+    bound (fields_steady short descriptor.1 more) _ _ (λ fields.
+    bound (count_steady short fields.1 more) _ _ (λ count.
+    bound (columns_steady short (shape_of descriptor.0 fields.0) count.0 count.1 more) _ _ (λ columns.
+    bound (no_longer short (segment_of descriptor.0 fields.0 (rows_of columns.0))) _ _ (λ segment.
+    read_ok _)))))
+
+layout_steady : (short : FileFault) (name : List ℕ) → IsSteady short (content_in short name)
+unfolding content_in
+layout_steady short name bytes more =
+    either (bytes_eq name magic) (row_content_steady short bytes more) (either (bytes_eq name column_magic) (column_content_steady short bytes more) (refused Magic tt))
 
 content_steady : (short : FileFault) → IsSteady short (content_at short)
 unfolding content_at
 content_steady short bytes more =
-    bound (magic_steady short bytes more) _ _ (λ behind.
-    bound (descriptor_steady short behind more) _ _ (λ descriptor.
-    bound (fields_steady short descriptor.1 more) _ _ (λ fields.
-    bound (rows_steady short (shape_of descriptor.0 fields.0) fields.1 more) _ _ (λ rows.
-    read_ok _))))
+    bound (bytes_steady short 4 bytes more) _ _ (λ name.
+    layout_steady short name.0 name.1 more)
 
 -- ---- what follows
 

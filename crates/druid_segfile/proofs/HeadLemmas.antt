@@ -1,22 +1,21 @@
 -- What stands before the names of the fields, read and written.
 use Rattle.std.proofs.Common.{◌≡◌, ℕ, ◌^◌, ◌<◌, ◌≤◌, cond, ltb, nat_le, List, ◌++◌, Option, Some, None, Ok, Err, refl, sym, ap, subst, ◌∙◌, append_assoc, arith}
-use Rattle.std.specs.Prelude.{ok_or, bytes_eq}
+use Rattle.std.specs.Prelude.{ok_or}
 use Rattle.std.specs.Int.{w16, w64, to_be_bytes}
 use Rattle.std.proofs.lemmas.Bool.{ltb-true, lt-ltb, leb-true, le-leb}
-use Rattle.std.specs.Cmp.Lexicographic.{bytes_decides}
 use Rattle.druid_time.specs.Extent.{Extent, IsExtent}
 use Rattle.druid_time.specs.Instant.{unix_ms, IsInstant, instant_count}
 use Rattle.druid_segid.specs.Names.{is_name, IsName, is_version, IsVersion}
 use Rattle.druid_segid.proofs.NameLemmas.{is_name-true, is_version-true}
 use Rattle.druid_shard.specs.Described.{Described, IsDescribed, max_core}
 use Rattle.druid_segfile.specs.declared.fault.FileFault.{FileFault}
-use Rattle.druid_segfile.specs.declared.fault.FileFault.TheVariants.{Field, Magic}
-use Rattle.druid_segfile.specs.Spelling.{magic, number, instant, interval, short_text, descriptor}
+use Rattle.druid_segfile.specs.declared.fault.FileFault.TheVariants.{Field}
+use Rattle.druid_segfile.specs.Spelling.{number, instant, interval, short_text, descriptor}
 use Rattle.druid_time.specs.Results.{◌>>=◌}
-use Rattle.druid_segfile.specs.Reading.{number_at, accepted, instant_of, moment_at, interval_at, name_at, version_at, core_at, descriptor_at, magic_at}
+use Rattle.druid_segfile.specs.Parts.{number_at, accepted, instant_of, moment_at, interval_at, name_at, version_at, core_at, descriptor_at}
 use Rattle.druid_segfile.proofs.MomentLemmas.{instant_of-unix_ms, of_instant, FitsSigned-unix_ms}
 use Rattle.druid_segfile.proofs.TextLemmas.{is_name-is, is_version-is}
-use Rattle.druid_segfile.proofs.PartLemmas.{bind_ok, passed_ok, ok_is, accepted_ok, accepted_read, IsBytes, Takes, Takes-then, Reads, step_takes, step_again, bytes_read, wide16, wide64, number_read, signed_read, short_text_read}
+use Rattle.druid_segfile.proofs.PartLemmas.{bind_ok, passed_ok, ok_is, accepted_ok, accepted_read, IsBytes, Takes, Takes-then, Reads, step_takes, step_again, wide16, wide64, number_read, signed_read, short_text_read}
 
 pub ok_or_ok : {A : Type 0} (o : Option A) (d : FileFault) (x : A) → ok_or o d ≡ Ok x → o ≡ Some x
 ok_or_ok None d x e = absurd cc
@@ -137,17 +136,3 @@ descriptor_read short = record {
   takes = λ bytes x fits e. descriptor_takes short bytes x fits e;
   again = λ d rest h. descriptor_again short d rest h;
 }
-
--- ---- the layout's name
-
-pub magic_takes : (short : FileFault) (bytes rest : List ℕ) → IsBytes bytes → magic_at short bytes ≡ Ok rest → Takes bytes magic rest
-unfolding magic_at
-magic_takes short bytes rest fits e =
-    let s = step_takes (bytes_read short 4) _ bytes rest fits e in
-    let g = passed_ok (bytes_eq s.0.0 magic) Magic s.0.1 rest s.3 in
-    let same : s.0.0 ≡ magic = (bytes_decides s.0.0 magic).0 g.0 in
-    subst (λ (t : List ℕ). Takes bytes magic t) g.1 (subst (λ (t : List ℕ). Takes bytes t s.0.1) same s.1)
-
-pub magic_again : (short : FileFault) (rest : List ℕ) → magic_at short (magic ++ rest) ≡ Ok rest
-unfolding magic_at
-magic_again short rest = step_again (bytes_read short 4) _ magic rest refl

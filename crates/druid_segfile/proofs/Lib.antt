@@ -5,9 +5,16 @@ pub mod PartLemmas
 pub mod HeadLemmas
 pub mod FieldLemmas
 pub mod RowLemmas
+pub mod DictionaryLemmas
+pub mod MetricLemmas
 pub mod LengthLemmas
+pub mod ContentLemmas
+pub mod ColumnLemmas
 pub mod SegmentLemmas
 pub mod LoopLemmas
+pub mod JudgeLemmas
+pub mod SumLemmas
+pub mod KeepLemmas
 pub mod BuildLemmas
 pub mod FrontLemmas
 pub mod WriteLemmas

@@ -1,9 +1,10 @@
 -- Parts that a loop reads one after the other.
-use Rattle.std.proofs.Common.{◌≡◌, ℕ, suc, ◌-◌, ◌+◌, ◌≤◌, ◌<◌, List, [], ◌∷◌, ◌++◌, Result, Ok, Err, IsOk, refl, sym, ap, ◌∙◌, append_assoc, arith}
+use Rattle.std.proofs.Common.{◌≡◌, ℕ, suc, ◌-◌, ◌+◌, ◌≤◌, ◌<◌, List, [], ◌∷◌, ◌++◌, Option, Some, None, Result, Ok, Err, IsOk, refl, sym, ap, ◌∙◌, append_assoc, arith}
 use Rattle.std.proofs.lemmas.List.{append-nil}
 use Rattle.druid_segfile.specs.declared.fault.FileFault.{FileFault}
 use Rattle.druid_time.specs.Results.{◌>>=◌}
-use Rattle.druid_segfile.specs.Reading.{each_at, field_name_at, field_names_at}
+use Rattle.druid_segfile.specs.Parts.{each_at, field_name_at, field_names_at}
+use Rattle.druid_segfile.specs.ColumnReading.{value_text_at, value_texts_at}
 
 -- what is made of the parts that were read before, and of those that are still read
 abbrev pub gathered : {A B : Type 0} → (List A → B) → List A → Result (List A × List ℕ) FileFault → Result (B × List ℕ) FileFault
@@ -12,7 +13,7 @@ gathered make front read = read >>= λ x. Ok (make (front ++ x.0), x.1)
 abbrev pub with_front : {A : Type 0} → List A → Result (List A × List ℕ) FileFault → Result (List A × List ℕ) FileFault
 with_front front read = read >>= λ x. Ok (front ++ x.0, x.1)
 
-nothing_before : {A : Type 0} (read : Result (List A × List ℕ) FileFault) → with_front [] read ≡ read
+pub nothing_before : {A : Type 0} (read : Result (List A × List ℕ) FileFault) → with_front [] read ≡ read
 nothing_before (Ok x) = refl
 nothing_before (Err fault) = refl
 
@@ -78,7 +79,52 @@ names_done short others front count i bytes total le so_far =
     let one : with_front front (field_names_at short (count - i) (others ++ front) bytes) ≡ Ok (front, bytes) = rw k (ap (λ (xs : List (List ℕ)). Ok (xs, bytes)) (append-nil front)) in
     sym so_far ∙ one
 
+-- ---- the texts of a dictionary, each above the one before it
+
+pub texts_go_on : (short : FileFault) (last : Option (List ℕ)) (front : List (List ℕ)) (count i : ℕ) (bytes text after : List ℕ) (total : Result (List (List ℕ) × List ℕ) FileFault) → i < count → value_text_at short last bytes ≡ Ok (text, after)
+    → with_front front (value_texts_at short (count - i) last bytes) ≡ total → with_front (front ++ text ∷ []) (value_texts_at short (count - (i + 1)) (Some text) after) ≡ total
+unfolding value_texts_at
+texts_go_on short last front count i bytes text after total lt h so_far =
+    let k : count - i ≡ suc (count - (i + 1)) = omega arith in
+    let one : with_front front (value_texts_at short (count - i) last bytes) ≡ with_front (front ++ text ∷ []) (value_texts_at short (count - (i + 1)) (Some text) after) = rw (k, h) (regroup (λ (xs : List (List ℕ)). xs) front text (value_texts_at short (count - (i + 1)) (Some text) after)) in
+    sym one ∙ so_far
+
+pub texts_end : (short fault : FileFault) (last : Option (List ℕ)) (front : List (List ℕ)) (count i : ℕ) (bytes : List ℕ) (total : Result (List (List ℕ) × List ℕ) FileFault) → i < count → value_text_at short last bytes ≡ Err fault
+    → with_front front (value_texts_at short (count - i) last bytes) ≡ total → total ≡ Err fault
+unfolding value_texts_at
+texts_end short fault last front count i bytes total lt h so_far =
+    let k : count - i ≡ suc (count - (i + 1)) = omega arith in
+    let one : with_front front (value_texts_at short (count - i) last bytes) ≡ Err fault = rw (k, h) refl in
+    sym so_far ∙ one
+
+pub texts_done : (short : FileFault) (last : Option (List ℕ)) (front : List (List ℕ)) (count i : ℕ) (bytes : List ℕ) (total : Result (List (List ℕ) × List ℕ) FileFault) → count ≤ i
+    → with_front front (value_texts_at short (count - i) last bytes) ≡ total → total ≡ Ok (front, bytes)
+unfolding value_texts_at
+texts_done short last front count i bytes total le so_far =
+    let k : count - i ≡ 0 = omega arith in
+    let one : with_front front (value_texts_at short (count - i) last bytes) ≡ Ok (front, bytes) = rw k (ap (λ (xs : List (List ℕ)). Ok (xs, bytes)) (append-nil front)) in
+    sym so_far ∙ one
+
+pub no_texts : (short : FileFault) (count : ℕ) (bytes : List ℕ) → with_front [] (value_texts_at short (count - 0) None bytes) ≡ value_texts_at short count None bytes
+no_texts short count bytes =
+    let all : count - 0 ≡ count = omega arith in
+    rw all (nothing_before (value_texts_at short count None bytes))
+
 -- what is made of something that is read in whole is no fault
 pub is_read : {A B : Type 0} (read : Result A FileFault) (make : A → B) (fault : FileFault) → IsOk read → (read >>= λ x. Ok (make x)) ≡ Err fault → ⊥
 is_read (Ok x) make fault ok e = absurd cc
 is_read (Err of) make fault ok e = absurd cc
+
+pub not_read : {A : Type 0} (read : Result A FileFault) (fault : FileFault) → IsOk read → read ≡ Err fault → ⊥
+not_read (Ok x) fault ok e = absurd cc
+not_read (Err of) fault ok e = absurd cc
+
+-- what was read in whole, is read part by part
+ok_or_fault : {A B : Type 0} (read : Result A FileFault) (total : Result B FileFault) → IsOk total → ((fault : FileFault) → read ≡ Err fault → total ≡ Err fault) → IsOk read
+ok_or_fault (Ok x) total ok fails = refl
+ok_or_fault (Err fault) total ok fails = absurd (not_read total fault ok (fails fault refl))
+
+pub reads_next : {A B : Type 0} (make : List A → B) (read : List ℕ → Result (A × List ℕ) FileFault) (front : List A) (count i : ℕ) (bytes : List ℕ) (total : Result (B × List ℕ) FileFault) → i < count → IsOk total
+    → gathered make front (each_at read (count - i) bytes) ≡ total → IsOk (read bytes)
+reads_next make read front count i bytes total lt ok so_far =
+    ok_or_fault (read bytes) total ok (λ fault e. ends make read fault front count i bytes total lt e so_far)

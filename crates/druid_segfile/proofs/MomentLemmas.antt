@@ -5,7 +5,7 @@ use Rattle.std.specs.Int.{w64}
 use Rattle.std.proofs.lemmas.Bool.{lt-ltb, ltb-true, false≢true}
 use Rattle.std.proofs.lemmas.Int.{ints}
 use Rattle.druid_time.specs.Instant.{instant_count, unix_epoch, unix_ms, IsInstant}
-use Rattle.druid_segfile.specs.Reading.{instant_from_first, instant_of}
+use Rattle.druid_segfile.specs.Parts.{instant_from_first, instant_of}
 
 pub instant_of-unix_ms : (t : ℕ) → IsInstant t → instant_of (unix_ms t) ≡ Some t
 unfolding instant_of

@@ -16,7 +16,7 @@ use Rattle.druid_segfile.specs.declared.fault.FileFault.{FileFault}
 use Rattle.druid_segfile.specs.declared.fault.FileFault.TheVariants.{Field, TooLong}
 use Rattle.druid_segfile.specs.Spelling.{number, short_text}
 use Rattle.druid_time.specs.Results.{◌>>=◌}
-use Rattle.druid_segfile.specs.Reading.{bytes_at, byte_at, number_at, signed_at, at_most, accepted, short_text_at, text_at, each_at}
+use Rattle.druid_segfile.specs.Parts.{bytes_at, byte_at, number_at, signed_at, at_most, accepted, short_text_at, text_at, each_at}
 
 -- ---- steps
 

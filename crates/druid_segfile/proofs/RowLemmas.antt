@@ -12,7 +12,7 @@ use Rattle.druid_segfile.specs.declared.fault.FileFault.{FileFault}
 use Rattle.druid_segfile.specs.declared.fault.FileFault.TheVariants.{RowOutside}
 use Rattle.druid_segfile.specs.Spelling.{number, instant, text_value, number_value, row, rows}
 use Rattle.druid_time.specs.Results.{◌>>=◌}
-use Rattle.druid_segfile.specs.Reading.{at_most, each_at, instant_of, instant_in, row_time_at, text_value_at, number_value_at, Shape, values_at, rows_at}
+use Rattle.druid_segfile.specs.Parts.{at_most, each_at, instant_of, instant_in, row_time_at, text_value_at, number_value_at, Shape, values_at, rows_at}
 use Rattle.druid_segfile.proofs.MomentLemmas.{instant_of-unix_ms, of_instant, FitsSigned-unix_ms}
 use Rattle.druid_segfile.proofs.PartLemmas.{bind_ok, ok_is, at_most_ok, at_most_within, IsBytes, IsBytes-rest, Takes, Takes-then, Reads, step_takes, step_again, wide32, number_read, signed_read, IsText, text_read, AreEach, each_read}
 use Rattle.druid_segfile.proofs.HeadLemmas.{ok_or_ok}

@@ -1,6 +1,7 @@
 -- A segment, read and written.
-use Rattle.std.proofs.Common.{◌≡◌, ℕ, ◌+◌, ◌-◌, ◌<◌, ◌≤◌, true, false, ◌&&◌, cond, eqb, ltb, leb, List, [], ◌++◌, length, take, Option, Some, None, Result, Ok, Err, refl, sym, ap, subst, ◌∙◌, append_assoc, arith, min, inl, inr, rules}
-use Rattle.std.specs.Prelude.{IfOk, IfSome}
+use Rattle.std.proofs.Common.{◌≡◌, ℕ, ◌+◌, ◌-◌, ◌<◌, ◌≤◌, ◌⊎◌, Bool, true, false, ◌&&◌, cond, eqb, ltb, leb, List, [], ◌++◌, length, take, Option, Some, None, Result, Ok, Err, refl, sym, ap, subst, ◌∙◌, append_assoc, arith, min, inl, inr, rules}
+use Rattle.std.specs.Prelude.{IfOk, IfSome, bytes_eq}
+use Rattle.std.specs.Cmp.Lexicographic.{bytes_decides}
 use Rattle.std.specs.Str.{IsUtf8}
 use Rattle.std.proofs.lemmas.Bool.{and_parts, and_left, and_right, and_from, cond-true, cond-false, cases_lt, eqb-true, leb-true, le-leb, lt-leb, lt-ltb, le-ltb, ne_eqb}
 use Rattle.std.proofs.lemmas.List.{append-nil, length-append, length-take, nil_from_length, take_all, take_min, take-take}
@@ -12,63 +13,83 @@ use Rattle.druid_rows.specs.Rows.{Schema, Row, HasShape, IsInside, HasShortValue
 use Rattle.druid_rows.specs.Segment.{Segment, IsSegment, segment_of, max_text, text_length}
 use Rattle.druid_segfile.specs.declared.fault.FileFault.{FileFault}
 use Rattle.druid_segfile.specs.declared.fault.FileFault.TheVariants.{Magic, Cut, Field, RowOutside, TooLong, Trailing, Read, Write, Memory}
-use Rattle.druid_segfile.specs.Spelling.{magic, descriptor, names, rows, spelling, AreValues, Fits}
+use Rattle.druid_segfile.specs.Spelling.{magic, spelling, AreValues, Fits}
+use Rattle.druid_segfile.specs.ColumnSpelling.{column_magic, Coded, AreCoded, column_spelling, IsColumnSpelling}
+use Rattle.druid_segfile.specs.Layouts.{IsFileOf}
 use Rattle.druid_time.specs.Results.{◌>>=◌}
-use Rattle.druid_segfile.specs.Reading.{GivesInMemory, GivesOfReader, Cursor, magic_at, descriptor_at, fields_at, rows_at, shape_of, content_at, short_of, segment_within, segment_at}
-use Rattle.druid_segfile.proofs.PartLemmas.{bind_ok, passed_ok, ok_is, IsBytes, IsBytes-take, Takes, Takes-then, step_takes, step_again}
-use Rattle.druid_segfile.proofs.HeadLemmas.{descriptor_read, magic_takes, magic_again}
-use Rattle.druid_segfile.proofs.FieldLemmas.{fields_text, AreFields, fields_read}
-use Rattle.druid_segfile.proofs.RowLemmas.{IsTextValue, IsRow, AreRows, rows_read}
+use Rattle.druid_segfile.specs.Parts.{bytes_at, shape_of}
+use Rattle.druid_segfile.specs.ColumnReading.{Columns, column_content_at}
+use Rattle.druid_segfile.specs.Reading.{GivesInMemory, GivesOfReader, Cursor, row_content_at, content_in, content_at, short_of, segment_within, segment_at}
+use Rattle.druid_segfile.proofs.PartLemmas.{bind_ok, passed_ok, IsBytes, IsBytes-take, Takes, Takes-then, step_takes, step_again, bytes_read}
+use Rattle.druid_segfile.proofs.RowLemmas.{IsTextValue, IsRow}
 use Rattle.druid_segfile.proofs.LengthLemmas.{length_spelling}
+use Rattle.druid_segfile.proofs.ContentLemmas.{IsContent, row_body, row_spelled, row_content_takes, row_content_again}
+use Rattle.druid_segfile.proofs.ColumnLemmas.{columns_of, column_body, column_spelled, IsRead, column_content_takes, column_content_again, one_list}
 use Rattle.druid_segfile.proofs.FrontLemmas.{front_short, IsOfBytes, within_own}
 
--- what has a spelling, but for its length
-pub record IsContent (content : Segment) : Type 0 where
-  pub descriptor : IsDescribed content.descriptor
-  pub fields : AreFields content.fields
-  pub rows : AreRows (shape_of content.descriptor content.fields) content.rows
+-- ---- the layouts
 
-content_joins : (a b c e g : List ℕ) (d : Described) (fields : Schema) (all : List Row) → Takes a magic b → Takes b (descriptor d) c → Takes c (fields_text fields) e → Takes e (rows all) g → Takes a (spelling (segment_of d fields all)) g
-content_joins a b c e g d fields all t1 t2 t3 t4 =
-    let s2 = magic ++ descriptor d in
-    let j2 = Takes-then a magic b (descriptor d) c t1 t2 in
-    let j3 = Takes-then a s2 c (fields_text fields) e j2 t3 in
-    let j4 = subst (λ (t : List ℕ). Takes a t e) (sym (append_assoc s2 (names fields.dimensions) (names fields.metrics))) j3 in
-    Takes-then a ((s2 ++ names fields.dimensions) ++ names fields.metrics) e (rows all) g j4 t4
+-- what follows the name of one layout, or of the other
+which : (short : FileFault) (name bytes : List ℕ) (x : Segment × List ℕ) (rows columns : Bool) → cond rows (row_content_at short bytes) (cond columns (column_content_at short bytes) (Err Magic)) ≡ Ok x
+    → ((rows ≡ true) × (row_content_at short bytes ≡ Ok x)) ⊎ ((columns ≡ true) × (column_content_at short bytes ≡ Ok x))
+which short name bytes x true columns e = inl (refl, e)
+which short name bytes x false true e = inr (refl, e)
+which short name bytes x false false e = absurd cc
 
-content_takes : (short : FileFault) (bytes : List ℕ) (x : Segment × List ℕ) → IsBytes bytes → content_at short bytes ≡ Ok x → Takes bytes (spelling x.0) x.1 × IsContent x.0
-unfolding content_at
+-- a segment that is read, and the bytes that it is spelled in
+record IsFound (text : List ℕ) (s : Segment) : Type 0 where
+  pub spelled : IsFileOf text s
+  pub content : IsContent s
+  pub fits : length text ≤ max_text → text_length s ≤ max_text
+
+by_columns : (bytes rest after : List ℕ) (s : Segment) (columns : Columns) → Takes bytes column_magic rest → Takes rest (column_body s columns) after → IsRead s columns → (text : List ℕ) × Takes bytes text after × IsFound text s
+by_columns bytes rest after s columns t1 t2 is =
+    let text = column_magic ++ column_body s columns in
+    let same : text ≡ column_spelling s columns.dimensions = ap (λ (c : Columns). column_magic ++ column_body s c) (sym is.back) ∙ sym (column_spelled s columns.dimensions) in
+    (text, Takes-then bytes column_magic rest (column_body s columns) after t1 t2, record { spelled = inr (columns.dimensions, is.coded, same); content = is.content; fits = λ short. is.short })
+
+content_takes : (short : FileFault) (bytes : List ℕ) (x : Segment × List ℕ) → IsBytes bytes → content_at short bytes ≡ Ok x → (text : List ℕ) × Takes bytes text x.1 × IsFound text x.0
+unfolding content_at content_in
 content_takes short bytes x fits e =
-    let m = bind_ok (magic_at short bytes) _ x e in
-    let t1 = magic_takes short bytes m.0 fits m.1 in
-    let s2 = step_takes (descriptor_read short) _ m.0 x t1.rest_fits m.2 in
-    let s3 = step_takes (fields_read short) _ s2.0.1 x s2.1.rest_fits s2.3 in
-    let s4 = step_takes (rows_read short (shape_of s2.0.0 s3.0.0)) _ s3.0.1 x s3.1.rest_fits s3.3 in
-    let joined = content_joins bytes m.0 s2.0.1 s3.0.1 s4.0.1 s2.0.0 s3.0.0 s4.0.0 t1 s2.1 s3.1 s4.1 in
-    subst (λ (p : Segment × List ℕ). Takes bytes (spelling p.0) p.1 × IsContent p.0) (ok_is (segment_of s2.0.0 s3.0.0 s4.0.0, s4.0.1) x s4.3)
-    (joined, record { descriptor = s2.2; fields = s3.2; rows = s4.2 })
+    let s = step_takes (bytes_read short 4) _ bytes x fits e in
+    elim (which short s.0.0 s.0.1 x (bytes_eq s.0.0 magic) (bytes_eq s.0.0 column_magic) s.3) [
+      | inl rows ↦
+        let same : s.0.0 ≡ magic = (bytes_decides s.0.0 magic).0 rows.0 in
+        let named = subst (λ (t : List ℕ). Takes bytes t s.0.1) same s.1 in
+        let t = row_content_takes short s.0.1 x s.1.rest_fits rows.1 in
+        (magic ++ row_body x.0, Takes-then bytes magic s.0.1 (row_body x.0) x.1 named t.0, record { spelled = inl (sym (row_spelled x.0)); content = t.1; fits = λ short. omega (arith, short, length_spelling x.0, ap length (row_spelled x.0)) })
+      | inr columns ↦
+        let same : s.0.0 ≡ column_magic = (bytes_decides s.0.0 column_magic).0 columns.0 in
+        let named = subst (λ (t : List ℕ). Takes bytes t s.0.1) same s.1 in
+        let t = column_content_takes short s.0.1 x s.1.rest_fits columns.1 in
+        by_columns bytes s.0.1 x.1 x.0 t.0 named t.1 t.2
+    ]
 
-content_regroups : (s : Segment) (rest : List ℕ) → spelling s ++ rest ≡ magic ++ (descriptor s.descriptor ++ (fields_text s.fields ++ (rows s.rows ++ rest)))
-content_regroups s rest =
-    let s2 = magic ++ descriptor s.descriptor in
-    let r4 = rows s.rows ++ rest in
-    append_assoc ((s2 ++ names s.fields.dimensions) ++ names s.fields.metrics) (rows s.rows) rest
-    ∙ ap (λ (t : List ℕ). t ++ r4) (append_assoc s2 (names s.fields.dimensions) (names s.fields.metrics))
-    ∙ append_assoc s2 (fields_text s.fields) r4
-    ∙ append_assoc magic (descriptor s.descriptor) (fields_text s.fields ++ r4)
+rows_again : (short : FileFault) (s : Segment) (rest : List ℕ) → IsContent s → content_at short (spelling s ++ rest) ≡ Ok (s, rest)
+unfolding content_at content_in
+rows_again short s rest h =
+    ap (content_at short) (ap (λ (t : List ℕ). t ++ rest) (row_spelled s) ∙ append_assoc magic (row_body s) rest)
+    ∙ step_again (bytes_read short 4) _ magic (row_body s ++ rest) refl
+    ∙ row_content_again short s rest h
 
-content_again : (short : FileFault) (s : Segment) (rest : List ℕ) → IsContent s → content_at short (spelling s ++ rest) ≡ Ok (s, rest)
-unfolding content_at
-content_again short s rest h =
-    ap (content_at short) (content_regroups s rest)
-    ∙ ap (λ r. r >>= λ behind. descriptor_at short behind >>= λ d. fields_at short d.1 >>= λ fields. rows_at short (shape_of d.0 fields.0) fields.1 >>= λ all. Ok (segment_of d.0 fields.0 all.0, all.1)) (magic_again short (descriptor s.descriptor ++ (fields_text s.fields ++ (rows s.rows ++ rest))))
-    ∙ step_again (descriptor_read short) _ s.descriptor (fields_text s.fields ++ (rows s.rows ++ rest)) h.descriptor
-    ∙ step_again (fields_read short) _ s.fields (rows s.rows ++ rest) h.fields
-    ∙ step_again (rows_read short (shape_of s.descriptor s.fields)) _ s.rows rest h.rows
+coded_again : (short : FileFault) (s : Segment) (dimensions : List Coded) (rest : List ℕ) → IsContent s → text_length s ≤ max_text → AreCoded s dimensions → content_at short (column_spelling s dimensions ++ rest) ≡ Ok (s, rest)
+unfolding content_at content_in
+coded_again short s dimensions rest h fits coded =
+    let body = column_body s (columns_of s dimensions) in
+    ap (content_at short) (ap (λ (t : List ℕ). t ++ rest) (column_spelled s dimensions) ∙ append_assoc column_magic body rest)
+    ∙ step_again (bytes_read short 4) _ column_magic (body ++ rest) refl
+    ∙ column_content_again short s dimensions rest h fits coded
+
+-- what is spelled in one layout or in the other is read again
+content_again : (short : FileFault) (text : List ℕ) (s : Segment) (rest : List ℕ) → IsContent s → text_length s ≤ max_text → IsFileOf text s → content_at short (text ++ rest) ≡ Ok (s, rest)
+content_again short text s rest h fits (inl rows) =
+    ap (λ (t : List ℕ). content_at short (t ++ rest)) rows ∙ rows_again short s rest h
+content_again short text s rest h fits (inr columns) =
+    ap (λ (t : List ℕ). content_at short (t ++ rest)) columns.2 ∙ coded_again short s columns.0 rest h fits columns.1
 
 -- ---- all of the bytes
 
-within_takes : (limit : ℕ) (bytes : List ℕ) (s : Segment) → IsBytes bytes → segment_within limit bytes ≡ Ok s → (bytes ≡ spelling s) × IsContent s × (length bytes ≤ limit)
+within_takes : (limit : ℕ) (bytes : List ℕ) (s : Segment) → IsBytes bytes → segment_within limit bytes ≡ Ok s → IsFound bytes s × (length bytes ≤ limit)
 unfolding segment_within
 within_takes limit bytes s fits e =
     let b = bind_ok (content_at (short_of limit bytes) (take limit bytes)) _ s e in
@@ -77,15 +98,15 @@ within_takes limit bytes s fits e =
     let short = leb-true (length bytes) limit tests.1 in
     let t = content_takes (short_of limit bytes) (take limit bytes) b.0 (IsBytes-take limit bytes fits) b.1 in
     let nothing : b.0.1 ≡ [] = nil_from_length b.0.1 (eqb-true (length b.0.1) 0 tests.0) in
-    let whole : bytes ≡ spelling b.0.0 = sym (take_all limit bytes short) ∙ t.0.parts ∙ ap (λ (r : List ℕ). spelling b.0.0 ++ r) nothing ∙ append-nil (spelling b.0.0) in
-    subst (λ (c : Segment). (bytes ≡ spelling c) × IsContent c × (length bytes ≤ limit)) g.1 (whole, t.1, short)
+    let whole : bytes ≡ t.0 = sym (take_all limit bytes short) ∙ t.1.parts ∙ ap (λ (r : List ℕ). t.0 ++ r) nothing ∙ append-nil t.0 in
+    subst (λ (c : Segment). IsFound bytes c × (length bytes ≤ limit)) g.1 (subst (λ (text : List ℕ). IsFound text b.0.0) (sym whole) t.2, short)
 
-within_again : (limit : ℕ) (s : Segment) → IsContent s → length (spelling s) ≤ limit → segment_within limit (spelling s) ≡ Ok s
+within_again : (limit : ℕ) (text : List ℕ) (s : Segment) → IsContent s → text_length s ≤ max_text → IsFileOf text s → length text ≤ limit → segment_within limit text ≡ Ok s
 unfolding segment_within
-within_again limit s h short =
-    let front : take limit (spelling s) ≡ spelling s ++ [] = take_all limit (spelling s) short ∙ sym (append-nil (spelling s)) in
-    ap (λ r. r >>= λ content. cond (eqb (length content.1) 0 && leb (length (spelling s)) limit) (Ok content.0) (Err Trailing)) (ap (content_at (short_of limit (spelling s))) front ∙ content_again (short_of limit (spelling s)) s [] h)
-    ∙ cond-true (leb (length (spelling s)) limit) (Ok s) (Err Trailing) (le-leb (length (spelling s)) limit short)
+within_again limit text s h fits is short =
+    let front : take limit text ≡ text ++ [] = take_all limit text short ∙ sym (append-nil text) in
+    ap (λ r. r >>= λ content. cond (eqb (length content.1) 0 && leb (length text) limit) (Ok content.0) (Err Trailing)) (ap (content_at (short_of limit text)) front ∙ content_again (short_of limit text) text s [] h fits is)
+    ∙ cond-true (leb (length text) limit) (Ok s) (Err Trailing) (le-leb (length text) limit short)
 
 -- ---- content and segments
 
@@ -101,7 +122,7 @@ text_value_from : (value : Option (List ℕ)) → IfSome value (λ text. length 
 text_value_from None short utf8 = tt
 text_value_from (Some text) short utf8 = (short, utf8)
 
-content_segment : (s : Segment) → IsContent s → text_length s ≤ max_text → IsSegment s
+pub content_segment : (s : Segment) → IsContent s → text_length s ≤ max_text → IsSegment s
 content_segment s h short = record {
   schema = h.fields.schema;
   within = record {
@@ -140,13 +161,19 @@ segment_content s h fits = record {
 
 -- ---- laws
 
-pub segment_takes : (bytes : List ℕ) (s : Segment) → IsBytes bytes → segment_at bytes ≡ Ok s → (bytes ≡ spelling s) × IsSegment s × Fits s
+pub segment_takes : (bytes : List ℕ) (s : Segment) → IsBytes bytes → segment_at bytes ≡ Ok s → IsFileOf bytes s × IsSegment s × Fits s
 segment_takes bytes s fits e =
     let t = within_takes max_text bytes s fits e in
-    (t.0, content_segment s t.1 (omega (arith, t.2, length_spelling s, ap length t.0)), content_fits s t.1)
+    (t.0.spelled, content_segment s t.0.content (t.0.fits t.1), content_fits s t.0.content)
+
+pub file_again : (bytes : List ℕ) (s : Segment) → IsSegment s → Fits s → IsFileOf bytes s → length bytes ≤ max_text → segment_at bytes ≡ Ok s
+file_again bytes s h fits is short = within_again max_text bytes s (segment_content s h fits) h.within.text is short
+
+pub short_spelling : (s : Segment) → IsSegment s → length (spelling s) ≤ max_text
+short_spelling s h = omega (arith, length_spelling s, h.within.text)
 
 pub segment_again : (s : Segment) → IsSegment s → Fits s → segment_at (spelling s) ≡ Ok s
-segment_again s h fits = within_again max_text s (segment_content s h fits) (omega (arith, length_spelling s, h.within.text))
+segment_again s h fits = file_again (spelling s) s h fits (inl refl) (short_spelling s h)
 
 -- ---- what a reader has, of which one byte more was read than a file may have
 
@@ -179,16 +206,22 @@ short_front limit front bytes e short =
 abbrev pub IsFront : List ℕ → Option (List ℕ) → Type 0
 IsFront front known = IfSome known (λ bytes. front ≡ take (max_text + 1) bytes)
 
-pub known_found : (known : Option (List ℕ)) (front : List ℕ) (result : Result Segment FileFault) → IfOk result (λ s. front ≡ spelling s) → IfOk result IsSegment → IsFront front known → IfOk result (λ s. IfSome known (λ bytes. bytes ≡ spelling s))
-known_found None front (Ok s) found valid is = tt
-known_found (Some bytes) front (Ok s) found valid is =
-    let short : length front ≤ max_text = omega (arith, ap length found, length_spelling s, valid.within.text) in
-    sym (short_front max_text front bytes is short) ∙ found
-known_found known front (Err fault) found valid is = tt
+within_short : (limit : ℕ) (bytes : List ℕ) (s : Segment) → segment_within limit bytes ≡ Ok s → length bytes ≤ limit
+unfolding segment_within
+within_short limit bytes s e =
+    let b = bind_ok (content_at (short_of limit bytes) (take limit bytes)) _ s e in
+    let g = passed_ok (eqb (length b.0.1) 0 && leb (length bytes) limit) Trailing b.0.0 s b.2 in
+    leb-true (length bytes) limit (and_parts (eqb (length b.0.1) 0) (leb (length bytes) limit) g.0).1
 
-front_again : (front : List ℕ) (s : Segment) → IsSegment s → Fits s → front ≡ take (max_text + 1) (spelling s) → segment_at front ≡ Ok s
-front_again front s h fits is =
-    ap segment_at (is ∙ take_all (max_text + 1) (spelling s) (omega (arith, length_spelling s, h.within.text))) ∙ segment_again s h fits
+pub known_found : (known : Option (List ℕ)) (front : List ℕ) (result : Result Segment FileFault) → IfOk result (IsFileOf front) → GivesInMemory result (segment_at front) → IsFront front known → IfOk result (λ s. IfSome known (λ bytes. IsFileOf bytes s))
+known_found None front (Ok s) found exact is = tt
+known_found (Some bytes) front (Ok s) found exact is =
+    subst (λ (text : List ℕ). IsFileOf text s) (short_front max_text front bytes is (within_short max_text front s exact)) found
+known_found known front (Err fault) found exact is = tt
+
+front_again : (front bytes : List ℕ) (s : Segment) → IsSegment s → Fits s → IsFileOf bytes s → length bytes ≤ max_text → front ≡ take (max_text + 1) bytes → segment_at front ≡ Ok s
+front_again front bytes s h fits file short is =
+    ap segment_at (is ∙ take_all (max_text + 1) bytes (omega (arith, short))) ∙ file_again bytes s h fits file short
 
 of_reader : {X : Type 0} (result read : Result X FileFault) → GivesInMemory result read → GivesOfReader result read
 of_reader (Ok x) read h = h
@@ -202,10 +235,16 @@ of_reader (Err Read) read h = tt
 of_reader (Err Write) read h = h
 of_reader (Err Memory) read h = tt
 
+known_file : (known : Option (List ℕ)) (front bytes : List ℕ) (result : Result Segment FileFault) → IsFront front known → GivesInMemory result (segment_at front) → (s : Segment) → IsSegment s → Fits s → IsFileOf bytes s → length bytes ≤ max_text → known ≡ Some bytes → GivesOfReader result (Ok s)
+known_file known front bytes result is gives s h fits file short e =
+    let one : IsFront front (Some bytes) = subst (IsFront front) e is in
+    of_reader result (Ok s) (subst (GivesInMemory result) (front_again front bytes s h fits file short one) gives)
+
 pub known_only : (known : Option (List ℕ)) (front : List ℕ) (result : Result Segment FileFault) → IsFront front known → GivesInMemory result (segment_at front) → (s : Segment) → IsSegment s → Fits s → known ≡ Some (spelling s) → GivesOfReader result (Ok s)
-known_only known front result is gives s h fits e =
-    let one : IsFront front (Some (spelling s)) = subst (IsFront front) e is in
-    of_reader result (Ok s) (subst (GivesInMemory result) (front_again front s h fits one) gives)
+known_only known front result is gives s h fits e = known_file known front (spelling s) result is gives s h fits (inl refl) (short_spelling s h) e
+
+pub known_columns : (known : Option (List ℕ)) (front : List ℕ) (result : Result Segment FileFault) → IsFront front known → GivesInMemory result (segment_at front) → (s : Segment) (bytes : List ℕ) → IsSegment s → Fits s → IsColumnSpelling bytes s → length bytes ≤ max_text → known ≡ Some bytes → GivesOfReader result (Ok s)
+known_columns known front result is gives s bytes h fits columns short e = known_file known front bytes result is gives s h fits (inr columns) short e
 
 pub known_exact : (known : Option (List ℕ)) (front : List ℕ) (result : Result Segment FileFault) → IsFront front known → GivesInMemory result (segment_at front) → IfSome known (λ bytes. GivesOfReader result (segment_at bytes))
 known_exact None front result is gives = tt
@@ -283,33 +322,45 @@ may_lack_memory read x told e is = rw (is, e) (search rules)
 
 -- ---- cut files and long ones
 
-within_cut : (limit : ℕ) (s : Segment) (k : ℕ) → IsContent s → length (spelling s) ≤ limit → k < length (spelling s) → segment_within limit (take k (spelling s)) ≡ Err Cut
+within_cut : (limit : ℕ) (text : List ℕ) (s : Segment) (k : ℕ) → IsContent s → text_length s ≤ max_text → IsFileOf text s → k ≤ limit → k < length text → segment_within limit (take k text) ≡ Err Cut
 unfolding segment_within
-within_cut limit s k h fits lt =
-    let front = take k (spelling s) in
-    let len : length front ≤ limit = omega (arith, length-take k (spelling s), fits) in
-    let whole : content_at Cut (spelling s) ≡ Ok (s, []) = ap (content_at Cut) (sym (append-nil (spelling s))) ∙ content_again Cut s [] h in
-    rw (le-ltb limit (length front) len, take_all limit front len, front_short Cut (spelling s) s k whole lt) refl
+within_cut limit text s k h fits is few lt =
+    let front = take k text in
+    let len : length front ≤ limit = omega (arith, length-take k text, few) in
+    let whole : content_at Cut text ≡ Ok (s, []) = ap (content_at Cut) (sym (append-nil text)) ∙ content_again Cut text s [] h fits is in
+    rw (le-ltb limit (length front) len, take_all limit front len, front_short Cut text s k whole lt) refl
 
 pub segment_cut : (s : Segment) (k : ℕ) → IsSegment s → Fits s → k < length (spelling s) → segment_at (take k (spelling s)) ≡ Err Cut
-segment_cut s k h fits lt = within_cut max_text s k (segment_content s h fits) (omega (arith, length_spelling s, h.within.text)) lt
+segment_cut s k h fits lt = within_cut max_text (spelling s) s k (segment_content s h fits) h.within.text (inl refl) (omega (arith, short_spelling s h, lt)) lt
 
-within_trails : (limit : ℕ) (s : Segment) (more : List ℕ) → IsContent s → length (spelling s) ≤ limit → 0 < length more → segment_within limit (spelling s ++ more) ≡ Err Trailing
-within_trails limit s more h fits some =
-    let bytes = spelling s ++ more in
-    let len = length-append (spelling s) more in
+pub columns_cut : (s : Segment) (bytes : List ℕ) (k : ℕ) → IsSegment s → Fits s → IsColumnSpelling bytes s → k < length bytes → k ≤ max_text → segment_at (take k bytes) ≡ Err Cut
+columns_cut s bytes k h fits columns lt few = within_cut max_text bytes s k (segment_content s h fits) h.within.text (inr columns) few lt
+
+within_trails : (limit : ℕ) (text : List ℕ) (s : Segment) (more : List ℕ) → IsContent s → text_length s ≤ max_text → IsFileOf text s → length text ≤ limit → 0 < length more → segment_within limit (text ++ more) ≡ Err Trailing
+within_trails limit text s more h short is fits some =
+    let bytes = text ++ more in
+    let len = length-append text more in
     let window_end = min (length bytes) limit in
-    let room = window_end - length (spelling s) in
-    let all : window_end ≡ length (spelling s) + room = omega (arith, len, fits) in
-    let window : take window_end bytes ≡ spelling s ++ take room more = ap (λ n. take n bytes) all ∙ take-append-add (spelling s) more room in
-    let read : content_at (short_of limit bytes) (take window_end bytes) ≡ Ok (s, take room more) = ap (content_at (short_of limit bytes)) window ∙ content_again (short_of limit bytes) s (take room more) h in
+    let room = window_end - length text in
+    let all : window_end ≡ length text + room = omega (arith, len, fits) in
+    let window : take window_end bytes ≡ text ++ take room more = ap (λ n. take n bytes) all ∙ take-append-add text more room in
+    let read : content_at (short_of limit bytes) (take window_end bytes) ≡ Ok (s, take room more) = ap (content_at (short_of limit bytes)) window ∙ content_again (short_of limit bytes) text s (take room more) h short is in
     elim (cases_lt limit (length bytes)) [
       | inl lt ↦ passes_limit limit window_end bytes (short_of limit bytes) (s, take room more) refl refl read lt
       | inr le ↦ trails limit window_end bytes (short_of limit bytes) (s, take room more) refl refl read (ne_eqb (length (take room more)) 0 (λ e. omega (arith, e, length-take room more, len, le, some)))
     ]
 
 pub segment_trails : (s : Segment) (more : List ℕ) → IsSegment s → Fits s → 0 < length more → segment_at (spelling s ++ more) ≡ Err Trailing
-segment_trails s more h fits some = within_trails max_text s more (segment_content s h fits) (omega (arith, length_spelling s, h.within.text)) some
+segment_trails s more h fits some = within_trails max_text (spelling s) s more (segment_content s h fits) h.within.text (inl refl) (short_spelling s h) some
 
-pub is_spelling : (bytes : List ℕ) (s : Segment) → IsBytes bytes → segment_at bytes ≡ Ok s → bytes ≡ spelling s
-is_spelling bytes s fits e = (segment_takes bytes s fits e).0
+pub columns_trail : (s : Segment) (bytes more : List ℕ) → IsSegment s → Fits s → IsColumnSpelling bytes s → length bytes ≤ max_text → 0 < length more → segment_at (bytes ++ more) ≡ Err Trailing
+columns_trail s bytes more h fits columns short some = within_trails max_text bytes s more (segment_content s h fits) h.within.text (inr columns) short some
+
+pub columns_again : (s : Segment) (bytes : List ℕ) → IsSegment s → Fits s → IsColumnSpelling bytes s → length bytes ≤ max_text → segment_at bytes ≡ Ok s
+columns_again s bytes h fits columns short = file_again bytes s h fits (inr columns) short
+
+pub one_spelling : (s : Segment) (a b : List ℕ) → IsColumnSpelling a s → IsColumnSpelling b s → a ≡ b
+one_spelling s a b h k = h.2 ∙ ap (column_spelling s) (one_list s h.0 k.0 h.1 k.1) ∙ sym k.2
+
+pub is_file : (bytes : List ℕ) (s : Segment) → IsBytes bytes → segment_at bytes ≡ Ok s → IsFileOf bytes s
+is_file bytes s fits e = (segment_takes bytes s fits e).0

@@ -2,7 +2,8 @@
 ghost use Rattle.std.specs.Prelude.{◌≡◌, ◌==◌, length};
 ghost use Rattle.std.specs.Int.{w16, w32, w64};
 ghost use Rattle.std.specs.Str.{is_utf8};
-ghost use Rattle.druid_segfile.specs.Reading.{Gives, GivesAs, TakesAs, bytes_at, byte_at, number_at, signed_at, at_most, accepted, short_text_at, text_at};
+ghost use Rattle.druid_segfile.specs.Parts.{bytes_at, byte_at, number_at, signed_at, at_most, accepted, short_text_at, text_at};
+ghost use Rattle.druid_segfile.specs.Reading.{Gives, GivesAs, TakesAs};
 
 use crate::FileFault;
 use druid_rows::MAX_VALUE;
@@ -25,7 +26,7 @@ impl<'a> Model for Cursor<'a> {
 }
 
 // A count or a length, which may be the limit at most.
-#[tactic(auto, unfolding(crate::specs::Reading::at_most))]
+#[tactic(auto, unfolding(crate::specs::Parts::at_most))]
 pub(crate) fn at_most(limit: usize, count: usize) -> Result<usize, FileFault>
     ensures { Gives result (at_most limit count) }
 {
@@ -35,7 +36,7 @@ pub(crate) fn at_most(limit: usize, count: usize) -> Result<usize, FileFault>
     Ok(count)
 }
 
-#[tactic(auto, using(crate::proofs::TextLemmas::not_utf8, crate::proofs::TextLemmas::utf8_true), unfolding(crate::specs::Reading::accepted))]
+#[tactic(auto, using(crate::proofs::TextLemmas::not_utf8, crate::proofs::TextLemmas::utf8_true), unfolding(crate::specs::Parts::accepted))]
 fn utf8(bytes: &[u8]) -> Result<&str, FileFault>
     ensures { GivesAs (λ text. text.now) result (accepted is_utf8 bytes.now) }
 {
@@ -59,6 +60,16 @@ impl<'a> Cursor<'a> {
         self.rest
     }
 
+    // Another cursor over the same bytes.
+    pub(crate) fn again(&self) -> Cursor<'a>
+        ensures { result ≡ self.now }
+    {
+        Cursor {
+            rest: self.rest,
+            short: self.short,
+        }
+    }
+
     // Whether no bytes are left.
     pub(crate) fn is_at_end(&self) -> bool
         ensures { result ≡ (length self.now.rest == 0) }
@@ -67,7 +78,7 @@ impl<'a> Cursor<'a> {
     }
 
     // That many bytes.
-    #[tactic(auto, unfolding(crate::specs::Reading::bytes_at))]
+    #[tactic(auto, unfolding(crate::specs::Parts::bytes_at))]
     pub(crate) fn bytes(&mut self, count: usize) -> Result<&'a [u8], FileFault>
         ensures { TakesAs (λ bytes. bytes.now) self.old self.new result (bytes_at self.old.short count self.old.rest) }
     {
@@ -79,7 +90,7 @@ impl<'a> Cursor<'a> {
         Ok(part)
     }
 
-    #[tactic(auto, unfolding(crate::specs::Reading::byte_at))]
+    #[tactic(auto, unfolding(crate::specs::Parts::byte_at))]
     pub(crate) fn byte(&mut self) -> Result<u8, FileFault>
         ensures { TakesAs (λ byte. byte) self.old self.new result (byte_at self.old.short self.old.rest) }
     {
@@ -92,7 +103,7 @@ impl<'a> Cursor<'a> {
         }
     }
 
-    #[tactic(auto, unfolding(crate::specs::Reading::number_at, crate::specs::Reading::bytes_at))]
+    #[tactic(auto, unfolding(crate::specs::Parts::number_at, crate::specs::Parts::bytes_at))]
     pub(crate) fn u16(&mut self) -> Result<u16, FileFault>
         ensures { TakesAs (λ n. n) self.old self.new result (number_at self.old.short w16 self.old.rest) }
     {
@@ -103,7 +114,7 @@ impl<'a> Cursor<'a> {
         Ok(u16::from_be_bytes(*number))
     }
 
-    #[tactic(auto, unfolding(crate::specs::Reading::number_at, crate::specs::Reading::bytes_at))]
+    #[tactic(auto, unfolding(crate::specs::Parts::number_at, crate::specs::Parts::bytes_at))]
     pub(crate) fn u32(&mut self) -> Result<u32, FileFault>
         ensures { TakesAs (λ n. n) self.old self.new result (number_at self.old.short w32 self.old.rest) }
     {
@@ -114,7 +125,7 @@ impl<'a> Cursor<'a> {
         Ok(u32::from_be_bytes(*number))
     }
 
-    #[tactic(auto, unfolding(crate::specs::Reading::number_at, crate::specs::Reading::bytes_at))]
+    #[tactic(auto, unfolding(crate::specs::Parts::number_at, crate::specs::Parts::bytes_at))]
     pub(crate) fn u64(&mut self) -> Result<u64, FileFault>
         ensures { TakesAs (λ n. n) self.old self.new result (number_at self.old.short w64 self.old.rest) }
     {
@@ -125,7 +136,7 @@ impl<'a> Cursor<'a> {
         Ok(u64::from_be_bytes(*number))
     }
 
-    #[tactic(auto, unfolding(crate::specs::Reading::signed_at, crate::specs::Reading::number_at, crate::specs::Reading::bytes_at))]
+    #[tactic(auto, unfolding(crate::specs::Parts::signed_at, crate::specs::Parts::number_at, crate::specs::Parts::bytes_at))]
     pub(crate) fn i64(&mut self) -> Result<i64, FileFault>
         ensures { TakesAs (λ n. n) self.old self.new result (signed_at self.old.short self.old.rest) }
     {
@@ -137,7 +148,7 @@ impl<'a> Cursor<'a> {
     }
 
     // A text after its length, which is one byte.
-    #[tactic(auto, unfolding(crate::specs::Reading::short_text_at))]
+    #[tactic(auto, unfolding(crate::specs::Parts::short_text_at))]
     pub(crate) fn short_text(&mut self, limit: usize) -> Result<&'a [u8], FileFault>
         ensures { TakesAs (λ text. text.now) self.old self.new result (short_text_at self.old.short limit self.old.rest) }
     {
@@ -147,7 +158,7 @@ impl<'a> Cursor<'a> {
     }
 
     // A text after its length, which is two bytes.
-    #[tactic(auto, unfolding(crate::specs::Reading::text_at))]
+    #[tactic(auto, unfolding(crate::specs::Parts::text_at))]
     pub(crate) fn text(&mut self) -> Result<&'a str, FileFault>
         ensures { TakesAs (λ text. text.now) self.old self.new result (text_at self.old.short self.old.rest) }
     {

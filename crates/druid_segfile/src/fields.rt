@@ -3,7 +3,8 @@ ghost use Rattle.std.specs.Prelude.{◌≡◌, ◌++◌, ◌≤◌, [], length, 
 ghost use Rattle.std.specs.List.{list_any};
 ghost use Rattle.druid_rows.specs.Rows.{texts_of};
 ghost use Rattle.druid_rows.specs.Segment.{max_fields};
-ghost use Rattle.druid_segfile.specs.Reading.{GivesAs, TakesAs, accepted, is_new_name, field_name_at, field_names_at, names_at, fields_at};
+ghost use Rattle.druid_segfile.specs.Parts.{accepted, is_new_name, field_name_at, field_names_at, names_at, fields_at};
+ghost use Rattle.druid_segfile.specs.Reading.{GivesAs, TakesAs};
 ghost use Rattle.druid_segfile.specs.Lent.{texts_lent};
 
 use crate::FileFault;
@@ -53,7 +54,7 @@ fn is_new_name(name: &str, others: &[&str], names: &[&str]) -> bool
     !is_among(name, others) && !is_among(name, names)
 }
 
-#[tactic(auto, using(crate::proofs::FieldLemmas::no_new_name), unfolding(crate::specs::Reading::accepted))]
+#[tactic(auto, using(crate::proofs::FieldLemmas::no_new_name), unfolding(crate::specs::Parts::accepted))]
 fn field_name_of<'a>(text: &'a [u8], others: &[&str], names: &[&str]) -> Result<&'a str, FileFault>
     ensures { GivesAs (λ name. name.now) result
         (accepted (is_new_name (texts_lent others.now ++ texts_lent names.now)) text.now) }
@@ -78,7 +79,7 @@ fn strings(alloc: Global, names: &[&str]) -> Result<Vec<String>, AllocError>
 }
 
 impl<'a> Cursor<'a> {
-    #[tactic(auto, unfolding(crate::specs::Reading::field_name_at))]
+    #[tactic(auto, unfolding(crate::specs::Parts::field_name_at))]
     fn field_name(&mut self, others: &[&str], names: &[&str]) -> Result<&'a str, FileFault>
         ensures { TakesAs (λ name. name.now) self.old self.new result
             (field_name_at self.old.short (texts_lent others.now ++ texts_lent names.now) self.old.rest) }
@@ -100,7 +101,7 @@ impl<'a> Cursor<'a> {
     }
 
     // Names after their number, which is one byte. None of them is one of the others.
-    #[tactic(auto, unfolding(crate::specs::Reading::names_at, crate::specs::Reading::at_most))]
+    #[tactic(auto, unfolding(crate::specs::Parts::names_at, crate::specs::Parts::at_most))]
     fn names(&mut self, others: &[&str]) -> Result<Names<'a>, FileFault>
         ensures { TakesAs (λ names. texts_lent names.items) self.old self.new result
             (names_at self.old.short (texts_lent others.now) self.old.rest) }
@@ -112,7 +113,7 @@ impl<'a> Cursor<'a> {
         self.field_names(count, others)
     }
 
-    #[tactic(auto, unfolding(crate::specs::Reading::fields_at))]
+    #[tactic(auto, unfolding(crate::specs::Parts::fields_at))]
     pub(crate) fn fields(&mut self) -> Result<FieldNames<'a>, FileFault>
         ensures { TakesAs (λ fields. fields) self.old self.new result (fields_at self.old.short self.old.rest) }
     {

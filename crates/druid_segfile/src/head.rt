@@ -2,7 +2,8 @@
 ghost use Rattle.std.specs.Prelude.{◌≡◌, ◌≤◌, ok_or, IfOk};
 ghost use Rattle.druid_segid.specs.Names.{is_name, is_version, IsName, IsVersion};
 ghost use Rattle.druid_shard.specs.Described.{max_core};
-ghost use Rattle.druid_segfile.specs.Reading.{Gives, GivesAs, TakesAs, accepted, instant_of, moment_at, interval_at, name_at, version_at, core_at, descriptor_at};
+ghost use Rattle.druid_segfile.specs.Parts.{accepted, instant_of, moment_at, interval_at, name_at, version_at, core_at, descriptor_at};
+ghost use Rattle.druid_segfile.specs.Reading.{Gives, GivesAs, TakesAs};
 
 use crate::FileFault;
 use crate::cursor::Cursor;
@@ -54,7 +55,7 @@ fn moment(ms: i64) -> Result<Instant, FileFault>
     instant_of(ms).ok_or(FileFault::Field)
 }
 
-#[tactic(auto, using(crate::proofs::TextLemmas::no_name, crate::proofs::TextLemmas::refused_name, crate::proofs::TextLemmas::taken_name), unfolding(crate::specs::Reading::accepted))]
+#[tactic(auto, using(crate::proofs::TextLemmas::no_name, crate::proofs::TextLemmas::refused_name, crate::proofs::TextLemmas::taken_name), unfolding(crate::specs::Parts::accepted))]
 fn name_of(text: &[u8]) -> Result<&str, FileFault>
     ensures value { GivesAs (λ name. name.now) result (accepted is_name text.now) }
     ensures valid { IfOk result (λ name. IsName name.now) }
@@ -68,7 +69,7 @@ fn name_of(text: &[u8]) -> Result<&str, FileFault>
     Ok(text)
 }
 
-#[tactic(auto, using(crate::proofs::TextLemmas::no_version, crate::proofs::TextLemmas::refused_version, crate::proofs::TextLemmas::taken_version), unfolding(crate::specs::Reading::accepted))]
+#[tactic(auto, using(crate::proofs::TextLemmas::no_version, crate::proofs::TextLemmas::refused_version, crate::proofs::TextLemmas::taken_version), unfolding(crate::specs::Parts::accepted))]
 fn version_of(text: &[u8]) -> Result<&str, FileFault>
     ensures value { GivesAs (λ version. version.now) result (accepted is_version text.now) }
     ensures valid { IfOk result (λ version. IsVersion version.now) }
@@ -83,14 +84,14 @@ fn version_of(text: &[u8]) -> Result<&str, FileFault>
 }
 
 impl<'a> Cursor<'a> {
-    #[tactic(auto, unfolding(crate::specs::Reading::moment_at))]
+    #[tactic(auto, unfolding(crate::specs::Parts::moment_at))]
     fn moment(&mut self) -> Result<Instant, FileFault>
         ensures { TakesAs (λ time. time) self.old self.new result (moment_at self.old.short self.old.rest) }
     {
         moment(self.i64()?)
     }
 
-    #[tactic(auto, unfolding(crate::specs::Reading::interval_at))]
+    #[tactic(auto, unfolding(crate::specs::Parts::interval_at))]
     fn interval(&mut self) -> Result<Interval, FileFault>
         ensures { TakesAs (λ extent. extent) self.old self.new result (interval_at self.old.short self.old.rest) }
     {
@@ -99,7 +100,7 @@ impl<'a> Cursor<'a> {
         Interval::new(start, end).ok_or(FileFault::Field)
     }
 
-    #[tactic(auto, unfolding(crate::specs::Reading::name_at))]
+    #[tactic(auto, unfolding(crate::specs::Parts::name_at))]
     fn name(&mut self) -> Result<&'a str, FileFault>
         ensures valid { IfOk result (λ name. IsName name.now) }
         ensures value { TakesAs (λ name. name.now) self.old self.new result (name_at self.old.short self.old.rest) }
@@ -107,7 +108,7 @@ impl<'a> Cursor<'a> {
         name_of(self.short_text(MAX_NAME)?)
     }
 
-    #[tactic(auto, unfolding(crate::specs::Reading::version_at))]
+    #[tactic(auto, unfolding(crate::specs::Parts::version_at))]
     fn version(&mut self) -> Result<&'a str, FileFault>
         ensures valid { IfOk result (λ version. IsVersion version.now) }
         ensures value { TakesAs (λ version. version.now) self.old self.new result (version_at self.old.short self.old.rest) }
@@ -116,7 +117,7 @@ impl<'a> Cursor<'a> {
     }
 
     // The number of core partitions.
-    #[tactic(auto, unfolding(crate::specs::Reading::core_at, crate::specs::Reading::accepted))]
+    #[tactic(auto, unfolding(crate::specs::Parts::core_at, crate::specs::Parts::accepted))]
     fn core(&mut self) -> Result<u16, FileFault>
         ensures valid { IfOk result (λ core. core ≤ max_core) }
         ensures value { TakesAs (λ core. core) self.old self.new result (core_at self.old.short self.old.rest) }
@@ -128,7 +129,7 @@ impl<'a> Cursor<'a> {
         Ok(core)
     }
 
-    #[tactic(auto, unfolding(crate::specs::Reading::descriptor_at))]
+    #[tactic(auto, unfolding(crate::specs::Parts::descriptor_at))]
     pub(crate) fn announced(&mut self) -> Result<Announced<'a>, FileFault>
         ensures { TakesAs (λ announced. announced) self.old self.new result (descriptor_at self.old.short self.old.rest) }
     {

@@ -1,18 +1,22 @@
-ghost use Rattle.std.specs.Prelude.{◌≡◌, ◌≢◌, ◌↔◌, ◌⊎◌, ◌+◌, ◌≤◌, ◌<◌, ℕ, List, [], length, take, Some, Ok, Err, IsOk, IfOk, IfErr, IfSome, OnErr};
+ghost use Rattle.std.specs.Prelude.{◌≡◌, ◌≢◌, ◌↔◌, ◌⊎◌, ◌+◌, ◌≤◌, ◌<◌, ℕ, List, length, take, slice_index_or, Some, Ok, Err, IfOk, IfErr, IfSome, OnErr};
 ghost use Rattle.std.specs.Io.KnownBytes.{Consumes, IsAtEnd, Keeps};
 ghost use Rattle.std.specs.IoError.{error_kind};
 ghost use Rattle.druid_stream.specs.Taken.{TakesAtMost};
-ghost use Rattle.druid_rows.specs.Segment.{Segment, IsSegment, segment_of, max_text};
+ghost use Rattle.druid_rows.specs.Segment.{Segment, IsSegment, max_text};
 ghost use Rattle.druid_segfile.specs.Spelling.{spelling, Fits};
-ghost use Rattle.druid_segfile.specs.Reading.{Gives, GivesInMemory, GivesOfReader, TakesAs, each_at, values_at, shape_of, magic_at, content_at, short_of, segment_at};
-ghost use Rattle.druid_segfile.specs.Building.{Passes, row_count_at, IsWhole, HasRoom, with_read};
+ghost use Rattle.druid_segfile.specs.ColumnSpelling.{IsColumnSpelling};
+ghost use Rattle.druid_segfile.specs.Layouts.{IsFileOf};
+ghost use Rattle.druid_segfile.specs.Parts.{shape_of, row_count_at};
+ghost use Rattle.druid_segfile.specs.ColumnReading.{column_content_at};
+ghost use Rattle.druid_segfile.specs.Reading.{GivesInMemory, GivesOfReader, TakesAs, row_content_at, content_at, short_of, segment_at};
+ghost use Rattle.druid_segfile.specs.Building.{IsHead, IsWhole, IsWholeByColumns, IsJudged, CanBuild, IsBuilt};
 
 use crate::FileFault;
 use crate::cursor::{Cursor, at_most};
 use crate::fields::FieldNames;
 use crate::head::Announced;
+use crate::layout::Layout;
 use crate::rows::{Shape, want_of_memory, with_rows};
-use crate::spelling::MAGIC;
 use druid_rows::{MAX_ROWS, MAX_TEXT, Segment, SegmentBuilder};
 use druid_stream::{MAX_TRIES, is_interrupted};
 use std::alloc::{AllocError, Global};
@@ -82,10 +86,18 @@ fn first_bytes<R: Read>(alloc: Global, reader: &mut R) -> Result<Vec<u8>, FileFa
 // A segment whose bytes were judged. What stands before the rows is read, and the rows are not.
 #[derive(Debug, Drop)]
 struct Judged<'a> {
+    layout: Layout,
     announced: Announced<'a>,
     fields: FieldNames<'a>,
     count: usize,
     rows: &'a [u8],
+}
+
+// For the proof: each is a byte.
+fn are_bytes(bytes: &[u8])
+    ensures { (place : ℕ) → slice_index_or bytes.now place 0 < 256 }
+{
+    let _ = bytes.len();
 }
 
 // How the rows of a segment are read.
@@ -101,63 +113,118 @@ fn shape_of(announced: &Announced<'_>, fields: &FieldNames<'_>) -> Shape
 }
 
 impl<'a> Cursor<'a> {
-    // What a file begins with.
-    #[tactic(auto, unfolding(crate::specs::Reading::magic_at))]
-    fn magic(&mut self) -> Result<(), FileFault>
-        ensures { Passes self.old self.new result (magic_at self.old.short self.old.rest) }
-    {
-        if self.bytes(MAGIC.len())? != MAGIC.as_slice() {
-            return Err(FileFault::Magic);
-        }
-        Ok(())
-    }
-
     // How many rows there are.
-    #[tactic(auto, unfolding(crate::specs::Building::row_count_at))]
+    #[tactic(auto, unfolding(crate::specs::Parts::row_count_at))]
     fn row_count(&mut self) -> Result<usize, FileFault>
         ensures { TakesAs (λ count. count) self.old self.new result (row_count_at self.old.short self.old.rest) }
     {
         at_most(MAX_ROWS, self.u32()? as usize)
     }
 
-    // A segment, of which all is judged, and the rows are not kept.
-    #[tactic(auto, unfolding(crate::specs::Reading::content_at, crate::specs::Reading::rows_at, crate::specs::Building::row_count_at))]
-    fn judged(&mut self) -> Result<Judged<'a>, FileFault>
-        ensures whole { IfOk result (λ j. IsWhole self.old.short self.old.rest j.announced j.fields j.count j.rows.now self.new.rest) }
-        ensures fault { IfErr result (λ fault. content_at self.old.short self.old.rest ≡ Err fault) }
+    // What stands before the rows, after the name of the layout.
+    #[tactic(auto, unfolding(crate::specs::Reading::row_content_at, crate::specs::ColumnReading::column_content_at, crate::specs::Parts::rows_at, crate::specs::Parts::row_count_at))]
+    fn head(&mut self, layout: Layout) -> Result<Judged<'a>, FileFault>
+        ensures layout { IfOk result (λ j. j.layout ≡ layout) }
+        ensures head { IfOk result (λ j. IsHead self.old.short self.old.rest j.announced j.fields j.count self.new.rest) }
+        ensures rows { IfOk result (λ j. j.rows.now ≡ self.new.rest) }
+        ensures short { IfOk result (λ j. self.new.short ≡ self.old.short) }
+        ensures row_fault { IfErr result (λ fault. row_content_at self.old.short self.old.rest ≡ Err fault) }
+        ensures column_fault { IfErr result (λ fault. column_content_at self.old.short self.old.rest ≡ Err fault) }
     {
-        self.magic()?;
         let announced = match self.announced() {
             Ok(announced) => announced,
             Err(fault) => return Err(fault),
         };
         let fields = self.fields()?;
         let count = self.row_count()?;
-        let rows = self.rest();
-        self.skip_rows(shape_of(&announced, &fields), count)?;
         Ok(Judged {
+            layout,
             announced,
             fields,
             count,
-            rows,
+            rows: self.rest(),
         })
+    }
+
+    // A segment in rows, of which all is judged, and the rows are not kept.
+    fn judged_rows(&mut self) -> Result<Judged<'a>, FileFault>
+        ensures layout { IfOk result (λ j. j.layout ≡ Layout.ByRows) }
+        ensures whole { IfOk result (λ j. IsWhole self.old.short self.old.rest j.announced j.fields j.count j.rows.now self.new.rest) }
+        ensures fault { IfErr result (λ fault. row_content_at self.old.short self.old.rest ≡ Err fault) }
+    {
+        let judged = self.head(Layout::ByRows)?;
+        let shape = shape_of(&judged.announced, &judged.fields);
+        self.skip_rows(shape, judged.count)?;
+        Ok(judged)
+    }
+
+    // A segment by columns, of which all is judged, and the columns are not kept.
+    fn judged_columns(&mut self) -> Result<Judged<'a>, FileFault>
+        ensures layout { IfOk result (λ j. j.layout ≡ Layout.ByColumns) }
+        ensures whole { IfOk result (λ j. IsWholeByColumns self.old.short self.old.rest j.announced j.fields j.count j.rows.now self.new.rest) }
+        ensures fault { IfErr result (λ fault. column_content_at self.old.short self.old.rest ≡ Err fault) }
+    {
+        let bytes = self.rest();
+        are_bytes(bytes);
+        let judged = self.head(Layout::ByColumns)?;
+        let shape = shape_of(&judged.announced, &judged.fields);
+        let len = self.columns_length(shape, judged.count)?;
+        if 4 + bytes.len() - judged.rows.len() + len > MAX_TEXT {
+            return Err(FileFault::TooLong);
+        }
+        Ok(judged)
+    }
+
+    // A segment in either layout.
+    fn judged(&mut self) -> Result<Judged<'a>, FileFault>
+        ensures whole { IfOk result (λ j. IsJudged self.old.short self.old.rest j.layout j.announced j.fields j.count j.rows.now self.new.rest) }
+        ensures fault { IfErr result (λ fault. content_at self.old.short self.old.rest ≡ Err fault) }
+    {
+        match self.layout()? {
+            Layout::ByRows => self.judged_rows(),
+            Layout::ByColumns => self.judged_columns(),
+        }
     }
 }
 
 impl Judged<'_> {
     // The segment of these rows.
-    fn segment(&self, alloc: Global, short: FileFault) -> Result<Segment, AllocError>
-        requires room { HasRoom (segment_of self.now.announced self.now.fields []) (shape_of self.now.announced self.now.fields) self.now.count (length self.now.rows.now) }
-        requires judged { IsOk (each_at (values_at short (shape_of self.now.announced self.now.fields)) self.now.count self.now.rows.now) }
-        ensures { IfOk result (λ segment. (after : List ℕ)
-            × (with_read (segment_of self.now.announced self.now.fields [])
-            (each_at (values_at short (shape_of self.now.announced self.now.fields)) self.now.count self.now.rows.now) ≡ Ok (segment, after))) }
+    fn of_rows(&self, alloc: Global, short: FileFault) -> Result<Segment, AllocError>
+        requires { CanBuild Layout.ByRows short self.now.announced self.now.fields self.now.count self.now.rows.now }
+        ensures { IfOk result (IsBuilt Layout.ByRows short self.now.announced self.now.fields self.now.count self.now.rows.now) }
     {
         let shape = shape_of(&self.announced, &self.fields);
         let descriptor = self.announced.descriptor(alloc)?;
         match SegmentBuilder::new(alloc, descriptor, self.fields.schema(alloc)?) {
             Ok(builder) => Ok(with_rows(builder, shape, self.count, self.rows, short)?.finish()),
             Err(fault) => Err(want_of_memory(fault)),
+        }
+    }
+
+    // The segment of these columns.
+    fn of_columns(&self, alloc: Global, short: FileFault) -> Result<Segment, AllocError>
+        requires { CanBuild Layout.ByColumns short self.now.announced self.now.fields self.now.count self.now.rows.now }
+        ensures { IfOk result (IsBuilt Layout.ByColumns short self.now.announced self.now.fields self.now.count self.now.rows.now) }
+    {
+        let shape = shape_of(&self.announced, &self.fields);
+        let mut cursor = Cursor::new(self.rows, short);
+        let times = cursor.times(alloc, shape.interval, self.count)?;
+        let dimensions = cursor.dimensions(alloc, shape.dimensions, self.count)?;
+        let metrics = cursor.metrics(alloc, shape.metrics, self.count)?;
+        let descriptor = self.announced.descriptor(alloc)?;
+        let schema = self.fields.schema(alloc)?;
+        Ok(Segment::of_columns(
+            alloc, descriptor, schema, times, dimensions, metrics,
+        ))
+    }
+
+    fn segment(&self, alloc: Global, short: FileFault) -> Result<Segment, AllocError>
+        requires { CanBuild self.now.layout short self.now.announced self.now.fields self.now.count self.now.rows.now }
+        ensures { IfOk result (IsBuilt self.now.layout short self.now.announced self.now.fields self.now.count self.now.rows.now) }
+    {
+        match self.layout {
+            Layout::ByRows => self.of_rows(alloc, short),
+            Layout::ByColumns => self.of_columns(alloc, short),
         }
     }
 }
@@ -173,10 +240,10 @@ fn short_of(bytes: &[u8]) -> FileFault
     }
 }
 
-/// The segment that the bytes spell, all of them. They are judged before anything is allocated: the faults are those of
-/// `read_segment`, but `Read` and `Write`, and `Memory` only where the bytes spell a segment.
+/// The segment that the bytes spell in either layout, all of them. They are judged before anything is allocated: the
+/// faults are those of `read_segment`, but `Read` and `Write`, and `Memory` only where the bytes spell a segment.
 pub fn segment_of(alloc: Global, bytes: &[u8]) -> Result<Segment, FileFault>
-    ensures found { IfOk result (λ segment. bytes.now ≡ spelling segment) }
+    ensures found { IfOk result (IsFileOf bytes.now) }
     ensures valid { IfOk result IsSegment }
     ensures exact { GivesInMemory result (segment_at bytes.now) }
 {
@@ -192,19 +259,25 @@ pub fn segment_of(alloc: Global, bytes: &[u8]) -> Result<Segment, FileFault>
     Ok(judged.segment(alloc, short)?)
 }
 
-/// The segment that the bytes of a reader spell, all of them to its end. No more than 16,777,217 bytes are read.
+/// The segment that the bytes of a reader spell in either layout, `DSG1` or `DSG2`, all of them to its end. No more than
+/// 16,777,217 bytes are read.
 ///
-/// The fault is the first one from the left: `Magic` where the first four bytes are not `DSG1`, `Cut` where the input
-/// ends inside a part, `Field` where a part breaks a rule, `RowOutside` where a row's instant lies outside the
-/// interval, `TooLong` where a count or a length passes its limit or more than 16,777,216 bytes are needed, and
-/// `Trailing` where a byte follows the last row. `Read` where the reader fails, and `Memory` where memory runs out:
-/// for the bytes as they come, before they are judged, and for the segment, once they are found to spell one.
+/// The fault is the first one from the left: `Magic` where the first four bytes are neither `DSG1` nor `DSG2`, `Cut`
+/// where the input ends inside a part, `Field` where a part breaks a rule, `RowOutside` where a row's instant lies
+/// outside the interval, `TooLong` where a count or a length passes its limit or more than 16,777,216 bytes are needed,
+/// and `Trailing` where a byte follows the last part. By columns a part breaks a rule also where a text does not stand
+/// above the one before it, where a code is above the number of texts, where a text has no row, which is told after
+/// the last code of its dimension, and where a mark is neither 0 nor 1; a dimension with more texts than rows is
+/// `TooLong`, and so is, once the last part is read, a segment that takes more than 16,777,216 bytes in `DSG1`. `Read`
+/// where the reader fails, and `Memory` where memory runs out: for the bytes as they come, before they are judged, and
+/// for the segment, once they are found to spell one.
 pub fn read_segment<R: Read>(alloc: Global, reader: &mut R) -> Result<Segment, FileFault>
     // What is read is spelled so, each byte of it, and the input ends there.
-    ensures found { IfOk result (λ segment. IfSome (R.remaining reader.old) (λ bytes. bytes ≡ spelling segment)) }
+    ensures found { IfOk result (λ segment. IfSome (R.remaining reader.old) (λ bytes. IsFileOf bytes segment)) }
     ensures valid { IfOk result IsSegment }
     // What is spelled so is read, unless the reader fails or memory runs out.
     ensures only { (s : Segment) → IsSegment s → Fits s → R.remaining reader.old ≡ Some (spelling s) → GivesOfReader result (Ok s) }
+    ensures columns { (s : Segment) (bytes : List ℕ) → IsSegment s → Fits s → IsColumnSpelling bytes s → length bytes ≤ max_text → R.remaining reader.old ≡ Some bytes → GivesOfReader result (Ok s) }
     ensures taken { TakesAtMost (max_text + 1) (R.remaining reader.old) (R.remaining reader.new) }
     // Which fault it is.
     ensures exact { IfSome (R.remaining reader.old) (λ bytes. GivesOfReader result (segment_at bytes)) }

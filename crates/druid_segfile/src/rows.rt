@@ -3,7 +3,8 @@ ghost use Rattle.std.specs.Prelude.{◌≡◌, ◌≤◌, ℕ, List, ok_or, leng
 ghost use Rattle.std.specs.Option.{option_map};
 ghost use Rattle.druid_rows.specs.Rows.{row_of};
 ghost use Rattle.druid_rows.specs.Segment.{max_fields};
-ghost use Rattle.druid_segfile.specs.Reading.{Gives, TakesAs, instant_of, instant_in, row_time_at, text_value_at, number_value_at, each_at, values_at};
+ghost use Rattle.druid_segfile.specs.Parts.{instant_of, instant_in, row_time_at, text_value_at, number_value_at, each_at, values_at};
+ghost use Rattle.druid_segfile.specs.Reading.{Gives, TakesAs};
 ghost use Rattle.druid_segfile.specs.Building.{Skips, HasRoom, with_read};
 ghost use Rattle.druid_segfile.specs.Lent.{bytes_of, values_lent};
 
@@ -27,7 +28,7 @@ pub(crate) struct Shape {
 impl Model for Shape {
     ghost use Rattle.std.specs.Prelude.{◌≤◌};
     ghost use Rattle.druid_rows.specs.Segment.{max_fields};
-    ghost use Rattle.druid_segfile.specs.Reading.{Shape};
+    ghost use Rattle.druid_segfile.specs.Parts.{Shape};
 
     ghost Value = { Shape };
 
@@ -75,15 +76,15 @@ fn row_time(ms: i64, interval: Interval) -> Result<Instant, FileFault>
 }
 
 impl<'a> Cursor<'a> {
-    #[tactic(auto, unfolding(crate::specs::Reading::row_time_at))]
-    fn row_time(&mut self, interval: Interval) -> Result<Instant, FileFault>
+    #[tactic(auto, unfolding(crate::specs::Parts::row_time_at))]
+    pub(crate) fn row_time(&mut self, interval: Interval) -> Result<Instant, FileFault>
         ensures { TakesAs (λ time. time) self.old self.new result (row_time_at self.old.short interval self.old.rest) }
     {
         row_time(self.i64()?, interval)
     }
 
     // A text, or null.
-    #[tactic(auto, unfolding(crate::specs::Reading::text_value_at, crate::specs::Reading::byte_at))]
+    #[tactic(auto, unfolding(crate::specs::Parts::text_value_at, crate::specs::Parts::byte_at))]
     fn text_value(&mut self) -> Result<Option<&'a str>, FileFault>
         ensures { TakesAs (option_map bytes_of) self.old self.new result (text_value_at self.old.short self.old.rest) }
     {
@@ -95,7 +96,7 @@ impl<'a> Cursor<'a> {
     }
 
     // A number, or null.
-    #[tactic(auto, unfolding(crate::specs::Reading::number_value_at, crate::specs::Reading::byte_at))]
+    #[tactic(auto, unfolding(crate::specs::Parts::number_value_at, crate::specs::Parts::byte_at))]
     fn number_value(&mut self) -> Result<Option<i64>, FileFault>
         ensures { TakesAs (λ value. value) self.old self.new result (number_value_at self.old.short self.old.rest) }
     {
@@ -133,7 +134,7 @@ impl<'a> Cursor<'a> {
     }
 
     // The instant of a row. Its values are put into the place for them.
-    #[tactic(auto, unfolding(crate::specs::Reading::values_at))]
+    #[tactic(auto, unfolding(crate::specs::Parts::values_at))]
     fn row(&mut self, shape: Shape, values: &mut RowValues<'a>) -> Result<Instant, FileFault>
         ensures { TakesAs (λ time. row_of time (values_lent values.new.texts.items) values.new.numbers.items)
             self.old self.new result (values_at self.old.short shape self.old.rest) }

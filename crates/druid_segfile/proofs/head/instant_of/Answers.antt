@@ -1,7 +1,7 @@
 use Rattle.std.proofs.Common.{ap, ◌∙◌, to_z, of_z}
 use Rattle.std.specs.Int.{w64}
 use Rattle.std.proofs.lemmas.Int.{to_z-of_z}
-use Rattle.druid_segfile.specs.Reading.{instant_of}
+use Rattle.druid_segfile.specs.Parts.{instant_of}
 use Rattle.druid_segfile.proofs.MomentLemmas.{instant_made}
 use Rattle.druid_segfile.proofs.head.instant_of.Goals as goal
 

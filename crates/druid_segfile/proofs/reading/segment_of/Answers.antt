@@ -1,8 +1,9 @@
-use Rattle.std.proofs.Common.{◌∙◌, Ok, sym, ap, arith}
+use Rattle.std.proofs.Common.{◌∙◌, Ok, sym, ap, subst, arith}
 use Rattle.std.proofs.lemmas.Result.{err_from_is_err_and}
 use Rattle.druid_segfile.specs.Reading.{Cursor}
-use Rattle.druid_segfile.proofs.SegmentLemmas.{judged_err, judged_ok, judged_trails, judged_passes, may_lack_memory, is_spelling}
-use Rattle.druid_segfile.proofs.BuildLemmas.{whole_content, built_is, room_at_cursor}
+use Rattle.druid_segfile.specs.Building.{IsBuilt}
+use Rattle.druid_segfile.proofs.SegmentLemmas.{judged_err, judged_ok, judged_trails, judged_passes, may_lack_memory, is_file}
+use Rattle.druid_segfile.proofs.BuildLemmas.{content_found, content_built, room_at_cursor}
 use Rattle.druid_segfile.proofs.reading.segment_of.Goals as goal
 
 pub returns-in_err-judged-clause-exact : goal.returns-in_err-judged-clause-exact
@@ -14,28 +15,28 @@ pub returns-then-not-is_at_end-clause-exact : goal.returns-then-not-is_at_end-cl
 returns-then-not-is_at_end-clause-exact c =
     let j = c.in_ok-judged.judged in
     let after = c.judged.new.self.rest in
-    let read = whole_content c.new-cursor.result.short c.new-cursor.result.rest j.announced j.fields j.count j.rows.now after c.in_ok-judged.ensures.whole in
-    judged_trails 16777216 c.min.result c.args.bytes.now c.short_of-short.result c.new-cursor.result _ after c.short_of-short.ensures c.min.ensures c.new-cursor.ensures read (sym c.is_at_end.ensures ∙ c.if-not-is_at_end.true)
+    let read = content_found c.new-cursor.result.short c.new-cursor.result.rest j.layout j.announced j.fields j.count j.rows.now after c.in_ok-judged.ensures.whole in
+    judged_trails 16777216 c.min.result c.args.bytes.now c.short_of-short.result c.new-cursor.result read.0 after c.short_of-short.ensures c.min.ensures c.new-cursor.ensures read.1 (sym c.is_at_end.ensures ∙ c.if-not-is_at_end.true)
 
 pub returns-then-bytes-gt-MAX_TEXT-clause-exact : goal.returns-then-bytes-gt-MAX_TEXT-clause-exact
 returns-then-bytes-gt-MAX_TEXT-clause-exact c =
     let j = c.in_ok-judged.judged in
     let after = c.judged.new.self.rest in
-    let read = whole_content c.new-cursor.result.short c.new-cursor.result.rest j.announced j.fields j.count j.rows.now after c.in_ok-judged.ensures.whole in
-    judged_passes 16777216 c.min.result c.args.bytes.now c.short_of-short.result c.new-cursor.result _ after c.short_of-short.ensures c.min.ensures c.new-cursor.ensures read c.if-bytes-gt-MAX_TEXT.true
+    let read = content_found c.new-cursor.result.short c.new-cursor.result.rest j.layout j.announced j.fields j.count j.rows.now after c.in_ok-judged.ensures.whole in
+    judged_passes 16777216 c.min.result c.args.bytes.now c.short_of-short.result c.new-cursor.result read.0 after c.short_of-short.ensures c.min.ensures c.new-cursor.ensures read.1 c.if-bytes-gt-MAX_TEXT.true
 
-pub segment-requires-clause-room : goal.segment-requires-clause-room
-segment-requires-clause-room c =
+pub segment-requires : goal.segment-requires
+segment-requires c =
     let j = c.in_ok-judged.judged in
-    room_at_cursor c.min.result c.args.bytes.now c.short_of-short.result c.new-cursor.result j.announced j.fields j.count j.rows.now (omega (arith, c.min.ensures)) (λ i. omega (arith, c.type_inv.bytes i)) c.new-cursor.ensures c.in_ok-judged.ensures.whole.head
+    room_at_cursor c.min.result c.args.bytes.now c.short_of-short.result c.new-cursor.result j.layout j.announced j.fields j.count j.rows.now c.judged.new.self.rest (omega (arith, c.min.ensures)) (λ i. omega (arith, c.type_inv.bytes i)) c.new-cursor.ensures c.in_ok-judged.ensures.whole
 
 pub returns-in_err-segment-clause-exact : goal.returns-in_err-segment-clause-exact
 returns-in_err-segment-clause-exact c =
     let j = c.in_ok-judged.judged in
     let after = c.judged.new.self.rest in
-    let read = whole_content c.new-cursor.result.short c.new-cursor.result.rest j.announced j.fields j.count j.rows.now after c.in_ok-judged.ensures.whole in
+    let read = content_found c.new-cursor.result.short c.new-cursor.result.rest j.layout j.announced j.fields j.count j.rows.now after c.in_ok-judged.ensures.whole in
     let nothing = sym c.is_at_end.ensures ∙ c.if-not-is_at_end.false in
-    let found = judged_ok 16777216 c.min.result c.args.bytes.now c.short_of-short.result c.new-cursor.result _ after c.short_of-short.ensures c.min.ensures c.new-cursor.ensures read nothing c.if-bytes-gt-MAX_TEXT.false in
+    let found = judged_ok 16777216 c.min.result c.args.bytes.now c.short_of-short.result c.new-cursor.result read.0 after c.short_of-short.ensures c.min.ensures c.new-cursor.ensures read.1 nothing c.if-bytes-gt-MAX_TEXT.false in
     let p = err_from_is_err_and c.from_residual-in_err-segment.result c.from_residual-in_err-segment.ensures.1 in
     rw p.1 (may_lack_memory _ _ _ found p.2)
 
@@ -43,15 +44,15 @@ found_is : goal.returns-clause-exact
 found_is c =
     let j = c.in_ok-judged.judged in
     let after = c.judged.new.self.rest in
-    let whole = c.in_ok-judged.ensures.whole in
-    let read = whole_content c.new-cursor.result.short c.new-cursor.result.rest j.announced j.fields j.count j.rows.now after whole in
+    let s = c.in_ok-segment.field-0 in
+    let short = ap (λ (k : Cursor). k.short) c.new-cursor.ensures in
+    let built = subst (λ f. IsBuilt j.layout f j.announced j.fields j.count j.rows.now s) (sym short) c.in_ok-segment.ensures in
+    let read = content_built c.new-cursor.result.short c.new-cursor.result.rest j.layout j.announced j.fields j.count j.rows.now after s c.in_ok-judged.ensures.whole built in
     let nothing = sym c.is_at_end.ensures ∙ c.if-not-is_at_end.false in
-    let found = judged_ok 16777216 c.min.result c.args.bytes.now c.short_of-short.result c.new-cursor.result _ after c.short_of-short.ensures c.min.ensures c.new-cursor.ensures read nothing c.if-bytes-gt-MAX_TEXT.false in
-    let made = built_is c.new-cursor.result.short c.short_of-short.result j.announced j.fields j.count j.rows.now after c.in_ok-segment.ensures.0 whole.rows c.in_ok-segment.field-0 (ap (λ (k : Cursor). k.short) c.new-cursor.ensures) whole.read c.in_ok-segment.ensures.1 in
-    found ∙ ap (λ s. Ok s) made
+    judged_ok 16777216 c.min.result c.args.bytes.now c.short_of-short.result c.new-cursor.result s after c.short_of-short.ensures c.min.ensures c.new-cursor.ensures read nothing c.if-bytes-gt-MAX_TEXT.false
 
 pub returns-clause-found : goal.returns-clause-found
-returns-clause-found c = is_spelling c.args.bytes.now c.in_ok-segment.field-0 (λ i. omega (arith, c.type_inv.bytes i)) (found_is c)
+returns-clause-found c = is_file c.args.bytes.now c.in_ok-segment.field-0 (λ i. omega (arith, c.type_inv.bytes i)) (found_is c)
 
 pub returns-clause-exact : goal.returns-clause-exact
 returns-clause-exact c = found_is c

@@ -1,7 +1,7 @@
 use Rattle.std.proofs.Common.{◌≡◌, ◌-◌, ◌+◌, ◌++◌, ◌∙◌, List, ℕ, Ok, Err, length, subst, sym}
 use Rattle.druid_rows.specs.Rows.{Row, row_of}
 use Rattle.druid_rows.specs.Segment.{Segment, IsSegment, segment_of, with_row}
-use Rattle.druid_segfile.specs.Reading.{each_at, values_at}
+use Rattle.druid_segfile.specs.Parts.{each_at, values_at}
 use Rattle.druid_segfile.specs.Building.{HasRoom, with_read}
 use Rattle.druid_segfile.specs.Lent.{values_lent}
 use Rattle.druid_segfile.proofs.LoopLemmas.{goes_on, ends, is_done, is_read}

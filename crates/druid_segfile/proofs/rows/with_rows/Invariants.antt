@@ -1,5 +1,5 @@
 use Rattle.std.proofs.Common.{◌≡◌, ◌-◌, length}
-use Rattle.druid_segfile.specs.Reading.{each_at, values_at}
+use Rattle.druid_segfile.specs.Parts.{each_at, values_at}
 use Rattle.druid_segfile.specs.Building.{HasRoom, with_read}
 use Rattle.druid_segfile.proofs.PartLemmas.{IsBytes}
 use Rattle.druid_segfile.proofs.rows.with_rows.Given as goal

@@ -2,7 +2,7 @@ use Rattle.std.proofs.Common.{◌≡◌, ◌++◌, ◌∷◌, ◌∙◌, [], Lis
 use Rattle.std.specs.Borrow.{Bor}
 use Rattle.std.proofs.lemmas.Result.{err_from_is_err_and}
 use Rattle.std.proofs.lemmas.List.{map_push}
-use Rattle.druid_segfile.specs.Reading.{field_name_at, field_names_at}
+use Rattle.druid_segfile.specs.Parts.{field_name_at, field_names_at}
 use Rattle.druid_segfile.specs.Lent.{bytes_of, texts_lent}
 use Rattle.druid_segfile.proofs.LoopLemmas.{names_go_on, names_end, names_done}
 use Rattle.druid_segfile.proofs.cursor.Cursor.field_names.Goals as goal

@@ -1,5 +1,5 @@
 use Rattle.std.proofs.Common.{◌≡◌, ◌-◌, ◌++◌, length}
-use Rattle.druid_segfile.specs.Reading.{field_names_at}
+use Rattle.druid_segfile.specs.Parts.{field_names_at}
 use Rattle.druid_segfile.specs.Lent.{texts_lent}
 use Rattle.druid_segfile.proofs.LoopLemmas.{with_front}
 use Rattle.druid_segfile.proofs.cursor.Cursor.field_names.Given as goal

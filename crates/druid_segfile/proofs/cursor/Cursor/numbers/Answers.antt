@@ -1,6 +1,6 @@
 use Rattle.std.proofs.Common.{◌≡◌, ◌++◌, ◌∷◌, ◌∙◌, [], List, ℤ, Option, Ok, Err, subst, arith}
 use Rattle.std.proofs.lemmas.Result.{err_from_is_err_and}
-use Rattle.druid_segfile.specs.Reading.{each_at, number_value_at}
+use Rattle.druid_segfile.specs.Parts.{each_at, number_value_at}
 use Rattle.druid_segfile.proofs.LoopLemmas.{goes_on, ends, is_done}
 use Rattle.druid_segfile.proofs.cursor.Cursor.numbers.Goals as goal
 

@@ -1,5 +1,5 @@
 use Rattle.std.proofs.Common.{◌≡◌, ◌-◌, length}
-use Rattle.druid_segfile.specs.Reading.{each_at, number_value_at}
+use Rattle.druid_segfile.specs.Parts.{each_at, number_value_at}
 use Rattle.druid_segfile.proofs.LoopLemmas.{with_front}
 use Rattle.druid_segfile.proofs.cursor.Cursor.numbers.Given as goal
 

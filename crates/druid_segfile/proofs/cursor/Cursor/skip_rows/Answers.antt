@@ -1,6 +1,6 @@
 use Rattle.std.proofs.Common.{◌≡◌, ◌++◌, ◌∷◌, ◌∙◌, [], List, Ok, Err, subst, refl}
 use Rattle.druid_rows.specs.Rows.{Row, row_of}
-use Rattle.druid_segfile.specs.Reading.{each_at, values_at}
+use Rattle.druid_segfile.specs.Parts.{each_at, values_at}
 use Rattle.druid_segfile.specs.Lent.{values_lent}
 use Rattle.druid_segfile.proofs.LoopLemmas.{with_none, goes_on, ends, is_done}
 use Rattle.druid_segfile.proofs.cursor.Cursor.skip_rows.Goals as goal

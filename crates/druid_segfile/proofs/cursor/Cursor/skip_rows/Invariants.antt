@@ -1,6 +1,6 @@
 use Rattle.std.proofs.Common.{◌≡◌, ◌-◌, List}
 use Rattle.druid_rows.specs.Rows.{Row}
-use Rattle.druid_segfile.specs.Reading.{each_at, values_at}
+use Rattle.druid_segfile.specs.Parts.{each_at, values_at}
 use Rattle.druid_segfile.proofs.LoopLemmas.{with_front}
 use Rattle.druid_segfile.proofs.cursor.Cursor.skip_rows.Given as goal
 

@@ -1,7 +1,7 @@
 use Rattle.std.proofs.Common.{◌≡◌, ◌++◌, ◌∷◌, ◌∙◌, [], List, ℕ, Option, Ok, Err, option_map, subst, arith}
 use Rattle.std.proofs.lemmas.Result.{err_from_is_err_and}
 use Rattle.std.proofs.lemmas.List.{map_push}
-use Rattle.druid_segfile.specs.Reading.{each_at, text_value_at}
+use Rattle.druid_segfile.specs.Parts.{each_at, text_value_at}
 use Rattle.druid_segfile.specs.Lent.{bytes_of, values_lent}
 use Rattle.druid_segfile.proofs.LoopLemmas.{goes_on, ends, is_done}
 use Rattle.druid_segfile.proofs.cursor.Cursor.texts.Goals as goal

@@ -1,5 +1,5 @@
 use Rattle.std.proofs.Common.{◌≡◌, ◌-◌, length}
-use Rattle.druid_segfile.specs.Reading.{each_at, text_value_at}
+use Rattle.druid_segfile.specs.Parts.{each_at, text_value_at}
 use Rattle.druid_segfile.specs.Lent.{values_lent}
 use Rattle.druid_segfile.proofs.LoopLemmas.{with_front}
 use Rattle.druid_segfile.proofs.cursor.Cursor.texts.Given as goal
