@@ -17,6 +17,21 @@ fn three_rows() -> &'static str {
     "445347310477696b690000018cc251f4000000018cc7785000027631000380000000011f71fb04cb020463697479046e6f7465010468697473000000030000018cc251f4000100075ac3bc726963680001ffffffffffffffff0000018cc7784fff010000010009c3a9e282acf09d849e000000018cc251f4010000018000000000000000"
 }
 
+// The row of the vector by columns: examples/vector.dsg2.
+fn column_vector() -> &'static str {
+    "44534732017700000000000000000000000005265c00017600000001000000000000000001016401016d0000000100000000000003e80000000100017800000001010000000000000005"
+}
+
+// The three rows by columns, spelled by another program.
+fn three_rows_by_columns() -> &'static str {
+    "445347320477696b690000018cc251f4000000018cc7785000027631000380000000011f71fb04cb020463697479046e6f7465010468697473000000030000018cc251f4000000018cc7784fff0000018cc251f40100000002000000075ac3bc72696368000000020000000100000000000000010009c3a9e282acf09d849e000000000000000100000000010001ffffffffffffffff8000000000000000"
+}
+
+// Two rows by columns, with a text each, `x` and `y`, and no numbers.
+fn two_texts() -> &'static str {
+    "44534732017700000000000000000000000005265c00017600000001000000000000000001016401016d0000000200000000000003e800000000000003e80000000200017800017900000001000000020000"
+}
+
 fn nibble(digit: u8) -> u8 {
     match digit {
         b'0'..=b'9' => digit - b'0',
@@ -80,28 +95,28 @@ fn put(bytes: &mut Vec<u8>, place: usize, patch: &[u8]) {
     }
 }
 
-// The vector, once those hexadecimal bytes stand at that place.
-fn patched(rt: &impl Abort, alloc: Global, place: usize, digits: &str) -> Vec<u8> {
-    let mut bytes = bytes_of(rt, alloc, vector());
+// The file, once those hexadecimal bytes stand at that place.
+fn patched(rt: &impl Abort, alloc: Global, file: &str, place: usize, digits: &str) -> Vec<u8> {
+    let mut bytes = bytes_of(rt, alloc, file);
     put(&mut bytes, place, &bytes_of(rt, alloc, digits));
     bytes
 }
 
-// Whether the vector is reported so once the hexadecimal bytes stand at that place: `4 00 F3`.
-fn is_told(rt: &impl Abort, alloc: Global, line: &str) -> bool {
+// Whether the file is reported so once the hexadecimal bytes stand at that place: `4 00 F3`.
+fn is_told(rt: &impl Abort, alloc: Global, file: &str, line: &str) -> bool {
     let mut words = line.split(' ');
     let place = words.next().expect(rt, "a place");
     let digits = words.next().expect(rt, "bytes");
     let wanted = words.next().expect(rt, "an answer");
     let place: usize = place.parse().expect(rt, "a place");
-    told(alloc, &patched(rt, alloc, place, digits)) == wanted
+    told(alloc, &patched(rt, alloc, file, place, digits)) == wanted
 }
 
 // F1, F4, and what is not refused.
 fn few_changes() -> &'static str {
     "0 45 F1
 0 44 ok
-3 32 F1
+3 33 F1
 46 0000000005265c00 F4
 46 0000000005265bff ok
 46 0000000000000000 ok
@@ -161,11 +176,60 @@ fn passed_limits() -> &'static str {
 55 0401 F5"
 }
 
+// The row by columns: the layout, the number of rows, the instant, the number of texts, a text, its code, and the mark.
+fn column_changes() -> &'static str {
+    "3 33 F1
+3 31 F6
+4 00 F3
+42 000186a0 F4
+42 000186a1 F5
+42 0000000000000000 F6
+42 0000000000000001 F5
+46 0000000005265c00 F4
+46 0000000005265bff ok
+46 7fffffffffffffff F4
+54 00000002 F5
+54 00000000 F3
+58 0400 F2
+58 0401 F5
+60 ff F3
+61 00000000 F3
+61 00000002 F3
+61 ffffffff F3
+65 00 F6
+65 02 F3
+65 ff F3"
+}
+
+// Two rows by columns: texts that do not rise, texts that have no row, codes, and marks.
+fn text_changes() -> &'static str {
+    "68 7a F3
+71 78 F3
+71 77 F3
+69 0000 F3
+72 0000000200000001 ok
+72 00000002 F3
+72 00000000 F3
+76 00000001 F3
+76 00000000 F3
+76 00000003 F3
+80 02 F3
+81 02 F3
+80 01 F2"
+}
+
 #[test]
 fn changed_bytes(rt: HostRuntime) {
-    for table in [few_changes(), broken_rules(), passed_limits()] {
+    let tables = [
+        (vector(), few_changes()),
+        (vector(), broken_rules()),
+        (vector(), passed_limits()),
+        (column_vector(), column_changes()),
+        (two_texts(), text_changes()),
+    ];
+    for (file, table) in tables {
         for line in table.lines() {
-            assert!(rt; is_told(&rt, rt.alloc(), line), "{line}");
+            assert!(rt; is_told(&rt, rt.alloc(), file, line), "{line}");
         }
     }
 }
@@ -192,8 +256,16 @@ fn ends_there(rt: &impl Abort, alloc: Global, digits: &str) -> bool {
 
 #[test]
 fn cut_or_long_files(rt: HostRuntime) {
-    assert!(rt; ends_there(&rt, rt.alloc(), vector()));
-    assert!(rt; ends_there(&rt, rt.alloc(), three_rows()));
+    let files = [
+        vector(),
+        three_rows(),
+        column_vector(),
+        three_rows_by_columns(),
+        two_texts(),
+    ];
+    for file in files {
+        assert!(rt; ends_there(&rt, rt.alloc(), file), "{file}");
+    }
 }
 
 // Puts each of these after the bytes.
@@ -263,6 +335,37 @@ fn files_of_16_mib(rt: HostRuntime) {
     }
 }
 
+// A file of so many rows by columns, each with one text of 1,024 bytes. In rows it has 46 bytes, and 1,036 a row.
+fn repeated(rt: &impl Abort, alloc: Global, rows: u32) -> Vec<u8> {
+    let mut bytes = bytes_of(rt, alloc, column_vector());
+    bytes.truncate(42);
+    extend(rt, &mut bytes, &[&rows.to_be_bytes()]);
+    for _ in 0..rows {
+        extend(rt, &mut bytes, &[&[0, 0, 0, 0, 0, 0, 3, 232]]);
+    }
+    let text = letters(rt, alloc, 1_024);
+    extend(
+        rt,
+        &mut bytes,
+        &[&[0, 0, 0, 1, 4, 0], text.as_bytes()],
+    );
+    for _ in 0..rows {
+        extend(rt, &mut bytes, &[&[0, 0, 0, 1]]);
+    }
+    for _ in 0..rows {
+        extend(rt, &mut bytes, &[&[0]]);
+    }
+    bytes
+}
+
+#[test]
+fn columns_of_16_mib_in_rows(rt: HostRuntime) {
+    for (rows, answer) in [(16_194, "ok"), (16_195, "F5")] {
+        let given = told(rt.alloc(), &repeated(&rt, rt.alloc(), rows));
+        assert!(rt; given == answer, "{rows} {given}");
+    }
+}
+
 fn written(rt: &impl Abort, alloc: Global, segment: &Segment) -> Vec<u8> {
     let mut bytes = Vec::new(alloc);
     write_segment(alloc, segment, &mut bytes).expect(rt, "a written file");
@@ -273,6 +376,12 @@ fn written(rt: &impl Abort, alloc: Global, segment: &Segment) -> Vec<u8> {
 fn is_written_again(rt: &impl Abort, alloc: Global, bytes: &[u8]) -> bool {
     let segment = read(alloc, bytes).expect(rt, "a segment");
     written(rt, alloc, &segment).as_slice() == bytes
+}
+
+// What is read of a file by columns, and written in rows, is that file.
+fn is_written_so(rt: &impl Abort, alloc: Global, columns: &str, rows: &str) -> bool {
+    let segment = read(alloc, &bytes_of(rt, alloc, columns)).expect(rt, "a segment");
+    written(rt, alloc, &segment).as_slice() == bytes_of(rt, alloc, rows).as_slice()
 }
 
 // A file of 300 rows, each of a null, a text of 300 letters, an empty text, a number, a null and the least number.
@@ -308,6 +417,12 @@ fn push_many(rt: &impl Abort, bytes: &mut Vec<u8>, number: &[u8], text: &[u8]) {
 fn ample_memory(rt: HostRuntime) {
     for digits in [vector(), three_rows()] {
         assert!(rt; is_written_again(&rt, rt.alloc(), &bytes_of(&rt, rt.alloc(), digits)));
+    }
+    for (columns, rows) in [
+        (column_vector(), vector()),
+        (three_rows_by_columns(), three_rows()),
+    ] {
+        assert!(rt; is_written_so(&rt, rt.alloc(), columns, rows), "{columns}");
     }
     let many = many_rows(&rt, rt.alloc());
     assert!(rt; many.len() > 99_000 && is_written_again(&rt, rt.alloc(), &many));

@@ -1,5 +1,5 @@
 -- A segment that is built from the rows that are read: there is always room for them.
-use Rattle.std.proofs.Common.{◌≡◌, ℕ, ◌+◌, ◌-◌, ◌^◌, ◌<◌, ◌≤◌, List, [], ◌∷◌, ◌++◌, map, length, take, Option, ℤ, Result, Ok, Err, IsOk, refl, sym, ap, subst, ◌∙◌, arith}
+use Rattle.std.proofs.Common.{◌≡◌, ℕ, ◌+◌, ◌-◌, ◌<◌, ◌≤◌, List, [], ◌∷◌, ◌++◌, map, length, take, Option, ℤ, Result, Ok, Err, IsOk, refl, sym, ap, subst, ◌∙◌, arith}
 use Rattle.std.specs.List.{sum}
 use Rattle.std.specs.Int.{w32, to_be_bytes}
 use Rattle.std.proofs.lemmas.List.{length-append, length-take, length-map, length_push, map_push}

@@ -1,12 +1,12 @@
 -- The content of a segment by columns, read and written.
-use Rattle.std.proofs.Common.{◌≡◌, ℕ, ℤ, ◌+◌, ◌^◌, ◌<◌, ◌≤◌, zero, suc, List, [], ◌∷◌, ◌++◌, length, map, get_or, slice_get, Option, None, Some, Ok, refl, sym, ap, ap₂, subst, ◌∙◌, append_assoc, arith, ⊎_elim}
+use Rattle.std.proofs.Common.{◌≡◌, ℕ, ℤ, ◌^◌, ◌<◌, ◌≤◌, zero, suc, List, [], ◌++◌, length, map, get_or, Option, None, Ok, sym, ap, ap₂, subst, ◌∙◌, append_assoc, arith, ⊎_elim}
 use Rattle.std.specs.Prelude.{All}
 use Rattle.std.specs.List.{flat_map, range_with_len}
 use Rattle.std.specs.Int.{w32, to_be_bytes}
 use Rattle.std.proofs.lemmas.List.{same_lists, get_or-map, get_or_default, length-map}
-use Rattle.std.proofs.lemmas.List.Elements.{All-map, All-weaker}
+use Rattle.std.proofs.lemmas.List.Elements.{All-map}
 use Rattle.std.proofs.lemmas.List.Folds.{flat_map-map}
-use Rattle.std.proofs.lemmas.List.FromFn.{get_or-map-range_with_len, length-map-range_with_len, length-range_with_len}
+use Rattle.std.proofs.lemmas.List.FromFn.{get_or-map-range_with_len, length-map-range_with_len}
 use Rattle.std.proofs.lemmas.Option.{slice_get-get_or, slice_get_past}
 use Rattle.std.proofs.lemmas.Bool.{cases_lt}
 use Rattle.druid_shard.specs.Described.{Described, IsDescribed}
@@ -18,7 +18,7 @@ use Rattle.druid_segfile.specs.declared.fault.FileFault.{FileFault}
 use Rattle.druid_segfile.specs.Spelling.{instant, descriptor, names}
 use Rattle.druid_segfile.specs.ColumnSpelling.{column_magic, Coded, no_values, dimension, metric, numbers_of, IsCoded, AreCoded, column_spelling}
 use Rattle.druid_time.specs.Results.{◌>>=◌}
-use Rattle.druid_segfile.specs.Parts.{number_at, at_most, each_at, descriptor_at, fields_at, row_count_at, row_time_at, Shape, shape_of}
+use Rattle.druid_segfile.specs.Parts.{at_most, each_at, row_count_at, row_time_at, Shape, shape_of}
 use Rattle.druid_segfile.specs.ColumnReading.{dimension_at, metric_at, Columns, columns_at, decoded, rows_of, of_length, column_content_at}
 use Rattle.druid_segfile.proofs.PartLemmas.{bind_ok, ok_is, at_most_ok, at_most_within, IsBytes, Takes, Takes-then, Reads, step_takes, step_again, wide32, number_read, IsText, AreEach, each_read}
 use Rattle.druid_segfile.proofs.HeadLemmas.{descriptor_read}
@@ -127,9 +127,12 @@ module _ (shape : Shape) (rows : ℕ) (columns : Columns) (h : AreColumns shape 
   length_rows = length_rows_in columns.times texts columns.metrics ∙ h.times.0
 
   pub are_rows : rows ≤ max_rows → AreRows shape (rows_of columns)
-  are_rows few = (omega (arith, length_rows, few), λ k d lt.
-      let within : k < length columns.times = omega (arith, lt, length_rows_in columns.times texts columns.metrics) in
-      subst (IsRow shape) (sym (rows_in_at columns.times texts columns.metrics k d within)) (is_row k within))
+  are_rows few = (
+    omega (arith, length_rows, few),
+    λ k d lt.
+        let within : k < length columns.times = omega (arith, lt, length_rows_in columns.times texts columns.metrics) in
+        subst (IsRow shape) (sym (rows_in_at columns.times texts columns.metrics k d within)) (is_row k within),
+  )
 
 -- ---- the columns of a segment
 
@@ -207,15 +210,24 @@ module _ (s : Segment) (dimensions : List Coded) (h : IsContent s) (coded : AreC
   pub are_columns : AreColumns (shape_of s.descriptor s.fields) (length s.rows) columns
   are_columns = record {
     times = (length-map s.rows (λ (row : Row). row.time), All-map (IsRowTime s.descriptor.id.interval) (λ (row : Row). row.time) s.rows (λ k d lt. (h.rows.1 k d lt).time));
-    dimensions = (coded.long, λ place e lt.
-        is_dimension (length s.rows) (column place s.rows) (get_or dimensions place e) (coded_at place e lt) (length-map s.rows (λ row. get_or row.dimensions place None)) (All-map IsTextValue (λ row. get_or row.dimensions place None) s.rows (λ k d within.
-            let texts = (h.rows.1 k d within).texts in
-            texts.1 place None (omega (arith, lt, coded.long, texts.0)))));
-    metrics = (length-map-range_with_len (numbers_of s.rows) 0 (length s.fields.metrics), λ place e lt.
-        let within : place < length s.fields.metrics = omega (arith, lt, length-map-range_with_len (numbers_of s.rows) 0 (length s.fields.metrics)) in
-        subst (IsMetric (length s.rows)) (sym (get_or-map-range_with_len (numbers_of s.rows) 0 (length s.fields.metrics) place place e within (omega arith))) (length-map s.rows (λ row. get_or row.metrics place None), All-map IsNumberValue (λ row. get_or row.metrics place None) s.rows (λ k d inside.
-            let numbers = (h.rows.1 k d inside).numbers in
-            numbers.1 place None (omega (arith, within, numbers.0)))));
+    dimensions = (
+      coded.long,
+      λ place e lt.
+          is_dimension (length s.rows) (column place s.rows) (get_or dimensions place e) (coded_at place e lt) (length-map s.rows (λ row. get_or row.dimensions place None)) (All-map IsTextValue (λ row. get_or row.dimensions place None) s.rows (λ k d within.
+          let texts = (h.rows.1 k d within).texts in
+          texts.1 place None (omega (arith, lt, coded.long, texts.0)))),
+    );
+    metrics = (
+      length-map-range_with_len (numbers_of s.rows) 0 (length s.fields.metrics),
+      λ place e lt.
+          let within : place < length s.fields.metrics = omega (arith, lt, length-map-range_with_len (numbers_of s.rows) 0 (length s.fields.metrics)) in
+          subst (IsMetric (length s.rows)) (sym (get_or-map-range_with_len (numbers_of s.rows) 0 (length s.fields.metrics) place place e within (omega arith))) (
+            length-map s.rows (λ row. get_or row.metrics place None),
+            All-map IsNumberValue (λ row. get_or row.metrics place None) s.rows (λ k d inside.
+                let numbers = (h.rows.1 k d inside).numbers in
+                numbers.1 place None (omega (arith, within, numbers.0))),
+          ),
+    );
   }
 
   row_back : (k : ℕ) → k < length s.rows → row_of (get_or columns.times k 0) (across (map decoded dimensions) k) (across columns.metrics k) ≡ get_or s.rows k no_row
@@ -226,22 +238,22 @@ module _ (s : Segment) (dimensions : List Coded) (h : IsContent s) (coded : AreC
       let texts = map decoded dimensions in
       let wide : length (across texts k) ≡ length row.dimensions = length-map texts (λ values. get_or values k None) ∙ length-map dimensions decoded ∙ coded.long ∙ sym is.texts.0 in
       let values : across texts k ≡ row.dimensions = same_lists (across texts k) row.dimensions wide (λ place e within.
-          let there : place < length dimensions = omega (arith, within, length-map texts (λ values. get_or values k None), length-map dimensions decoded) in
-          let inside : place < length texts = omega (arith, there, length-map dimensions decoded) in
-          let more : place < length row.dimensions = omega (arith, within, wide) in
-          get_or-map (λ values. get_or values k None) texts place [] e inside
-          ∙ ap (λ values. get_or values k None) (get_or-map decoded dimensions place no_values [] there ∙ (coded.each place there).codes.stand)
-          ∙ text_cell s.rows k place lt
-          ∙ get_or_default row.dimensions place None e more) in
+      let there : place < length dimensions = omega (arith, within, length-map texts (λ values. get_or values k None), length-map dimensions decoded) in
+      let inside : place < length texts = omega (arith, there, length-map dimensions decoded) in
+      let more : place < length row.dimensions = omega (arith, within, wide) in
+      get_or-map (λ values. get_or values k None) texts place [] e inside
+      ∙ ap (λ values. get_or values k None) (get_or-map decoded dimensions place no_values [] there ∙ (coded.each place there).codes.stand)
+      ∙ text_cell s.rows k place lt
+      ∙ get_or_default row.dimensions place None e more) in
       let many : length (across columns.metrics k) ≡ length row.metrics = length-map columns.metrics (λ values. get_or values k None) ∙ length-map-range_with_len (numbers_of s.rows) 0 (length s.fields.metrics) ∙ sym is.numbers.0 in
       let numbers : across columns.metrics k ≡ row.metrics = same_lists (across columns.metrics k) row.metrics many (λ place e within.
-          let more : place < length row.metrics = omega (arith, within, many) in
-          let there : place < length s.fields.metrics = omega (arith, more, is.numbers.0) in
-          let inside : place < length columns.metrics = omega (arith, there, length-map-range_with_len (numbers_of s.rows) 0 (length s.fields.metrics)) in
-          get_or-map (λ values. get_or values k None) columns.metrics place [] e inside
-          ∙ ap (λ values. get_or values k None) (get_or-map-range_with_len (numbers_of s.rows) 0 (length s.fields.metrics) place place [] there (omega arith))
-          ∙ number_cell s.rows k place None lt
-          ∙ get_or_default row.metrics place None e more) in
+      let more : place < length row.metrics = omega (arith, within, many) in
+      let there : place < length s.fields.metrics = omega (arith, more, is.numbers.0) in
+      let inside : place < length columns.metrics = omega (arith, there, length-map-range_with_len (numbers_of s.rows) 0 (length s.fields.metrics)) in
+      get_or-map (λ values. get_or values k None) columns.metrics place [] e inside
+      ∙ ap (λ values. get_or values k None) (get_or-map-range_with_len (numbers_of s.rows) 0 (length s.fields.metrics) place place [] there (omega arith))
+      ∙ number_cell s.rows k place None lt
+      ∙ get_or_default row.metrics place None e more) in
       λ i. row_of (time i) (values i) (numbers i)
 
   pub rows_back : rows_of columns ≡ s.rows

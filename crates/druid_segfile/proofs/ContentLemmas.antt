@@ -1,11 +1,10 @@
 -- The content of a segment in rows, read and written.
-use Rattle.std.proofs.Common.{◌≡◌, List, ◌++◌, ℕ, Ok, sym, ap, subst, ◌∙◌, append_assoc}
-use Rattle.druid_shard.specs.Described.{Described, IsDescribed}
-use Rattle.druid_rows.specs.Rows.{Schema}
+use Rattle.std.proofs.Common.{◌≡◌, List, ◌++◌, ℕ, Ok, ap, subst, ◌∙◌, append_assoc}
+use Rattle.druid_shard.specs.Described.{IsDescribed}
 use Rattle.druid_rows.specs.Segment.{Segment, segment_of}
 use Rattle.druid_segfile.specs.declared.fault.FileFault.{FileFault}
 use Rattle.druid_segfile.specs.Spelling.{magic, descriptor, names, rows, spelling}
-use Rattle.druid_segfile.specs.Parts.{descriptor_at, fields_at, rows_at, shape_of}
+use Rattle.druid_segfile.specs.Parts.{shape_of}
 use Rattle.druid_segfile.specs.Reading.{row_content_at}
 use Rattle.druid_segfile.proofs.PartLemmas.{ok_is, IsBytes, Takes, Takes-then, step_takes, step_again}
 use Rattle.druid_segfile.proofs.HeadLemmas.{descriptor_read}

@@ -1,12 +1,12 @@
 -- A dimension, read and written: its texts rise, and each has a row.
-use Rattle.std.proofs.Common.{◌≡◌, ℕ, zero, suc, ◌-◌, ◌+◌, ◌^◌, ◌<◌, ◌≤◌, Bool, true, false, ◌&&◌, eqb, List, [], ◌∷◌, ◌++◌, length, get_or, map, slice_get, Option, Some, None, is_some, Ordering, Less, Equal, Greater, Ok, refl, sym, ap, subst, ◌∙◌, append_assoc, arith, ⊎_elim, leb}
-use Rattle.std.specs.Prelude.{All, Contains, IfSome}
+use Rattle.std.proofs.Common.{◌≡◌, ℕ, zero, suc, ◌-◌, ◌^◌, ◌<◌, ◌≤◌, true, eqb, List, [], ◌∷◌, ◌++◌, length, get_or, map, Option, Some, None, is_some, Ordering, Less, Equal, Greater, Ok, refl, sym, ap, subst, ◌∙◌, append_assoc, arith, ⊎_elim, leb}
+use Rattle.std.specs.Prelude.{All, Contains}
 use Rattle.std.specs.List.{flat_map, list_any, AllByRecursion}
 use Rattle.std.specs.List.Sorted.{IsStrictlySortedBy}
 use Rattle.std.specs.Ordering.{nat_cmp, is_lt}
 use Rattle.std.specs.Cmp.Lexicographic.{slice_cmp}
 use Rattle.std.specs.Int.{w32, to_be_bytes}
-use Rattle.std.proofs.lemmas.Bool.{and_parts, and_from, leb-true, le-leb, eqb-true, eq-eqb, true≢false, cases_lt, cases_eq}
+use Rattle.std.proofs.lemmas.Bool.{and_parts, and_from, leb-true, le-leb, eqb-true, eq-eqb, true≢false, cases_lt}
 use Rattle.std.proofs.lemmas.Cmp.{nat_list_cmp_total}
 use Rattle.std.proofs.lemmas.List.{get_or-map, get_or_default, length-map}
 use Rattle.std.proofs.lemmas.List.Concat.{flat_map-cons}
@@ -21,7 +21,7 @@ use Rattle.druid_rows.proofs.ColumnLemmas.{IsDictionary_unique, AreCodes_unique,
 use Rattle.druid_segfile.specs.declared.fault.FileFault.{FileFault}
 use Rattle.druid_segfile.specs.ColumnSpelling.{Coded, value, dimension, IsCoded}
 use Rattle.druid_time.specs.Results.{◌>>=◌}
-use Rattle.druid_segfile.specs.Parts.{number_at, at_most, accepted, text_at, each_at}
+use Rattle.druid_segfile.specs.Parts.{at_most}
 use Rattle.druid_segfile.specs.ColumnReading.{is_above, value_text_at, value_texts_at, code_at, have_rows, codes_at, coded_at, dimension_at, decoded}
 use Rattle.druid_segfile.proofs.PartLemmas.{bind_ok, ok_is, at_most_ok, at_most_within, accepted_read, IsBytes, Takes, Takes-then, Reads, step_takes, step_again, wide32, number_read, IsText, text_read, AreEach, each_read}
 use Rattle.druid_segfile.proofs.RowLemmas.{IsTextValue}

@@ -12,10 +12,10 @@ use Rattle.druid_segfile.specs.declared.fault.FileFault.{FileFault}
 use Rattle.druid_segfile.specs.declared.fault.FileFault.TheVariants.{Field}
 use Rattle.druid_segfile.specs.Spelling.{number, instant, interval, short_text, descriptor}
 use Rattle.druid_time.specs.Results.{◌>>=◌}
-use Rattle.druid_segfile.specs.Parts.{number_at, accepted, instant_of, moment_at, interval_at, name_at, version_at, core_at, descriptor_at}
+use Rattle.druid_segfile.specs.Parts.{instant_of, moment_at, interval_at, name_at, version_at, core_at, descriptor_at}
 use Rattle.druid_segfile.proofs.MomentLemmas.{instant_of-unix_ms, of_instant, FitsSigned-unix_ms}
 use Rattle.druid_segfile.proofs.TextLemmas.{is_name-is, is_version-is}
-use Rattle.druid_segfile.proofs.PartLemmas.{bind_ok, passed_ok, ok_is, accepted_ok, accepted_read, IsBytes, Takes, Takes-then, Reads, step_takes, step_again, wide16, wide64, number_read, signed_read, short_text_read}
+use Rattle.druid_segfile.proofs.PartLemmas.{bind_ok, passed_ok, ok_is, accepted_read, IsBytes, Takes, Takes-then, Reads, step_takes, step_again, wide16, wide64, number_read, signed_read, short_text_read}
 
 pub ok_or_ok : {A : Type 0} (o : Option A) (d : FileFault) (x : A) → ok_or o d ≡ Ok x → o ≡ Some x
 ok_or_ok None d x e = absurd cc

@@ -1,5 +1,5 @@
 -- Columns that are judged: their lengths, and which texts have rows.
-use Rattle.std.proofs.Common.{◌≡◌, ℕ, ℤ, zero, suc, ◌+◌, ◌*◌, ◌-◌, ◌<◌, ◌≤◌, Bool, true, false, leb, List, [], ◌∷◌, ◌++◌, length, get_or, map, take, drop, set, ltb, cond, Result, Option, None, Some, Ok, Err, refl, sym, ap, subst, ◌∙◌, arith, inl, inr}
+use Rattle.std.proofs.Common.{◌≡◌, ℕ, ℤ, zero, suc, ◌+◌, ◌*◌, ◌<◌, ◌≤◌, Bool, true, false, leb, List, [], ◌∷◌, ◌++◌, length, get_or, map, take, drop, set, ltb, cond, Result, Option, None, Some, Ok, Err, refl, sym, ap, subst, ◌∙◌, arith, inl, inr}
 use Rattle.std.specs.Prelude.{All}
 use Rattle.std.specs.List.{sum}
 use Rattle.std.specs.Int.{w64, from_be_bytes, cast_signed}
@@ -132,16 +132,16 @@ module _ (short : FileFault) (count rows : ℕ) (bytes mid : List ℕ) (texts : 
     unfolding coded_at codes_at accepted
     coded_unused some =
         let none : have_rows count codes ≡ false = false_from_ne_true (have_rows count codes) (λ e. some (λ k d lt.
-            let row = rows_found count codes e k (omega (arith, lt, long)) in
-            subst (λ (m : ℕ). 0 < m) (get_or_default marks k 0 d lt) ((marked k lt).1 row))) in
+        let row = rows_found count codes e k (omega (arith, lt, long)) in
+        subst (λ (m : ℕ). 0 < m) (get_or_default marks k 0 d lt) ((marked k lt).1 row))) in
         rw (read, coded, none) refl
 
     pub coded_found : All (λ mark. 0 < mark) marks → coded_at short count rows bytes ≡ Ok (coded_of texts codes, after)
     unfolding coded_at codes_at accepted
     coded_found all =
         let used : have_rows count codes ≡ true = rows_there count codes (λ k lt.
-            let within : k < length marks = omega (arith, lt, long) in
-            (marked k within).0 (all k 0 within)) in
+        let within : k < length marks = omega (arith, lt, long) in
+        (marked k within).0 (all k 0 within)) in
         rw (read, coded, used) refl
 
   pub coded_length : (codes after lens : List ℕ) (len : ℕ) → each_at (code_at short count) rows mid ≡ Ok (codes, after) → lens ≡ map length texts → length lens ≡ count → len ≡ sum (map (code_length lens) codes) → len ≡ texts_length (decoded (coded_of texts codes))
@@ -177,8 +177,8 @@ present_err short (true ∷ marks) bytes lt =
     elim (cases_lt (length bytes) 8) [
       | inl few ↦ rw (lt-ltb (length bytes) 8 few) refl
       | inr enough ↦
-        let later = present_err short marks (drop 8 bytes) (omega (arith, lt, length-drop 8 bytes)) in
-        rw (le-ltb (length bytes) 8 enough, later) refl
+          let later = present_err short marks (drop 8 bytes) (omega (arith, lt, length-drop 8 bytes)) in
+          rw (le-ltb (length bytes) 8 enough, later) refl
     ]
 
 present_ok : (short : FileFault) (marks : List Bool) (bytes : List ℕ) → 8 * ones marks ≤ length bytes → (numbers : List (Option ℤ)) × (present_at short marks bytes ≡ Ok (numbers, drop (8 * ones marks) bytes)) × (numbers_length numbers ≡ length marks + 8 * ones marks)

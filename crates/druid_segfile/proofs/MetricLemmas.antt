@@ -1,5 +1,5 @@
 -- A metric, read and written: a mark for each row, and then the numbers that there are.
-use Rattle.std.proofs.Common.{◌≡◌, ℕ, ℤ, zero, suc, ◌+◌, ◌*◌, Bool, true, false, List, [], ◌∷◌, ◌++◌, length, map, Option, Some, None, is_some, Ok, refl, sym, ap, ap₂, subst, ◌∙◌, append_assoc, arith}
+use Rattle.std.proofs.Common.{◌≡◌, ℕ, ℤ, zero, suc, Bool, true, false, List, [], ◌∷◌, ◌++◌, length, map, Option, Some, None, is_some, Ok, refl, sym, ap, subst, ◌∙◌, append_assoc}
 use Rattle.std.specs.Prelude.{All}
 use Rattle.std.specs.List.{flat_map}
 use Rattle.std.proofs.lemmas.List.{length-map}
@@ -9,7 +9,6 @@ use Rattle.druid_segfile.specs.declared.fault.FileFault.{FileFault}
 use Rattle.druid_segfile.specs.Spelling.{number}
 use Rattle.druid_segfile.specs.ColumnSpelling.{mark, present, metric}
 use Rattle.druid_time.specs.Results.{◌>>=◌}
-use Rattle.druid_segfile.specs.Parts.{signed_at, each_at}
 use Rattle.druid_segfile.specs.ColumnReading.{mark_at, present_at, metric_at}
 use Rattle.druid_segfile.proofs.PartLemmas.{bind_ok, ok_is, IsBytes, IsBytes-rest, Takes, Takes-then, Reads, step_takes, step_again, signed_read, AreEach, each_read}
 use Rattle.druid_segfile.proofs.RowLemmas.{IsNumberValue}

@@ -8,16 +8,15 @@ use Rattle.std.proofs.lemmas.List.{append-nil, length-append, length-take, nil_f
 use Rattle.std.proofs.lemmas.List.Elements.{All-weaker}
 use Rattle.std.proofs.Math.Seq.{take-append-add}
 use Rattle.druid_time.specs.Extent.{Extent, IsExtent}
-use Rattle.druid_shard.specs.Described.{Described, IsDescribed}
 use Rattle.druid_rows.specs.Rows.{Schema, Row, HasShape, IsInside, HasShortValues, max_value}
-use Rattle.druid_rows.specs.Segment.{Segment, IsSegment, segment_of, max_text, text_length}
+use Rattle.druid_rows.specs.Segment.{Segment, IsSegment, max_text, text_length}
 use Rattle.druid_segfile.specs.declared.fault.FileFault.{FileFault}
 use Rattle.druid_segfile.specs.declared.fault.FileFault.TheVariants.{Magic, Cut, Field, RowOutside, TooLong, Trailing, Read, Write, Memory}
 use Rattle.druid_segfile.specs.Spelling.{magic, spelling, AreValues, Fits}
 use Rattle.druid_segfile.specs.ColumnSpelling.{column_magic, Coded, AreCoded, column_spelling, IsColumnSpelling}
 use Rattle.druid_segfile.specs.Layouts.{IsFileOf}
 use Rattle.druid_time.specs.Results.{◌>>=◌}
-use Rattle.druid_segfile.specs.Parts.{bytes_at, shape_of}
+use Rattle.druid_segfile.specs.Parts.{shape_of}
 use Rattle.druid_segfile.specs.ColumnReading.{Columns, column_content_at}
 use Rattle.druid_segfile.specs.Reading.{GivesInMemory, GivesOfReader, Cursor, row_content_at, content_in, content_at, short_of, segment_within, segment_at}
 use Rattle.druid_segfile.proofs.PartLemmas.{bind_ok, passed_ok, IsBytes, IsBytes-take, Takes, Takes-then, step_takes, step_again, bytes_read}
@@ -54,15 +53,15 @@ content_takes short bytes x fits e =
     let s = step_takes (bytes_read short 4) _ bytes x fits e in
     elim (which short s.0.0 s.0.1 x (bytes_eq s.0.0 magic) (bytes_eq s.0.0 column_magic) s.3) [
       | inl rows ↦
-        let same : s.0.0 ≡ magic = (bytes_decides s.0.0 magic).0 rows.0 in
-        let named = subst (λ (t : List ℕ). Takes bytes t s.0.1) same s.1 in
-        let t = row_content_takes short s.0.1 x s.1.rest_fits rows.1 in
-        (magic ++ row_body x.0, Takes-then bytes magic s.0.1 (row_body x.0) x.1 named t.0, record { spelled = inl (sym (row_spelled x.0)); content = t.1; fits = λ short. omega (arith, short, length_spelling x.0, ap length (row_spelled x.0)) })
+          let same : s.0.0 ≡ magic = (bytes_decides s.0.0 magic).0 rows.0 in
+          let named = subst (λ (t : List ℕ). Takes bytes t s.0.1) same s.1 in
+          let t = row_content_takes short s.0.1 x s.1.rest_fits rows.1 in
+          (magic ++ row_body x.0, Takes-then bytes magic s.0.1 (row_body x.0) x.1 named t.0, record { spelled = inl (sym (row_spelled x.0)); content = t.1; fits = λ short. omega (arith, short, length_spelling x.0, ap length (row_spelled x.0)) })
       | inr columns ↦
-        let same : s.0.0 ≡ column_magic = (bytes_decides s.0.0 column_magic).0 columns.0 in
-        let named = subst (λ (t : List ℕ). Takes bytes t s.0.1) same s.1 in
-        let t = column_content_takes short s.0.1 x s.1.rest_fits columns.1 in
-        by_columns bytes s.0.1 x.1 x.0 t.0 named t.1 t.2
+          let same : s.0.0 ≡ column_magic = (bytes_decides s.0.0 column_magic).0 columns.0 in
+          let named = subst (λ (t : List ℕ). Takes bytes t s.0.1) same s.1 in
+          let t = column_content_takes short s.0.1 x s.1.rest_fits columns.1 in
+          by_columns bytes s.0.1 x.1 x.0 t.0 named t.1 t.2
     ]
 
 rows_again : (short : FileFault) (s : Segment) (rest : List ℕ) → IsContent s → content_at short (spelling s ++ rest) ≡ Ok (s, rest)

@@ -9,7 +9,6 @@ use Rattle.std.proofs.lemmas.List.FromFn.{get_or-map-range_with_len, length-map-
 use Rattle.druid_rows.specs.Rows.{Row, row_of}
 use Rattle.druid_rows.specs.Columns.{across, rows_in, AreLong}
 use Rattle.druid_rows.specs.Segment.{text_value_length, number_value_length, row_length}
-use Rattle.druid_segfile.specs.ColumnSpelling.{Coded}
 use Rattle.druid_segfile.specs.ColumnReading.{Columns, decoded, rows_of}
 use Rattle.druid_segfile.specs.Judging.{texts_length, numbers_length, columns_length}
 
@@ -48,7 +47,7 @@ module _ {X : Type 0} (measure : Option X → ℕ) where
       let one : ℕ → ℕ = λ place. measure (get_or column place None) in
       let others : ℕ → ℕ = λ place. sum (map measure (across columns place)) in
       let apart : sum (map (λ place. sum (map measure (across (column ∷ columns) place))) places) ≡ sum (map (λ place. one place + others place) places) =
-          ap (λ (f : ℕ → ℕ). sum (map f places)) (λ i place. sum_cons (one place) (map measure (across columns place)) i) in
+      ap (λ (f : ℕ → ℕ). sum (map f places)) (λ i place. sum_cons (one place) (map measure (across columns place)) i) in
       omega (arith, apart, sum_plus one others places, sum_across places columns, sum_cons (sum (map one places)) (map (λ column. sum (map (λ place. measure (get_or column place None)) places)) columns))
 
   whole_column : (rows : ℕ) (column : List (Option X)) → length column ≡ rows → map (λ place. measure (get_or column place None)) (range_with_len 0 rows) ≡ map measure column

@@ -1,5 +1,5 @@
 -- Reading a segment by columns, from left to right.
-use Rattle.std.specs.Prelude.{ℕ, ℤ, zero, suc, Bool, true, false, ◌&&◌, ◌==◌, List, [], ◌∷◌, length, map, Option, Some, None, Result, Ok, Err, nat_le}
+use Rattle.std.specs.Prelude.{ℕ, ℤ, zero, suc, Bool, true, false, ◌&&◌, ◌==◌, List, [], ◌∷◌, map, Option, Some, None, Result, Ok, Err, nat_le}
 use Rattle.std.specs.List.{list_any}
 use Rattle.std.specs.Int.{w32}
 use Rattle.std.specs.Ordering.{nat_cmp, is_lt}

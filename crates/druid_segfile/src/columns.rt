@@ -91,6 +91,7 @@ impl<'a> Cursor<'a> {
             _ => Err(FileFault::Field),
         }
     }
+
     // Passes over the instants of that many rows.
     fn skip_times(&mut self, interval: Interval, rows: usize) -> Result<(), FileFault>
         ensures { Skips self.old self.new result (each_at (row_time_at self.old.short interval) rows self.old.rest) }
@@ -157,6 +158,7 @@ impl<'a> Cursor<'a> {
         }
         Ok(count)
     }
+
     // The length in rows of a dimension of that many rows.
     fn texts_length(
         &mut self,

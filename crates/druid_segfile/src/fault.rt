@@ -7,7 +7,7 @@ use thiserror::Error;
 /// Why a segment was not read, or not written.
 #[derive(Clone, Copy, Debug, PartialEq, Eq, Drop, Error)]
 pub enum FileFault {
-    /// F1: the file does not begin with `DSG1`.
+    /// F1: the file begins with neither `DSG1` nor `DSG2`.
     #[error("F1: not a segment file")]
     Magic,
     /// F2: the file ends inside a part.
@@ -22,7 +22,7 @@ pub enum FileFault {
     /// F5: a count or a length passes its limit, or more bytes are needed than a file may have.
     #[error("F5: too long")]
     TooLong,
-    /// F6: a byte follows the last row.
+    /// F6: a byte follows the last part.
     #[error("F6: bytes behind the last row")]
     Trailing,
     /// F7: the reader failed.

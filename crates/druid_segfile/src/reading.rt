@@ -213,9 +213,7 @@ impl Judged<'_> {
         let metrics = cursor.metrics(alloc, shape.metrics, self.count)?;
         let descriptor = self.announced.descriptor(alloc)?;
         let schema = self.fields.schema(alloc)?;
-        Ok(Segment::of_columns(
-            alloc, descriptor, schema, times, dimensions, metrics,
-        ))
+        Ok(Segment::of_columns(alloc, descriptor, schema, times, dimensions, metrics))
     }
 
     fn segment(&self, alloc: Global, short: FileFault) -> Result<Segment, AllocError>

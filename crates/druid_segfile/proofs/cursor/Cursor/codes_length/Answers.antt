@@ -1,7 +1,6 @@
-use Rattle.std.proofs.Common.{◌≡◌, ◌++◌, ◌∷◌, ◌∙◌, [], List, ℕ, Ok, Err, subst, sym, ap, refl, arith, length, map}
+use Rattle.std.proofs.Common.{◌≡◌, ◌++◌, ◌∷◌, ◌∙◌, [], List, ℕ, Ok, Err, subst, sym, ap, refl, arith, length}
 use Rattle.std.proofs.lemmas.Result.{err_from_is_err_and}
 use Rattle.druid_rows.proofs.PlaceLemmas.{length_with_mark}
-use Rattle.std.specs.List.{sum}
 use Rattle.druid_segfile.specs.Parts.{each_at}
 use Rattle.druid_segfile.specs.ColumnReading.{code_at}
 use Rattle.druid_segfile.specs.Judging.{code_length, AreMarked}

@@ -33,8 +33,11 @@ loop-preserved c =
 
 pub returns : goal.returns
 returns c =
-    let read = dimension_at c.args.self.now.short c.args.rows in
-    (c.loop.invariant.front, record {
-      is = is_done all read c.loop.invariant.front c.args.dimensions c.loop.counter c.loop.self.rest (each_at read c.args.dimensions c.args.self.now.rest) c.loop-test.false c.loop.invariant.reading;
-      short = c.loop.invariant.short;
-    }, c.loop.invariant.made)
+    let read = dimension_at c.args.self.now.short c.args.rows in (
+      c.loop.invariant.front,
+      record {
+        is = is_done all read c.loop.invariant.front c.args.dimensions c.loop.counter c.loop.self.rest (each_at read c.args.dimensions c.args.self.now.rest) c.loop-test.false c.loop.invariant.reading;
+        short = c.loop.invariant.short;
+      },
+      c.loop.invariant.made,
+    )

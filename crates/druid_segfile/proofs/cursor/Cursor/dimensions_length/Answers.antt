@@ -1,5 +1,4 @@
-use Rattle.std.proofs.Common.{◌≡◌, ◌++◌, ◌∷◌, ◌∙◌, [], List, ℕ, Ok, Err, subst, sym, refl, arith, map}
-use Rattle.std.specs.List.{sum}
+use Rattle.std.proofs.Common.{◌≡◌, ◌++◌, ◌∷◌, ◌∙◌, [], List, Ok, Err, subst, refl, arith}
 use Rattle.std.proofs.lemmas.Result.{err_from_is_err_and}
 use Rattle.druid_segfile.specs.ColumnSpelling.{Coded}
 use Rattle.druid_segfile.specs.Parts.{each_at}

@@ -1,4 +1,4 @@
-use Rattle.std.proofs.Common.{◌≡◌, ◌-◌, ◌*◌, ◌≤◌, List, ℕ, map}
+use Rattle.std.proofs.Common.{◌≡◌, ◌-◌, ◌*◌, ◌≤◌, List, map}
 use Rattle.std.specs.List.{sum}
 use Rattle.druid_segfile.specs.ColumnSpelling.{Coded}
 use Rattle.druid_segfile.specs.Parts.{each_at}

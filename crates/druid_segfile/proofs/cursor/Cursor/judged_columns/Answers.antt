@@ -1,4 +1,4 @@
-use Rattle.std.proofs.Common.{◌≡◌, ◌∙◌, ap, sym, subst, arith, List, ℕ, length}
+use Rattle.std.proofs.Common.{ap, sym, subst, arith, List, ℕ, length}
 use Rattle.std.proofs.lemmas.Result.{err_from_is_err_and}
 use Rattle.druid_segfile.specs.Building.{IsWholeByColumns}
 use Rattle.druid_segfile.proofs.PartLemmas.{IsBytes}

@@ -1,7 +1,7 @@
-use Rattle.std.proofs.Common.{◌≡◌, ◌∙◌, ap, sym, subst, length, List, ℕ, Option}
+use Rattle.std.proofs.Common.{◌∙◌, ap, sym, subst, length, List, ℕ, Option}
 use Rattle.std.proofs.lemmas.List.{length-map}
 use Rattle.druid_rows.specs.Columns.{AreLong}
-use Rattle.druid_rows.specs.Segment.{Segment, IsSegment}
+use Rattle.druid_rows.specs.Segment.{IsSegment}
 use Rattle.druid_segfile.specs.Parts.{Shape, shape_of}
 use Rattle.druid_segfile.specs.ColumnReading.{decoded}
 use Rattle.druid_segfile.proofs.KeepLemmas.{times_ok, dimensions_ok, metrics_ok, columns_kept, dimensions_long, metrics_long, texts_long, numbers_long, segment_kept}
