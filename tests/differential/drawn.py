@@ -3,8 +3,8 @@
 
 drawn.py [CLUSTERS] [REQUESTS]     3 clusters of three nodes, and 2,000 requests to each, unless said otherwise
 
-Segments of several versions, with partitions, replicas, nulls and numbers at the ends of their range, are written as files, and
-the built program serves them on loopback ports from 21000 on. Half of the requests are queries, subqueries and asks as users write
+Segments of several versions, with partitions, replicas, nulls and numbers at the ends of their range, are written as files, half of
+them by columns, and the built program serves them on loopback ports from 21000 on. Half of the requests are queries, subqueries and asks as users write
 them, and half are spoiled: a key left out, a value in place of another, bytes cut off. Each status and each body is compared.
 The draws are the same each time. It ends with 1 where an answer differs, and shows the first of them. It stands apart from the
 gate, and checks what no proof can: that the definitions say what their readers mean.
@@ -76,7 +76,7 @@ PARAMETERS = ['counter', 'hash', 'timeout=60000', '', 'Counter=1', 'counter=-1',
 class Cluster:
     """Three nodes over folders, and a broker that follows them."""
 
-    def __init__(self, draw, number, folder):
+    def __init__(self, draw, number, folder, environment=None, turns=3):
         self.draw, self.port = draw, 21_000 + number * 10
         self.segments = self.draw_segments()
         self.held = [[it for it in self.segments if draw.random() < .6] for _ in range(3)]
@@ -85,13 +85,13 @@ class Cluster:
             os.makedirs(f'{folder}/{node}')
             for it in held:
                 with open(f'{folder}/{node}/{rules.identifier(it)}.seg', 'wb') as file:
-                    file.write(rules.segment_file(it))
+                    file.write(rules.segment_file(it, draw.random() < .5))
         nodes = [{'address': f'127.0.0.1:{self.port + 1 + i}', 'folder': f'{folder}/{i}', 'loads': [], 'name': f'n{i}', 'workers': 2} for i in range(3)]
         query = {'queryType': 'timeseries', 'dataSource': 'w', 'granularity': 'all', 'intervals': '2024-01-01/2024-01-02'}
         with open(f'{folder}/config.json', 'w') as file:
             json.dump({'brokers': [{'address': f'127.0.0.1:{self.port}', 'workers': 4}], 'connections': 1_000_000, 'kept': KEPT, 'nodes': nodes,
-                       'queries': [{'broker': 0, 'query': query}], 'turns': 3}, file)
-        self.program = subprocess.Popen([PROGRAM, 'serve', f'{folder}/config.json'], stdout=subprocess.PIPE)
+                       'queries': [{'broker': 0, 'query': query}], 'turns': turns}, file)
+        self.program = subprocess.Popen([PROGRAM, 'serve', f'{folder}/config.json'], stdout=subprocess.PIPE, env={**os.environ, **(environment or {})})
         self.program.stdout.readline()  # the query of the config is answered, so the broker knows all nodes
 
     def draw_segments(self):
@@ -252,4 +252,5 @@ def main(words):
     return 0
 
 
-sys.exit(main(sys.argv[1:]))
+if __name__ == '__main__':
+    sys.exit(main(sys.argv[1:]))

@@ -359,21 +359,38 @@ def identifier(segment):
     return f"{front}_{segment['part']}" if segment['part'] else front
 
 
-def segment_file(segment):
+def segment_file(segment, by_columns=False):
     def short(it):
         return bytes([len(it.encode())]) + it.encode()
 
     def value(it):
         return b'\0' if it is None else b'\1' + struct.pack('>H', len(it.encode())) + it.encode()
-    parts = [b'DSG1', short(segment['source']), struct.pack('>qq', segment['start'], segment['end']), short(segment['version']),
-             struct.pack('>HHQ', segment['part'], segment['core'], 0)]
+    parts = [b'DSG2' if by_columns else b'DSG1', short(segment['source']), struct.pack('>qq', segment['start'], segment['end']),
+             short(segment['version']), struct.pack('>HHQ', segment['part'], segment['core'], 0)]
     for names in (segment['dims'], segment['mets']):
         parts += [bytes([len(names)]), *map(short, names)]
     parts.append(struct.pack('>I', len(segment['rows'])))
+    if by_columns:
+        return b''.join(parts) + columns(segment)
     for time, values, numbers in segment['rows']:
         parts.append(struct.pack('>q', time))
         parts += [value(values[name]) for name in segment['dims']]
         parts += [b'\0' if numbers[name] is None else b'\1' + struct.pack('>q', numbers[name]) for name in segment['mets']]
+    return b''.join(parts)
+
+
+def columns(segment):
+    """The rows of a file by columns: instants, of each dimension its values and a code a row, of each metric marks and numbers."""
+    rows = segment['rows']
+    parts = [struct.pack('>q', time) for time, _, _ in rows]
+    for name in segment['dims']:
+        told = [None if values[name] is None else values[name].encode() for _, values, _ in rows]
+        known = sorted(set(told) - {None})
+        parts += [struct.pack('>I', len(known)), *(struct.pack('>H', len(it)) + it for it in known)]
+        parts += [struct.pack('>I', 0 if it is None else 1 + known.index(it)) for it in told]
+    for name in segment['mets']:
+        told = [numbers[name] for _, _, numbers in rows]
+        parts += [b'\0' if it is None else b'\1' for it in told] + [struct.pack('>q', it) for it in told if it is not None]
     return b''.join(parts)
 
 

@@ -1,6 +1,6 @@
 -- What pieces tell, halved and one by one, and which of them are missing.
-use Rattle.std.proofs.Common.{◌≡◌, ℕ, List, [], ◌∷◌, ◌++◌, length, get_or, take, drop, refl, sym, ap, ◌∙◌, subst, arith, append-nil}
-use Rattle.std.proofs.lemmas.List.{take-append-drop}
+use Rattle.std.proofs.Common.{◌≡◌, ◌<◌, ◌≤◌, ℕ, zero, suc, List, [], ◌∷◌, ◌++◌, All, map, slice_get, Some, None, length, get_or, take, drop, refl, sym, ap, ◌∙◌, subst, arith, append-nil, append_assoc}
+use Rattle.std.proofs.lemmas.List.Elements.{All-head, All-tail}
 use Rattle.std.proofs.lemmas.List.Concat.{flat_map-append}
 use Rattle.druid_rows.specs.Segment.{Segment}
 use Rattle.druid_query.specs.Query.{Query}
@@ -10,34 +10,60 @@ use Rattle.druid_partial.specs.Groups.{Group, IsResult, IsMerge}
 use Rattle.druid_partial.specs.Rows.{Partial, kinds_of, IsPartialFor}
 use Rattle.druid_partial.proofs.GroupLemmas.{merge_of_results}
 use Rattle.druid_node.specs.Answers.{missing}
-use Rattle.druid_partial.specs.Once.{told_of, told}
+use Rattle.druid_partial.specs.Once.{segment_named, told_in, told_of, told}
+use Rattle.druid_partial.specs.Rows.{told_by}
+use Rattle.druid_node.specs.Placed.{Placed, told_at}
+use Rattle.std.specs.List.{flat_map}
 
--- a partial of the query, of these rows
-pub record IsPartialOf (query : Query) (rows : List Group) (p : Partial) : Type 0 where
-  pub result : IsResult (kinds_of query) rows p.groups
-  pub of_query : IsPartialFor query p
+-- ---- pieces by the places of their segments
 
-halves_told : (query : Query) (held : List Segment) (asked front back : List Asked) (n : ℕ) → front ≡ take n asked → back ≡ drop n asked
-    → told query held front ++ told query held back ≡ told query held asked
-halves_told query held asked front back n e f =
-    sym (flat_map-append (told_of query held) front back) ∙ ap (told query held) ((λ i. e i ++ f i) ∙ take-append-drop n asked)
+-- the segments of the first i pieces that were asked for are looked up
+abbrev pub PlacedSoFar : List Segment → List Placed → List Asked → ℕ → Type 0
+PlacedSoFar held placed asked i = (query : Query) → flat_map (told_at query held) placed ++ told query held (drop i asked) ≡ told query held asked
 
-pub both_told : (query : Query) (held : List Segment) (asked front back : List Asked) (n : ℕ) (left right both : Partial) → front ≡ take n asked → back ≡ drop n asked
-    → IsPartialOf query (told query held front) left → IsPartialOf query (told query held back) right → IsMerge left.kinds left.groups right.groups both.groups
-    → IsResult (kinds_of query) (told query held asked) both.groups
-both_told query held asked front back n left right both e f p q merge =
-    let merged : IsMerge (kinds_of query) left.groups right.groups both.groups = subst (λ (kinds : List AggregatorKind). IsMerge kinds left.groups right.groups both.groups) p.of_query.kinds merge in
-    subst (λ (rows : List Group). IsResult (kinds_of query) rows both.groups) (halves_told query held asked front back n e f)
-    (merge_of_results (kinds_of query) (told query held front) (told query held back) left.groups right.groups both.groups p.result q.result merged)
+told_next : (query : Query) (held : List Segment) (asked : List Asked) (i : ℕ) (a : Asked) → i < length asked → a ≡ get_or asked i a
+    → told query held (drop i asked) ≡ told_of query held a ++ told query held (drop (suc i) asked)
+told_next query held [] i a below here = absurd (omega arith)
+told_next query held (x ∷ asked) zero a below here = ap (λ y. told_of query held y ++ told query held asked) (sym here)
+told_next query held (x ∷ asked) (suc i) a below here = told_next query held asked i a (omega arith) here
 
-pub one_told : (query : Query) (held : List Segment) (asked : List Asked) (a : Asked) → length asked ≡ 1 → a ≡ get_or asked 0 a → told_of query held a ≡ told query held asked
-one_told query held [] a one e = absurd (omega arith)
-one_told query held (x ∷ []) a one e = ap (told_of query held) e ∙ sym (append-nil (told_of query held x))
-one_told query held (x ∷ y ∷ more) a one e = absurd (omega arith)
+pub placed_next : (held : List Segment) (placed : List Placed) (asked : List Asked) (i place : ℕ) (a : Asked) → i < length asked → a ≡ get_or asked i a
+    → slice_get held place ≡ segment_named a.0 held → PlacedSoFar held placed asked i → PlacedSoFar held (placed ++ (place, a.1) ∷ []) asked (suc i)
+placed_next held placed asked i place a below here found before query =
+    let mine : told_at query held (place, a.1) ≡ told_of query held a = ap (told_in query a.1) found in
+    let rest = told query held (drop (suc i) asked) in
+    ap (λ rows. rows ++ rest) (flat_map-append (told_at query held) placed ((place, a.1) ∷ []))
+    ∙ append_assoc (flat_map (told_at query held) placed) (told_at query held (place, a.1) ++ []) rest
+    ∙ ap (λ rows. flat_map (told_at query held) placed ++ (rows ++ rest)) (append-nil (told_at query held (place, a.1)) ∙ mine)
+    ∙ ap (λ rows. flat_map (told_at query held) placed ++ rows) (sym (told_next query held asked i a below here))
+    ∙ before query
 
-pub none_told : (query : Query) (held : List Segment) (asked : List Asked) → length asked ≡ 0 → [] ≡ told query held asked
-none_told query held [] none = refl
-none_told query held (x ∷ more) none = absurd (omega arith)
+pub passed_next : (held : List Segment) (placed : List Placed) (asked : List Asked) (i : ℕ) (a : Asked) → i < length asked → a ≡ get_or asked i a
+    → segment_named a.0 held ≡ None → PlacedSoFar held placed asked i → PlacedSoFar held placed asked (suc i)
+passed_next held placed asked i a below here none before query =
+    let mine : [] ≡ told_of query held a = ap (told_in query a.1) (sym none) in
+    ap (λ rows. flat_map (told_at query held) placed ++ (rows ++ told query held (drop (suc i) asked))) mine
+    ∙ ap (λ rows. flat_map (told_at query held) placed ++ rows) (sym (told_next query held asked i a below here))
+    ∙ before query
+
+pub placed_all : (held : List Segment) (placed : List Placed) (asked : List Asked) (i : ℕ) → length asked ≤ i → PlacedSoFar held placed asked i
+    → (query : Query) → flat_map (told_at query held) placed ≡ told query held asked
+placed_all held placed asked i end before query =
+    sym (append-nil (flat_map (told_at query held) placed)) ∙ ap (λ left. flat_map (told_at query held) placed ++ told query held left) (sym (nothing_left asked i end)) ∙ before query
+  where
+    nothing_left : (asked : List Asked) (i : ℕ) → length asked ≤ i → drop i asked ≡ []
+    nothing_left [] zero h = refl
+    nothing_left [] (suc i) h = refl
+    nothing_left (x ∷ asked) zero h = absurd (omega arith)
+    nothing_left (x ∷ asked) (suc i) h = nothing_left asked i (omega arith)
+
+-- pieces of one segment tell what their intervals tell of it
+pub one_place : (query : Query) (held : List Segment) (place : ℕ) (s : Segment) (pieces : List Placed) → slice_get held place ≡ Some s → All (λ (p : Placed). p.0 ≡ place) pieces
+    → flat_map (told_by query s) (map (λ (p : Placed). p.1) pieces) ≡ flat_map (told_at query held) pieces
+one_place query held place s [] here one = refl
+one_place query held place s (p ∷ pieces) here one =
+    let first : told_by query s p.1 ≡ told_at query held p = ap (told_in query p.1) (sym here ∙ ap (slice_get held) (sym (All-head (λ (q : Placed). q.0 ≡ place) p pieces one))) in
+    (λ i. first i ++ one_place query held place s pieces here (All-tail (λ (q : Placed). q.0 ≡ place) p pieces one) i)
 
 -- ---- missing pieces
 

@@ -99,6 +99,18 @@ found_at (x ∷ xs) id (suc i) s order at e =
     found_at xs id i s (rest_in_order x.descriptor (descriptors_of xs) order) (rest_stands x xs id i at) e
     ∙ sym (ap (λ b. cond b (Some x) (segment_named id xs)) apart)
 
+-- what stands at its place is found by name
+pub named_at : (xs : List Segment) (id : Identifier) (i : ℕ) → AreInOrder (descriptors_of xs) → StandsAt (descriptors_of xs) id i
+    → (i < length xs) × (slice_get xs i ≡ segment_named id xs)
+named_at xs id i order at =
+    let below : i < length xs = omega (arith, at.within, length-map xs descriptor_of) in
+    let got = got_at xs i below in (below, got.1 ∙ found_at xs id i got.0 order at got.1)
+  where
+    got_at : (xs : List Segment) (i : ℕ) → i < length xs → (s : Segment) × (slice_get xs i ≡ Some s)
+    got_at [] i below = absurd (omega arith)
+    got_at (x ∷ xs) zero below = (x, refl)
+    got_at (x ∷ xs) (suc i) below = got_at xs i (omega arith)
+
 pub absent_at : (xs : List Segment) (id : Identifier) (i : ℕ) → BelongsAt (descriptors_of xs) id i → None ≡ segment_named id xs
 absent_at [] id i at = refl
 absent_at (x ∷ xs) id zero at =

@@ -7,3 +7,4 @@ pub mod Seen
 -- words of private contracts
 pub mod Held
 pub mod Questions
+pub mod Placed

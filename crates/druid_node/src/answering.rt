@@ -1,36 +1,95 @@
 //! What a node tells of the pieces that it is asked for.
-ghost use Rattle.std.specs.Prelude.{◌≡◌, IfOk};
+ghost use Rattle.std.specs.Prelude.{◌≡◌, ◌↔◌, ◌<◌, length, All, IsTrue, IfOk};
+ghost use Rattle.std.specs.List.{flat_map};
 ghost use Rattle.druid_query.specs.Asked.{Asked};
 ghost use Rattle.druid_partial.specs.Groups.{IsResult};
 ghost use Rattle.druid_partial.specs.Rows.{kinds_of, IsPartialFor};
+ghost use Rattle.druid_query.specs.Query.{Query};
 ghost use Rattle.druid_node.specs.Answers.{missing, IsAnswerOf};
-ghost use Rattle.druid_partial.specs.Once.{told_of, told};
+ghost use Rattle.druid_node.specs.Placed.{told_at, IsWithin};
+ghost use Rattle.druid_partial.specs.Once.{told};
 
 use crate::held::Held;
-use druid_partial::{Partial, merge, partial_of};
+use druid_partial::{Partial, merge, partial_over};
 use druid_partial_text::NodeAnswer;
 use druid_query::{Asked, Query, SubQuery};
+use druid_time::Interval;
 use std::alloc::{AllocError, Global};
 
-// What a piece tells.
-fn partial_of_piece(
+// A piece of the segment at a place among those that are held.
+type Placed = (usize, Interval);
+
+// The pieces whose segment is held, with its place.
+fn placed_in(alloc: Global, held: &Held, asked: &[Asked]) -> Result<Vec<Placed>, AllocError>
+    ensures told { IfOk result (λ placed. (query : Query) → flat_map (told_at query held.now) placed.items ≡ told query held.now asked.now) }
+    ensures within { IfOk result (λ placed. All (IsWithin held.now) placed.items) }
+{
+    let mut placed = Vec::new(alloc);
+    for (id, piece) in asked {
+        if let Some(place) = held.place(id) {
+            placed.push((place, *piece))?;
+        }
+    }
+    Ok(placed)
+}
+
+// Whether these are pieces of the segment at that place.
+fn are_at(place: usize, pieces: &[Placed]) -> bool
+    ensures { IsTrue result ↔ All (λ piece. piece.0 ≡ place) pieces.now }
+{
+    pieces.iter().all(|piece| piece.0 == place)
+}
+
+// What pieces of the segment at that place tell.
+fn partial_at(
     alloc: Global,
     held: &Held,
     query: &Query,
-    asked: &Asked,
+    place: usize,
+    pieces: &[Placed],
 ) -> Result<Partial, AllocError>
-    ensures result { IfOk result (λ partial. IsResult (kinds_of query.now) (told_of query.now held.now asked.now) partial.groups) }
+    requires place { place < length held.now }
+    requires one { All (λ piece. piece.0 ≡ place) pieces.now }
+    ensures result { IfOk result (λ partial. IsResult (kinds_of query.now) (flat_map (told_at query.now held.now) pieces.now) partial.groups) }
     ensures of_query { IfOk result (IsPartialFor query.now) }
 {
-    let (id, piece) = asked;
-    match held.find(id) {
-        Some(segment) => partial_of(alloc, query, segment, *piece),
-        None => Partial::empty(alloc, query),
+    let mut intervals = Vec::with_capacity(alloc, pieces.len())?;
+    for (_, piece) in pieces {
+        intervals.push(*piece)?;
+    }
+    partial_over(alloc, query, held.at(place), &intervals)
+}
+
+// What pieces tell. They are halved until they are of one segment, so that merges move each group a logarithmic number of
+// times, and the query is made ready for a segment once where its pieces stand together.
+fn partial_of_placed(
+    alloc: Global,
+    held: &Held,
+    query: &Query,
+    pieces: &[Placed],
+) -> Result<Partial, AllocError>
+    requires { All (IsWithin held.now) pieces.now }
+    ensures result { IfOk result (λ partial. IsResult (kinds_of query.now) (flat_map (told_at query.now held.now) pieces.now) partial.groups) }
+    ensures of_query { IfOk result (IsPartialFor query.now) }
+{
+    if pieces.is_empty() {
+        return Partial::empty(alloc, query);
+    }
+    let place = pieces[0].0;
+    if pieces.len() == 1 || are_at(place, pieces) {
+        return partial_at(alloc, held, query, place, pieces);
+    }
+    let (front, back) = pieces.split_at(pieces.len() / 2);
+    let left = partial_of_placed(alloc, held, query, front)?;
+    let right = partial_of_placed(alloc, held, query, back)?;
+    match merge(alloc, left, right) {
+        Ok(both) => Ok(both),
+        Err(_) => Err(AllocError),
     }
 }
 
-// What all of these pieces tell. They are halved, so that merges move each group a logarithmic number of times.
-fn partial_over(
+// What all of these pieces tell. They are put in order by segment and by time, once.
+fn partial_of_asked(
     alloc: Global,
     held: &Held,
     query: &Query,
@@ -39,19 +98,9 @@ fn partial_over(
     ensures result { IfOk result (λ partial. IsResult (kinds_of query.now) (told query.now held.now asked.now) partial.groups) }
     ensures of_query { IfOk result (IsPartialFor query.now) }
 {
-    if asked.is_empty() {
-        return Partial::empty(alloc, query);
-    }
-    if asked.len() == 1 {
-        return partial_of_piece(alloc, held, query, &asked[0]);
-    }
-    let (front, back) = asked.split_at(asked.len() / 2);
-    let left = partial_over(alloc, held, query, front)?;
-    let right = partial_over(alloc, held, query, back)?;
-    match merge(alloc, left, right) {
-        Ok(both) => Ok(both),
-        Err(_) => Err(AllocError),
-    }
+    let mut placed = placed_in(alloc, held, asked)?;
+    placed.sort_unstable_by_key(|(place, piece)| (*place, piece.start()));
+    partial_of_placed(alloc, held, query, &placed)
 }
 
 fn copy_of(asked: &Asked) -> Result<Asked, AllocError>
@@ -82,7 +131,7 @@ pub(crate) fn answer_of(
 ) -> Result<NodeAnswer, AllocError>
     ensures { IfOk result (IsAnswerOf held.now sub.now) }
 {
-    let partial = partial_over(alloc, held, sub.query(), sub.asked())?;
+    let partial = partial_of_asked(alloc, held, sub.query(), sub.asked())?;
     let missing = missing_of(alloc, held, sub.asked())?;
     Ok(NodeAnswer::new(partial, missing))
 }

@@ -1,5 +1,5 @@
 //! The segments that a node holds.
-ghost use Rattle.std.specs.Prelude.{◌≡◌, ◌<◌, [], length, map, None, Some, IsTrue, IsSome, IfOk, IfErr, OnOk, OnErr};
+ghost use Rattle.std.specs.Prelude.{◌≡◌, ◌<◌, [], length, map, None, Some, IsTrue, IsSome, IfSome, IfNone, IfOk, IfErr, OnOk, OnErr};
 ghost use Rattle.std.specs.Arc.{arc_value};
 ghost use Rattle.std.specs.List.{slice_get};
 ghost use Rattle.std.specs.Option.{option_copied, is_some};
@@ -89,6 +89,26 @@ impl Held {
         ensures valid { IsHeld self.now }
     {
         self.segments.len()
+    }
+
+    // The place of the segment of that identifier.
+    pub(crate) fn place(&self, id: &SegmentId) -> Option<usize>
+        ensures found { IfSome result (λ place. slice_get self.now place ≡ segment_named id.now self.now) }
+        ensures within { IfSome result (λ place. place < length self.now) }
+        ensures none { IfNone result (segment_named id.now self.now ≡ None) }
+    {
+        match place_of(&self.segments, id) {
+            Ok(place) => Some(place),
+            Err(_) => None,
+        }
+    }
+
+    // The segment at a place.
+    pub(crate) fn at(&self, place: usize) -> &Segment
+        requires { place < length self.now }
+        ensures { slice_get self.now place ≡ Some result.now }
+    {
+        segment_at(&self.segments, place)
     }
 
     // The segment of that identifier.

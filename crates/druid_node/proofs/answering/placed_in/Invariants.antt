@@ -1,0 +1,10 @@
+use Rattle.std.proofs.Common.{◌*◌, All}
+use Rattle.druid_node.specs.Placed.{IsWithin}
+use Rattle.druid_node.proofs.AnswerLemmas.{PlacedSoFar}
+use Rattle.druid_node.proofs.answering.placed_in.Given as goal
+
+abbrev pub invariant-loop-id : goal.invariant-loop-id
+invariant-loop-id l = record {
+  told : PlacedSoFar l.held l.placed.items l.asked l.id-index;
+  within : All (IsWithin l.held) l.placed.items;
+}

@@ -1,0 +1,119 @@
+#!/usr/bin/env python3
+"""Lets libFuzzer feed the readers of what comes from outside: requests, queries and subqueries, replies, segment files.
+
+fuzz.py [SECONDS]     an hour for each of the four, side by side, unless said otherwise
+
+It makes a static library of the proved readers in a folder for temporary files, over copies of the crates, with the kit's clang
+told to count which branches are taken, and links it with libFuzzer. What it looks for is an end that is none of Rust's: a signal, an
+input that takes longer than ten seconds, more than 2 GiB. It begins with tests/fuzz/seeds (made of the examples) and keeps what it finds
+in tests/fuzz/corpus, one folder each, which later runs begin with. It needs Debian's `clang` and `libclang-rt-14-dev`. The
+first time proves the crates below. It ends with 1 where an input was found, and leaves it beside the corpus.
+"""
+import os
+import shutil
+import subprocess
+import sys
+import tempfile
+
+HERE = os.path.dirname(os.path.abspath(__file__))
+TOP = os.path.dirname(os.path.dirname(HERE))
+sys.path.insert(0, os.path.join(TOP, 'bench'))
+from lib import below, crates  # noqa: E402
+
+KIT = os.path.dirname(os.path.dirname(os.path.realpath(shutil.which('rt') or '/opt/rattle/bin/rt')))
+TARGETS = ['fuzz_request', 'fuzz_query', 'fuzz_reply', 'fuzz_segment']
+USES = ['druid_wire', 'druid_query_text', 'druid_sync', 'druid_segfile']
+COUNTS = '-fsanitize-coverage=inline-8bit-counters,pc-table'
+CLANG = '''#!/bin/sh
+# The kit's clang, which counts branches in what the kit hands it as LLVM's language.
+for word in "$@"; do case $word in *.ll | *.bc | ir) exec {clang} "$@" {counts} ;; esac; done
+exec {clang} "$@"
+'''
+
+
+def counting_kit(place):
+    """The kit by links, with a clang that counts branches."""
+    kit = os.path.join(place, 'kit')
+    shutil.rmtree(kit, ignore_errors=True)
+    os.makedirs(os.path.join(kit, 'toolchain', 'bin'))
+    for name in os.listdir(KIT):
+        if name not in ('bin', 'toolchain'):
+            os.symlink(os.path.join(KIT, name), os.path.join(kit, name))
+    shutil.copytree(os.path.join(KIT, 'bin'), os.path.join(kit, 'bin'), copy_function=os.link if same_disk(kit) else shutil.copy2)
+    os.symlink(os.path.join(KIT, 'toolchain', 'lib'), os.path.join(kit, 'toolchain', 'lib'))
+    for name in os.listdir(os.path.join(KIT, 'toolchain', 'bin')):
+        if name != 'clang':
+            os.symlink(os.path.join(KIT, 'toolchain', 'bin', name), os.path.join(kit, 'toolchain', 'bin', name))
+    wrapper = os.path.join(kit, 'toolchain', 'bin', 'clang')
+    with open(wrapper, 'w') as file:
+        file.write(CLANG.format(clang=os.path.join(KIT, 'toolchain', 'bin', 'clang'), counts=COUNTS))
+    os.chmod(wrapper, 0o755)
+    return kit
+
+
+def same_disk(folder):
+    return os.stat(KIT).st_dev == os.stat(folder).st_dev
+
+
+def library(place):
+    """The static library of the readers."""
+    crate, every, ours = os.path.join(place, 'crates', 'druid_fuzz'), crates(), below(USES)
+    os.makedirs(os.path.join(crate, 'src'), exist_ok=True)
+    with open(os.path.join(place, 'crates.txt'), 'w') as file:
+        file.writelines(f"{it}: {' '.join(every[it])}\n" for it in ours)
+        file.write(f"druid_fuzz staticlib: {' '.join(reversed(ours))} {' '.join(sorted({it for name in ours for it in every[name] if it not in every}))}\n")
+    for it in ours:
+        shutil.copytree(os.path.join(TOP, 'crates', it), os.path.join(place, 'crates', it), dirs_exist_ok=True,
+                        ignore=shutil.ignore_patterns('out', 'must-fail'))
+    shutil.copy(os.path.join(HERE, 'lib.rt.in'), os.path.join(crate, 'src', 'lib.rt'))
+    kit = counting_kit(place)
+    subprocess.run([os.path.join(kit, 'bin', 'rt'), 'lib'], cwd=crate, check=True)
+    return os.path.join(crate, 'out', 'libdruid_fuzz.a')
+
+
+def seeds(place):
+    """A folder of inputs for each target, made of the examples."""
+    found = {it: [] for it in TARGETS}
+    for folder, _, names in os.walk(os.path.join(TOP, 'examples')):
+        for name in names:
+            with open(os.path.join(folder, name), 'rb') as file:
+                data = file.read()
+            if name.endswith(('.seg', '.dsg', '.dsg2')):
+                found['fuzz_segment'].append(data)
+            if name.endswith('.json'):
+                found['fuzz_query'].append(data)
+                found['fuzz_request'].append(b'POST /druid/v2/ HTTP/1.1\r\nHost: x\r\nContent-Length: %d\r\n\r\n' % len(data) + data)
+            if name.endswith('.jsonl'):
+                found['fuzz_reply'] += [line.partition(b'"reply":')[2].rstrip()[:-1] for line in data.splitlines() if b'"reply":' in line]
+    for target, inputs in found.items():
+        os.makedirs(os.path.join(place, 'seeds', target), exist_ok=True)
+        for number, data in enumerate(inputs):
+            with open(os.path.join(place, 'seeds', target, str(number)), 'wb') as file:
+                file.write(data)
+
+
+def main(words):
+    seconds = int(words[0]) if words else 3_600
+    place = os.path.join(tempfile.gettempdir(), 'druid_cluster_fuzz')
+    os.makedirs(place, exist_ok=True)
+    archive = library(place)
+    seeds(place)
+    running = []
+    for target in TARGETS:
+        program, corpus = os.path.join(place, target), os.path.join(HERE, 'corpus', target)
+        os.makedirs(corpus, exist_ok=True)
+        subprocess.run(['clang', '-O1', '-fsanitize=fuzzer', f'-DTARGET={target}', os.path.join(HERE, 'harness.c'), archive,
+                        os.path.join(KIT, 'c', 'liblibc_c.a'), '-o', program], check=True)
+        running.append((target, subprocess.Popen(
+            [program, f'-max_total_time={seconds}', '-timeout=10', '-rss_limit_mb=2048', '-max_len=65536', '-print_final_stats=1',
+             f'-artifact_prefix={corpus}-found-', corpus, os.path.join(place, 'seeds', target)], stderr=subprocess.PIPE, text=True)))
+    status = 0
+    for target, process in running:
+        lines = process.communicate()[1].splitlines()
+        last = next((line for line in reversed(lines) if 'cov:' in line), '')
+        print(f'{target}: ended with {process.returncode}; {last}; ' + '; '.join(line for line in lines if 'number_of_executed_units' in line))
+        status = status or (1 if process.returncode else 0)
+    return status
+
+
+sys.exit(main(sys.argv[1:]))

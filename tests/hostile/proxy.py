@@ -1,0 +1,226 @@
+#!/usr/bin/env python3
+"""Sends queries to a broker whose every exchange with a data node goes through a proxy that spoils answers, and checks each answer.
+
+proxy.py [QUERIES] [CLUSTERS]     10,000 queries to each of two drawn clusters, unless said otherwise
+
+The proxy stands between the broker and three data nodes (`redirect.c` is preloaded and leads the broker's connections to it). At
+drawn points it hands an answer on whole; cuts it after a drawn byte; closes without asking the node; holds it until another
+answer has passed; hands it on twice in one connection; or gives, in its place, an answer that the node once gave to something
+else (a health, a sync reply), or one of another status. So answers arrive in another order, doubled and late, and some exchanges
+fail. What it never does is to change bytes into another whole answer to the same query: that a whole answer comes from the node
+that was asked is a premise of what is promised.
+
+Each 200 has to be the exact answer of tests/differential/rules.py, over all that is visible. Each 503 has to list pieces of
+visible segments as missing, none twice, and its partial rows have to be the exact answer over what these pieces do not cover. The
+broker follows its nodes through the same proxy. It needs a C compiler (`cc`). The draws are the same each time, the order of
+threads is not. It ends with 1 where an answer is wrong, and shows it.
+"""
+import collections
+import contextlib
+import json
+import os
+import random
+import shutil
+import socket
+import subprocess
+import sys
+import tempfile
+import threading
+import time
+
+HERE = os.path.dirname(os.path.abspath(__file__))
+sys.path[:0] = [os.path.join(os.path.dirname(HERE), 'differential')]
+import drawn  # noqa: E402
+import rules  # noqa: E402
+
+BY = 1_000  # The proxy's port of each node is so much above the node's.
+CLIENTS = 4
+OTHER_ANSWERS = [b'HTTP/1.1 200 OK\r\nContent-Length: 4\r\n\r\ntrue', b'HTTP/1.1 500 Internal Server Error\r\nContent-Length: 18\r\n\r\n{"error":"Memory"}',
+                 b'HTTP/1.1 200 OK\r\nContent-Length: 27\r\n\r\n{"missing":[],"rows":[[0]]}', b'HTTP/1.1 200 OK\r\nContent-Length: 2\r\n\r\n[]', b'', b'\r\n\r\n']
+
+
+def whole_request(stream):
+    data = b''
+    while b'\r\n\r\n' not in data:
+        part = stream.recv(65_536)
+        if not part:
+            return data
+        data += part
+    head, _, body = data.partition(b'\r\n\r\n')
+    length = next((int(line.split(b':')[1]) for line in head.split(b'\r\n') if line.lower().startswith(b'content-length')), 0)
+    while len(body) < length:
+        part = stream.recv(65_536)
+        if not part:
+            break
+        data, body = data + part, body + part
+    return data
+
+
+class Proxy:
+    """Stands in front of one node."""
+
+    def __init__(self, port, seed, did):
+        self.port, self.draw, self.did, self.passed = port, random.Random(seed), did, threading.Event()
+        self.kind, self.listener = 'spoil', socket.create_server(('127.0.0.1', port + BY), backlog=128)
+        threading.Thread(target=self.accept, daemon=True).start()
+
+    def accept(self):
+        while True:
+            try:
+                stream, _ = self.listener.accept()
+            except OSError:
+                return
+            threading.Thread(target=self.carry, args=(stream, self.draw.random(), self.draw.random()), daemon=True).start()
+
+    def ask(self, request):
+        with socket.create_connection(('127.0.0.1', self.port), timeout=60) as node:
+            node.sendall(request)
+            return b''.join(iter(lambda: node.recv(65_536), b''))
+
+    def carry(self, stream, kind, where):
+        with stream, contextlib.suppress(OSError):
+            request = whole_request(stream)
+            if kind < .06:
+                self.did['closed'] += 1
+                return
+            if kind < .12:
+                self.did['another answer'] += 1
+                stream.sendall(OTHER_ANSWERS[int(where * len(OTHER_ANSWERS))])
+                return
+            answer = self.ask(request)
+            if kind < .24:
+                self.did['cut'] += 1
+                stream.sendall(answer[:int(where * len(answer))])
+                return
+            if kind < .34:
+                self.did['held'] += 1
+                self.passed.clear()
+                self.passed.wait(.02)
+            if kind > .9:
+                self.did['twice'] += 1
+                answer += answer
+            self.did['handed on'] += 1
+            stream.sendall(answer)
+            self.passed.set()
+
+    def ends(self):
+        self.listener.close()
+
+
+def covered(rows, missing, members):
+    """The rows less those that the missing pieces cover."""
+    pieces = collections.defaultdict(list)
+    for it in missing:
+        start, end = rules.interval(it['itvl'])
+        pieces[rules.interval(it['chunk']), it['ver'], it['part']].append((start, end))
+    return [row for row, key in rows if not any(start <= row[0] < end for start, end in pieces.get(key, ()))]
+
+
+class Rules:
+    """What is visible over the segments that nodes hold."""
+
+    def __init__(self, cluster):
+        self.served = list({rules.identifier(it): it for held in cluster.held for it in held}.values())
+
+    def rows_of(self, query):
+        chunks = collections.defaultdict(list)
+        for it in self.served:
+            if it['source'] == query['source']:
+                chunks[it['version'], it['start'], it['end']].append(it)
+        complete = {key: members for key, members in chunks.items()
+                    if set(range(max(it['core'] for it in members))) <= {it['part'] for it in members}}
+
+        def visible(at):
+            return max((key for key in complete if key[1] <= at < key[2]), default=None)
+        return [(row, ((it['start'], it['end']), it['version'], it['part'])) for key, members in complete.items() for it in members
+                for row in it['rows'] if visible(row[0]) == key and any(start <= row[0] < end for start, end in query['intervals'])]
+
+    def fault_of(self, query, status, body):
+        """What is wrong with an answer; None where nothing is."""
+        if status == 200:
+            wanted = rules.answer(query, self.served)
+            return None if body == wanted else f'the rules answer {wanted}'
+        if status != 503:
+            return 'a query that reads is answered 200 or 503'
+        value = json.loads(body)
+        named = [(it['chunk'], it['itvl'], it['part'], it['ver']) for it in value['missing']]
+        if not named or len(set(named)) < len(named):
+            return 'nothing is missing, or twice'
+        rows = self.rows_of(query)
+        held = {((it['start'], it['end']), it['version'], it['part']) for it in self.served if it['source'] == query['source']}
+        if any((rules.interval(chunk), version, part) not in held for chunk, _, part, version in named):
+            return 'a piece is missing that nobody serves'
+        wanted = rules.result(query, rules.passing(query, covered(rows, value['missing'], self.served)))
+        return None if rules.text(value['partial']) == wanted else f'the rules answer {wanted} over what is not missing'
+
+
+def ask_all(cluster, judge, queries, count, wrong):
+    for body in iter(lambda: queries.pop() if queries else None, None):
+        if wrong:
+            return
+        status, answer = drawn.exchange(cluster.port, 'POST', '/druid/v2', body)
+        fault = judge.fault_of(rules.read_query(body), status, answer)
+        if fault:
+            wrong.append(f'{body.decode()}\nis answered {status} {answer}\n{fault}')
+        count[status] += 1
+
+
+def follows(cluster):
+    """Waits until the broker has heard of every node."""
+    for _ in range(600):
+        if drawn.exchange(cluster.port, 'GET', '/druid/broker/v1/loadstatus', b'')[1] == '{"inventoryInitialized":true}':
+            return
+        time.sleep(.1)
+    raise SystemExit('the broker does not hear of its nodes')
+
+
+def run(number, many, library):
+    folder, did, proxies = tempfile.mkdtemp(prefix='druid_cluster_hostile_'), collections.Counter(), []
+    port = 21_000 + number * 10
+    try:
+        proxies = [Proxy(port + 1 + node, f'{number} {node}', did) for node in range(3)]
+        # Many turns: some of them fail, and the last that comes through makes the broker know all that the node serves.
+        cluster = drawn.Cluster(random.Random(number), number, folder, {'LD_PRELOAD': library, 'REDIRECT_BY': str(BY)}, turns=60)
+        try:
+            follows(cluster)
+            judge, count, wrong = Rules(cluster), collections.Counter(), []
+            queries = [json.dumps(cluster.a_query()).encode() for _ in range(many)]
+            queries = [it for it in queries if is_lawful(it)]
+            asked = len(queries)
+            threads = [threading.Thread(target=ask_all, args=(cluster, judge, queries, count, wrong)) for _ in range(CLIENTS)]
+            for it in threads:
+                it.start()
+            for it in threads:
+                it.join()
+            if wrong:
+                print(wrong[0])
+                return 1
+            print(f'cluster {number}: {asked} queries,', ', '.join(f'{count[it]} answered {it}' for it in sorted(count)) + ';',
+                  'exchanges', ', '.join(f'{did[it]} {it}' for it in sorted(did)))
+        finally:
+            cluster.program.kill()
+            cluster.program.wait()
+    finally:
+        for it in proxies:
+            it.ends()
+        shutil.rmtree(folder, ignore_errors=True)
+    return 0
+
+
+def is_lawful(body):
+    try:
+        rules.read_query(body)
+        return True
+    except rules.Refused:
+        return False
+
+
+def main(words):
+    many, clusters = ([int(word) for word in words] + [10_000, 2][len(words):])[:2]
+    with tempfile.TemporaryDirectory() as room:
+        library = f'{room}/redirect.so'
+        subprocess.run(['cc', '-shared', '-fPIC', '-O1', '-o', library, f'{HERE}/redirect.c', '-ldl'], check=True)
+        return max(run(number, many, library) for number in range(clusters))
+
+
+sys.exit(main(sys.argv[1:]))
