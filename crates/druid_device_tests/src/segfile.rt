@@ -344,11 +344,7 @@ fn repeated(rt: &impl Abort, alloc: Global, rows: u32) -> Vec<u8> {
         extend(rt, &mut bytes, &[&[0, 0, 0, 0, 0, 0, 3, 232]]);
     }
     let text = letters(rt, alloc, 1_024);
-    extend(
-        rt,
-        &mut bytes,
-        &[&[0, 0, 0, 1, 4, 0], text.as_bytes()],
-    );
+    extend(rt, &mut bytes, &[&[0, 0, 0, 1, 4, 0], text.as_bytes()]);
     for _ in 0..rows {
         extend(rt, &mut bytes, &[&[0, 0, 0, 1]]);
     }
