@@ -1,0 +1,22 @@
+//! Each call that may run out of memory, made once between two marks: with ample memory it gives its value, and where a program that is
+//! loaded before refuses one of its allocations (`tests/refuse`) it answers want of memory and leaves its value as it was.
+#![tactic(auto)]
+
+#[cfg(test)]
+mod data;
+#[cfg(test)]
+mod devices;
+#[cfg(test)]
+mod files;
+#[cfg(test)]
+mod marks;
+#[cfg(test)]
+mod published;
+#[cfg(test)]
+mod replies;
+#[cfg(test)]
+mod texts;
+#[cfg(test)]
+mod values;
+#[cfg(test)]
+mod visible;

@@ -1,0 +1,123 @@
+#!/usr/bin/env python3
+"""Compares the calls that may want memory with those that crates/druid_refusal_tests makes between its marks.
+
+A call may want memory where it is public, its crate exports it, and its result has `AllocError` or an enum of faults with a member
+`Memory`. Those calls are read out of the sources of all libraries; the names of those that are made, out of the lines `assert_call(rt, "..")` of
+the tests. The status is 1 where one is made by no test and stands not in LEFT_OUT, or a name is of no call.
+"""
+import glob
+import os
+import re
+import sys
+
+TOP = os.path.dirname(os.path.dirname(os.path.dirname(os.path.abspath(__file__))))
+
+NO_ALLOCATOR = 'takes no allocator and owns none'
+BY_CALLER = 'its condition holds only within the call that makes it: '
+DEVICE = 'reaches the system, whose own faults come first; by tests with a device that fails'
+LEFT_OUT = {
+    'druid_asked_text::are_apart': BY_CALLER + 'read_subquery',
+    'druid_asked_text::asked_list': BY_CALLER + 'read_subquery',
+    'druid_config::config_of': BY_CALLER + 'read_config',
+    'druid_query::Query::new': BY_CALLER + 'read_query',
+    'druid_shard::apply_change': BY_CALLER + 'History::record, Inventory::advance',
+    'druid_shard::check_descriptor': NO_ALLOCATOR,
+    'druid_wire::response_of': NO_ALLOCATOR,
+    'druid_wire::write_request': NO_ALLOCATOR,
+    'druid_wire::write_response': NO_ALLOCATOR,
+    'druid_wire::send_response': NO_ALLOCATOR,
+    'druid_wire::refuse_request': NO_ALLOCATOR,
+    'druid_link::TcpLink::exchange': DEVICE,
+    'druid_store::DiskFolder::list': DEVICE,
+    'druid_store::DiskFolder::read': DEVICE,
+    'druid_store::DiskFolder::write': DEVICE,
+    'druid_store::DiskFolder::sync': DEVICE,
+    'druid_store::DiskFolder::rename': DEVICE,
+    'druid_store::DiskFolder::remove': DEVICE,
+}
+
+
+def sources():
+    """The text of each file of each library, by crate."""
+    for path in sorted(glob.glob(os.path.join(TOP, 'crates', 'druid_*', 'src', '*.rt'))):
+        crate = path.split(os.sep)[-3]
+        if not crate.endswith('_tests'):
+            with open(path, encoding='utf-8') as file:
+                yield crate, file.read()
+
+
+def wanting(texts):
+    """The types of results that tell of want of memory."""
+    found = {'AllocError', 'MergeRefused'}
+    for _, text in texts:
+        for name, members in re.findall(r'pub enum (\w+)[^{]*\{(.*?)\n\}', text, re.S):
+            if re.search(r'^    Memory\b', members, re.M) and name.endswith('Fault'):
+                found.add(name)
+    return found
+
+
+def exported(texts):
+    """The names that each crate exports."""
+    names = {}
+    for crate, text in texts:
+        for group in re.findall(r'^pub use [\w:]+::(\{[^}]*\}|\w+);', text, re.M):
+            names.setdefault(crate, set()).update(re.findall(r'\w+', group))
+    return names
+
+
+def calls(texts):
+    """The calls that may want memory: `crate::Type::call` or `crate::call`."""
+    faults, names = wanting(texts), exported(texts)
+    head = re.compile(r'^( *)(pub )?fn (\w+)(.*?)(?=\n *(?:requires|ensures|where|\{)|;|\{)', re.S | re.M)
+    for crate, text in texts:
+        for found in head.finditer(text):
+            indent, is_pub, name, rest = found.groups()
+            answer = ' '.join(rest.split()).rpartition('-> ')[2]
+            if not any(re.search(rf'\b{fault}\b', answer) for fault in faults):
+                continue
+            if not indent:
+                if is_pub and name in names.get(crate, ()):
+                    yield f'{crate}::{name}'
+                continue
+            blocks = list(re.finditer(r'^(?:impl|pub trait)\b[^{]*', text[:found.start()], re.M))
+            block = blocks[-1].group() if blocks else ''
+            trait = block.rpartition(' for ')[0]
+            if block.startswith('pub trait') or re.search(r'\b(From|Absorb|TryFrom)\b', trait):
+                continue
+            if trait or is_pub:
+                owner = block.rpartition(' for ')[2] if trait else re.sub(r'^impl(<.*?>+)? ', '', block)
+                owner = re.match(r'\w+', owner.strip()).group()
+                if owner in names.get(crate, ()):
+                    yield f'{crate}::{owner}::{name}'
+
+
+def made():
+    """The names that tests give of the calls that they make."""
+    for path in glob.glob(os.path.join(TOP, 'crates', 'druid_refusal_tests', 'src', '*.rt')):
+        with open(path, encoding='utf-8') as file:
+            text = file.read()
+        # One with a blank is of what is looked at after a call.
+        yield from re.findall(r'assert_call\(\s*&?rt,\s*"([^" ]+)"', text)
+
+
+def is_made(call, names):
+    crate, _, name = call.partition('::')
+    return name in names or f'{crate.removeprefix("druid_")}::{name}' in names
+
+
+def main():
+    texts = list(sources())
+    all_calls, names = sorted(set(calls(texts))), set(made())
+    left = [call for call in all_calls if call in LEFT_OUT]
+    missing = [call for call in all_calls if call not in LEFT_OUT and not is_made(call, names)]
+    unknown = [name for name in sorted(names) if not any(is_made(call, {name}) for call in all_calls)]
+    gone = [call for call in LEFT_OUT if call not in all_calls]
+    for what, which in [('NOT MADE', missing), ('NO SUCH CALL', unknown), ('LEFT OUT AND NOT THERE', gone)]:
+        for name in which:
+            print(what, name)
+    print(f'{len(all_calls)} calls may want memory: {len(all_calls) - len(left) - len(missing)} are made, {len(left)} are left out, {len(missing)} are not made')
+    return 1 if missing or unknown or gone else 0
+
+
+if __name__ == '__main__':
+    sys.exit(main())

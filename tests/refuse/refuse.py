@@ -1,0 +1,83 @@
+#!/usr/bin/env python3
+"""Refuses each allocation of each call that may want memory, one at a time.
+
+refuse.py [TEST ..]     all tests of crates/druid_refusal_tests, or these: `values::of_identifiers`
+
+Each of them makes calls between two marks (crates/druid_refusal_tests/src/marks.rt). For each call of a test and for k = 1, 2, .. the
+proved test program runs with `refuse.so` loaded before it, which refuses the k-th allocation of that call, until a run in which the call
+ends before its k-th. Each run has to pass: then the call gave its value, or answered want of memory and left its value as it was.
+
+The program is what `rt test` leaves in crates/druid_refusal_tests/out, or REFUSAL_TESTS names. The status is 1 where a run did not pass.
+"""
+import os
+import re
+import subprocess
+import sys
+import tempfile
+from concurrent.futures import ThreadPoolExecutor
+
+TOP = os.path.dirname(os.path.dirname(os.path.dirname(os.path.abspath(__file__))))
+HERE = os.path.dirname(os.path.abspath(__file__))
+CRATE = os.path.join(TOP, 'crates', 'druid_refusal_tests')
+PROGRAM = os.environ.get('REFUSAL_TESTS') or os.path.join(CRATE, 'out', 'druid_refusal_tests_tests')
+JOBS = int(os.environ.get('JOBS', '2'))
+MOST = 20_000
+
+
+def tests_of_crate():
+    for name in sorted(os.listdir(os.path.join(CRATE, 'src'))):
+        with open(os.path.join(CRATE, 'src', name), encoding='utf-8') as file:
+            for test in re.findall(r'#\[test\]\nfn (\w+)', file.read()):
+                yield f'{name[:-3]}::{test}'
+
+
+def run(shared, folder, test, call, k):
+    """Whether a run passes, and the calls, allocations and refusals that it reports."""
+    path = os.path.join(folder, f'{test}-{call}-{k}'.replace(':', '.'))
+    words = {'LD_PRELOAD': shared, 'REFUSE_CALL': str(call), 'REFUSE_AT': str(k), 'REFUSE_REPORT': path}
+    ran = subprocess.run([PROGRAM, test], env={**os.environ, **words}, stdout=subprocess.PIPE, stderr=subprocess.STDOUT, errors='replace', timeout=120)
+    told = {}
+    if os.path.exists(path):
+        with open(path, encoding='utf-8') as file:
+            told = {key: int(value) for key, value in re.findall(r'(\w+)=(\d+)', file.read())}
+        os.remove(path)
+    return ran.returncode == 0, told, ran.stdout
+
+
+def try_call(shared, folder, test, call):
+    """How many allocations of a call were refused, and what did not pass."""
+    for k in range(1, MOST):
+        passed, told, output = run(shared, folder, test, call, k)
+        if not passed:
+            return k, f'{test}, call {call}, allocation {k}: {output.strip()[-300:]}'
+        if not told.get('refused'):
+            return k - 1, None
+    return MOST, f'{test}, call {call}: no end'
+
+
+def main():
+    tests = sys.argv[1:] or list(tests_of_crate())
+    faults, calls, refusals = [], 0, 0
+    with tempfile.TemporaryDirectory() as folder:
+        shared = os.path.join(folder, 'refuse.so')
+        subprocess.run(['cc', '-O1', '-shared', '-fPIC', '-o', shared, os.path.join(HERE, 'refuse.c'), '-ldl'], check=True)
+        for test in tests:
+            passed, told, output = run(shared, folder, test, 0, 0)
+            count = told.get('calls', 0)
+            if not passed or not count:
+                faults.append(f'{test}: {output.strip()[-300:] or "no calls"}')
+                continue
+            with ThreadPoolExecutor(JOBS) as pool:
+                tried = list(pool.map(lambda call: try_call(shared, folder, test, call), range(1, count + 1)))
+            made = sum(k for k, _ in tried)
+            faults += [fault for _, fault in tried if fault]
+            calls, refusals = calls + count, refusals + made
+            print(f'{test}: {count} calls, {made} refusals', flush=True)
+    for fault in faults:
+        print('NOT AS BEFORE', fault)
+    print(f'{len(tests)} tests, {calls} calls, {refusals} refusals, {len(faults)} faults')
+    return 1 if faults else 0
+
+
+if __name__ == '__main__':
+    sys.exit(main())
