@@ -81,9 +81,9 @@ const AGGREGATIONS: &str =
 
 const INTERVALS: [&str; 4] = [
     "2024-01-01/2024-01-02",
-    "2024-01-01T00:00:01/2024-01-01T00:00:04",
-    "2024-01-01T06:00/2024-01-01T18:00",
-    "2024-01-01T03:00/2024-01-02",
+    "2023-12-31/2024-01-03",
+    "2024-01-01T00:00:01/2024-01-01T12:00",
+    "2024-01-01T00:00:02/2024-01-01T18:00",
 ];
 
 // The milliseconds of a row after midnight: they rise, fall, do neither, or rise in a few seconds.
@@ -107,7 +107,7 @@ fn push_row(rt: &impl Abort, draws: &mut Draws, text: &mut String, ms: u64) {
 fn drawn_segment(rt: &impl Abort, alloc: Global, draws: &mut Draws) -> Segment {
     let mut text = String::from_str(alloc, "d,e:m,n").expect(rt, "memory");
     let order = draws.below(4);
-    for row in 0..draws.below(25) {
+    for row in 0..draws.below(49) {
         let ms = ms(draws, order, row);
         push_row(rt, draws, &mut text, ms);
     }
