@@ -49,7 +49,7 @@ fn byte(pair: &[u8]) -> u8 {
 }
 
 // The bytes of hexadecimal digits.
-fn bytes_of(rt: &impl Abort, alloc: Global, digits: &str) -> Vec<u8> {
+pub(crate) fn bytes_of(rt: &impl Abort, alloc: Global, digits: &str) -> Vec<u8> {
     let mut bytes = Vec::new(alloc);
     for pair in digits.as_bytes().chunks(2) {
         bytes.push(byte(pair)).expect(rt, "memory");
@@ -57,7 +57,7 @@ fn bytes_of(rt: &impl Abort, alloc: Global, digits: &str) -> Vec<u8> {
     bytes
 }
 
-fn read(alloc: Global, mut bytes: &[u8]) -> Result<Segment, FileFault> {
+pub(crate) fn read(alloc: Global, mut bytes: &[u8]) -> Result<Segment, FileFault> {
     read_segment(alloc, &mut bytes)
 }
 
@@ -269,7 +269,7 @@ fn cut_or_long_files(rt: HostRuntime) {
 }
 
 // Puts each of these after the bytes.
-fn extend(rt: &impl Abort, bytes: &mut Vec<u8>, parts: &[&[u8]]) {
+pub(crate) fn extend(rt: &impl Abort, bytes: &mut Vec<u8>, parts: &[&[u8]]) {
     for part in parts {
         bytes.extend_from_slice(part).expect(rt, "memory");
     }
@@ -289,7 +289,7 @@ fn push_long_row(rt: &impl Abort, bytes: &mut Vec<u8>, length: [u8; 2], text: &s
     );
 }
 
-fn letters(rt: &impl Abort, alloc: Global, count: usize) -> String {
+pub(crate) fn letters(rt: &impl Abort, alloc: Global, count: usize) -> String {
     "a".repeat(alloc, count).expect(rt, "memory")
 }
 
@@ -426,7 +426,7 @@ fn ample_memory(rt: HostRuntime) {
 
 // A file of one row and so many dimensions, of which every second one is null: the vector's source, interval, version,
 // partition, core and size stand in front.
-fn wide(rt: &impl Abort, alloc: Global, dimensions: u8) -> Vec<u8> {
+pub(crate) fn wide(rt: &impl Abort, alloc: Global, dimensions: u8) -> Vec<u8> {
     let mut bytes = bytes_of(rt, alloc, vector());
     bytes.truncate(36);
     extend(rt, &mut bytes, &[&[dimensions]]);

@@ -1,12 +1,17 @@
 //! What no contract says of queries, of partials and of data nodes: worked examples over texts, files and messages, printed
-//! texts, and that calls succeed with ample memory. `subquery` is of `druid_query_text`, `answers` of
-//! `druid_partial_text`, `node` and `queries` of `druid_node`.
+//! texts, that calls succeed with ample memory, and drawn queries beside a plain computation. `subquery` is of
+//! `druid_query_text`, `answers` of `druid_partial_text`, `node`, `queries` and `columns` of `druid_node`, and `drawn` of
+//! `druid_partial` over files by columns.
 #![tactic(auto)]
 
 #[cfg(test)]
 mod answers;
 #[cfg(test)]
 mod asked_text;
+#[cfg(test)]
+mod columns;
+#[cfg(test)]
+mod drawn;
 #[cfg(test)]
 mod node;
 #[cfg(test)]

@@ -3,7 +3,7 @@ use crate::printing::{assert_prints, filled, printed};
 use druid_folder::Folder;
 use druid_node::{DataNode, Incarnation, NodeFault, NodeState};
 use druid_rows::Segment;
-use druid_segfile::{read_segment, write_segment};
+use druid_segfile::{read_segment, write_columns, write_segment};
 use druid_segid::{Name, SegmentId};
 use druid_shard::Mark;
 use druid_store::MemoryFolder;
@@ -56,19 +56,51 @@ fn segment(rt: &impl Abort, alloc: Global, digits: &str) -> Segment {
     read_segment(alloc, &mut bytes.as_slice()).expect(rt, "a segment")
 }
 
+/// The layout of a file.
+#[derive(Clone, Copy)]
+pub(crate) enum Layout {
+    ByRows,
+    ByColumns,
+}
+
+/// Both.
+pub(crate) const LAYOUTS: [Layout; 2] = [Layout::ByRows, Layout::ByColumns];
+
+/// The file of a segment.
+pub(crate) fn file_of(
+    rt: &impl Abort,
+    alloc: Global,
+    layout: Layout,
+    segment: &Segment,
+) -> Vec<u8> {
+    let mut bytes = Vec::new(alloc);
+    let written = match layout {
+        Layout::ByRows => write_segment(alloc, segment, &mut bytes),
+        Layout::ByColumns => write_columns(alloc, segment, &mut bytes),
+    };
+    written.expect(rt, "a written file");
+    bytes
+}
+
 // Puts the segment of these digits, written again, into a file.
-fn put(rt: &impl Abort, alloc: Global, folder: &mut MemoryFolder, name: &str, digits: &str) {
-    let mut written = Vec::new(alloc);
-    write_segment(alloc, &segment(rt, alloc, digits), &mut written).expect(rt, "a written file");
-    folder.write(name, &written).expect(rt, "a write");
+fn put(
+    rt: &impl Abort,
+    alloc: Global,
+    layout: Layout,
+    folder: &mut MemoryFolder,
+    name: &str,
+    digits: &str,
+) {
+    let bytes = file_of(rt, alloc, layout, &segment(rt, alloc, digits));
+    folder.write(name, &bytes).expect(rt, "a write");
 }
 
 // A folder of two files, and two that are no files of segments.
-fn folder(rt: &impl Abort, alloc: Global) -> MemoryFolder {
+fn folder(rt: &impl Abort, alloc: Global, layout: Layout) -> MemoryFolder {
     let mut folder = MemoryFolder::new(alloc);
-    put(rt, alloc, &mut folder, VECTOR_FILE, vector());
-    put(rt, alloc, &mut folder, THREE_FILE, three_rows());
-    put(rt, alloc, &mut folder, "other.seg", vector());
+    put(rt, alloc, layout, &mut folder, VECTOR_FILE, vector());
+    put(rt, alloc, layout, &mut folder, THREE_FILE, three_rows());
+    put(rt, alloc, layout, &mut folder, "other.seg", vector());
     folder.write("broken.seg", b"DSG").expect(rt, "a write");
     folder
 }
@@ -85,10 +117,10 @@ pub(crate) fn empty_node(rt: &impl Abort, alloc: Global) -> DataNode<First> {
     DataNode::new(NodeState::new(alloc, 1, 2).expect(rt, "memory"))
 }
 
-/// The same node, with the segment of `w`.
-pub(crate) fn node<R: Abort + Wait>(rt: &R, alloc: Global) -> DataNode<First> {
+/// The same node, with the segment of `w`, from a file of that layout.
+pub(crate) fn node<R: Abort + Wait>(rt: &R, alloc: Global, layout: Layout) -> DataNode<First> {
     let node = empty_node(rt, alloc);
-    load(rt, alloc, &node, VECTOR_FILE, &mut Mark::never()).expect(rt, "a segment");
+    load(rt, alloc, layout, &node, VECTOR_FILE, &mut Mark::never()).expect(rt, "a segment");
     node
 }
 
@@ -96,22 +128,24 @@ pub(crate) fn node<R: Abort + Wait>(rt: &R, alloc: Global) -> DataNode<First> {
 fn load<R: Abort + Wait>(
     rt: &R,
     alloc: Global,
+    layout: Layout,
     node: &DataNode<First>,
     name: &str,
     seen: &mut Mark,
 ) -> Result<(), NodeFault> {
-    node.load_file(rt, &mut folder(rt, alloc), name, seen)
+    node.load_file(rt, &mut folder(rt, alloc, layout), name, seen)
 }
 
 // What it tells where the device fails.
 fn load_in_vain<R: Abort + Wait>(
     rt: &R,
     alloc: Global,
+    layout: Layout,
     node: &DataNode<First>,
     name: &str,
     seen: &mut Mark,
 ) -> Result<(), NodeFault> {
-    let mut failing = folder(rt, alloc);
+    let mut failing = folder(rt, alloc, layout);
     failing.fuse(0);
     node.load_file(rt, &mut failing, name, seen)
 }
@@ -270,7 +304,7 @@ POST /druid/v2 HTTP/1.1|Content-Length: 99999999999999999999||{} = 400 {\"error\
 
 #[test]
 fn ample_memory(rt: HostRuntime) {
-    let node = node(&rt, rt.alloc());
+    let node = node(&rt, rt.alloc(), Layout::ByRows);
     for row in MESSAGES.lines() {
         assert!(rt;
             is_answered(&rt, rt.alloc(), &node, row, &mut Mark::never()),
@@ -286,7 +320,7 @@ const READABLE: &str = "GET /status/health HTTP/1.1|| = 200 true";
 // Of what is no request nothing is seen, and what comes after it is answered as if it had not been.
 #[test]
 fn unreadable_is_not_seen(rt: HostRuntime) {
-    let node = node(&rt, rt.alloc());
+    let node = node(&rt, rt.alloc(), Layout::ByRows);
     let mut seen = Mark::never();
     assert!(rt; is_answered(&rt, rt.alloc(), &node, UNREADABLE, &mut seen));
     assert!(rt; seen == Mark::never());
@@ -332,7 +366,7 @@ fields 65 = 400 {\"error\":\"X5\"}";
 
 #[test]
 fn long_heads(rt: HostRuntime) {
-    let node = node(&rt, rt.alloc());
+    let node = node(&rt, rt.alloc(), Layout::ByRows);
     for row in HEADS.lines() {
         assert!(rt; is_head_answered(&rt, rt.alloc(), &node, row), "{row}");
     }
@@ -410,14 +444,15 @@ const AFTER_MORE: &str =
 fn done<R: Abort + Wait>(
     rt: &R,
     alloc: Global,
+    layout: Layout,
     node: &DataNode<First>,
     step: &str,
     seen: &mut Mark,
 ) -> Result<(), NodeFault> {
     let (what, name) = step.split_once(" ").expect(rt, "a name");
     match what {
-        "load" => load(rt, alloc, node, name, seen),
-        "fail" => load_in_vain(rt, alloc, node, name, seen),
+        "load" => load(rt, alloc, layout, node, name, seen),
+        "fail" => load_in_vain(rt, alloc, layout, node, name, seen),
         _ => drop_named(rt, alloc, node, name, seen),
     }
 }
@@ -426,12 +461,13 @@ fn done<R: Abort + Wait>(
 fn is_done<R: Abort + Wait>(
     rt: &R,
     alloc: Global,
+    layout: Layout,
     node: &DataNode<First>,
     row: &str,
     seen: &mut Mark,
 ) -> bool {
     let (step, wanted) = row.split_once(" = ").expect(rt, "a row");
-    match done(rt, alloc, node, step, seen) {
+    match done(rt, alloc, layout, node, step, seen) {
         Ok(()) => wanted == "ok",
         Err(fault) => printed(rt, alloc, &fault).as_str() == wanted,
     }
@@ -459,12 +495,13 @@ load wiki_2024-01-01T00:00:00.000Z_2024-01-02T00:00:00.000Z_v1_3.seg = ok";
 fn assert_goes_on<R: Abort + Wait>(
     rt: &R,
     alloc: Global,
+    layout: Layout,
     node: &DataNode<First>,
     (steps, told): &(&str, &str),
     seen: &mut Mark,
 ) {
     for row in steps.lines() {
-        assert!(rt; is_done(rt, alloc, node, row, seen), "{row}");
+        assert!(rt; is_done(rt, alloc, layout, node, row, seen), "{row}");
     }
     assert_told(rt, alloc, node, told, seen);
 }
@@ -477,22 +514,23 @@ const STEPS: [(&str, &str); 4] = [
     (LOADED, AFTER_MORE),
 ];
 
-#[test]
-fn node_after_load(rt: HostRuntime) {
-    let node = empty_node(&rt, rt.alloc());
+// Whether a node goes through all of it, from files of that layout.
+fn assert_steps<R: Abort + Wait>(rt: &R, alloc: Global, layout: Layout) {
+    let node = empty_node(rt, alloc);
     let mut seen = Mark::never();
     for rows in &STEPS {
-        assert_goes_on(&rt, rt.alloc(), &node, rows, &mut seen);
+        assert_goes_on(rt, alloc, layout, &node, rows, &mut seen);
     }
     let mut ahead = Mark::new(9, 0);
-    assert_told(
-        &rt,
-        rt.alloc(),
-        &node,
-        " = N8: behind what was seen",
-        &mut ahead,
-    );
+    assert_told(rt, alloc, &node, " = N8: behind what was seen", &mut ahead);
     assert!(rt; seen == Mark::new(1, 3) && ahead == Mark::new(9, 0));
+}
+
+#[test]
+fn node_after_load(rt: HostRuntime) {
+    for layout in LAYOUTS {
+        assert_steps(&rt, rt.alloc(), layout);
+    }
 }
 
 const TEXTS_OF_FAULTS: [(NodeFault, &str); 2] = [

@@ -125,13 +125,24 @@ fn rows(rt: &impl Abort, alloc: Global, texts: &str, count: usize) -> Vec<Row> {
     rows
 }
 
-fn segment(rt: &impl Abort, alloc: Global, text: &str) -> Segment {
+/// The segment of that descriptor whose fields and rows a text has.
+pub(crate) fn segment_of(
+    rt: &impl Abort,
+    alloc: Global,
+    descriptor: Descriptor,
+    text: &str,
+) -> Segment {
     let (names_of, texts) = text.split_once(" ").unwrap_or((text, ""));
     let (dimensions, metrics) = names_of.split_once(":").expect(rt, "a schema");
     let dimensions = names(rt, alloc, dimensions);
     let rows = rows(rt, alloc, texts, dimensions.len());
     let schema = Schema::new(dimensions, names(rt, alloc, metrics));
-    Segment::new(alloc, descriptor(rt, alloc), schema, rows).expect(rt, "a segment")
+    Segment::new(alloc, descriptor, schema, rows).expect(rt, "a segment")
+}
+
+/// The segment of version `v` of the first day.
+pub(crate) fn segment(rt: &impl Abort, alloc: Global, text: &str) -> Segment {
+    segment_of(rt, alloc, descriptor(rt, alloc), text)
 }
 
 fn part(rt: &impl Abort, alloc: Global, query: &Query, text: &str) -> Partial

@@ -1,5 +1,5 @@
 //! Queries to a data node.
-use crate::node::{First, answers, node};
+use crate::node::{First, LAYOUTS, Layout, answers, node};
 use crate::printing::filled;
 use druid_node::DataNode;
 use druid_shard::Mark;
@@ -36,8 +36,8 @@ fn pieces(rt: &impl Abort, alloc: Global, text: &str) -> String {
     all
 }
 
-// Whether a node with the segment of `w` answers the query so.
-fn is_answered<R: Abort + Wait>(
+/// Whether a node answers the query so.
+pub(crate) fn is_answered<R: Abort + Wait>(
     rt: &R,
     alloc: Global,
     node: &DataNode<First>,
@@ -89,9 +89,11 @@ fn is_asked<R: Abort + Wait>(rt: &R, alloc: Global, node: &DataNode<First>, row:
 
 #[test]
 fn pieces_are_answered(rt: HostRuntime) {
-    let node = node(&rt, rt.alloc());
-    for row in ASKED.lines() {
-        assert!(rt; is_asked(&rt, rt.alloc(), &node, row), "{row}");
+    for layout in LAYOUTS {
+        let node = node(&rt, rt.alloc(), layout);
+        for row in ASKED.lines() {
+            assert!(rt; is_asked(&rt, rt.alloc(), &node, row), "{row}");
+        }
     }
 }
 
@@ -119,7 +121,7 @@ fn is_refused<R: Abort + Wait>(rt: &R, alloc: Global, node: &DataNode<First>, ro
 
 #[test]
 fn subqueries_are_refused(rt: HostRuntime) {
-    let node = node(&rt, rt.alloc());
+    let node = node(&rt, rt.alloc(), Layout::ByRows);
     for row in REFUSED.lines() {
         assert!(rt; is_refused(&rt, rt.alloc(), &node, row), "{row}");
     }
@@ -143,7 +145,7 @@ fn is_told<R: Abort + Wait>(rt: &R, alloc: Global, node: &DataNode<First>, row: 
 
 #[test]
 fn other_queries(rt: HostRuntime) {
-    let node = node(&rt, rt.alloc());
+    let node = node(&rt, rt.alloc(), Layout::ByRows);
     for row in OTHERS.lines() {
         assert!(rt; is_told(&rt, rt.alloc(), &node, row), "{row}");
     }
