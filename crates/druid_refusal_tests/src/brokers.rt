@@ -4,8 +4,7 @@ ghost use Rattle.druid_scatter.specs.Rounds.{AreLinked};
 
 use crate::marks::{assert_call, begin, end};
 use crate::replies::{inventory, is_at};
-use crate::texts::text_of;
-use crate::values::{name, segment};
+use crate::values::segment;
 use druid_broker::{
     Routes, TurnFault, fetch, fetch_entry, seed_turn, serve_one, shared_turn, sync_turn,
 };
