@@ -3,6 +3,10 @@
 #![tactic(auto)]
 
 #[cfg(test)]
+mod brokers;
+#[cfg(test)]
+mod configs;
+#[cfg(test)]
 mod data;
 #[cfg(test)]
 mod devices;
@@ -10,6 +14,8 @@ mod devices;
 mod files;
 #[cfg(test)]
 mod marks;
+#[cfg(test)]
+mod nodes;
 #[cfg(test)]
 mod published;
 #[cfg(test)]

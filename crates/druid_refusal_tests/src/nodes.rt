@@ -1,0 +1,171 @@
+//! Data nodes, and what they answer.
+use crate::data::segment;
+use crate::marks::{assert_call, begin, end};
+use crate::texts::{subquery, text_of};
+use crate::values::segment as segment_id;
+use druid_folder::Folder;
+use druid_message::{Request, WireFault};
+use druid_node::{DataNode, Incarnation, NodeFault, NodeState};
+use druid_segfile::write_segment;
+use druid_segid::SegmentId;
+use druid_shard::{Ask, Mark};
+use druid_store::MemoryFolder;
+use http::Method;
+use std::alloc::Global;
+use std::process::Abort;
+use std::sync::Wait;
+
+// The incarnation of the nodes here.
+struct First;
+
+impl Incarnation for First {
+    ghost number = { 1 };
+}
+
+const FILE: &str = "w_2024-01-01T00:00:00.000Z_2024-01-02T00:00:00.000Z_v1.seg";
+
+// Whether a call moved the node to a count, or was refused memory and left it at the one before.
+fn moves(told: Result<(), NodeFault>, state: &NodeState, count: u64) -> bool {
+    match told {
+        Ok(()) => state.mark() == Mark::new(1, count),
+        Err(fault) => fault == NodeFault::Memory
+            && state.mark() == Mark::new(1, count.saturating_sub(1)),
+    }
+}
+
+fn edits(rt: &impl Abort, alloc: Global, state: &mut NodeState, id: &SegmentId) {
+    let one = segment(rt, alloc);
+    begin(rt, alloc);
+    let told = end(rt, alloc, state.load(one));
+    assert_call(rt, "NodeState::load", moves(told, state, 1));
+    let _ = state.load(segment(rt, alloc));
+    begin(rt, alloc);
+    let told = end(rt, alloc, state.drop_segment(id));
+    assert_call(rt, "NodeState::drop_segment", moves(told, state, 2));
+    let _ = state.drop_segment(id);
+    state.load(segment(rt, alloc)).expect(rt, "a load");
+}
+
+fn make_state(rt: &impl Abort, alloc: Global) {
+    begin(rt, alloc);
+    let made = end(rt, alloc, NodeState::new(alloc, 1, 2));
+    assert_call(
+        rt,
+        "NodeState::new",
+        match &made {
+            Ok(state) => state.mark() == Mark::new(1, 0),
+            Err(fault) => *fault == NodeFault::Memory,
+        },
+    );
+}
+
+fn answers(rt: &impl Abort, alloc: Global, state: &NodeState) {
+    let sub = subquery(rt, alloc);
+    begin(rt, alloc);
+    let answer = end(rt, alloc, state.answer(&sub));
+    assert_call(
+        rt,
+        "NodeState::answer",
+        match &answer {
+            Ok(answer) => answer.missing().is_empty() && answer.partial().groups().len() == 1,
+            Err(fault) => *fault == NodeFault::Memory,
+        },
+    );
+    begin(rt, alloc);
+    let reply = end(rt, alloc, state.since(&Ask::Whole));
+    assert_call(
+        rt,
+        "NodeState::since",
+        match &reply {
+            Ok(_) => true,
+            Err(fault) => *fault == NodeFault::Memory,
+        },
+    );
+    let target = text_of(rt, alloc, "/druid-internal/v1/segments");
+    let request = Request::new(Method::GET, target, Vec::new(alloc));
+    begin(rt, alloc);
+    let response = end(rt, alloc, state.respond(&request));
+    assert_call(
+        rt,
+        "NodeState::respond",
+        match &response {
+            Ok((status, _)) => status.as_u16() == 200,
+            Err(fault) => *fault == NodeFault::Memory,
+        },
+    );
+}
+
+fn folder(rt: &impl Abort, alloc: Global) -> MemoryFolder {
+    let mut bytes = Vec::new(alloc);
+    write_segment(alloc, &segment(rt, alloc), &mut bytes).expect(rt, "a file");
+    let mut folder = MemoryFolder::new(alloc);
+    folder.write(FILE, &bytes).expect(rt, "memory");
+    folder
+}
+
+// Whether a call moved a node to a count, or was refused memory.
+fn is_seen(told: Result<(), NodeFault>, seen: Mark, count: u64) -> bool {
+    match told {
+        Ok(()) => seen == Mark::new(1, count),
+        Err(fault) => fault == NodeFault::Memory && seen.count() < count,
+    }
+}
+
+fn loads<R: Abort + Wait>(rt: &R, alloc: Global, node: &DataNode<First>, id: &SegmentId) {
+    let mut seen = Mark::never();
+    let mut folder = folder(rt, alloc);
+    begin(rt, alloc);
+    let told = end(rt, alloc, node.load_file(rt, &mut folder, FILE, &mut seen));
+    assert_call(rt, "DataNode::load_file", is_seen(told, seen, 1));
+    let _ = node.load_file(rt, &mut folder, FILE, &mut seen);
+    begin(rt, alloc);
+    let told = end(rt, alloc, node.drop_segment(rt, id, &mut seen));
+    assert_call(rt, "DataNode::drop_segment", is_seen(told, seen, 2));
+}
+
+fn serves<R: Abort + Wait>(rt: &R, alloc: Global, node: &DataNode<First>) {
+    let mut written = Vec::with_capacity(alloc, 100_000).expect(rt, "memory");
+    let mut seen = Mark::never();
+    let mut reader = b"GET /druid-internal/v1/segments HTTP/1.1\r\n\r\n".as_slice();
+    begin(rt, alloc);
+    let told = end(
+        rt,
+        alloc,
+        node.serve_one(rt, &mut reader, &mut written, &mut seen),
+    );
+    let text = std::str::from_utf8(&written).expect(rt, "a text");
+    assert_call(
+        rt,
+        "DataNode::serve_one",
+        match told {
+            Ok(500) => text.ends_with("{\"error\":\"Memory\"}"),
+            Ok(status) => status == 200 && text.ends_with("\"resetCounter\":false}"),
+            Err(fault) => fault == NodeFault::Wire(WireFault::Memory) && text.is_empty(),
+        },
+    );
+}
+
+fn of_state(rt: &impl Abort, alloc: Global, id: &SegmentId) {
+    let mut state = NodeState::new(alloc, 1, 5).expect(rt, "a node");
+    edits(rt, alloc, &mut state, id);
+    answers(rt, alloc, &state);
+}
+
+#[test]
+fn of_states(rt: HostRuntime) {
+    make_state(&rt, rt.alloc());
+    of_state(&rt, rt.alloc(), &segment_id(&rt, rt.alloc(), "v1", 0));
+}
+
+#[test]
+fn of_nodes(rt: HostRuntime) {
+    let state = NodeState::new(rt.alloc(), 1, 5).expect(&rt, "a node");
+    let node = DataNode::new(state);
+    loads(
+        &rt,
+        rt.alloc(),
+        &node,
+        &segment_id(&rt, rt.alloc(), "v1", 0),
+    );
+    serves(&rt, rt.alloc(), &node);
+}
