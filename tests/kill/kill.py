@@ -98,7 +98,7 @@ def main(words):
         record.add(start(cluster, None), 'the first start')
         whole = time.monotonic() - begun
         for number in range(starts):
-            delay = None if draw.random() < .1 else draw.random() * whole * draw.choice([.25, .5, 1, 1.5])
+            delay = None if draw.random() < .1 else draw.random() * draw.choice([.002, .005, .01, whole])
             record.add(start(cluster, delay), f'start {number}')
         print(f'{record.starts} starts, killed at drawn moments: {record.told} told their incarnation, and the last is {record.last}')
         if not shutil.which('strace'):

@@ -47,7 +47,7 @@ def sources():
 
 
 def wanting(texts):
-    """The types of results that tell of want of memory."""
+    """The types of results that tell of out of memory."""
     found = {'AllocError', 'MergeRefused'}
     for _, text in texts:
         for name, members in re.findall(r'pub enum (\w+)[^{]*\{(.*?)\n\}', text, re.S):

@@ -5,7 +5,7 @@ refuse.py [TEST ..]     all tests of crates/druid_refusal_tests, or these: `valu
 
 Each of them makes calls between two marks (crates/druid_refusal_tests/src/marks.rt). For each call of a test and for k = 1, 2, .. the
 proved test program runs with `refuse.so` loaded before it, which refuses the k-th allocation of that call, until a run in which the call
-ends before its k-th. Each run has to pass: then the call gave its value, or answered want of memory and left its value as it was.
+ends before its k-th. Each run has to pass: then the call gave its value, or answered out of memory and left its value as it was.
 
 The program is what `rt test` leaves in crates/druid_refusal_tests/out, or REFUSAL_TESTS names. The status is 1 where a run did not pass.
 """

@@ -3,8 +3,6 @@
 #![tactic(auto)]
 
 #[cfg(test)]
-mod at_once;
-#[cfg(test)]
 mod broker;
 #[cfg(test)]
 mod cluster;
@@ -12,12 +10,6 @@ mod cluster;
 mod drawn;
 #[cfg(test)]
 mod gate;
-#[cfg(test)]
-mod hostile_drawn;
-#[cfg(test)]
-mod hostile_gather;
-#[cfg(test)]
-mod hostile_turns;
 #[cfg(test)]
 mod limits;
 #[cfg(test)]

@@ -42,8 +42,8 @@ const TURNS: &str =
 const LOAD: &str =
     "{\"action\":\"load\",\"dataSource\":\"w\",\"interval\":\"2024-01-01/2024-01-02\",\"shardSpec\":{\"partitionNum\":0,\"partitions\":1,\"type\":\"numbered\"},\"size\":0,\"version\":\"v1\"}";
 
-/// The bytes of a reply with this status and body.
-pub(crate) fn whole_reply(rt: &impl Abort, alloc: Global, code: &str, body: &str) -> Vec<u8> {
+// The bytes of a reply with this status and body.
+fn whole_reply(rt: &impl Abort, alloc: Global, code: &str, body: &str) -> Vec<u8> {
     let body = replaced(rt, alloc, body, "@", LOAD);
     let length = body.as_str().len();
     format!(in alloc; "HTTP/1.1 {code} X\r\nContent-Length: {length}\r\n\r\n{body}")
@@ -58,8 +58,8 @@ fn raw_reply(rt: &impl Abort, alloc: Global, text: &str) -> Vec<u8> {
     replaced(rt, alloc, text.as_str(), "|", "\r\n").into_bytes()
 }
 
-/// The bytes of a reply.
-pub(crate) fn reply(rt: &impl Abort, alloc: Global, text: &str) -> Vec<u8> {
+// The bytes of a reply.
+fn reply(rt: &impl Abort, alloc: Global, text: &str) -> Vec<u8> {
     if let Some(raw) = text.strip_prefix("!") {
         return raw_reply(rt, alloc, raw);
     }
@@ -98,8 +98,7 @@ pub(crate) fn first_mark(rt: &impl Abort, alloc: Global, inventory: &Inventory) 
     format!(in alloc; "{incarnation} {count}").expect(rt, "memory")
 }
 
-/// What an outcome is called.
-pub(crate) fn outcome_of(outcome: Outcome) -> &'static str {
+fn outcome_of(outcome: Outcome) -> &'static str {
     match outcome {
         Outcome::Moved => "Moved",
         Outcome::AlreadyHave => "AlreadyHave",

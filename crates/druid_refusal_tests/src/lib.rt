@@ -1,5 +1,5 @@
 //! Each call that may run out of memory, made once between two marks: with ample memory it gives its value, and where a program that is
-//! loaded before refuses one of its allocations (`tests/refuse`) it answers want of memory and leaves its value as it was.
+//! loaded before refuses one of its allocations (`tests/refuse`) it answers out of memory and leaves its value as it was.
 #![tactic(auto)]
 
 #[cfg(test)]
