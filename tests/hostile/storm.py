@@ -95,7 +95,9 @@ def talk(port, data):
             stream.sendall(data)
             stream.shutdown(socket.SHUT_WR)
             return b''.join(iter(lambda: stream.recv(65_536), b''))
-        except (ConnectionResetError, BrokenPipeError):
+        except TimeoutError:
+            raise SystemExit(f'no end of an answer within 60 s, to {data[:300]}') from None
+        except OSError:
             # What follows the first request of a connection stays unread, and a server that closes then resets it.
             return None
 
@@ -130,9 +132,17 @@ def storm(ports, seed, many, wanted, results):
     results.put((count, None))
 
 
+def storm_whole(ports, seed, many, wanted, results):
+    """The same, which says so where it ends by an exception."""
+    try:
+        storm(ports, seed, many, wanted, results)
+    except BaseException as fault:
+        results.put((collections.Counter(), f'{seed}: {fault!r}'))
+
+
 def run_storm(ports, many, wanted):
     results = multiprocessing.Queue()
-    parts = [multiprocessing.Process(target=storm, args=(ports, f'storm {it}', many // PROCESSES, wanted, results)) for it in range(PROCESSES)]
+    parts = [multiprocessing.Process(target=storm_whole, args=(ports, f'storm {it}', many // PROCESSES, wanted, results)) for it in range(PROCESSES)]
     for it in parts:
         it.start()
     found = [results.get() for _ in parts]
