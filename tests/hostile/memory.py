@@ -25,10 +25,13 @@ from served import DAY, QUERY, Cluster, Segment, exchange  # noqa: E402
 
 CLIENTS, NO_LIMIT = 3, resource.RLIM_INFINITY
 
+# The C library's allocator gives back what is let go, so that each query has to take memory of the system again.
+GIVES_BACK = {'MALLOC_ARENA_MAX': '1', 'MALLOC_TRIM_THRESHOLD_': '4096', 'MALLOC_TOP_PAD_': '0', 'MALLOC_MMAP_THRESHOLD_': '16384'}
+
 
 def rows(seed, many):
     draw = random.Random(seed)
-    return [(draw.randrange(DAY), [f'value {draw.randrange(2_000)}'], [draw.randrange(100)]) for _ in range(many)]
+    return [(draw.randrange(DAY), [f'value {draw.randrange(500)}'], [draw.randrange(100)]) for _ in range(many)]
 
 
 def queries():
@@ -77,14 +80,14 @@ def used(process):
 def main(words):
     rounds = int(words[0]) if words else 20
     folder, clients = tempfile.mkdtemp(prefix='druid_cluster_memory_'), None
-    held = [[Segment('w', 0, DAY, 'v', it, 2, 0, ['d'], ['m'], rows(it, 20_000))] for it in range(2)]
-    cluster = Cluster(folder, held)
+    held = [[Segment('w', 0, DAY, 'v', it, 2, 0, ['d'], ['m'], rows(it, 5_000))] for it in range(2)]
+    cluster = Cluster(folder, held, environment=GIVES_BACK)
     try:
         cluster.start().stands()
         wanted = {body: exchange(cluster.broker, 'POST', QUERY, body)[1] for body in queries()}
         clients = Clients(cluster.broker, wanted)
         for _ in range(rounds):
-            for room in (8 << 20, 2 << 20, 512 << 10, 64 << 10, 0, -1 << 20):
+            for room in (1 << 20, 256 << 10, 64 << 10, 16 << 10, 0, -1 << 20):
                 resource.prlimit(cluster.process.pid, resource.RLIMIT_AS, (used(cluster.process) + room, NO_LIMIT))
                 time.sleep(.15)
             resource.prlimit(cluster.process.pid, resource.RLIMIT_AS, (NO_LIMIT, NO_LIMIT))
