@@ -156,7 +156,7 @@ const TIME: [u8; 8] = [0, 0, 0, 0, 0, 0, 3, 232];
 fn push_text(rt: &impl Abort, alloc: Global, texts: &mut Vec<Vec<u8>>, count: usize) {
     let place = texts.len();
     let mut text = Vec::new(alloc);
-    let number = [(place / 128) as u8, (place % 128) as u8];
+    let number = [(place / 128 % 256) as u8, (place % 128) as u8];
     let letters = letters(rt, alloc, count);
     extend(rt, &mut text, &[&number, letters.as_bytes()]);
     texts.push(text).expect(rt, "memory");
@@ -190,13 +190,12 @@ fn table_of(rt: &impl Abort, alloc: Global, shape: &Shape) -> Table {
 // What stands before the rows of a table.
 fn front(rt: &impl Abort, alloc: Global, layout: &[u8], table: &Table) -> Vec<u8> {
     let mut bytes = file(rt, alloc, layout, "01016401016d", "");
-    let count = table.codes.len() as u32;
-    extend(rt, &mut bytes, &[&count.to_be_bytes()]);
+    extend(rt, &mut bytes, &[&table.codes.len().to_be_bytes()[4..]]);
     bytes
 }
 
 fn push_value(rt: &impl Abort, bytes: &mut Vec<u8>, text: &[u8]) {
-    extend(rt, bytes, &[&(text.len() as u16).to_be_bytes(), text]);
+    extend(rt, bytes, &[&text.len().to_be_bytes()[6..], text]);
 }
 
 fn by_rows(rt: &impl Abort, alloc: Global, table: &Table) -> Vec<u8> {
@@ -220,8 +219,7 @@ fn by_columns(rt: &impl Abort, alloc: Global, table: &Table) -> Vec<u8> {
     for _ in &table.codes {
         extend(rt, &mut bytes, &[&TIME]);
     }
-    let count = table.texts.len() as u32;
-    extend(rt, &mut bytes, &[&count.to_be_bytes()]);
+    extend(rt, &mut bytes, &[&table.texts.len().to_be_bytes()[4..]]);
     for text in &table.texts {
         push_value(rt, &mut bytes, text);
     }
