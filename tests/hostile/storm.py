@@ -8,7 +8,7 @@ cases: cut at any byte, a byte changed or doubled, a header added or changed, br
 to be nothing at all (where the request was cut) or one whole response with one of the statuses of docs/FORMATS.md and a body that
 is JSON; a request that was not spoiled has to be answered as at the start. Then a third of 1,000 connections says nothing, a third
 sends a byte a second, and a third closes in the middle of a request. At the end the program has to answer as at the start, with no
-thread, no descriptor and no megabyte more than after its first 2,000 requests. It ends with 1 where that fails.
+thread, no descriptor and no megabyte more than after its first tenth of the requests, in which its threads' memory warms up. It ends with 1 where that fails.
 """
 import collections
 import json
@@ -140,9 +140,9 @@ def storm_whole(ports, seed, many, wanted, results):
         results.put((collections.Counter(), f'{seed}: {fault!r}'))
 
 
-def run_storm(ports, many, wanted):
+def run_storm(ports, many, wanted, part):
     results = multiprocessing.Queue()
-    parts = [multiprocessing.Process(target=storm_whole, args=(ports, f'storm {it}', many // PROCESSES, wanted, results)) for it in range(PROCESSES)]
+    parts = [multiprocessing.Process(target=storm_whole, args=(ports, f'storm {part} {it}', many // PROCESSES, wanted, results)) for it in range(PROCESSES)]
     for it in parts:
         it.start()
     found = [results.get() for _ in parts]
@@ -191,9 +191,12 @@ def main(words):
         cluster.start().stands()
         ports = [cluster.broker, *cluster.nodes]
         wanted = [talk(ports[server], data) for server, data in lawful()]
-        run_storm(ports, 2_000, wanted)
-        before, begun = cluster.uses(), time.monotonic()
-        count = run_storm(ports, many, wanted)
+        run_storm(ports, many // 10, wanted, 0)
+        before, begun, count, memory = cluster.uses(), time.monotonic(), collections.Counter(), []
+        for part in range(1, 10):
+            count += run_storm(ports, many // 10, wanted, part)
+            memory.append(f'{cluster.uses()[0]:,}')
+        print('memory after each tenth, KiB:', ', '.join([f'{before[0]:,}', *memory]))
         print(f'{sum(count.values()):,} requests in {time.monotonic() - begun:.0f} s:', ', '.join(f'{count[it]:,} {it}' for it in sorted(count)))
         misbehave(ports)
         time.sleep(2)
