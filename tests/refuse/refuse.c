@@ -12,6 +12,8 @@
 #include <stddef.h>
 #include <stdio.h>
 #include <stdlib.h>
+#include <sys/syscall.h>
+#include <unistd.h>
 
 enum { BEGIN = 77777, END = 77776 };
 
@@ -41,14 +43,27 @@ __attribute__((constructor)) static void find(void)
     real_aligned_alloc = dlsym(RTLD_NEXT, "aligned_alloc");
 }
 
+static int is_reported;
+
 __attribute__((destructor)) static void report(void)
 {
+    if (is_reported)
+        return;
+    is_reported = 1;
     const char *path = getenv("REFUSE_REPORT");
     FILE *file = path ? fopen(path, "a") : NULL;
     if (file) {
         fprintf(file, "calls=%ld asked=%ld refused=%ld\n", calls, asked, refused);
         fclose(file);
     }
+}
+
+/* A program may end by this, which runs no destructors. */
+void _exit(int status)
+{
+    report();
+    for (;;)
+        syscall(SYS_exit_group, status);
 }
 
 /* Whether an allocation of this size is the one that is refused. */
