@@ -5,7 +5,7 @@ fuzz.py [SECONDS]     an hour for each of the four, side by side, unless said ot
 
 It makes a static library of the proved readers in a folder for temporary files, over copies of the crates, with the kit's clang
 told to count which branches are taken, and links it with libFuzzer. What it looks for is an end that is none of Rust's: a signal, an
-input that takes longer than ten seconds, more than 2 GiB. It begins with tests/fuzz/seeds (made of the examples) and keeps what it finds
+input that takes longer than ten seconds, more than 2 GiB. It begins with inputs made of the examples, and keeps what it finds
 in tests/fuzz/corpus, one folder each, which later runs begin with. It needs Debian's `clang` and `libclang-rt-14-dev`. The
 first time proves the crates below. It ends with 1 where an input was found, and leaves it beside the corpus.
 """
