@@ -6,8 +6,8 @@ fuzz.py [SECONDS]     an hour for each of the four, side by side, unless said ot
 It makes a static library of the proved readers in a folder for temporary files, over copies of the crates, with the kit's clang
 told to count which branches are taken, and links it with libFuzzer. What it looks for is an end that is none of Rust's: a signal, an
 input that takes longer than ten seconds, more than 2 GiB. It begins with inputs made of the examples, and keeps what it finds
-in tests/fuzz/corpus, one folder each, which later runs begin with. It needs Debian's `clang` and `libclang-rt-14-dev`. The
-first time proves the crates below. It ends with 1 where an input was found, and leaves it beside the corpus.
+in tests/fuzz/corpus, one folder each, which later runs begin with. It needs Debian's `clang` and `libclang-rt-14-dev`. Crates
+whose libraries do not stand are proved first. It ends with 1 where an input was found, and leaves it beside the corpus.
 """
 import os
 import shutil
@@ -63,8 +63,12 @@ def library(place):
         file.writelines(f"{it}: {' '.join(every[it])}\n" for it in ours)
         file.write(f"druid_fuzz staticlib: {' '.join(reversed(ours))} {' '.join(sorted({it for name in ours for it in every[name] if it not in every}))}\n")
     for it in ours:
-        shutil.copytree(os.path.join(TOP, 'crates', it), os.path.join(place, 'crates', it), dirs_exist_ok=True,
-                        ignore=shutil.ignore_patterns('out', 'must-fail'))
+        shutil.rmtree(os.path.join(place, 'crates', it), ignore_errors=True)
+        shutil.copytree(os.path.join(TOP, 'crates', it), os.path.join(place, 'crates', it), ignore=shutil.ignore_patterns('out'))
+        # A library that was proved of the same sources, as the gate leaves it, is taken as it stands: rt compares the sums.
+        proved = os.path.join(TOP, 'crates', it, 'out', 'rlib')
+        if os.path.isdir(proved):
+            shutil.copytree(proved, os.path.join(place, 'crates', it, 'out', 'rlib'))
     shutil.copy(os.path.join(HERE, 'lib.rt.in'), os.path.join(crate, 'src', 'lib.rt'))
     kit = counting_kit(place)
     subprocess.run([os.path.join(kit, 'bin', 'rt'), 'lib'], cwd=crate, check=True)
