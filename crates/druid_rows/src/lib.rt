@@ -8,6 +8,7 @@ mod fault;
 mod filter;
 mod laws;
 mod lent;
+mod number_cache;
 mod numbering;
 mod numbers;
 mod row;

@@ -1,6 +1,7 @@
 use Rattle.std.proofs.Common.{◌∙◌, ◌↔◌, ℕ, ◌+◌, ◌<◌, List, suc, take, get_or, Contains, subst, sym, rules, ap, length}
 use Rattle.std.proofs.lemmas.List.{take_all, get_or_default}
-use Rattle.druid_rows.proofs.PlaceLemmas.{AreMarked, marked_more, length_with_mark}
+use Rattle.druid_rows.specs.Numbering.{AreMarked}
+use Rattle.druid_rows.proofs.PlaceLemmas.{marked_more, length_with_mark}
 use Rattle.druid_rows.proofs.numbering.mark.Goals as goal
 
 pub loop-code-preserved : goal.loop-code-preserved

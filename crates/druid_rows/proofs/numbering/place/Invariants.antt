@@ -1,4 +1,5 @@
-use Rattle.std.proofs.Common.{◌≡◌, ◌+◌, ◌^◌, ℕ, ◌<◌, ◌≤◌, List, [], length, All, vec_capacity}
+use Rattle.std.proofs.Common.{◌≡◌, ◌≤◌, ℕ, List, [], length, vec_capacity}
+use Rattle.std.specs.Vec.Iter.{into_iter_items, into_iter_len}
 use Rattle.druid_rows.specs.Rows.{texts_of}
 use Rattle.druid_rows.specs.Numbering.{HavePlaces}
 use Rattle.druid_rows.proofs.numbering.place.Given as goal
@@ -6,11 +7,8 @@ use Rattle.druid_rows.proofs.numbering.place.Given as goal
 abbrev pub invariant-loop-text : goal.invariant-loop-text
 invariant-loop-text l = record {
   len : length l.ranks ≡ length l.initial.ranks;
-  room : length l.values.items + length l.numbers.entries ≤ vec_capacity l.values;
-  fits : length l.values.items + length l.numbers.entries < 2 ^ 32;
-  within : All (λ entry. (1 ≤ entry.1) × (entry.1 ≤ length l.ranks)) l.numbers.entries;
-  places : (texts : List (List ℕ)) (codes : List ℕ) → HavePlaces texts codes l.initial.numbers.entries [] l.initial.ranks → HavePlaces texts codes l.numbers.entries (texts_of l.values.items) l.ranks;
+  room : length l.values.items ≤ length l.yielded;
+  capacity : vec_capacity l.values ≡ vec_capacity l.initial.values;
+  count : into_iter_len l.text-iterator ≡ length (into_iter_items l.text-iterator);
+  places : (texts : List (List ℕ)) (codes : List ℕ) → HavePlaces texts codes l.fn.entries.items [] l.initial.ranks → HavePlaces texts codes (into_iter_items l.text-iterator) (texts_of l.values.items) l.ranks;
 }
-
-abbrev pub decreases-loop-text : goal.decreases-loop-text
-decreases-loop-text l = length l.numbers.entries
