@@ -3,10 +3,10 @@
 
 kill.py [STARTS]     200 starts at drawn moments, unless said otherwise, and one at each system call that the raise makes
 
-A node is served over a folder of the machine's and is killed (SIGKILL) at a drawn moment of its start, mostly before its
-listener stands. Where `strace` is there (Debian's package), it is then killed at its n-th open, write, sync and rename, for each n
+A node is served over a folder of the machine's and is killed (SIGKILL) at a drawn moment of its start, half of the time before
+it answers. Where `strace` is there (Debian's package), it is then killed at its n-th open, write, sync and rename, for each n
 until it comes through. Whoever asks a node is told its incarnation. Over all starts these numbers rise strictly, and the file
-holds a number at least as great as each that was told. The draws are the same each time. It ends with 1 where that fails. What
+holds a number at least as great as each that was told. It ends with 1 where that fails. What
 this shows is the order of the calls; that a machine loses power is another matter, which the proof speaks of.
 """
 import json
@@ -63,7 +63,8 @@ def start(cluster, delay, prefix=()):
     end = time.monotonic() + (30 if delay is None else delay)
     while time.monotonic() < end and process.poll() is None and not (delay is None and asker.found is not None):
         time.sleep(0)
-    subprocess.run(['pkill', '-KILL', '-P', str(process.pid)], check=False)
+    if prefix:
+        subprocess.run(['pkill', '-KILL', '-P', str(process.pid)], check=False)
     process.kill()
     process.wait()
     asker.is_over = True
@@ -96,10 +97,14 @@ def main(words):
         cluster, record = Cluster(folder, [[segment]]), Record(folder)
         begun = time.monotonic()
         record.add(start(cluster, None), 'the first start')
-        whole = time.monotonic() - begun
+        spread = whole = time.monotonic() - begun
         for number in range(starts):
-            delay = None if draw.random() < .1 else draw.random() * draw.choice([.002, .005, .01, whole])
-            record.add(start(cluster, delay), f'start {number}')
+            delay = None if draw.random() < .1 else draw.random() * spread
+            found = start(cluster, delay)
+            record.add(found, f'start {number}')
+            # Half of the starts are to end before the node answers, so near the raise: the moments are drawn from where that is.
+            if delay is not None:
+                spread = min(whole, spread * 1.1) if found is None else spread / 1.1
         print(f'{record.starts} starts, killed at drawn moments: {record.told} told their incarnation, and the last is {record.last}')
         if not shutil.which('strace'):
             print('strace is not there: apt-get install strace')
