@@ -236,7 +236,9 @@ HTTP/1.1 200 OK|Content-Length: # = {\"missing\":[%],\"rows\":[[*,[],[1]]],\"by\
 const PIECE: &str =
     "{\"chunk\":\"2024-01-01/2024-01-02\",\"itvl\":\"2024-01-01/2024-01-02\",\"part\":0,\"ver\":\"v1\"}";
 
-const COUNTED: &str = "200 [{\"result\":{\"n\":1},\"timestamp\":\"2024-01-01T00:00:00.000Z\"}]";
+/// The answer to a count of the only row.
+pub(crate) const COUNTED: &str =
+    "200 [{\"result\":{\"n\":1},\"timestamp\":\"2024-01-01T00:00:00.000Z\"}]";
 
 const NOT_COUNTED: &str =
     "503 {\"error\":\"SegmentsMissing\",\"missing\":[{\"chunk\":\"2024-01-01T00:00:00.000Z/2024-01-02T00:00:00.000Z\",\"itvl\":\"2024-01-01T00:00:00.000Z/2024-01-02T00:00:00.000Z\",\"part\":0,\"ver\":\"v1\"}],\"partial\":[]}";
@@ -326,8 +328,8 @@ fn passes_on<R: Handle, J: Publication>(rt: R, alloc: Global, setup: Setup<R>, b
     passes(alloc, &mut made, bytes)
 }
 
-// Two nodes that serve the same segment of one row.
-const TWO_REPLICAS: &str = "v1/0/24/0/1 d:m 0/a/1 | v1/0/24/0/1 d:m 0/a/1";
+/// Two nodes that serve the same segment of one row.
+pub(crate) const TWO_REPLICAS: &str = "v1/0/24/0/1 d:m 0/a/1 | v1/0/24/0/1 d:m 0/a/1";
 
 fn is_passed_on<R: Handle>(rt: R, alloc: Global, bytes: &[u8]) -> bool {
     let setup = set_up(rt, alloc, TWO_REPLICAS);

@@ -86,11 +86,13 @@ pub(crate) struct TestLink<R: Handle> {
     // What was seen of the node after it.
     seen: Mark,
     made: u64,
+    // Whether the first exchange that is made fails, and whether the second does.
+    failing: [bool; 2],
     faults: u64,
 }
 
-// What a data node writes for a request. What was written before a fault comes back all the same.
-fn answer_of(
+/// What a data node writes for a request. What was written before a fault comes back all the same.
+pub(crate) fn answer_of(
     rt: &impl Wait,
     alloc: Global,
     node: &DataNode<First>,
@@ -126,7 +128,11 @@ impl<R: Handle> Link for TestLink<R> {
     ghost faults = { λ link. link.faults };
 
     fn exchange(&mut self, alloc: Global, request: &[u8]) -> Result<Vec<u8>, WireFault> {
+        let number = self.made as usize;
         self.made = self.made.saturating_add(1);
+        if number < 2 && self.failing[number] {
+            return fail(Failure::Read, &mut self.faults);
+        }
         match &self.behind {
             Behind::Node(node) => answer_of(&self.rt, alloc, node, request, &mut self.seen),
             Behind::Bytes(bytes) => copy_of(alloc, bytes),
@@ -147,8 +153,15 @@ impl<R: Handle> TestLink<R> {
             behind,
             seen: Mark::never(),
             made: 0,
+            failing: [false, false],
             faults: 0,
         }
+    }
+
+    /// Lets the first and the second exchange from now on fail, or not.
+    pub(crate) fn fail_in_turn(&mut self, failing: [bool; 2]) {
+        self.made = 0;
+        self.failing = failing;
     }
 
     /// Puts something else after it.
@@ -283,8 +296,8 @@ fn schema(rt: &impl Abort, alloc: Global, text: &str) -> Schema {
     Schema::new(names(rt, alloc, dimensions), names(rt, alloc, metrics))
 }
 
-// A segment of the source `w`: its descriptor, the names of its dimension and of its metric, and its rows.
-fn segment(rt: &impl Abort, alloc: Global, text: &str) -> Segment {
+/// A segment of the source `w`: its descriptor, the names of its dimension and of its metric, and its rows.
+pub(crate) fn segment(rt: &impl Abort, alloc: Global, text: &str) -> Segment {
     let mut words = text.split(' ');
     let descriptor = descriptor(rt, alloc, next(rt, &mut words));
     let schema = schema(rt, alloc, next(rt, &mut words));
@@ -302,9 +315,14 @@ fn load(rt: &impl Abort, alloc: Global, state: &mut NodeState, text: &str)
     state.load(segment(rt, alloc, text)).expect(rt, "a load");
 }
 
-// A data node with segments, between which `+` stands; `.` is none.
-fn node(rt: &impl Abort, alloc: Global, text: &str) -> DataNode<First> {
-    let mut state = NodeState::new(alloc, 1, 1000).expect(rt, "a node");
+/// A data node with segments, between which `+` stands; `.` is none. It keeps so many changes, at most 1,000.
+pub(crate) fn node_that_keeps(
+    rt: &impl Abort,
+    alloc: Global,
+    text: &str,
+    changes: usize,
+) -> DataNode<First> {
+    let mut state = NodeState::new(alloc, 1, changes.clamp(1, 1_000)).expect(rt, "a node");
     for one in text.split(" + ") {
         if one != "." {
             load(rt, alloc, &mut state, one);
@@ -362,7 +380,7 @@ pub(crate) fn inventory(rt: &impl Abort, alloc: Global, count: usize) -> Invento
 
 // A link to a data node.
 fn node_link<R: Handle>(rt: R, alloc: Global, text: &str) -> TestLink<R> {
-    TestLink::new(rt, Behind::Node(node(&rt, alloc, text)))
+    TestLink::new(rt, Behind::Node(node_that_keeps(&rt, alloc, text, 1_000)))
 }
 
 /// The parts of a cluster of nodes, between which `|` stands.
@@ -402,31 +420,38 @@ pub(crate) fn followed<R: Handle, J: Publication>(
     cluster
 }
 
-/// Whether there is a link to each node that the view reads of.
+/// Whether so many links are enough for the nodes that a view reads of.
 #[tactic(auto, using(crate::proofs::LinkLemmas::linked))]
-pub(crate) fn is_linked<R: Handle, J: Publication>(cluster: &mut Cluster<R, J>) -> bool
-    ensures { IsTrue result → length J.opening ≤ length cluster.new.links.items }
+pub(crate) fn reaches<J: Publication>(view: &mut View<J>, links: usize) -> bool
+    ensures { IsTrue result → length J.opening ≤ links }
 {
-    let rt = cluster.rt;
-    let Ok(found) = cluster.view.read() else {
+    let Ok(found) = view.read() else {
         return false;
     };
-    if cluster.links.len() < found.node_count() as usize {
+    if links < found.node_count() as usize {
         return false;
     }
     true
 }
 
-// Serves a message at a turn, over links to all nodes.
-fn serve_linked<R: Handle, J: Publication>(
+/// Whether there is a link to each node that the view of a cluster reads of.
+pub(crate) fn is_linked<R: Handle, J: Publication>(cluster: &mut Cluster<R, J>) -> bool
+    ensures { IsTrue result → length J.opening ≤ length cluster.new.links.items }
+{
+    let links = cluster.links.len();
+    reaches(&mut cluster.view, links)
+}
+
+/// Serves a message at a turn, over links to all nodes.
+pub(crate) fn try_linked<R: Handle, J: Publication, L: Link + Send>(
     rt: R,
     alloc: Global,
     view: &mut View<J>,
-    links: &mut [TestLink<R>],
+    links: &mut [L],
     turn: u64,
     message: &[u8],
     written: &mut Vec<u8>,
-)
+) -> Result<u16, WireFault>
     requires { length J.opening ≤ length links.old }
 {
     let routes = Routes::new(alloc).expect(&rt, "routes");
@@ -442,23 +467,22 @@ fn serve_linked<R: Handle, J: Publication>(
         &Rotate,
         links,
     )
-    .expect(&rt, "an answer");
 }
 
-// Serves a message at a turn.
-fn serve<R: Handle, J: Publication>(
+/// What the broker makes of a message at a turn, and writes.
+pub(crate) fn try_message<R: Handle, J: Publication>(
     alloc: Global,
     cluster: &mut Cluster<R, J>,
     turn: u64,
     message: &[u8],
     written: &mut Vec<u8>,
-) {
+) -> Result<u16, WireFault> {
     let rt = cluster.rt;
     if !is_linked(cluster) {
         panic!(rt; "fewer links than nodes");
     }
     let Cluster { view, links, .. } = cluster;
-    serve_linked(rt, alloc, view, links, turn, message, written);
+    try_linked(rt, alloc, view, links, turn, message, written)
 }
 
 /// What the broker answers to a message once its publisher is gone.
@@ -479,7 +503,7 @@ pub(crate) fn answered_alone<R: Handle, J: Publication>(
     } = cluster;
     drop(publisher);
     let mut written = Vec::new(alloc);
-    serve_linked(rt, alloc, &mut view, &mut links, 0, message, &mut written);
+    try_linked(rt, alloc, &mut view, &mut links, 0, message, &mut written).expect(&rt, "an answer");
     told_response(&rt, alloc, &written)
 }
 
@@ -491,7 +515,7 @@ pub(crate) fn written<R: Handle, J: Publication>(
     message: &[u8],
 ) -> Vec<u8> {
     let mut written = Vec::new(alloc);
-    serve(alloc, cluster, turn, message, &mut written);
+    try_message(alloc, cluster, turn, message, &mut written).expect(&cluster.rt, "an answer");
     written
 }
 
@@ -538,7 +562,8 @@ pub(crate) fn posted<R: Handle, J: Publication>(
     answered(alloc, cluster, turn, message.as_bytes())
 }
 
-fn link_at<R: Handle, J: Publication>(
+/// A link of a cluster.
+pub(crate) fn link_at<R: Handle, J: Publication>(
     cluster: &mut Cluster<R, J>,
     place: usize,
 ) -> &mut TestLink<R> {

@@ -9,15 +9,20 @@ use std::process::Abort;
 
 const CLUSTERS: u64 = 300;
 
-// Numbers that look random, the same in each run of the test.
+/// Numbers that look random, the same in each run of the test.
 #[derive(Drop)]
-struct Draws {
+pub(crate) struct Draws {
     state: u64,
 }
 
 impl Draws {
-    // A number below a bound.
-    fn below(&mut self, bound: usize) -> usize
+    /// The draws of a seed.
+    pub(crate) fn new(seed: u64) -> Draws {
+        Draws { state: seed }
+    }
+
+    /// A number below a bound.
+    pub(crate) fn below(&mut self, bound: usize) -> usize
         requires { 0 < bound }
         ensures { result < bound }
     {
@@ -181,7 +186,7 @@ fn is_answered<R: Handle>(
 
 // Asserts that a broker over a drawn cluster answers as it should, and gives whether something was missing.
 fn is_short<R: Handle>(rt: R, alloc: Global, seed: u64) -> bool {
-    let mut draws = Draws { state: seed };
+    let mut draws = Draws::new(seed);
     let plain = drawn_cluster(&rt, alloc, &mut draws);
     let query = drawn_query(&mut draws);
     let wanted = plain.answer(&rt, alloc, query);

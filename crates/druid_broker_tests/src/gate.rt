@@ -20,6 +20,8 @@ struct GateLink<R: Handle + Clock> {
     rt: R,
     // How many links were not asked yet.
     left: Arc<Mutex<u64>, Global>,
+    // Whether it fails then.
+    fails: bool,
     faults: u64,
 }
 
@@ -52,11 +54,16 @@ impl<R: Handle + Clock> Link for GateLink<R> {
 
     fn exchange(&mut self, alloc: Global, request: &[u8]) -> Result<Vec<u8>, WireFault> {
         pass(&self.rt, &self.left);
-        if is_open(&self.rt, &self.left) {
+        let opened = is_open(&self.rt, &self.left);
+        if opened && !self.fails {
             return copy_of(alloc, request);
         }
         self.faults = self.faults.saturating_add(1);
-        Err(WireFault::Read)
+        if opened {
+            Err(WireFault::Connect)
+        } else {
+            Err(WireFault::Read)
+        }
     }
 
     fn faults(&self) -> u64 {
@@ -65,31 +72,41 @@ impl<R: Handle + Clock> Link for GateLink<R> {
 }
 
 // A link of such a gate.
-fn gate_link<R: Handle + Clock>(rt: R, left: &Arc<Mutex<u64>, Global>) -> GateLink<R> {
+fn gate_link<R: Handle + Clock>(rt: R, left: &Arc<Mutex<u64>, Global>, fails: bool) -> GateLink<R> {
     GateLink {
         rt,
         left: Arc::try_clone(left).expect(&rt, "memory"),
+        fails,
         faults: 0,
     }
 }
 
-// How many of these answers are there and no fault.
-fn count_of(answers: &[Option<Result<Vec<u8>, WireFault>>]) -> u64 {
-    let mut count = 0_u64;
+// How many of these answers are there and no fault, and how many are those of links that failed once their gate was open.
+fn counts_of(answers: &[Option<Result<Vec<u8>, WireFault>>]) -> (u64, u64) {
+    let (mut count, mut failed) = (0_u64, 0_u64);
     for answer in answers {
-        if let Some(Ok(_)) = answer {
-            count = count.saturating_add(1);
+        match answer {
+            Some(Ok(_)) => count = count.saturating_add(1),
+            Some(Err(WireFault::Connect)) => failed = failed.saturating_add(1),
+            _ => {}
         }
     }
-    count
+    (count, failed)
 }
 
-// Links of a gate that opens once so many were asked.
-fn gate_links<R: Handle + Clock>(rt: R, alloc: Global, count: u64) -> Vec<GateLink<R>> {
+// So many links of a gate that opens once all were asked. The first of them, so many, fail then.
+fn gate_links<R: Handle + Clock>(
+    rt: R,
+    alloc: Global,
+    count: u64,
+    failing: u64,
+) -> Vec<GateLink<R>> {
     let left = Arc::new(alloc, Mutex::new(count)).expect(&rt, "memory");
     let mut links = Vec::new(alloc);
-    for _ in 0..count {
-        links.push(gate_link(rt, &left)).expect(&rt, "memory");
+    for place in 0..count {
+        links
+            .push(gate_link(rt, &left, place < failing))
+            .expect(&rt, "memory");
     }
     links
 }
@@ -103,19 +120,33 @@ fn requests(rt: &impl Abort, alloc: Global, count: u64) -> Vec<Option<Vec<u8>>> 
     requests
 }
 
-// How many of the links give an answer that each gives once all were asked.
-fn answered<R: Handle + Clock>(rt: R, alloc: Global, count: u64) -> u64 {
-    let mut links = gate_links(rt, alloc, count);
+// How many of the links give an answer, which each gives once all were asked, and how many fail then.
+fn answered<R: Handle + Clock>(rt: R, alloc: Global, count: u64, failing: u64) -> (u64, u64) {
+    let mut links = gate_links(rt, alloc, count, failing);
     let requests = requests(&rt, alloc, count);
     if links.len() != requests.len() {
         panic!(rt; "as many links as requests");
     }
-    count_of(&ask_round(&rt, alloc, &mut links, &requests).expect(&rt, "memory"))
+    counts_of(&ask_round(&rt, alloc, &mut links, &requests).expect(&rt, "memory"))
 }
+
+// How many links there are, and how many of the first of them fail once the last was asked.
+const GATES: [(u64, u64); 8] = [
+    (1, 0),
+    (2, 0),
+    (3, 0),
+    (4, 0),
+    (5, 0),
+    (8, 0),
+    (2, 1),
+    (5, 2),
+];
 
 #[test]
 fn gate_gather(rt: HostRuntime) {
-    for count in [1, 2, 3, 4, 5, 8] {
-        assert!(rt; answered(&rt, rt.alloc(), count) == count, "{count} links");
+    for (count, failing) in &GATES {
+        let counts = answered(&rt, rt.alloc(), *count, *failing);
+        let wanted = (count.saturating_sub(*failing), *failing);
+        assert!(rt; counts == wanted, "{count} links, {failing} fail");
     }
 }

@@ -3,6 +3,8 @@
 #![tactic(auto)]
 
 #[cfg(test)]
+mod at_once;
+#[cfg(test)]
 mod broker;
 #[cfg(test)]
 mod cluster;
@@ -10,6 +12,12 @@ mod cluster;
 mod drawn;
 #[cfg(test)]
 mod gate;
+#[cfg(test)]
+mod hostile_drawn;
+#[cfg(test)]
+mod hostile_gather;
+#[cfg(test)]
+mod hostile_turns;
 #[cfg(test)]
 mod limits;
 #[cfg(test)]

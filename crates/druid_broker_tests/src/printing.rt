@@ -13,6 +13,20 @@ pub(crate) fn replaced(rt: &impl Abort, alloc: Global, text: &str, part: &str, b
     text.replace(alloc, part, by).expect(rt, "memory")
 }
 
+/// The text with each of these parts replaced by what stands beside it, one after another.
+pub(crate) fn all_replaced(
+    rt: &impl Abort,
+    alloc: Global,
+    text: &str,
+    parts: &[(&str, &str)],
+) -> String {
+    let mut text = printed(rt, alloc, &text);
+    for (part, by) in parts {
+        text = replaced(rt, alloc, text.as_str(), part, by);
+    }
+    text
+}
+
 /// What stands before the first such text in a line, and what after it.
 pub(crate) fn halves<'a>(rt: &impl Abort, line: &'a str, between: &str) -> (&'a str, &'a str) {
     line.split_once(between).expect(rt, "no line")

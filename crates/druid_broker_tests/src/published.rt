@@ -2,7 +2,7 @@
 ghost use Rattle.std.specs.Prelude.{◌≡◌, ◌≤◌};
 
 use crate::printing::{assert_told, printed};
-use crate::turns::{first_mark, link, one_node};
+use crate::turns::{link, mark_text, one_node};
 use druid_broker::fetch;
 use druid_inventory::Inventory;
 use druid_published::{Opened, Publication, Publisher, View, open};
@@ -43,7 +43,7 @@ fn read<J: Publication>(rt: &impl Abort, alloc: Global, view: &mut View<J>) -> S
         Ok(found) => found,
         Err(fault) => return printed(rt, alloc, &fault),
     };
-    let mark = first_mark(rt, alloc, &found);
+    let mark = mark_text(rt, alloc, &found, 0);
     let segments = found.segments(0).expect(rt, "a node").len();
     format!(in alloc; "{mark}: {segments}").expect(rt, "memory")
 }

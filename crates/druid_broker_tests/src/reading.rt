@@ -17,8 +17,8 @@ const READS: u64 = 400;
 
 const WRITES: u64 = 60;
 
-// The mark of the first node that a view reads.
-fn mark_read<J: Publication>(view: &mut View<J>) -> Option<Mark> {
+/// The mark of the first node that a view reads.
+pub(crate) fn mark_read<J: Publication>(view: &mut View<J>) -> Option<Mark> {
     view.read().ok()?.mark(0)
 }
 

@@ -12,7 +12,7 @@ use crate::published::SNAPSHOT;
 use crate::turns::link;
 use druid_broker::fetch_entry;
 use druid_inventory::Inventory;
-use druid_link::Link;
+use druid_link::{Link, MemoryLink};
 use druid_published::Publication;
 use druid_query::{Asked, Query};
 use druid_query_text::read_query;
@@ -163,7 +163,8 @@ pub(crate) fn piece_text(rt: &impl Abort, alloc: Global, asked: &Asked) -> Strin
     format!(in alloc; "{id} {interval}").expect(rt, "memory")
 }
 
-const PIECE: &str =
+/// The piece that a count asks for.
+pub(crate) const PIECE: &str =
     "w_2024-01-01T00:00:00.000Z_2024-01-02T00:00:00.000Z_v1 2024-01-01T06:00:00.000Z/2024-01-01T12:00:00.000Z";
 
 // A pair of a plan is the piece of the segment, on both nodes.
@@ -228,14 +229,22 @@ fn answer_text(rt: &impl Abort, alloc: Global, answer: &Answer) -> String {
     format!(in alloc; "{bucket} {number}").expect(rt, "memory")
 }
 
-// What is gathered where two nodes answer so.
-fn told_of<R: Handle>(rt: R, alloc: Global, first: &str, second: &str) -> String {
-    let first = link(&rt, alloc, first);
-    let second = link(&rt, alloc, second);
+/// What is gathered over two links, of which the second is asked first.
+pub(crate) fn gather_text<R: Handle>(
+    rt: R,
+    alloc: Global,
+    first: MemoryLink,
+    second: MemoryLink,
+) -> String {
     let mut links = vec![in alloc; first, second].expect(&rt, "memory");
     let inventory = of_two(&rt, alloc);
     let answer = gathered(rt, alloc, &inventory, &count(&rt, alloc), &mut links);
     answer_text(&rt, alloc, &answer)
+}
+
+// What is gathered where two nodes answer so.
+fn told_of<R: Handle>(rt: R, alloc: Global, first: &str, second: &str) -> String {
+    gather_text(rt, alloc, link(&rt, alloc, first), link(&rt, alloc, second))
 }
 
 // What two nodes answer, of which the second is asked first, and what is gathered.

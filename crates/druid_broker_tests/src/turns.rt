@@ -9,7 +9,7 @@ use druid_inventory::{Inventory, Outcome};
 use druid_link::MemoryLink;
 use druid_published::{Opened, Publication, Publisher, open};
 use druid_segid::Name;
-use druid_shard::{Body, Reply};
+use druid_shard::{Body, NodeNo, Reply};
 use std::alloc::Global;
 use std::marker::Brand;
 use std::process::Abort;
@@ -42,8 +42,8 @@ const TURNS: &str =
 const LOAD: &str =
     "{\"action\":\"load\",\"dataSource\":\"w\",\"interval\":\"2024-01-01/2024-01-02\",\"shardSpec\":{\"partitionNum\":0,\"partitions\":1,\"type\":\"numbered\"},\"size\":0,\"version\":\"v1\"}";
 
-// The bytes of a reply with this status and body.
-fn whole_reply(rt: &impl Abort, alloc: Global, code: &str, body: &str) -> Vec<u8> {
+/// The bytes of a reply with this status and body.
+pub(crate) fn whole_reply(rt: &impl Abort, alloc: Global, code: &str, body: &str) -> Vec<u8> {
     let body = replaced(rt, alloc, body, "@", LOAD);
     let length = body.as_str().len();
     format!(in alloc; "HTTP/1.1 {code} X\r\nContent-Length: {length}\r\n\r\n{body}")
@@ -58,8 +58,8 @@ fn raw_reply(rt: &impl Abort, alloc: Global, text: &str) -> Vec<u8> {
     replaced(rt, alloc, text.as_str(), "|", "\r\n").into_bytes()
 }
 
-// The bytes of a reply.
-fn reply(rt: &impl Abort, alloc: Global, text: &str) -> Vec<u8> {
+/// The bytes of a reply.
+pub(crate) fn reply(rt: &impl Abort, alloc: Global, text: &str) -> Vec<u8> {
     if let Some(raw) = text.strip_prefix("!") {
         return raw_reply(rt, alloc, raw);
     }
@@ -90,15 +90,21 @@ pub(crate) fn one_node(rt: &impl Abort, alloc: Global) -> Inventory {
     Inventory::new(alloc, names).expect(rt, "an inventory")
 }
 
-/// The mark of the first node: `1 5`.
-pub(crate) fn first_mark(rt: &impl Abort, alloc: Global, inventory: &Inventory) -> String {
-    let mark = inventory.mark(0).expect(rt, "a node");
+/// The mark of a node: `1 5`.
+pub(crate) fn mark_text(
+    rt: &impl Abort,
+    alloc: Global,
+    inventory: &Inventory,
+    node: NodeNo,
+) -> String {
+    let mark = inventory.mark(node).expect(rt, "a node");
     let incarnation = mark.incarnation();
     let count = mark.count();
     format!(in alloc; "{incarnation} {count}").expect(rt, "memory")
 }
 
-fn outcome_of(outcome: Outcome) -> &'static str {
+/// What an outcome is called.
+pub(crate) fn outcome_of(outcome: Outcome) -> &'static str {
     match outcome {
         Outcome::Moved => "Moved",
         Outcome::AlreadyHave => "AlreadyHave",
@@ -131,7 +137,7 @@ fn told_of<R: Wait + Abort + Drop, J: Publication>(
     replies: &str,
 ) -> String {
     let told = followed_once(rt, alloc, publisher, replies);
-    let mark = first_mark(rt, alloc, publisher.inventory());
+    let mark = mark_text(rt, alloc, publisher.inventory(), 0);
     format!(in alloc; "{told} {mark}").expect(rt, "memory")
 }
 
