@@ -1,9 +1,9 @@
 #!/usr/bin/env python3
-"""Makes segment files for data nodes out of a CSV, and shows what segment files hold.
+"""Makes segment files for data nodes out of a CSV, and shows what segment files and the tombstones of a config hold.
 
     python3 tools/make_segments.py make --source orders --version v1 --time time --dimensions country,product \\
         --metrics items,cents --by day --rows 20 --out some/folder examples/cluster/first.csv
-    python3 tools/make_segments.py show some/folder/*.seg
+    python3 tools/make_segments.py show some/folder/*.seg some/config.json
 
 With `--columns` files have the layout `DSG2`: each text once for a dimension, and rows by column. Nodes answer the same of both.
 
@@ -413,13 +413,28 @@ def show_file(path):
         [printed_time(time), *map(cell_of, texts), *map(cell_of, numbers)] for time, texts, numbers in segment.rows])
 
 
+def show_config(path):
+    """The tombstones of a config's nodes, which have no files."""
+    try:
+        config = json.loads(text_of(path))
+        for node in config['nodes']:
+            for tombstone in node.get('tombstones') or []:
+                start, end = (time_of(text, 1) for text in tombstone['interval'].split('/'))
+                shown = Segment(tombstone['dataSource'], start, end, tombstone['version'], 0, 1, 0, [], [], [])
+                print(f'{path}: {node["name"]}: {shown.identifier()}')
+                print('  a tombstone: no file, no rows')
+    except (ValueError, KeyError, TypeError, AttributeError) as fault:
+        raise Refused(f'{type(fault).__name__}: {fault}') from None
+
+
 def show(asked):
     status = 0
     for path in asked.files:
+        what, show_one = ('config', show_config) if path.endswith('.json') else ('segment file', show_file)
         try:
-            show_file(path)
+            show_one(path)
         except Refused as fault:
-            print(f'{path}: no segment file: {fault}', file=sys.stderr)
+            print(f'{path}: no {what}: {fault}', file=sys.stderr)
             status = 1
     sys.exit(status)
 
@@ -470,10 +485,11 @@ def add_make(commands):
 
 
 def words():
-    parser = argparse.ArgumentParser(description='Makes segment files out of a CSV, and shows what segment files hold.')
+    parser = argparse.ArgumentParser(description='Makes segment files out of a CSV, and shows what segment files and configs hold.')
     commands = parser.add_subparsers(dest='command', required=True)
     maker = add_make(commands)
-    shower = commands.add_parser('show', help='show what segment files hold', description='Shows what segment files hold.')
+    shower = commands.add_parser('show', help='show what segment files hold, and the tombstones of a config (.json)',
+                                 description='Shows what segment files hold, and the tombstones of a config (.json).')
     shower.set_defaults(run=show)
     shower.add_argument('files', nargs='+', metavar='FILE')
     asked = parser.parse_args()

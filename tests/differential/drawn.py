@@ -4,7 +4,7 @@
 drawn.py [CLUSTERS] [REQUESTS]     3 clusters of three nodes, and 2,000 requests to each, unless said otherwise
 
 Segments of several versions, with partitions, replicas, nulls and numbers at the ends of their range, are written as files, half of
-them by columns, and the built program serves them on loopback ports from 21000 on. Half of the requests are queries, subqueries and asks as users write
+them by columns, and some are tombstones, which the config names; the built program serves them on loopback ports from 21000 on. Half of the requests are queries, subqueries and asks as users write
 them, and half are spoiled: a key left out, a value in place of another, bytes cut off. Each status and each body is compared.
 The draws are the same each time. It ends with 1 where an answer differs, and shows the first of them. It stands apart from the
 gate, and checks what no proof can: that the definitions say what their readers mean.
@@ -81,12 +81,16 @@ class Cluster:
         self.segments = self.draw_segments()
         self.held = [[it for it in self.segments if draw.random() < .6] for _ in range(3)]
         for node, held in enumerate(self.held):
-            held.sort(key=lambda it: (rules.identifier(it) + '.seg').encode())
+            # A node loads its files in the order of their names, and then places its tombstones.
+            held.sort(key=lambda it: ('tombstone' in it, (rules.identifier(it) + '.seg').encode()))
             os.makedirs(f'{folder}/{node}')
             for it in held:
+                if 'tombstone' in it:
+                    continue
                 with open(f'{folder}/{node}/{rules.identifier(it)}.seg', 'wb') as file:
                     file.write(rules.segment_file(it, draw.random() < .5))
-        nodes = [{'address': f'127.0.0.1:{self.port + 1 + i}', 'folder': f'{folder}/{i}', 'loads': [], 'name': f'n{i}', 'workers': 2} for i in range(3)]
+        nodes = [{'address': f'127.0.0.1:{self.port + 1 + i}', 'folder': f'{folder}/{i}', 'loads': [], 'name': f'n{i}', 'workers': 2,
+                  'tombstones': [rules.chunk_of(it) for it in self.held[i] if 'tombstone' in it]} for i in range(3)]
         query = {'queryType': 'timeseries', 'dataSource': 'w', 'granularity': 'all', 'intervals': '2024-01-01/2024-01-02'}
         with open(f'{folder}/config.json', 'w') as file:
             json.dump({'brokers': [{'address': f'127.0.0.1:{self.port}', 'workers': 4}], 'connections': 1_000_000, 'kept': KEPT, 'nodes': nodes,
@@ -109,6 +113,11 @@ class Cluster:
                     it['mets'] = draw.sample(['m', 'n'] + ['both'] * ('both' not in it['dims']), draw.randint(0, 2))
                     it['rows'] = [self.draw_row(it) for _ in range(draw.randint(0, 25))]
                     found[rules.identifier(it)] = it
+            for _ in range(draw.randint(0, 3)):
+                start = START + draw.randint(0, 47) * HOUR
+                it = {'source': source, 'start': start, 'end': start + draw.randint(1, 30) * HOUR, 'version': draw.choice(['v2', 'v9', 'v91']), 'part': 0,
+                      'core': 1, 'dims': [], 'mets': [], 'rows': [], 'tombstone': True}
+                found.setdefault(rules.identifier(it), it)
         return list(found.values())
 
     def draw_row(self, it):

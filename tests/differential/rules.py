@@ -343,8 +343,9 @@ def answer(query, segments):
 
 
 def node_answer(query, segments):
-    """What a node that holds these segments answers to a subquery."""
-    held = {((it['start'], it['end']), it['version'], it['part']): it for it in segments if it['source'] == query['source']}
+    """What a node that holds these segments answers to a subquery. Of a tombstone it has no rows, so its piece is missing."""
+    held = {((it['start'], it['end']), it['version'], it['part']): it for it in segments
+            if it['source'] == query['source'] and not it.get('tombstone')}
     missing = [{'chunk': span(*chunk), 'itvl': span(*piece), 'part': part, 'ver': version}
                for chunk, version, part, piece in query['asked'] if (chunk, version, part) not in held]
     rows = [row for chunk, version, part, piece in query['asked'] if (chunk, version, part) in held
@@ -397,7 +398,12 @@ def columns(segment):
 def load_of(segment):
     return {'action': 'load', 'dataSource': segment['source'], 'interval': span(segment['start'], segment['end']),
             'shardSpec': {'partitionNum': segment['part'], 'partitions': segment['core'], 'type': 'numbered'},
-            'size': 0, 'version': segment['version']}
+            'size': 0, **({'tombstone': True} if segment.get('tombstone') else {}), 'version': segment['version']}
+
+
+def chunk_of(segment):
+    """How a config names a tombstone."""
+    return {'dataSource': segment['source'], 'interval': span(segment['start'], segment['end']), 'version': segment['version']}
 
 
 def read_ask(query_string):

@@ -32,6 +32,20 @@ fn two_nodes(rt: HostRuntime) {
     assert_answered(&rt, rt.alloc(), rows);
 }
 
+// A tombstone overshadows what is older, and is there to be seen; one equal to a segment but for being one is another.
+#[test]
+fn tombstones(rt: HostRuntime) {
+    let rows = r#"@brokers; => {"brokers":1}
+@node0;@at1;@load;@p0of1;@end;} => @moved1;
+@node1;@at1;@load2;@tomb2;@end;} => @moved1;
+@lookup; => {"pieces":[{"chunk":"@day;","interval":"@morning;","parts":[0],"version":"v1"},{"chunk":"@noon;","interval":"@noon;","parts":[0],"version":"v2"},{"chunk":"@day;","interval":"@rest;","parts":[0],"version":"v1"}]}
+@node1;@at1;@load2;@v2;@end;} => {"refused":"A5"}
+@node1;@at1;@load2;@tomb2;@end;} => {"mark":{"counter":1,"hash":1},"outcome":"AlreadyHave"}
+@node1;@at2;@end;} => @moved2;
+@lookup; => {"pieces":[{"chunk":"@day;","interval":"@day;","parts":[0],"version":"v1"}]}"#;
+    assert_answered(&rt, rt.alloc(), rows);
+}
+
 #[test]
 fn refusals(rt: HostRuntime) {
     let rows = r#"{"count":1,"do":"brokers","nodes":["a b","a b"]} => {"refused":"I1"}

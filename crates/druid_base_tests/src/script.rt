@@ -22,6 +22,7 @@ drop = {"action":"drop","dataSource":"wiki","interval":"2024-01-01/2024-01-02",
 load2 = {"action":"load","dataSource":"wiki","interval":"2024-01-01T10:00/2024-01-01T12:00",
 drop2 = {"action":"drop","dataSource":"wiki","interval":"2024-01-01T10:00/2024-01-01T12:00",
 v2 = "shardSpec":{"partitionNum":0,"partitions":1,"type":"numbered"},"size":0,"version":"v2"}
+tomb2 = "shardSpec":{"partitionNum":0,"partitions":1,"type":"numbered"},"size":0,"tombstone":true,"version":"v2"}
 p0of1 = "shardSpec":{"partitionNum":0,"partitions":1,"type":"numbered"},"size":0,"version":"v1"}
 p1of1 = "shardSpec":{"partitionNum":1,"partitions":1,"type":"numbered"},"size":0,"version":"v1"}
 p0of2 = "shardSpec":{"partitionNum":0,"partitions":2,"type":"numbered"},"size":0,"version":"v1"}

@@ -20,7 +20,19 @@ const REFUSED: &str = r#"[] = S3: a bad field: dataSource
 {"dataSource":"a","interval":"2024-01-01/2024-01-02","version":"v","size":0,"shardSpec":{"partitionNum":70000}} = S1: not a numbered shard spec
 {"dataSource":"a","interval":"2024-01-01/2024-01-02","version":"v","size":0,"shardSpec":{"partitionNum":65536,"partitions":1,"type":"numbered"}} = S2: a bad shard spec
 {"dataSource":"a","interval":"2024-01-01/2024-01-02","version":"v","size":0,"shardSpec":{"partitionNum":0,"partitions":32769,"type":"numbered"}} = S2: a bad shard spec
-{"dataSource":"a","interval":"2024-01-01/2024-01-02","version":"v","size":0,"shardSpec":{"partitionNum":65535,"partitions":32768,"type":"numbered"}} = none"#;
+{"dataSource":"a","interval":"2024-01-01/2024-01-02","version":"v","size":0,"shardSpec":{"partitionNum":65535,"partitions":32768,"type":"numbered"}} = none
+{"dataSource":"a","interval":"2024-01-01/2024-01-02","version":"v","size":0,"shardSpec":{"partitionNum":1,"partitions":1,"type":"numbered"},"tombstone":true} = S4: a bad tombstone
+{"dataSource":"a","interval":"2024-01-01/2024-01-02","version":"v","size":0,"shardSpec":{"partitionNum":0,"partitions":0,"type":"numbered"},"tombstone":true} = S4: a bad tombstone
+{"dataSource":"a","interval":"2024-01-01/2024-01-02","version":"v","size":1,"shardSpec":{"partitionNum":0,"partitions":1,"type":"numbered"},"tombstone":true} = S4: a bad tombstone
+{"dataSource":"a","interval":"2024-01-01/2024-01-02","version":"v","size":0,"shardSpec":{"partitionNum":0,"partitions":1,"type":"numbered"},"tombstone":"true"} = S4: a bad tombstone
+{"dataSource":"a","interval":"2024-01-01/2024-01-02","version":"v","size":0,"shardSpec":{"partitionNum":0,"partitions":70000,"type":"numbered"},"tombstone":1} = S2: a bad shard spec
+{"dataSource":"a","interval":"2024-01-01/2024-01-02","version":"v","size":0,"shardSpec":{"partitionNum":0,"partitions":1,"type":"numbered"},"tombstone":true} = none
+{"dataSource":"a","interval":"2024-01-01/2024-01-02","version":"v","size":9,"shardSpec":{"partitionNum":3,"partitions":2,"type":"numbered"},"tombstone":false} = none
+{"dataSource":"a","interval":"2024-01-01/2024-01-02","version":"v","size":9,"shardSpec":{"partitionNum":3,"partitions":2,"type":"numbered"},"tombstone":null} = none"#;
+
+// The JSON of a tombstone.
+const TOMBSTONE: &str =
+    r#"{"dataSource":"wiki","interval":"2024-01-01T00:00:00.000Z/2024-01-02T00:00:00.000Z","shardSpec":{"partitionNum":0,"partitions":1,"type":"numbered"},"size":0,"tombstone":true,"version":"v1"}"#;
 
 fn read(rt: &impl Abort, alloc: Global, text: &str) -> Result<Descriptor, ShardFault> {
     let value = Value::from_str(alloc, text).expect(rt, "not JSON");
@@ -48,8 +60,10 @@ fn written_again(rt: &impl Abort, alloc: Global, text: &str) -> String {
 
 #[test]
 fn ample_memory(rt: HostRuntime) {
-    let written = written_again(&rt, rt.alloc(), WRITTEN);
-    assert_told(&rt, "it", written, WRITTEN);
+    for text in [WRITTEN, TOMBSTONE] {
+        let written = written_again(&rt, rt.alloc(), text);
+        assert_told(&rt, "it", written, text);
+    }
 }
 
 #[test]

@@ -172,15 +172,20 @@ fn copied(rt: &impl Abort, alloc: Global, step: &str) -> String {
     format!(in alloc; "{before} then {after}").expect(rt, "memory")
 }
 
-// The nodes that serve a segment, where nodes 0 and 2 have added it to a timeline of this source.
+// The nodes that hold a segment, and those that serve its rows, where nodes 0 and 2 have added it to a timeline of this source,
+// and node 1 a tombstone in its place.
 fn replicas(rt: &impl Abort, alloc: Global, source: &str) -> String {
-    let descriptor = descriptor(rt, alloc, "2024-01-01/2024-01-02 v1 3 1");
+    let descriptor = descriptor(rt, alloc, "2024-01-01/2024-01-02 v1 0 1");
+    let id = descriptor.id().clone().expect(rt, "memory");
+    let tombstone = Descriptor::tombstone(id).expect(rt, "partition 0");
     let mut timeline = timeline(rt, alloc, source);
     let mut meter = Meter::new();
     let _ = timeline.add(&descriptor, 2, &mut meter);
+    let _ = timeline.add(&tombstone, 1, &mut meter);
     let _ = timeline.add(&descriptor, 0, &mut meter);
     let nodes = timeline.replicas(descriptor.id()).expect(rt, "memory");
-    format!(in alloc; "{nodes:?}").expect(rt, "memory")
+    let served = timeline.served(descriptor.id()).expect(rt, "memory");
+    format!(in alloc; "{nodes:?} {served:?}").expect(rt, "memory")
 }
 
 fn answer(rt: &impl Abort, alloc: Global, case: &str) -> String {
@@ -206,7 +211,12 @@ fn copies_are_apart(rt: HostRuntime) {
 
 #[test]
 fn nodes_of_a_segment(rt: HostRuntime) {
-    assert_rows(&rt, rt.alloc(), "wiki = [0, 2]\nwikipedia = []", replicas);
+    assert_rows(
+        &rt,
+        rt.alloc(),
+        "wiki = [0, 1, 2] [0, 2]\nwikipedia = [] []",
+        replicas,
+    );
 }
 
 // What becomes of a segment that is there.

@@ -10,7 +10,7 @@ use Rattle.druid_scatter.specs.Rounds.{AreLinked}
 
 module _ (inventory : List Entry) (count : ℕ) (few : length inventory ≤ count) where
   linked : (p : Pair) (node : ℕ) → IsReplica inventory p.asked.0 node → node < count
-  linked p node (d, serves, is) = let within = slice_get_within inventory node serves.0 serves.1 in omega (arith, few, within)
+  linked p node (d, serves, is, rows) = let within = slice_get_within inventory node serves.0 serves.1 in omega (arith, few, within)
 
   all_linked : (p : Pair) → AreReplicas inventory p.asked.0 p.nodes → All (λ node. node < count) p.nodes
   all_linked p replicas = all_of_each (λ node. node < count) p.nodes (λ node there. linked p node ((replicas.all node).0 there))

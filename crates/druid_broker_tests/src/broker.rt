@@ -13,9 +13,10 @@ use std::process::Abort;
 
 // Clusters, and queries over their first day of 2024, with their answers. A cluster is its nodes, between which `|` stands, each
 // with its segments, between which `+` stands: the version, the hours of the chunk, the partition and how many the chunk has; the
-// names of the dimension and of the metric; and the rows, each the milliseconds of the day, the value and the number. `!` in front
-// of a node: it fails once the broker has followed it. `@` stands for the keys of a `timeseries` over the day, `#` for those of a
-// `groupBy`, and `~` for the whole day.
+// names of the dimension and of the metric; and the rows, each the milliseconds of the day, the value and the number. A tombstone
+// is `tombstone` and its version, hours and partition; `drop` and those drop what is served. `!` in front of a node: it fails once
+// the broker has followed it. `@` stands for the keys of a `timeseries` over the day, `#` for those of a `groupBy`, and `~` for the
+// whole day.
 const ANSWERS: &str =
     r#"v1/0/24/0/1 d:m 35999999/a/1 36000000/a/1 43199999/a/1 43200000/a/1 + v2/10/12/0/1 d:m 36000000/a/1 43199999/a/1 => @,"aggregations":[{"type":"count","name":"n"}]} = 200 [{"result":{"n":4},"timestamp":"2024-01-01T00:00:00.000Z"}]
 v1/0/24/0/1 d:m 35999999/a/1 36000000/a/1 43199999/a/1 43200000/a/1 | v2/10/12/0/1 d:m 36000000/a/1 43199999/a/1 => @,"aggregations":[{"type":"count","name":"n"}]} = 200 [{"result":{"n":4},"timestamp":"2024-01-01T00:00:00.000Z"}]
@@ -31,6 +32,12 @@ v1/0/24/0/2 d:m 0/a/1 0//1 | v1/0/24/1/2 e:m 0/x/1 => #,"dimensions":["d"],"aggr
 v1/0/24/0/3 d:m 0/a/1 + v1/0/24/1/3 d:m 0/a/2 | !v1/0/24/1/3 d:m 0/a/2 + v1/0/24/2/3 d:m 0/a/4 => @,"aggregations":[{"type":"longSum","name":"s","fieldName":"m"}]} = 503 {"error":"SegmentsMissing","missing":[{"chunk":"2024-01-01T00:00:00.000Z/2024-01-02T00:00:00.000Z","itvl":"2024-01-01T00:00:00.000Z/2024-01-02T00:00:00.000Z","part":2,"ver":"v1"}],"partial":[{"result":{"s":3},"timestamp":"2024-01-01T00:00:00.000Z"}]}
 !v1/0/24/0/1 d:m 0/a/1 | v2/10/12/0/1 d:m 36000000/a/1 => @,"intervals":["2024-01-01T09/2024-01-01T13:00","2024-01-01T23:00/2024-01-02"],"aggregations":[]} = 400 {"error":"Q4"}
 !v1/0/24/0/1 d:m 0/a/1 | v2/10/12/0/1 d:m 36000000/a/1 => @,"intervals":["2024-01-01T23:00/2024-01-03","2024-01-01T09:00/2024-01-01T13:00"],"aggregations":[{"type":"count","name":"n"}]} = 503 {"error":"SegmentsMissing","missing":[{"chunk":"2024-01-01T00:00:00.000Z/2024-01-02T00:00:00.000Z","itvl":"2024-01-01T09:00:00.000Z/2024-01-01T10:00:00.000Z","part":0,"ver":"v1"},{"chunk":"2024-01-01T00:00:00.000Z/2024-01-02T00:00:00.000Z","itvl":"2024-01-01T12:00:00.000Z/2024-01-01T13:00:00.000Z","part":0,"ver":"v1"},{"chunk":"2024-01-01T00:00:00.000Z/2024-01-02T00:00:00.000Z","itvl":"2024-01-01T23:00:00.000Z/2024-01-02T00:00:00.000Z","part":0,"ver":"v1"}],"partial":[{"result":{"n":1},"timestamp":"2024-01-01T09:00:00.000Z"}]}
+v1/0/24/0/1 d:m 35999999/a/1 36000000/a/1 43199999/a/1 43200000/a/1 + tombstone v2/10/12/0 => @,"aggregations":[{"type":"count","name":"n"}]} = 200 [{"result":{"n":2},"timestamp":"2024-01-01T00:00:00.000Z"}]
+v1/0/24/0/1 d:m 35999999/a/1 36000000/a/1 43199999/a/1 43200000/a/1 | !tombstone v2/10/12/0 => @,"aggregations":[{"type":"count","name":"n"}]} = 200 [{"result":{"n":2},"timestamp":"2024-01-01T00:00:00.000Z"}]
+v1/0/24/0/1 d:m 35999999/a/1 36000000/a/1 43199999/a/1 43200000/a/1 | tombstone v2/10/12/0 + drop v2/10/12/0 => @,"aggregations":[{"type":"count","name":"n"}]} = 200 [{"result":{"n":4},"timestamp":"2024-01-01T00:00:00.000Z"}]
+!v1/0/24/0/1 d:m 35999999/a/1 36000000/a/1 43199999/a/1 43200000/a/1 | tombstone v2/10/12/0 => @,"aggregations":[{"type":"count","name":"n"}]} = 503 {"error":"SegmentsMissing","missing":[{"chunk":"2024-01-01T00:00:00.000Z/2024-01-02T00:00:00.000Z","itvl":"2024-01-01T00:00:00.000Z/2024-01-01T10:00:00.000Z","part":0,"ver":"v1"},{"chunk":"2024-01-01T00:00:00.000Z/2024-01-02T00:00:00.000Z","itvl":"2024-01-01T12:00:00.000Z/2024-01-02T00:00:00.000Z","part":0,"ver":"v1"}],"partial":[]}
+tombstone v1/0/24/0 => @,"aggregations":[{"type":"count","name":"n"}]} = 200 []
+v1/0/24/0/1 d:m 0/a/1 | tombstone v1/0/24/0 => @,"aggregations":[{"type":"count","name":"n"}]} = 200 [{"result":{"n":1},"timestamp":"2024-01-01T00:00:00.000Z"}]
 v1/0/24/0/1 d:m 0/a/1 => @,"queryType":"topN"} = 400 {"error":"Q2"}
 v1/0/24/0/1 d:m 0/a/1 => @,"descending":true} = 400 {"error":"Q3","field":"descending"}
 v1/0/24/0/1 d:m 0/a/1 => @,"intervals":"2024-01-01/P1D"} = 400 {"error":"Q4"}

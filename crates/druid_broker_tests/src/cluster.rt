@@ -308,14 +308,25 @@ pub(crate) fn segment(rt: &impl Abort, alloc: Global, text: &str) -> Segment {
     Segment::new(alloc, descriptor, schema, rows).expect(rt, "a segment")
 }
 
-// Loads a segment.
-fn load(rt: &impl Abort, alloc: Global, state: &mut NodeState, text: &str)
+// Loads a segment, places a tombstone, or drops what is served under an identifier.
+fn record(rt: &impl Abort, alloc: Global, state: &mut NodeState, text: &str)
     ensures { state.new.history.incarnation ≡ state.old.history.incarnation }
 {
+    if let Some(text) = text.strip_prefix("tombstone ") {
+        let id = segment_id(rt, alloc, &mut text.split('/'));
+        state.place_tombstone(id).expect(rt, "a tombstone");
+        return;
+    }
+    if let Some(text) = text.strip_prefix("drop ") {
+        let id = segment_id(rt, alloc, &mut text.split('/'));
+        state.drop_segment(&id).expect(rt, "a drop");
+        return;
+    }
     state.load(segment(rt, alloc, text)).expect(rt, "a load");
 }
 
-/// A data node with segments, between which `+` stands; `.` is none. It keeps so many changes, at most 1,000.
+/// A data node with segments and tombstones, between which `+` stands, as `drop` and a name that is dropped; `.` is none. It keeps
+/// so many changes, at most 1,000.
 pub(crate) fn node_that_keeps(
     rt: &impl Abort,
     alloc: Global,
@@ -325,7 +336,7 @@ pub(crate) fn node_that_keeps(
     let mut state = NodeState::new(alloc, 1, changes.clamp(1, 1_000)).expect(rt, "a node");
     for one in text.split(" + ") {
         if one != "." {
-            load(rt, alloc, &mut state, one);
+            record(rt, alloc, &mut state, one);
         }
     }
     DataNode::new(state)

@@ -79,6 +79,7 @@ fn drawn_nodes(draws: &mut Draws) -> [bool; 3] {
     nodes
 }
 
+// A segment of a chunk, or a tombstone in the place of its only core partition.
 fn drawn_segment(
     rt: &impl Abort,
     alloc: Global,
@@ -88,13 +89,16 @@ fn drawn_segment(
     partition: u16,
 ) -> PlainSegment {
     let nodes = drawn_nodes(draws);
+    let is_tombstone = partition == 0 && chunk.core == 1 && draws.is_one_in(2);
+    let count = if is_tombstone { 0 } else { draws.below(5) };
     let mut rows = Vec::new(alloc);
-    for _ in 0..draws.below(5) {
+    for _ in 0..count {
         rows.push(drawn_row(draws, chunk)).expect(rt, "memory");
     }
     PlainSegment {
         chunk: place,
         partition,
+        is_tombstone,
         nodes,
         rows,
     }

@@ -19,11 +19,12 @@ pub(crate) struct PlainRow {
     pub(crate) number: Option<i64>,
 }
 
-/// A segment, and of each of three nodes whether it serves it.
+/// A segment, or a tombstone, and of each of three nodes whether it serves it.
 #[derive(Drop)]
 pub(crate) struct PlainSegment {
     pub(crate) chunk: usize,
     pub(crate) partition: u16,
+    pub(crate) is_tombstone: bool,
     pub(crate) nodes: [bool; 3],
     pub(crate) rows: Vec<PlainRow>,
 }
@@ -292,10 +293,11 @@ impl Plain {
         end
     }
 
-    // Whether no node answers that partition of a chunk, which is served.
+    // Whether no node answers that partition of a chunk, which is served. A tombstone has no rows that an answer could lack.
     fn is_missing(&self, chunk: usize, partition: u16) -> bool {
         self.segments.iter().any(|s| s.chunk == chunk
             && s.partition == partition
+            && !s.is_tombstone
             && !self.is_answered(s))
     }
 
@@ -378,6 +380,11 @@ fn head_text(rt: &impl Abort, alloc: Global, chunk: PlainChunk, segment: &PlainS
     let end = chunk.end;
     let core = chunk.core;
     let partition = segment.partition;
+    if segment.is_tombstone {
+        return format!(in alloc; "tombstone v{version}/{start}/{end}/{partition}").expect(
+            rt, "memory",
+        );
+    }
     format!(in alloc; "v{version}/{start}/{end}/{partition}/{core} d:m").expect(rt, "memory")
 }
 

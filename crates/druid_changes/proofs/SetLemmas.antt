@@ -12,7 +12,8 @@ use Rattle.std.proofs.lemmas.Bool.{cases_Bool, false≢true, false_from_ne_true,
 use Rattle.std.proofs.lemmas.List.Elements.{All-nil, All-cons, All-head, All-tail, All-contains}
 use Rattle.std.proofs.lemmas.List.Folds.{Any-from_list_any}
 use Rattle.std.proofs.lemmas.Slice.Eq.{bytes_eq-Decides}
-use Rattle.druid_segid.specs.Identifier.{Identifier, identifier_text, identifier_cmp}
+use Rattle.druid_segid.specs.Identifier.{Identifier, identifier_text, same_identifier, identifier_cmp}
+use Rattle.druid_segid.specs.IdentifierLaws.{identifier_cmp-ties}
 use Rattle.druid_segid.proofs.EqualLemmas.{identifier_cmp-text}
 use Rattle.druid_shard.specs.Described.{Described, IsDescribed, same_described}
 use Rattle.druid_shard.specs.Reply.{IsBefore}
@@ -21,6 +22,7 @@ use Rattle.druid_shard.proofs.DescribedLemmas.{same_described-decides}
 use Rattle.druid_shard.proofs.ReplayLemmas.{AreInOrder, in_order, after-set, first_before, rest_in_order, other_passes, without_segment-at}
 use Rattle.druid_shard.proofs.SortedLemmas.{not_before_itself}
 use Rattle.druid_shard.specs.declared.change.Change.TheVariants.{Load, Drop}
+use Rattle.druid_changes.specs.Kept.{described_named}
 use Rattle.druid_changes.specs.Segments.{IsEntry, IsKeyed}
 
 abbrev pub Entry : Type 0
@@ -67,6 +69,15 @@ found-shares (e ∷ es) d h each =
       | inl at ↦ let shared : shares_identifier e.1 d ≡ true = sym one ∙ at in rw (at, shared) refl
       | inr apart ↦ let other : shares_identifier e.1 d ≡ false = sym one ∙ apart in rw (apart, other) rest
     ]
+
+-- the one of an identifier
+pub found-named : (es : List Entry) (id : Identifier) → All IsEntry es → lookup (is_at (identifier_cmp id)) es ≡ described_named id (values_of es)
+found-named [] id each = refl
+found-named (e ∷ es) id each =
+    let rest = found-named es id (All-tail IsEntry e es each) in
+    let entry = All-head IsEntry e es each in
+    let here : is_eq (identifier_cmp id e.0) ≡ same_identifier id e.1.id = ap (λ (k : Identifier). is_eq (identifier_cmp id k)) entry.0 ∙ sym (identifier_cmp-ties id e.1.id) in
+    λ i. cond (here i) (Some e.1) (rest i)
 
 -- whether the one that was found is the segment
 abbrev pub found_same : Option Described → Described → Bool
@@ -191,6 +202,10 @@ holds-is es d id vs o same h keyed view e =
     let here = ap (λ (k : Identifier). found_same (lookup (is_at (identifier_cmp k)) es) d) same in
     ap (λ found. found_same found d) e ∙ here ∙ sym (found-held es d h keyed.each (in_order (values_of es) keyed.set.sorted))
     ∙ ap (λ ds. list_any (λ x. same_described x d) ds) view
+
+pub find-is : (es : List Entry) (id : Identifier) (vs : List Described) (o : Option Described) → IsKeyed es → values_of es ≡ vs
+    → o ≡ lookup (is_at (identifier_cmp id)) es → o ≡ described_named id vs
+find-is es id vs o keyed view e = e ∙ found-named es id keyed.each ∙ ap (described_named id) view
 
 pub insert-is : (es new : List Entry) (d : Described) (id : Identifier) (vs : List Described) → id ≡ d.id → IsDescribed d → IsKeyed es → values_of es ≡ vs
     → new ≡ insert_entry identifier_cmp es id d → is_strict vs (Load d) ≡ true → has_room vs (Load d) ≡ true → IsKeyed new × (values_of new ≡ with_segment d vs)

@@ -1,6 +1,7 @@
 -- What a node keeps of its history, and which changes it records.
-use Rattle.std.specs.Prelude.{◌≡◌, ◌≤◌, ◌^◌, ◌-◌, ℕ, not, List, length, drop, Option, Some, None, ⊤, nat_le, if◌then◌else◌}
+use Rattle.std.specs.Prelude.{◌≡◌, ◌≤◌, ◌^◌, ◌-◌, ℕ, not, List, [], ◌∷◌, length, drop, Option, Some, None, ⊤, nat_le, if◌then◌else◌}
 use Rattle.std.specs.Option.{option_or}
+use Rattle.druid_segid.specs.Identifier.{Identifier, same_identifier}
 use Rattle.druid_shard.specs.Described.{Described}
 use Rattle.druid_shard.specs.Reply.{max_changes}
 use Rattle.druid_shard.specs.Replay.{is_strict, has_room, replay}
@@ -35,6 +36,11 @@ pub record IsKept (kept : Kept) : Type 0 where
   pub history : List Change
   pub stands : StandsFor kept history
 
+-- the descriptor of that identifier
+abbrev pub described_named : Identifier → List Described → Option Described
+described_named id [] = None
+described_named id (d ∷ more) = if same_identifier id d.id then Some d else described_named id more
+
 -- the greatest count
 abbrev pub last_count : ℕ
 last_count = 2 ^ 64 - 1
@@ -50,10 +56,13 @@ refusal_of_set set change =
     if not (is_strict set change) then Some (not_strict change)
     else (if not (has_room set change) then Some Full else None)
 
+-- why no change is recorded after so many
+abbrev pub refusal_of_count : ℕ → Option HistoryFault
+refusal_of_count count = if nat_le last_count count then Some CountAtEnd else None
+
 -- why the change is refused, whatever memory there is
 unfoldable pub refusal : Kept → Change → Option HistoryFault
-refusal kept change =
-    option_or (refusal_of_set kept.set change) (if nat_le last_count kept.count then Some CountAtEnd else None)
+refusal kept change = option_or (refusal_of_set kept.set change) (refusal_of_count kept.count)
 
 -- the change takes a segment out
 abbrev pub IsDrop : Change → Type 0

@@ -7,13 +7,13 @@ use thiserror::Error;
 /// Why a node records no change.
 #[derive(Clone, Copy, Debug, PartialEq, Eq, Drop, Error)]
 pub enum HistoryFault {
-    /// H1: a segment of that identifier is served.
+    /// H1: a segment or a tombstone of that identifier is served.
     #[error("H1: served already")]
     Served,
-    /// H2: no such segment is served.
+    /// H2: no such segment or tombstone is served.
     #[error("H2: not served")]
     NotServed,
-    /// H3: 20,000 segments are served.
+    /// H3: 20,000 segments and tombstones are served.
     #[error("H3: too many segments")]
     Full,
     /// H4: there were 2^64 - 1 changes.

@@ -1,20 +1,23 @@
 ghost use Rattle.std.specs.Prelude.{◌≡◌, ◌≢◌, ◌↔◌, ◌≤◌, ◌++◌, [], ◌∷◌, List, length, drop, Some, None, IsTrue, IfOk, IfErr, OnOk, OnErr, IsErrOf};
 ghost use Rattle.druid_shard.specs.Reply.{max_changes};
 ghost use Rattle.druid_shard.specs.Replay.{replay, IsSegmentSet};
+ghost use Rattle.std.specs.Option.{option_copied};
 ghost use Rattle.druid_shard.specs.declared.change.Change.{Change as Event};
+ghost use Rattle.druid_shard.specs.declared.change.Change.TheVariants.{Load, Drop as Dropped};
 ghost use Rattle.druid_shard.specs.declared.reply.Body.TheVariants.{Delta, Snapshot};
-ghost use Rattle.druid_changes.specs.Kept.{StandsFor, IsKept, IsDrop, refusal_of_set, refusal};
+ghost use Rattle.druid_changes.specs.Kept.{StandsFor, IsKept, IsDrop, described_named, refusal_of_set, refusal_of_count, refusal};
 ghost use Rattle.druid_changes.specs.Answer.{answer, HasCopies, cause_of, mark_behind};
 
 use crate::HistoryFault;
 use crate::segments::Segments;
 use circular_buffer::HeapCircularBuffer;
+use druid_segid::SegmentId;
 use druid_shard::{Ask, Cause, Change, Descriptor, MAX_SEGMENTS, Mark, Reply};
 use std::alloc::{AllocError, Global};
 use std::marker::Model;
 
-/// The changes of one incarnation of a node: how many there were, the set of segments after them, and the last of
-/// them, which brokers may ask for.
+/// The changes of one incarnation of a node: how many there were, the set of segments and tombstones after them, and the
+/// last of them, which brokers may ask for.
 ///
 /// A contract sees what is kept, and says for which histories this stands.
 #[derive(Debug, Drop)]
@@ -55,39 +58,75 @@ impl History {
         })
     }
 
-    // Why the set does not take the change.
-    fn refusal_of_set(&self, change: &Change) -> Option<HistoryFault>
-        ensures { result ≡ refusal_of_set self.now.set change.now }
+    /// What is served under that identifier: a segment or a tombstone.
+    pub fn find(&self, id: &SegmentId) -> Option<&Descriptor>
+        ensures value { option_copied result ≡ described_named id.now self.now.set }
+        ensures valid { IsSegmentSet self.now.set }
     {
-        match change {
-            Change::Load(segment) => {
-                if !self.segments.lacks(segment) {
-                    return Some(HistoryFault::Served);
-                }
-                if self.segments.len() >= MAX_SEGMENTS {
-                    return Some(HistoryFault::Full);
-                }
-                None
-            }
-            Change::Drop(segment) => {
-                if !self.segments.holds(segment) {
-                    return Some(HistoryFault::NotServed);
-                }
-                None
-            }
+        self.segments.find(id)
+    }
+
+    // Why the set does not take the load.
+    fn set_refusal_of_load(&self, segment: &Descriptor) -> Option<HistoryFault>
+        ensures { result ≡ refusal_of_set self.now.set (Load segment.now) }
+    {
+        if !self.segments.lacks(segment) {
+            return Some(HistoryFault::Served);
         }
+        if self.segments.len() >= MAX_SEGMENTS {
+            return Some(HistoryFault::Full);
+        }
+        None
+    }
+
+    // Why the set does not take the drop.
+    fn set_refusal_of_drop(&self, segment: &Descriptor) -> Option<HistoryFault>
+        ensures { result ≡ refusal_of_set self.now.set (Dropped segment.now) }
+    {
+        if !self.segments.holds(segment) {
+            return Some(HistoryFault::NotServed);
+        }
+        None
+    }
+
+    // Why no change is recorded after so many.
+    fn refusal_of_count(&self) -> Option<HistoryFault>
+        ensures { result ≡ refusal_of_count self.now.count }
+    {
+        if self.count == u64::MAX {
+            return Some(HistoryFault::CountAtEnd);
+        }
+        None
+    }
+
+    /// Why a load of the segment, or of the tombstone, would not be recorded, whatever memory there is: H1, H3 or H4, in
+    /// the order of `record`. Does not allocate.
+    #[tactic(auto, unfolding(crate::specs::Kept::refusal))]
+    pub fn refusal_of_load(&self, segment: &Descriptor) -> Option<HistoryFault>
+        ensures { result ≡ refusal self.now (Load segment.now) }
+    {
+        self.set_refusal_of_load(segment)
+            .or(self.refusal_of_count())
+    }
+
+    /// Why a drop of the segment, or of the tombstone, would not be recorded: H2 or H4, in the order of `record`. Does not
+    /// allocate.
+    #[tactic(auto, unfolding(crate::specs::Kept::refusal))]
+    pub fn refusal_of_drop(&self, segment: &Descriptor) -> Option<HistoryFault>
+        ensures { result ≡ refusal self.now (Dropped segment.now) }
+    {
+        self.set_refusal_of_drop(segment)
+            .or(self.refusal_of_count())
     }
 
     // Why the change is not recorded, whatever memory there is.
-    #[tactic(auto, unfolding(crate::specs::Kept::refusal))]
     fn refusal(&self, change: &Change) -> Option<HistoryFault>
         ensures { result ≡ refusal self.now change.now }
     {
-        let of_set = self.refusal_of_set(change);
-        if of_set.is_none() && self.count == u64::MAX {
-            return Some(HistoryFault::CountAtEnd);
+        match change {
+            Change::Load(segment) => self.refusal_of_load(segment),
+            Change::Drop(segment) => self.refusal_of_drop(segment),
         }
-        of_set
     }
 
     /// Whether it would record the change, if memory suffices. Does not allocate.
@@ -97,9 +136,9 @@ impl History {
         self.refusal(change).is_none()
     }
 
-    /// Records a change. For a load: H1 where a segment of that identifier is served, then H3 where 20,000 segments
-    /// are. For a drop: H2 where no such segment is served. Then H4 at a count of 2^64 - 1, and for a load H9 where
-    /// memory ran out. A refused change leaves all as it was.
+    /// Records a change. For a load: H1 where a segment or a tombstone of that identifier is served, then H3 where 20,000
+    /// of them are. For a drop: H2 where no such segment or tombstone is served. Then H4 at a count of 2^64 - 1, and for a
+    /// load H9 where memory ran out. A refused change leaves all as it was.
     pub fn record(&mut self, change: Change) -> Result<(), HistoryFault>
         ensures place { OnOk result ((self.new.incarnation ≡ self.old.incarnation) × (self.new.limit ≡ self.old.limit)) }
         ensures stands { OnOk result ((history : List Event) → StandsFor self.old history
@@ -133,7 +172,7 @@ impl History {
         Mark::new(self.incarnation, self.count)
     }
 
-    /// Copies of the segments that are served after its changes, by identifier.
+    /// Copies of the segments and tombstones that are served after its changes, by identifier.
     pub fn set(&self) -> Result<Vec<Descriptor>, AllocError>
         ensures value { IfOk result (λ segments. segments.items ≡ self.now.set) }
         ensures replayed { IfOk result (λ segments. (history : List Event) → StandsFor self.now history

@@ -1,7 +1,8 @@
 ghost use Rattle.std.specs.Prelude.{◌≡◌, [], length, IsTrue, IsOk, IfOk, OnOk, OnErr};
+ghost use Rattle.std.specs.Option.{option_copied};
 ghost use Rattle.druid_shard.specs.Replay.{IsSegmentSet, is_strict, has_room, after, with_segment, without_segment};
 ghost use Rattle.druid_shard.specs.declared.change.Change.TheVariants.{Load, Drop as Dropped};
-ghost use Rattle.druid_changes.specs.Kept.{IsDrop};
+ghost use Rattle.druid_changes.specs.Kept.{IsDrop, described_named};
 
 use druid_segid::SegmentId;
 use druid_shard::{Change, Descriptor};
@@ -9,7 +10,7 @@ use std::alloc::{AllocError, Global};
 use std::collections::BTreeMap;
 use std::marker::Model;
 
-// The segments that a node serves, by identifier. A contract sees the list of their descriptors in this order.
+// The segments and tombstones that a node serves, by identifier. A contract sees the list of their descriptors in this order.
 #[derive(Debug, Drop)]
 pub(crate) struct Segments {
     entries: BTreeMap<SegmentId, Descriptor>,
@@ -63,6 +64,16 @@ impl Segments {
             Some(held) => held == segment,
             None => false,
         }
+    }
+
+    // The segment of that identifier.
+    pub(crate) fn find(&self, id: &SegmentId) -> Option<&Descriptor>
+        ensures value { option_copied result ≡ described_named id.now self.now }
+        ensures set { IsSegmentSet self.now }
+    {
+        // For the proof: reading it exposes the invariant of its type.
+        let _ = self.entries.len();
+        self.entries.get(id)
     }
 
     // What the change makes of the set.

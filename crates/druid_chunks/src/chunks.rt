@@ -2,7 +2,7 @@ ghost use Rattle.std.specs.Prelude.{◌≡◌, ◌↔◌, ◌≤◌, ℕ, [], le
 ghost use Rattle.std.specs.List.{IsDistinct};
 ghost use Rattle.std.specs.List.Sorted.{IsStrictlyIncreasing};
 ghost use Rattle.druid_segid.specs.Group.{Group, group_of, same_group};
-ghost use Rattle.druid_members.specs.Members.{member_of, HoldsPlace, IsComplete, Adds, RemovesPlace, RemovesOne, AllAt, SameMembers};
+ghost use Rattle.druid_members.specs.Members.{member_of, HoldsPlace, ServesPlace, IsComplete, Adds, RemovesPlace, RemovesOne, AllAt, SameMembers};
 ghost use Rattle.druid_chunks.specs.Chunks.{AreChunks, members_at, HasNoChunk, IsOverlapOf};
 ghost use Rattle.druid_chunks.specs.Places.{AreInOrder};
 
@@ -134,7 +134,7 @@ impl Chunks {
         }
     }
 
-    /// The nodes that serve a segment, rising. It does not allocate.
+    /// The nodes that hold a segment, rising. It does not allocate.
     pub fn replicas(&self, id: &SegmentId) -> &[NodeNo]
         ensures rising { IsStrictlyIncreasing result.now }
         ensures nodes { (n : ℕ) → Contains result.now n
@@ -143,6 +143,19 @@ impl Chunks {
     {
         match self.chunk_of(id) {
             Some(chunk) => chunk.members().replicas(id.partition()),
+            None => &[],
+        }
+    }
+
+    /// The nodes that hold a segment as no tombstone, rising. It does not allocate.
+    pub fn served(&self, id: &SegmentId) -> &[NodeNo]
+        ensures rising { IsStrictlyIncreasing result.now }
+        ensures nodes { (n : ℕ) → Contains result.now n
+            ↔ ServesPlace (members_at self.now (group_of id.now)) id.now.partition n }
+        ensures chunks { AreChunks self.now }
+    {
+        match self.chunk_of(id) {
+            Some(chunk) => chunk.members().served(id.partition()),
             None => &[],
         }
     }
@@ -157,7 +170,7 @@ impl Chunks {
         overlaps_in(self.alloc, self.ordered(), id)
     }
 
-    /// Adds a segment, served by a node that does not serve it yet. A refusal changes nothing.
+    /// Adds a segment, held by a node that does not hold it yet. A refusal changes nothing.
     pub fn add(&mut self, descriptor: &Descriptor, node: NodeNo) -> Result<(), AllocError>
         requires { HoldsPlace (members_at self.old (group_of descriptor.now.id)) descriptor.now.id.partition node → ⊥ }
         ensures added { OnOk result (Adds (members_at self.old (group_of descriptor.now.id))

@@ -3,9 +3,10 @@ use Rattle.std.proofs.Common.{◌≡◌, ℕ, List, length, codes, Option, Some,
 use Rattle.std.proofs.lemmas.Option.{same_Some}
 use Rattle.serde_json.specs.Data.{Data}
 use Rattle.druid_time.specs.Options.{◌>>=◌}
+use Rattle.druid_segid.specs.Identifier.{Identifier}
 use Rattle.druid_shard.specs.Json.{text_at}
 use Rattle.druid_config.specs.Limits.{max_workers, max_kept}
-use Rattle.druid_config.specs.Configs.{Node, Broker, Asked, Told, node_of, name_at, address_at, some_at, count_at, loads_at, place_at, object_at, node_at, broker_at, query_at, nodes_at, brokers_at, queries_at, config_at}
+use Rattle.druid_config.specs.Configs.{Node, Broker, Asked, Told, node_of, name_at, address_at, some_at, count_at, loads_at, tombstones_at, place_at, object_at, node_at, broker_at, query_at, nodes_at, brokers_at, queries_at, config_at}
 
 -- what holds of each outcome of the step on the value holds of the step
 pub each_next : {A B : Type 0} (P : B → Type 0) (o : Option A) (f : A → Option B) → ((x : A) → o ≡ Some x → (y : B) → f x ≡ Some y → P y) → (y : B) → (o >>= f) ≡ Some y → P y
@@ -30,13 +31,18 @@ pub record NodeParts (d : Data) (node : Node) : Type 0 where
   pub address : address_at d ≡ Some node.address
   pub folder : text_at (codes "folder") d ≡ Some node.folder
   pub loads : loads_at d ≡ Some node.loads
+  pub tombstones : tombstones_at d ≡ Some node.tombstones
   pub workers : some_at max_workers (codes "workers") d ≡ Some node.workers
 
-abbrev node_last : Data → List ℕ → List ℕ → List ℕ → List (List ℕ) → Option Node
-node_last d name address folder loads = some_at max_workers (codes "workers") d >>= λ workers. Some (node_of name address folder loads workers)
+abbrev node_last : Data → List ℕ → List ℕ → List ℕ → List (List ℕ) → List Identifier → Option Node
+node_last d name address folder loads tombstones =
+    some_at max_workers (codes "workers") d >>= λ workers. Some (node_of name address folder loads tombstones workers)
+
+abbrev node_fifth : Data → List ℕ → List ℕ → List ℕ → List (List ℕ) → Option Node
+node_fifth d name address folder loads = tombstones_at d >>= node_last d name address folder loads
 
 abbrev node_fourth : Data → List ℕ → List ℕ → List ℕ → Option Node
-node_fourth d name address folder = loads_at d >>= node_last d name address folder
+node_fourth d name address folder = loads_at d >>= node_fifth d name address folder
 
 abbrev node_third : Data → List ℕ → List ℕ → Option Node
 node_third d name address = text_at (codes "folder") d >>= node_fourth d name address
@@ -50,9 +56,11 @@ node_parts d =
     each_next (NodeParts d) (name_at d) (node_second d)
     (λ name a. each_next (NodeParts d) (address_at d) (node_third d name)
     (λ address b. each_next (NodeParts d) (text_at (codes "folder") d) (node_fourth d name address)
-    (λ folder h. each_next (NodeParts d) (loads_at d) (node_last d name address folder)
-    (λ loads i. each_next (NodeParts d) (some_at max_workers (codes "workers") d) (λ workers. Some (node_of name address folder loads workers))
-    (λ workers j. given_so (NodeParts d) (node_of name address folder loads workers) (record { name = a; address = b; folder = h; loads = i; workers = j }))))))
+    (λ folder h. each_next (NodeParts d) (loads_at d) (node_fifth d name address folder)
+    (λ loads i. each_next (NodeParts d) (tombstones_at d) (node_last d name address folder loads)
+    (λ tombstones k. each_next (NodeParts d) (some_at max_workers (codes "workers") d) (λ workers. Some (node_of name address folder loads tombstones workers))
+    (λ workers j. given_so (NodeParts d) (node_of name address folder loads tombstones workers)
+    (record { name = a; address = b; folder = h; loads = i; tombstones = k; workers = j })))))))
 
 -- ---- brokers
 
@@ -144,6 +152,9 @@ name_reads d some = let read = node_reads d some in some_is (name_at d) read.0.n
 
 pub loads_read : (d : Data) → IsSome (node_at d) → IsSome (loads_at d)
 loads_read d some = let read = node_reads d some in some_is (loads_at d) read.0.loads read.1.loads
+
+pub tombstones_read : (d : Data) → IsSome (node_at d) → IsSome (tombstones_at d)
+tombstones_read d some = let read = node_reads d some in some_is (tombstones_at d) read.0.tombstones read.1.tombstones
 
 pub config_reads : (d : Data) → IsSome (config_at d) → (told : Told) × ConfigParts d told
 config_reads d some = let read = some_of (config_at d) some in (read.0, config_parts d read.0 read.1)

@@ -8,23 +8,27 @@ use Rattle.serde_json.specs.Find.{get, as_array, as_object, as_str}
 use Rattle.serde_json.specs.Written.{compact_text, has_float}
 use Rattle.druid_time.specs.Options.{◌>>=◌}
 use Rattle.druid_segid.specs.Names.{is_name}
+use Rattle.druid_segid.specs.Identifier.{Identifier}
 use Rattle.druid_segid.specs.Numbers as numbers
-use Rattle.druid_shard.specs.Json.{text_at, number_at}
+use Rattle.druid_shard.specs.Json.{text_at, number_at, source_at, interval_at, version_at}
 use Rattle.druid_shard.specs.Each.{each_of}
 use Rattle.druid_config.specs.Limits.{max_servers, max_workers, max_kept, max_count, max_port}
 
 -- ---- what a config tells
 
--- a data node: its name, where it listens, the path of its folder, the files that it loads, and how many threads answer
+-- a data node: its name, where it listens, the path of its folder, the files that it loads, the tombstones that it places, and
+-- how many threads answer
 pub record Node : Type 0 where
   pub name : List ℕ
   pub address : List ℕ
   pub folder : List ℕ
   pub loads : List (List ℕ)
+  pub tombstones : List Identifier
   pub workers : ℕ
 
-abbrev pub node_of : List ℕ → List ℕ → List ℕ → List (List ℕ) → ℕ → Node
-node_of name address folder loads workers = record { name = name; address = address; folder = folder; loads = loads; workers = workers }
+abbrev pub node_of : List ℕ → List ℕ → List ℕ → List (List ℕ) → List Identifier → ℕ → Node
+node_of name address folder loads tombstones workers =
+    record { name = name; address = address; folder = folder; loads = loads; tombstones = tombstones; workers = workers }
 
 -- a broker: where it listens, and how many threads answer
 pub record Broker : Type 0 where
@@ -129,14 +133,31 @@ list_at key d = option_and_then as_array (get key d)
 abbrev pub loads_at : Data → Option (List (List ℕ))
 loads_at d = option_and_then (each_of as_str) (list_at (codes "loads") d)
 
+-- a tombstone: the source, the interval and the version of a chunk, which it is the one partition of
+unfoldable pub tombstone_at : Data → Option Identifier
+tombstone_at d = do
+  source ← source_at d
+  interval ← interval_at d
+  version ← version_at d
+  Some (record { source = source; interval = interval; version = version; partition = 0 })
+
+-- the tombstones that a node places: none where there is no such key
+abbrev pub tombstones_in : Option Data → Option (List Identifier)
+tombstones_in None = Some []
+tombstones_in (Some d) = option_and_then (each_of tombstone_at) (as_array d)
+
+abbrev pub tombstones_at : Data → Option (List Identifier)
+tombstones_at d = tombstones_in (get (codes "tombstones") d)
+
 unfoldable pub node_at : Data → Option Node
 node_at d = do
   name ← name_at d
   address ← address_at d
   folder ← text_at (codes "folder") d
   loads ← loads_at d
+  tombstones ← tombstones_at d
   workers ← some_at max_workers (codes "workers") d
-  Some (node_of name address folder loads workers)
+  Some (node_of name address folder loads tombstones workers)
 
 unfoldable pub broker_at : Data → Option Broker
 broker_at d = do

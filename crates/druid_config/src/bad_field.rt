@@ -68,6 +68,9 @@ pub enum NodeRule {
     /// `loads` is a list of texts.
     #[error("loads: not a list of texts")]
     Loads,
+    /// `tombstones` is absent, or a list of chunks, each by its source, interval and version.
+    #[error("tombstones: not a list of objects with dataSource, interval and version")]
+    Tombstones,
     /// `workers` is such a number.
     #[error("workers: not a number from 1 to 16")]
     Workers,

@@ -5,13 +5,14 @@ ghost use Rattle.serde_json.specs.Find.{as_str};
 ghost use Rattle.serde_json.specs.Read.{max_depth};
 ghost use Rattle.serde_json.specs.View.{view, items_view};
 ghost use Rattle.druid_shard.specs.Each.{each_of};
-ghost use Rattle.druid_config.specs.Configs.{asked_of, told_of, name_at, loads_at, node_at, broker_at, query_at, nodes_at, brokers_at, queries_at, config_at};
+ghost use Rattle.druid_config.specs.Configs.{asked_of, told_of, name_at, loads_at, tombstone_at, tombstones_at, node_at, broker_at, query_at, nodes_at, brokers_at, queries_at, config_at};
 
 use crate::fields::{
-    address_field, count_field, list_field, name_field, object_field, place_field, some_field,
+    address_field, chunk_field, count_field, list_field, name_field, object_field, place_field,
+    some_field,
 };
 use crate::{BrokerConfig, Config, MAX_KEPT, MAX_WORKERS, NodeConfig, QueryConfig};
-use druid_segid::{IdFault, Name};
+use druid_segid::{IdFault, Name, SegmentId, Version};
 use druid_shard::text_field;
 use serde_json::Value;
 use std::alloc::{AllocError, Global};
@@ -42,6 +43,49 @@ fn loads_of(alloc: Global, value: &Value) -> Result<Vec<String>, AllocError>
     texts_of(alloc, values)
 }
 
+// The segment of a tombstone: the one partition of its chunk.
+fn tombstone_of(alloc: Global, value: &Value) -> Result<SegmentId, AllocError>
+    requires { IsSome (tombstone_at (view value.now)) }
+    ensures { IfOk result (λ id. tombstone_at (view value.now) ≡ Some id) }
+{
+    let Some(chunk) = chunk_field(value) else {
+        unreachable!()
+    };
+    let Ok(source) = Name::new(alloc, chunk.source) else {
+        return Err(AllocError);
+    };
+    let Ok(version) = Version::new(alloc, chunk.version) else {
+        return Err(AllocError);
+    };
+    Ok(SegmentId::new(source, chunk.interval, version, 0))
+}
+
+// The tombstones that values are.
+fn tombstone_list(alloc: Global, values: &[Value]) -> Result<Vec<SegmentId>, AllocError>
+    requires { IsSome (each_of tombstone_at (items_view values.now)) }
+    ensures { IfOk result (λ ids. each_of tombstone_at (items_view values.now) ≡ Some ids.items) }
+{
+    let mut ids = Vec::with_capacity(alloc, values.len())?;
+    for value in values {
+        ids.push(tombstone_of(alloc, value)?)?;
+    }
+    Ok(ids)
+}
+
+// The tombstones that a node places.
+fn tombstones_of(alloc: Global, value: &Value) -> Result<Vec<SegmentId>, AllocError>
+    requires { IsSome (tombstones_at (view value.now)) }
+    ensures { IfOk result (λ ids. tombstones_at (view value.now) ≡ Some ids.items) }
+{
+    let Some(list) = value.get("tombstones") else {
+        return Ok(Vec::new(alloc));
+    };
+    let Some(values) = list.as_array() else {
+        unreachable!()
+    };
+    tombstone_list(alloc, values)
+}
+
 // The name of a node.
 fn name_of(alloc: Global, value: &Value) -> Result<Name, AllocError>
     requires { IsSome (name_at (view value.now)) }
@@ -58,7 +102,7 @@ fn name_of(alloc: Global, value: &Value) -> Result<Name, AllocError>
 }
 
 // A node.
-#[tactic(auto, using(crate::proofs::PartLemmas::name_reads, crate::proofs::PartLemmas::loads_read), unfolding(crate::specs::Configs::node_at))]
+#[tactic(auto, using(crate::proofs::PartLemmas::name_reads, crate::proofs::PartLemmas::loads_read, crate::proofs::PartLemmas::tombstones_read), unfolding(crate::specs::Configs::node_at))]
 fn node_of(alloc: Global, value: &Value) -> Result<NodeConfig, AllocError>
     requires { IsSome (node_at (view value.now)) }
     ensures { IfOk result (λ node. node_at (view value.now) ≡ Some node) }
@@ -71,12 +115,13 @@ fn node_of(alloc: Global, value: &Value) -> Result<NodeConfig, AllocError>
         unreachable!()
     };
     let loads = loads_of(alloc, value)?;
+    let tombstones = tombstones_of(alloc, value)?;
     let Some(workers) = some_field(value, "workers", MAX_WORKERS) else {
         unreachable!()
     };
     let address = String::from_str(alloc, address)?;
     let folder = String::from_str(alloc, folder)?;
-    Ok(NodeConfig::new(name, address, folder, loads, workers))
+    Ok(NodeConfig::new(name, address, folder, loads, tombstones, workers))
 }
 
 // A broker.

@@ -2,7 +2,7 @@
 ghost use Rattle.std.specs.Prelude.{◌≡◌, ◌<◌, All, IfOk, length, map, string_bytes};
 ghost use Rattle.druid_config.specs.Configs.{IsNode, IsBroker, IsCompact, IsObject, IsWithinLimits, asked_of, node_of, names_of, cluster_of, told_of};
 
-use druid_segid::Name;
+use druid_segid::{Name, SegmentId};
 use std::alloc::{AllocError, Global};
 use std::marker::Model;
 
@@ -28,6 +28,7 @@ pub struct NodeConfig {
     address: String,
     folder: String,
     loads: Vec<String>,
+    tombstones: Vec<SegmentId>,
     workers: u16,
 }
 
@@ -37,9 +38,9 @@ impl Model for NodeConfig {
 
     ghost Value = { Node };
 
-    ghost view = { λ a. node_of a.name (string_bytes a.address) (string_bytes a.folder) (map string_bytes a.loads.items) a.workers };
+    ghost view = { λ a. node_of a.name (string_bytes a.address) (string_bytes a.folder) (map string_bytes a.loads.items) a.tombstones.items a.workers };
 
-    ghost invariant = { λ a. IsNode (node_of a.name (string_bytes a.address) (string_bytes a.folder) (map string_bytes a.loads.items) a.workers) };
+    ghost invariant = { λ a. IsNode (node_of a.name (string_bytes a.address) (string_bytes a.folder) (map string_bytes a.loads.items) a.tombstones.items a.workers) };
 }
 
 impl NodeConfig {
@@ -49,16 +50,18 @@ impl NodeConfig {
         address: String,
         folder: String,
         loads: Vec<String>,
+        tombstones: Vec<SegmentId>,
         workers: u16,
     ) -> NodeConfig
-        requires { IsNode (node_of name (string_bytes address) (string_bytes folder) (map string_bytes loads.items) workers) }
-        ensures { result ≡ node_of name (string_bytes address) (string_bytes folder) (map string_bytes loads.items) workers }
+        requires { IsNode (node_of name (string_bytes address) (string_bytes folder) (map string_bytes loads.items) tombstones.items workers) }
+        ensures { result ≡ node_of name (string_bytes address) (string_bytes folder) (map string_bytes loads.items) tombstones.items workers }
     {
         NodeConfig {
             name,
             address,
             folder,
             loads,
+            tombstones,
             workers,
         }
     }
@@ -91,6 +94,13 @@ impl NodeConfig {
         ensures { map string_bytes result.now ≡ self.now.loads }
     {
         self.loads.as_slice()
+    }
+
+    /// The chunks that it places tombstones of, in order: each by a segment of partition 0.
+    pub fn tombstones(&self) -> &[SegmentId]
+        ensures { result.now ≡ self.now.tombstones }
+    {
+        self.tombstones.as_slice()
     }
 
     /// How many threads answer, 1 to 16.

@@ -3,12 +3,15 @@ ghost use Rattle.std.specs.Prelude.{◌≡◌, ◌≤◌, IsTrue, IfSome, option
 ghost use Rattle.serde_json.specs.View.{view, items_view};
 ghost use Rattle.druid_segid.specs.Names.{is_name};
 ghost use Rattle.druid_segid.specs.Numbers as numbers;
-ghost use Rattle.druid_config.specs.Configs.{is_port, is_address, address_at, name_at, some_at, count_at, list_at, place_at, object_at};
+ghost use Rattle.druid_config.specs.Configs.{is_port, is_address, address_at, name_at, tombstone_at, some_at, count_at, list_at, place_at, object_at};
+ghost use Rattle.druid_shard.specs.Json.{source_at, interval_at, version_at};
 
 use crate::{MAX_COUNT, MAX_PORT};
-use druid_segid::{Name, number_of};
+use druid_segid::{Name, Version, number_of};
 use druid_shard::{number_field, text_field};
+use druid_time::Interval;
 use serde_json::Value;
+use std::marker::Model;
 
 // Whether digits are those of a port.
 fn is_port(digits: &[u8]) -> bool
@@ -50,6 +53,65 @@ pub(crate) fn name_field(value: &Value) -> Option<&str>
     } else {
         None
     }
+}
+
+// The chunk that JSON names for a tombstone, with borrowed texts.
+#[derive(Drop)]
+pub(crate) struct NamedChunk<'a> {
+    pub(crate) source: &'a str,
+    pub(crate) interval: Interval,
+    pub(crate) version: &'a str,
+}
+
+impl<'a> Model for NamedChunk<'a> {
+    ghost use Rattle.druid_segid.specs.Identifier.{Identifier};
+
+    ghost Value = { Identifier };
+
+    ghost view = { λ a. record { source = a.source.now; interval = a.interval; version = a.version.now; partition = 0 } };
+}
+
+fn source_field(value: &Value) -> Option<&str>
+    ensures { option_map (λ s. s.now) result ≡ source_at (view value.now) }
+{
+    let text = text_field(value, "dataSource")?;
+    if Name::accepts(text) {
+        Some(text)
+    } else {
+        None
+    }
+}
+
+fn interval_field(value: &Value) -> Option<Interval>
+    ensures { result ≡ interval_at (view value.now) }
+{
+    Interval::parse(text_field(value, "interval")?).ok()
+}
+
+fn version_field(value: &Value) -> Option<&str>
+    ensures { option_map (λ s. s.now) result ≡ version_at (view value.now) }
+{
+    let text = text_field(value, "version")?;
+    if Version::accepts(text) {
+        Some(text)
+    } else {
+        None
+    }
+}
+
+// The chunk of a tombstone.
+#[tactic(auto, unfolding(crate::specs::Configs::tombstone_at))]
+pub(crate) fn chunk_field(value: &Value) -> Option<NamedChunk<'_>>
+    ensures { result ≡ tombstone_at (view value.now) }
+{
+    let source = source_field(value)?;
+    let interval = interval_field(value)?;
+    let version = version_field(value)?;
+    Some(NamedChunk {
+        source,
+        interval,
+        version,
+    })
 }
 
 // The number at a key, where it is 1 at least and at most the limit.

@@ -7,12 +7,13 @@ ghost use Rattle.serde_json.specs.Data.{Data, Items};
 ghost use Rattle.serde_json.specs.View.{view, items_view};
 ghost use Rattle.serde_json.specs.Find.{as_str, get_item};
 ghost use Rattle.druid_config.specs.BadFields.{BreaksNode, BreaksBroker, BreaksQuery, IsWrong};
-ghost use Rattle.druid_config.specs.Configs.{Broker, name_at, loads_at, node_at, broker_at, query_at, are_few, are_distinct, nodes_in, brokers_in, list_at, nodes_at, brokers_at, queries_at, config_at};
+ghost use Rattle.druid_config.specs.Configs.{Broker, name_at, loads_at, tombstone_at, tombstones_at, node_at, broker_at, query_at, are_few, are_distinct, nodes_in, brokers_in, list_at, nodes_at, brokers_at, queries_at, config_at};
 ghost use Rattle.druid_config.specs.Lent.{text_or, names_in};
 
 use crate::bad_field::{BadField, BrokerRule, NodeRule, QueryRule, WholeRule};
 use crate::fields::{
-    address_field, count_field, list_field, name_field, object_field, place_field, some_field,
+    address_field, chunk_field, count_field, list_field, name_field, object_field, place_field,
+    some_field,
 };
 use crate::{MAX_KEPT, MAX_SERVERS, MAX_WORKERS};
 use druid_shard::text_field;
@@ -36,6 +37,27 @@ fn has_loads(value: &Value) -> bool
     }
 }
 
+// Whether each value names the chunk of a tombstone.
+fn are_chunks(values: &[Value]) -> bool
+    ensures { result ≡ list_all (λ value. is_some (tombstone_at (view value))) values.now }
+{
+    values.iter().all(|value| chunk_field(value).is_some())
+}
+
+// Whether the tombstones that a node places are named, or it places none.
+#[tactic(auto, using(crate::proofs::FormLemmas::chunks_judged))]
+fn has_tombstones(value: &Value) -> bool
+    ensures { result ≡ is_some (tombstones_at (view value.now)) }
+{
+    let Some(list) = value.get("tombstones") else {
+        return true;
+    };
+    match list.as_array() {
+        Some(values) => are_chunks(values),
+        None => false,
+    }
+}
+
 // The first field of a value that is no node's.
 #[tactic(auto, unfolding(crate::specs::Configs::node_at))]
 fn node_rule(value: &Value) -> Option<NodeRule>
@@ -54,6 +76,9 @@ fn node_rule(value: &Value) -> Option<NodeRule>
     }
     if !has_loads(value) {
         return Some(NodeRule::Loads);
+    }
+    if !has_tombstones(value) {
+        return Some(NodeRule::Tombstones);
     }
     if some_field(value, "workers", MAX_WORKERS).is_none() {
         return Some(NodeRule::Workers);

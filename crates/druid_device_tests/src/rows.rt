@@ -137,6 +137,7 @@ fn row(rt: &impl Abort, alloc: Global, ms: &str, values: &str, counts: &str) -> 
 
 fn code(fault: RowFault) -> &'static str {
     match fault {
+        RowFault::Tombstone => "U5",
         RowFault::BadSchema => "U1",
         RowFault::RowOutside => "U2",
         RowFault::RowShape => "U3",
@@ -220,7 +221,8 @@ fn one_row(rt: HostRuntime) {
     }
 }
 
-const TEXTS_OF_FAULTS: [(RowFault, &str); 5] = [
+const TEXTS_OF_FAULTS: [(RowFault, &str); 6] = [
+    (RowFault::Tombstone, "U5: a tombstone"),
     (RowFault::BadSchema, "U1: a bad schema"),
     (RowFault::RowOutside, "U2: a row outside the interval"),
     (RowFault::RowShape, "U3: a row of another shape"),
@@ -231,6 +233,25 @@ const TEXTS_OF_FAULTS: [(RowFault, &str); 5] = [
 #[test]
 fn printed_faults(rt: HostRuntime) {
     assert_prints(&rt, rt.alloc(), &TEXTS_OF_FAULTS);
+}
+
+// A tombstone has no rows, whatever schema is given.
+#[test]
+fn tombstones_are_no_segments(rt: HostRuntime) {
+    let alloc = rt.alloc();
+    for metric in ["n", "x"] {
+        let tombstone = Descriptor::tombstone(segment_id(&rt, alloc)).expect(&rt, "partition 0");
+        let built = SegmentBuilder::new(alloc, tombstone, schema(&rt, alloc, "x", metric));
+        assert!(rt; told(built) == "U5");
+        let tombstone = Descriptor::tombstone(segment_id(&rt, alloc)).expect(&rt, "partition 0");
+        let made = Segment::new(
+            alloc,
+            tombstone,
+            schema(&rt, alloc, "x", metric),
+            Vec::new(alloc),
+        );
+        assert!(rt; told(made) == "U5");
+    }
 }
 
 // Whether the readers of a segment tell this of a row.

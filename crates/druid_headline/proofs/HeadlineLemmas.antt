@@ -66,8 +66,8 @@ pub served : (world : List Life) (inventory : List Entry) (source : List ℕ) (s
     → AreServedAt world (marks_of inventory) source segments → AreServed inventory source segments
 served world inventory source segments of_world at = record {
   own = at.own;
-  each = λ s there. let f = at.each s there in (f.0, f.1, from_world world inventory f.0 f.1 of_world f.2, f.3, f.4);
-  all = λ node d serves of_source. at.all node d (to_world world inventory node d of_world serves) of_source;
+  each = λ s there. let f = at.each s there in (f.0, f.1, from_world world inventory f.0 f.1 of_world f.2, f.3, f.4, f.5);
+  all = λ node d serves of_source rows. at.all node d (to_world world inventory node d of_world serves) of_source rows;
 }
 
 pub holding : (world : List Life) (inventory : List Entry) (source : List ℕ) (held : List Held) → IsInventoryOf world inventory

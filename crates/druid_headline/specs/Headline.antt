@@ -1,6 +1,6 @@
 -- What a user of a broker relies on: what nodes serve in a world at the marks at which the broker stands, and the rows that are
 -- visible there.
-use Rattle.std.specs.Prelude.{◌≡◌, ◌<◌, ℕ, Bool, true, List, [], length, slice_get, Some, Ok, Contains, ◌↔◌, codes, bytes_eq}
+use Rattle.std.specs.Prelude.{◌≡◌, ◌<◌, ℕ, Bool, true, false, List, [], length, slice_get, Some, Ok, Contains, ◌↔◌, codes, bytes_eq}
 use Rattle.druid_changes.specs.Kept.{StandsFor}
 use Rattle.druid_shard.specs.Described.{Described, IsDescribed}
 use Rattle.druid_shard.specs.Mark.{Point}
@@ -36,12 +36,14 @@ IsHeldAt world marks source held =
     (x : Held) → Contains held x
     ↔ ((node : ℕ) × (d : Described) × ServesAt world marks node d × (d.id.source ≡ source) × (x ≡ held_of node d))
 
--- these are the segments of the source that nodes serve, one of each identifier, however many nodes serve it
+-- these are the segments of the source whose rows nodes serve, one of each identifier, however many nodes serve it: a tombstone
+-- has no rows
 pub record AreServedAt (world : List Life) (marks : List Point) (source : List ℕ) (segments : List Segment) : Type 0 where
   pub own : HaveOwnSegments segments
   pub each : (s : Segment) → Contains segments s
       → (node : ℕ) × (d : Described) × ServesAt world marks node d × (d.id ≡ s.descriptor.id) × (s.descriptor.id.source ≡ source)
-  pub all : (node : ℕ) (d : Described) → ServesAt world marks node d → d.id.source ≡ source
+      × (d.tombstone ≡ false)
+  pub all : (node : ℕ) (d : Described) → ServesAt world marks node d → d.id.source ≡ source → d.tombstone ≡ false
       → (s : Segment) × Contains segments s × (s.descriptor.id ≡ d.id)
 
 -- of the pieces that are asked for, those of a segment that is held are of a segment of the list: what a node holds besides does

@@ -16,7 +16,7 @@ use Rattle.std.proofs.lemmas.Map.Views.{btree_map_contains_key_iff}
 use Rattle.druid_segid.proofs.OrderLemmas.{nat_cmp-eq, nat_cmp-gt}
 use Rattle.druid_shard.proofs.MemberLemmas.{Contains-nil, Contains-cons, Contains-later}
 use Rattle.druid_members.specs.Members.{SameMembers}
-use Rattle.druid_members.specs.Slots.{members_in, NoneEmpty, kept_below}
+use Rattle.druid_members.specs.Slots.{Replica, members_in, NoneEmpty, kept_below}
 use Rattle.druid_members.proofs.SlotLemmas.{Slots, KeepsOthers, kept-HasPartition}
 
 abbrev pub one_if : Bool → ℕ
@@ -48,7 +48,7 @@ kept_below-whole m (suc n) all = by (is_some (tree.get nat_cmp m n)) (all n (ome
 
 -- ---- a change of one partition
 
-same_bit : (a b : Option (List (ℕ × ℕ))) → (IsSome a ↔ IsSome b) → is_some a ≡ is_some b
+same_bit : (a b : Option (List Replica)) → (IsSome a ↔ IsSome b) → is_some a ≡ is_some b
 same_bit None None h = refl
 same_bit None (Some s) h = absurd (false≢true (h.1 refl))
 same_bit (Some s) None h = absurd (false≢true (h.0 refl))
@@ -98,20 +98,20 @@ kept_below-more m n p (suc k) kept l was now = by (cases_eq k p) (λ less. kept_
       omega (arith, below, a, b)
   by (inr other) rest =
       let below = rest (omega arith) in
-      let a : one_if (is_some (tree.get nat_cmp n k)) ≡ one_if (is_some (tree.get nat_cmp m k)) = ap (λ (o : Option (List (ℕ × ℕ))). one_if (is_some o)) (kept k other) in
+      let a : one_if (is_some (tree.get nat_cmp n k)) ≡ one_if (is_some (tree.get nat_cmp m k)) = ap (λ (o : Option (List Replica)). one_if (is_some o)) (kept k other) in
       omega (arith, below, a)
 
 -- ---- counted by a walk
 
 abbrev pub Entries : Type 0
-Entries = List (ℕ × List (ℕ × ℕ))
+Entries = List (ℕ × List Replica)
 
 abbrev pub counted : ℕ → Entries → ℕ
 counted n [] = 0
 counted n (e ∷ es) = one_if (nat_lt e.0 n) + counted n es
 
 abbrev keys_in : Entries → List ℕ
-keys_in es = map (λ (e : ℕ × List (ℕ × ℕ)). e.0) es
+keys_in es = map (λ (e : ℕ × List Replica). e.0) es
 
 bit_yes : (k n : ℕ) → k < n → one_if (nat_lt k n) ≡ 1
 bit_yes k n l = ap one_if (lt-ltb k n l)
@@ -179,7 +179,7 @@ counted-kept m om (suc n) = by (is_some (tree.get nat_cmp m n)) refl (counted-ke
   by false e rest =
       let a = counted-out m.entries n (λ there. false≢true (sym e ∙ (btree_map_contains_key_iff nat_cmp_total exact_unsigned m n).1 there)) in omega (arith, a, rest)
 
-pub counted-more : (e : ℕ × List (ℕ × ℕ)) (es : Entries) (n : ℕ) → e.0 < n → counted n (e ∷ es) ≡ counted n es + 1
+pub counted-more : (e : ℕ × List Replica) (es : Entries) (n : ℕ) → e.0 < n → counted n (e ∷ es) ≡ counted n es + 1
 counted-more e es n l = let a = bit_yes e.0 n l in omega (arith, a)
 
 -- ---- two tests that agree, or not

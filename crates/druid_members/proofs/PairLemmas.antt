@@ -1,5 +1,6 @@
 -- Lists of numbers in order, and pairs of lists.
-use Rattle.std.proofs.Common.{◌≡◌, ◌+◌, ◌-◌, ◌<◌, ◌≤◌, ◌⊎◌, ◌↔◌, ℕ, zero, suc, List, [], ◌∷◌, length, get_or, map, refl, sym, ap, ◌∙◌, subst, inl, inr, arith}
+use Rattle.std.proofs.Common.{false, ◌≡◌, ◌+◌, ◌-◌, ◌<◌, ◌≤◌, ◌⊎◌, ◌↔◌, ℕ, zero, suc, List, [], ◌∷◌, length, get_or, map, refl, sym, ap, ◌∙◌, subst, inl, inr, arith}
+use Rattle.std.specs.Bool.{IsTrue}
 use Rattle.std.specs.List.{insert, remove, zip, Contains}
 use Rattle.std.specs.List.Sorted.{IsStrictlyIncreasing, IsPermutation}
 use Rattle.std.proofs.lemmas.Bool.{cases_order}
@@ -8,6 +9,10 @@ use Rattle.std.proofs.lemmas.List.Edits.{length-insert, length-remove, get_or-in
 use Rattle.std.proofs.lemmas.List.Kept.{AllPairs-from_increasing}
 use Rattle.std.proofs.lemmas.List.Sorted.{IsPermutation-remove, IsPermutation-sym, Contains-permutation}
 use Rattle.druid_shard.proofs.MemberLemmas.{Contains-cons, Contains-later, Contains-map_back}
+use Rattle.druid_members.specs.Slots.{Statement, Replica, Serves}
+
+abbrev pub no_replica : Replica
+no_replica = (0, record { core = 0; serves = false })
 
 -- ---- a number at its place
 
@@ -117,29 +122,29 @@ absent-remove xs i n up li at (k, l, e) =
     ]
 
 -- of pairs whose first numbers rise, all but those of the number that is taken out stay
-pub Contains-remove : (ps : List (ℕ × ℕ)) (i n : ℕ) → IsStrictlyIncreasing (map (λ (p : ℕ × ℕ). p.0) ps) → i < length ps → get_or (map (λ (p : ℕ × ℕ). p.0) ps) i 0 ≡ n → (x : ℕ × ℕ)
+pub Contains-remove : (ps : List Replica) (i n : ℕ) → IsStrictlyIncreasing (map (λ (p : Replica). p.0) ps) → i < length ps → get_or (map (λ (p : Replica). p.0) ps) i 0 ≡ n → (x : Replica)
     → Contains (remove ps i) x ↔ (Contains ps x × (x.0 ≡ n → ⊥))
 Contains-remove ps i n up li at x = (forth, back) where
-  out : ℕ × ℕ
-  out = get_or ps i (0, 0)
+  out : Replica
+  out = get_or ps i no_replica
 
   first : out.0 ≡ n
-  first = sym (get_or-map (λ (p : ℕ × ℕ). p.0) ps i (0, 0) 0 li) ∙ at
+  first = sym (get_or-map (λ (p : Replica). p.0) ps i no_replica 0 li) ∙ at
 
   moved : IsPermutation ps (out ∷ remove ps i)
-  moved = IsPermutation-remove ps i out li (get_or_default ps i (0, 0) out li)
+  moved = IsPermutation-remove ps i out li (get_or_default ps i no_replica out li)
 
   forth : Contains (remove ps i) x → Contains ps x × (x.0 ≡ n → ⊥)
   forth there = (
     Contains-permutation (out ∷ remove ps i) ps x (IsPermutation-sym _ _ moved) (Contains-later out (remove ps i) x there),
-    λ same. absent-remove (map (λ (p : ℕ × ℕ). p.0) ps) i n up (subst (λ (k : ℕ). i < k) (sym (length-map ps (λ (p : ℕ × ℕ). p.0))) li) at
-        (subst (λ (k : ℕ). Contains (remove (map (λ (p : ℕ × ℕ). p.0) ps) i) k) same
-        (subst (λ (ks : List ℕ). Contains ks x.0) (map-remove (λ (p : ℕ × ℕ). p.0) ps i) (Contains-map_back (λ (p : ℕ × ℕ). p.0) (remove ps i) x there))),
+    λ same. absent-remove (map (λ (p : Replica). p.0) ps) i n up (subst (λ (k : ℕ). i < k) (sym (length-map ps (λ (p : Replica). p.0))) li) at
+        (subst (λ (k : ℕ). Contains (remove (map (λ (p : Replica). p.0) ps) i) k) same
+        (subst (λ (ks : List ℕ). Contains ks x.0) (map-remove (λ (p : Replica). p.0) ps i) (Contains-map_back (λ (p : Replica). p.0) (remove ps i) x there))),
   )
 
   back : Contains ps x × (x.0 ≡ n → ⊥) → Contains (remove ps i) x
   back (there, other) = elim (Contains-cons out (remove ps i) x (Contains-permutation ps (out ∷ remove ps i) x moved there)) [
-    | inl same ↦ absurd (other (sym (ap (λ (p : ℕ × ℕ). p.0) same) ∙ first))
+    | inl same ↦ absurd (other (sym (ap (λ (p : Replica). p.0) same) ∙ first))
     | inr later ↦ later
   ]
 
@@ -162,18 +167,56 @@ Contains-taken {X} xs i out li at x = (forth, back) where
       Contains-permutation (out ∷ remove xs i) xs x (IsPermutation-sym _ _ moved) (Contains-later out (remove xs i) x there)
 
 -- pairs whose first numbers rise are distinguished by them
-pub rising-once : (ps : List (ℕ × ℕ)) → IsStrictlyIncreasing (map (λ (p : ℕ × ℕ). p.0) ps) → (x y : ℕ × ℕ) → Contains ps x → Contains ps y → x.0 ≡ y.0 → x ≡ y
+pub rising-once : (ps : List Replica) → IsStrictlyIncreasing (map (λ (p : Replica). p.0) ps) → (x y : Replica) → Contains ps x → Contains ps y → x.0 ≡ y.0 → x ≡ y
 rising-once ps up x y (i, li, ei) (j, lj, ej) same = elim (cases_order i j) [
   | inl level ↦ sym ei ∙ get_or_default ps i x y li ∙ ap (λ (k : ℕ). get_or ps k y) level ∙ ej
   | inr (inl below) ↦ absurd (let l = apart i j below lj in let a = at i x li ei in let b = at j y lj ej in omega arith)
   | inr (inr above) ↦ absurd (let l = apart j i above li in let a = at i x li ei in let b = at j y lj ej in omega arith)
 ] where
   firsts : List ℕ
-  firsts = map (λ (p : ℕ × ℕ). p.0) ps
+  firsts = map (λ (p : Replica). p.0) ps
 
-  at : (k : ℕ) (z : ℕ × ℕ) → k < length ps → get_or ps k z ≡ z → get_or firsts k 0 ≡ z.0
-  at k z l e = get_or-map (λ (p : ℕ × ℕ). p.0) ps k z 0 l ∙ ap (λ (p : ℕ × ℕ). p.0) e
+  at : (k : ℕ) (z : Replica) → k < length ps → get_or ps k z ≡ z → get_or firsts k 0 ≡ z.0
+  at k z l e = get_or-map (λ (p : Replica). p.0) ps k z 0 l ∙ ap (λ (p : Replica). p.0) e
 
   apart : (k l : ℕ) → k < l → l < length ps → get_or firsts k 0 < get_or firsts l 0
   apart k l below short =
-      AllPairs-from_increasing firsts up k l 0 below (subst (λ (n : ℕ). l < n) (sym (length-map ps (λ (p : ℕ × ℕ). p.0))) short)
+      AllPairs-from_increasing firsts up k l 0 below (subst (λ (n : ℕ). l < n) (sym (length-map ps (λ (p : Replica). p.0))) short)
+
+-- of rising numbers, all but the one that is taken out stay
+pub Contains-removed : (xs : List ℕ) (i n : ℕ) → IsStrictlyIncreasing xs → i < length xs → get_or xs i 0 ≡ n → (k : ℕ) → Contains (remove xs i) k ↔ (Contains xs k × (k ≡ n → ⊥))
+Contains-removed xs i n up li at k =
+    let taken = Contains-taken xs i n li (sym at ∙ get_or_default xs i 0 n li) k in (
+      λ there. (taken.1 (inr there), λ same. absent-remove xs i k up li (at ∙ sym same) there),
+      λ both. elim (taken.0 both.0) [
+        | inl same ↦ absurd (both.1 same)
+        | inr later ↦ later
+      ],
+    )
+
+-- ---- the nodes that serve
+
+pub Serves-adds : (old new : List Replica) (node : ℕ) (stated : Statement) → ((x : Replica) → Contains new x ↔ ((x ≡ (node, stated)) ⊎ Contains old x)) → (n : ℕ) → Serves new n ↔ (((n ≡ node) × IsTrue stated.serves) ⊎ Serves old n)
+Serves-adds old new node stated added n = (forth, back) where
+  forth : Serves new n → ((n ≡ node) × IsTrue stated.serves) ⊎ Serves old n
+  forth (r, there, at_n, serves) = elim ((added r).0 there) [
+    | inl same ↦ inl (sym at_n ∙ ap (λ (x : Replica). x.0) same, sym (ap (λ (x : Replica). x.1.serves) same) ∙ serves)
+    | inr before ↦ inr (r, before, at_n, serves)
+  ]
+
+  back : ((n ≡ node) × IsTrue stated.serves) ⊎ Serves old n → Serves new n
+  back (inl (same, serves)) = ((node, stated), (added (node, stated)).1 (inl refl), sym same, serves)
+  back (inr (r, there, at_n, serves)) = (r, (added r).1 (inr there), at_n, serves)
+
+pub Serves-removes : (old new : List Replica) (node : ℕ) → ((x : Replica) → Contains new x ↔ (Contains old x × (x.0 ≡ node → ⊥))) → (n : ℕ) → Serves new n ↔ (Serves old n × (n ≡ node → ⊥))
+Serves-removes old new node removed n = (
+  λ (r, there, at_n, serves).
+      let was = (removed r).0 there in ((r, was.0, at_n, serves), λ same. was.1 (at_n ∙ same)),
+  λ ((r, there, at_n, serves), other).
+      (r, (removed r).1 (there, λ same. other (sym at_n ∙ same)), at_n, serves),
+)
+
+-- who serves is there
+pub Serves-there : (rs : List Replica) (n : ℕ) → Serves rs n → Contains (map (λ (r : Replica). r.0) rs) n
+Serves-there rs n (r, there, at_n, serves) =
+    subst (λ (k : ℕ). Contains (map (λ (r : Replica). r.0) rs) k) at_n (Contains-map_back (λ (r : Replica). r.0) rs r there)

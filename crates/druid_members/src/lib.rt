@@ -2,6 +2,7 @@
 #![tactic(auto)]
 
 mod members;
+mod replicas;
 mod slot;
 
 pub use members::Members;

@@ -2,17 +2,19 @@ ghost use Rattle.std.specs.Prelude.{◌≡◌, ℕ, ◌↔◌, ◌≤◌, ◌⊎
 ghost use Rattle.std.specs.Ordering.{nat_cmp};
 ghost use Rattle.std.specs.BTreeMap as tree;
 ghost use Rattle.std.specs.List.Sorted.{IsStrictlyIncreasing};
-ghost use Rattle.druid_members.specs.Slots.{NoneEmpty, SlotMap, members_in, kept_below};
-ghost use Rattle.druid_members.specs.Members.{Member, member_of, core_count, IsComplete, HasMember, HoldsPlace, HasPartition, Adds, RemovesPlace, RemovesOne, AllAt, SameMembers, ServedOnce};
+ghost use Rattle.druid_members.specs.Slots as specs;
+ghost use Rattle.druid_members.specs.Slots.{Replica, Serves, NoneEmpty, SlotMap, members_in, kept_below};
+ghost use Rattle.druid_members.specs.Members.{Member, member_of, core_count, IsComplete, HasMember, HoldsPlace, ServesPlace, HasPartition, Adds, RemovesPlace, RemovesOne, AllAt, SameMembers, ServedOnce};
 
+use crate::replicas::Statement;
 use crate::slot::Slot;
 use druid_shard::{Descriptor, NodeNo};
 use std::alloc::{AllocError, Global};
 use std::collections::BTreeMap;
 use std::marker::Model;
 
-/// The members of one chunk: which node serves which of its partitions, and the number of core partitions that each
-/// names. The caller keeps one for each chunk.
+/// The members of one chunk: which node holds which of its partitions, the number of core partitions that each names, and
+/// whether it serves rows of it: a tombstone has none. The caller keeps one for each chunk.
 #[derive(Debug, Drop)]
 pub struct Members {
     alloc: Global,
@@ -38,19 +40,19 @@ impl Model for Members {
         × (a.within ≡ kept_below a.slots a.core) };
 }
 
-// Adds a node with its core count to a partition. False where it is there already.
+// Adds a node with what it states to a partition. False where it is there already.
 fn add_member(
     alloc: Global,
     slots: &mut BTreeMap<u16, Slot>,
     partition: u16,
     node: NodeNo,
-    core: u16,
+    stated: Statement,
 ) -> Result<bool, AllocError>
     ensures held { IfOk result (λ added. IsTrue added
         ↔ (Contains (map (λ r. r.0) (unwrap_or (tree.get nat_cmp slots.old partition) [])) node → ⊥)) }
-    ensures added { IsOkAnd result IsTrue → (r : ℕ × ℕ)
+    ensures added { IsOkAnd result IsTrue → (r : Replica)
         → Contains (unwrap_or (tree.get nat_cmp slots.new partition) []) r
-        ↔ ((r ≡ (node, core)) ⊎ Contains (unwrap_or (tree.get nat_cmp slots.old partition) []) r) }
+        ↔ ((r ≡ (node, stated)) ⊎ Contains (unwrap_or (tree.get nat_cmp slots.old partition) []) r) }
     ensures same { IfOk result (λ added. IsTrue added
         ⊎ (unwrap_or (tree.get nat_cmp slots.new partition) [] ≡ unwrap_or (tree.get nat_cmp slots.old partition) [])) }
     ensures err { OnErr result
@@ -63,10 +65,10 @@ fn add_member(
     // For the proof: reading it exposes the invariant of its type.
     let _ = slots.len();
     if let Some(slot) = slots.get_mut(&partition) {
-        return slot.add(node, core);
+        return slot.add(node, stated);
     }
     let mut slot = Slot::new(alloc);
-    slot.add(node, core)?;
+    slot.add(node, stated)?;
     slots.insert(partition, slot)?;
     Ok(true)
 }
@@ -75,11 +77,11 @@ fn add_member(
 fn remove_member(slots: &mut BTreeMap<u16, Slot>, partition: u16, node: NodeNo) -> bool
     ensures held { IsTrue result
         ↔ Contains (map (λ r. r.0) (unwrap_or (tree.get nat_cmp slots.old partition) [])) node }
-    ensures removed { (r : ℕ × ℕ) → Contains (unwrap_or (tree.get nat_cmp slots.new partition) []) r
+    ensures removed { (r : Replica) → Contains (unwrap_or (tree.get nat_cmp slots.new partition) []) r
         ↔ (Contains (unwrap_or (tree.get nat_cmp slots.old partition) []) r × (r.0 ≡ node → ⊥)) }
-    ensures one { IsTrue result → (core : ℕ) × ((r : ℕ × ℕ)
+    ensures one { IsTrue result → (stated : specs.Statement) × ((r : Replica)
         → Contains (unwrap_or (tree.get nat_cmp slots.old partition) []) r
-        ↔ ((r ≡ (node, core)) ⊎ Contains (unwrap_or (tree.get nat_cmp slots.new partition) []) r)) }
+        ↔ ((r ≡ (node, stated)) ⊎ Contains (unwrap_or (tree.get nat_cmp slots.new partition) []) r)) }
     ensures others { (q : ℕ) → (q ≡ partition → ⊥) → tree.get nat_cmp slots.new q ≡ tree.get nat_cmp slots.old q }
     ensures ordered { tree.IsOrdered nat_cmp slots.new }
     ensures was_ordered { tree.IsOrdered nat_cmp slots.old }
@@ -187,7 +189,7 @@ impl Members {
         }
     }
 
-    /// Adds the partition of a descriptor, served by a node. False where the node serves that partition already, and
+    /// Adds the partition of a descriptor, held by a node. False where the node holds that partition already, and
     /// then nothing changes.
     pub fn add(&mut self, descriptor: &Descriptor, node: NodeNo) -> Result<bool, AllocError>
         ensures held { IfOk result (λ added. IsTrue added
@@ -199,7 +201,8 @@ impl Members {
         let partition = descriptor.id().partition();
         let core = descriptor.core();
         let was = self.slots.contains_key(&partition);
-        let added = add_member(self.alloc, &mut self.slots, partition, node, core)?;
+        let stated = Statement::of(descriptor);
+        let added = add_member(self.alloc, &mut self.slots, partition, node, stated)?;
         if added {
             let before = self.core;
             self.core = self.core.max(core);
@@ -209,7 +212,7 @@ impl Members {
         Ok(added)
     }
 
-    /// Takes a partition from what a node serves. False where the node does not serve it, and then nothing changes. It
+    /// Takes a partition from what a node holds. False where the node does not hold it, and then nothing changes. It
     /// does not allocate.
     pub fn remove(&mut self, partition: u16, node: NodeNo) -> bool
         ensures held { IsTrue result ↔ HoldsPlace self.old partition node }
@@ -235,7 +238,7 @@ impl Members {
         !self.has_member
     }
 
-    /// Whether no member would be left without the one of this partition that this node serves.
+    /// Whether no member would be left without the one of this partition that this node holds.
     pub fn is_only(&self, partition: u16, node: NodeNo) -> bool
         ensures { IsTrue result ↔ AllAt self.now partition node }
     {
@@ -254,7 +257,7 @@ impl Members {
         self.core
     }
 
-    /// The nodes that serve a partition, rising.
+    /// The nodes that hold a partition, rising.
     pub fn replicas(&self, partition: u16) -> &[NodeNo]
         ensures rising { IsStrictlyIncreasing result.now }
         ensures nodes { (n : ℕ) → Contains result.now n ↔ HoldsPlace self.now partition n }
@@ -268,7 +271,20 @@ impl Members {
         }
     }
 
-    /// The partitions that a node serves, rising.
+    /// The nodes that hold a partition as no tombstone, rising.
+    pub fn served(&self, partition: u16) -> &[NodeNo]
+        ensures rising { IsStrictlyIncreasing result.now }
+        ensures nodes { (n : ℕ) → Contains result.now n ↔ ServesPlace self.now partition n }
+    {
+        // For the proof: reading it exposes the invariant of its type.
+        let _ = self.slots.len();
+        match self.slots.get(&partition) {
+            Some(slot) => slot.serving(),
+            None => &[],
+        }
+    }
+
+    /// The partitions that a node holds, rising.
     pub fn partitions(&self) -> Result<Vec<u16>, AllocError>
         ensures rising { IfOk result (λ v. IsStrictlyIncreasing v.items) }
         ensures all { IfOk result (λ v. (p : ℕ) → Contains v.items p ↔ HasPartition self.now p) }

@@ -1,50 +1,67 @@
-ghost use Rattle.std.specs.Prelude.{◌≡◌, ℕ, ◌≤◌, ◌↔◌, ◌⊎◌, ◌<◌, [], IsTrue, IfOk, IfErr, IsOkAnd, OnOk, OnErr, insert, get_or, Contains, map, length};
-ghost use Rattle.std.specs.List.{zip};
+ghost use Rattle.std.specs.Prelude.{◌≡◌, ℕ, ◌↔◌, ◌⊎◌, [], IsTrue, IfOk, IsOkAnd, OnOk, OnErr, Contains, map};
 ghost use Rattle.std.specs.List.Sorted.{IsStrictlyIncreasing};
 ghost use Rattle.druid_members.specs.Members.{core_count};
-ghost use Rattle.druid_members.specs.Slots.{member_at};
+ghost use Rattle.druid_members.specs.Slots as specs;
+ghost use Rattle.druid_members.specs.Slots.{Replica, Serves, member_at};
 
+use crate::replicas::{Replicas, Statement, place_of};
 use druid_shard::NodeNo;
 use std::alloc::{AllocError, Global};
 use std::marker::Model;
 
-// The nodes that serve one partition, rising, and beside each the number of core partitions that it names.
+// The nodes that hold one partition, and a list of those that hold it as no tombstone.
 #[derive(Debug, Drop)]
 pub(crate) struct Slot {
-    nodes: Vec<NodeNo>,
-    cores: Vec<u16>,
+    replicas: Replicas,
+    serving: Vec<NodeNo>,
 }
 
 impl Model for Slot {
-    ghost use Rattle.std.specs.Prelude.{◌≡◌, List, ℕ, length};
-    ghost use Rattle.std.specs.List.{zip};
+    ghost use Rattle.std.specs.Prelude.{List, ℕ, ◌↔◌, Contains};
     ghost use Rattle.std.specs.List.Sorted.{IsStrictlyIncreasing};
+    ghost use Rattle.druid_members.specs.Slots.{Replica, Serves};
 
-    ghost Value = { List (ℕ × ℕ) };
+    ghost Value = { List Replica };
 
-    ghost view = { λ a. zip a.nodes.items a.cores.items };
+    ghost view = { λ a. a.replicas };
 
-    ghost invariant = { λ a. (length a.nodes.items ≡ length a.cores.items) × IsStrictlyIncreasing a.nodes.items };
+    ghost invariant = { λ a. IsStrictlyIncreasing a.serving.items
+        × ((n : ℕ) → Contains a.serving.items n ↔ Serves a.replicas n) };
 }
 
-// The place of a node among these; if it is not there, the place that it would have.
-fn place_of(nodes: &[NodeNo], node: NodeNo) -> Result<usize, usize>
-    requires { IsStrictlyIncreasing nodes.now }
-    ensures found { OnOk result (Contains nodes.now node) }
-    ensures place { IfOk result (λ i. (i < length nodes.now) × (get_or nodes.now i 0 ≡ node)) }
-    ensures absent { OnErr result (Contains nodes.now node → ⊥) }
-    ensures within { IfErr result (λ i. i ≤ length nodes.now) }
-    ensures rising { IfErr result (λ i. IsStrictlyIncreasing (insert nodes.now i node)) }
+// Puts a node among rising ones, at its place, where it serves and is not there.
+fn insert_node(nodes: &mut Vec<NodeNo>, node: NodeNo, serves: bool) -> Result<(), AllocError>
+    requires { IsStrictlyIncreasing nodes.old.items }
+    ensures rising { IsStrictlyIncreasing nodes.new.items }
+    ensures all { OnOk result ((n : ℕ) → Contains nodes.new.items n
+        ↔ (((n ≡ node) × IsTrue serves) ⊎ Contains nodes.old.items n)) }
+    ensures err { OnErr result (nodes.new.items ≡ nodes.old.items) }
 {
-    for (i, other) in nodes.iter().enumerate() {
-        if *other == node {
-            return Ok(i);
-        }
-        if *other > node {
-            return Err(i);
-        }
+    if !serves {
+        return Ok(());
     }
-    Err(nodes.len())
+    if let Err(at) = place_of(nodes, node) {
+        nodes.insert(at, node)?;
+    }
+    Ok(())
+}
+
+// A copy of the nodes.
+fn copy_of(nodes: &Vec<NodeNo>) -> Result<Vec<NodeNo>, AllocError>
+    ensures { IfOk result (λ v. v.items ≡ nodes.now.items) }
+{
+    nodes.clone()
+}
+
+// Takes a node out of rising ones.
+fn remove_node(nodes: &mut Vec<NodeNo>, node: NodeNo)
+    requires { IsStrictlyIncreasing nodes.old.items }
+    ensures rising { IsStrictlyIncreasing nodes.new.items }
+    ensures all { (n : ℕ) → Contains nodes.new.items n ↔ (Contains nodes.old.items n × (n ≡ node → ⊥)) }
+{
+    if let Ok(at) = place_of(nodes, node) {
+        nodes.remove(at);
+    }
 }
 
 impl Slot {
@@ -53,83 +70,78 @@ impl Slot {
         ensures { result ≡ [] }
     {
         Slot {
-            nodes: Vec::new(alloc),
-            cores: Vec::new(alloc),
+            replicas: Replicas::new(alloc),
+            serving: Vec::new(alloc),
         }
     }
 
     // The nodes.
     pub(crate) fn nodes(&self) -> &[NodeNo]
         ensures value { result.now ≡ map (λ r. r.0) self.now }
-        ensures once { (x y : ℕ × ℕ) → Contains self.now x → Contains self.now y → x.0 ≡ y.0 → x ≡ y }
+        ensures once { (x y : Replica) → Contains self.now x → Contains self.now y → x.0 ≡ y.0 → x ≡ y }
         ensures rising { IsStrictlyIncreasing result.now }
     {
-        self.nodes.as_slice()
+        self.replicas.nodes()
     }
 
-    // Adds a node with its core count. False where it is there already.
-    pub(crate) fn add(&mut self, node: NodeNo, core: u16) -> Result<bool, AllocError>
+    // The nodes that hold the partition as no tombstone.
+    pub(crate) fn serving(&self) -> &[NodeNo]
+        ensures nodes { (n : ℕ) → Contains result.now n ↔ Serves self.now n }
+        ensures rising { IsStrictlyIncreasing result.now }
+    {
+        self.serving.as_slice()
+    }
+
+    // Adds a node with what it states. False where it is there already.
+    pub(crate) fn add(&mut self, node: NodeNo, stated: Statement) -> Result<bool, AllocError>
         ensures held { IfOk result (λ added. IsTrue added ↔ (Contains (map (λ r. r.0) self.old) node → ⊥)) }
-        ensures added { IsOkAnd result IsTrue → (x : ℕ × ℕ) → Contains self.new x ↔ ((x ≡ (node, core)) ⊎ Contains self.old x) }
+        ensures added { IsOkAnd result IsTrue → (x : Replica) → Contains self.new x ↔ ((x ≡ (node, stated)) ⊎ Contains self.old x) }
         ensures same { IfOk result (λ added. IsTrue added ⊎ (self.new ≡ self.old)) }
         ensures err { OnErr result (self.new ≡ self.old) }
     {
-        let Err(at) = place_of(&self.nodes, node) else {
+        if self.replicas.holds(node) {
             return Ok(false);
-        };
-        self.nodes.insert(at, node)?;
-        let Ok(()) = self.cores.insert(at, core) else {
-            self.nodes.remove(at);
-            return Err(AllocError);
-        };
-        Ok(true)
+        }
+        insert_node(&mut self.serving, node, stated.serves)?;
+        match self.replicas.add(node, stated) {
+            Ok(added) => Ok(added),
+            Err(refused) => {
+                remove_node(&mut self.serving, node);
+                Err(refused)
+            }
+        }
     }
 
     // Takes a node out. False where it is not there.
     pub(crate) fn remove(&mut self, node: NodeNo) -> bool
         ensures held { IsTrue result ↔ Contains (map (λ r. r.0) self.old) node }
-        ensures removed { (x : ℕ × ℕ) → Contains self.new x ↔ (Contains self.old x × (x.0 ≡ node → ⊥)) }
-        ensures one { IsTrue result → (core : ℕ)
-            × ((x : ℕ × ℕ) → Contains self.old x ↔ ((x ≡ (node, core)) ⊎ Contains self.new x)) }
+        ensures removed { (x : Replica) → Contains self.new x ↔ (Contains self.old x × (x.0 ≡ node → ⊥)) }
+        ensures one { IsTrue result → (stated : specs.Statement)
+            × ((x : Replica) → Contains self.old x ↔ ((x ≡ (node, stated)) ⊎ Contains self.new x)) }
     {
-        let Ok(at) = place_of(&self.nodes, node) else {
-            return false;
-        };
-        // For the proof: reading it exposes the invariant of its type.
-        let _ = self.cores.len();
-        self.nodes.remove(at);
-        self.cores.remove(at);
-        true
+        remove_node(&mut self.serving, node);
+        self.replicas.remove(node)
     }
 
     // Whether there is no other node than this.
     pub(crate) fn is_only(&self, node: NodeNo) -> bool
-        ensures { IsTrue result ↔ ((x : ℕ × ℕ) → Contains self.now x → x.0 ≡ node) }
+        ensures { IsTrue result ↔ ((x : Replica) → Contains self.now x → x.0 ≡ node) }
     {
-        for other in &self.nodes {
-            if *other != node {
-                return false;
-            }
-        }
-        true
+        self.replicas.is_only(node)
     }
 
     // Whether there is no node.
     pub(crate) fn is_empty(&self) -> bool
         ensures { IsTrue result ↔ (self.now ≡ []) }
     {
-        self.nodes().is_empty()
+        self.replicas.is_empty()
     }
 
     // The greatest number of core partitions that a node names.
     pub(crate) fn core(&self) -> u16
         ensures { (p : ℕ) → result ≡ core_count (map (member_at p) self.now) }
     {
-        let mut core: u16 = 0;
-        for named in &self.cores {
-            core = core.max(*named);
-        }
-        core
+        self.replicas.core()
     }
 }
 
@@ -138,8 +150,8 @@ impl Clone for Slot {
 
     fn clone(&self) -> Result<Slot, AllocError> {
         Ok(Slot {
-            nodes: self.nodes.clone()?,
-            cores: self.cores.clone()?,
+            replicas: self.replicas.clone()?,
+            serving: copy_of(&self.serving)?,
         })
     }
 }

@@ -48,6 +48,7 @@ bytes_refuse incarnation name bytes given seen (faults.History fault) is h = abs
 bytes_refuse incarnation name bytes given seen (faults.Wire fault) is h = absurd h
 bytes_refuse incarnation name bytes given seen faults.NoFile is h = absurd h
 bytes_refuse incarnation name bytes given seen (faults.Behind found) is h = absurd h
+bytes_refuse incarnation name bytes given seen faults.NotPartitionZero is h = absurd h
 bytes_refuse incarnation name bytes given seen faults.Memory is h = tt
 
 bytes_own : (name bytes : List ℕ) (fault : NodeFault) → RefusesBytes name bytes fault → IsOfFile fault
@@ -66,6 +67,7 @@ bytes_own name bytes (faults.History fault) h = absurd h
 bytes_own name bytes (faults.Wire fault) h = absurd h
 bytes_own name bytes faults.NoFile h = absurd h
 bytes_own name bytes (faults.Behind found) h = absurd h
+bytes_own name bytes faults.NotPartitionZero h = absurd h
 bytes_own name bytes faults.Memory h = tt
 
 pub found_refuse : (incarnation : ℕ) (name : List ℕ) (found given : Option (List ℕ)) (seen : Point) (fault : NodeFault) → found ≡ given → RefusesFound name found fault → RefusesFile incarnation (file_at name given) seen fault
@@ -85,6 +87,7 @@ load_refuses incarnation given seen s (faults.History fault) is h = (s, is, h)
 load_refuses incarnation given seen s (faults.Wire fault) is h = absurd h
 load_refuses incarnation given seen s faults.NoFile is h = absurd h
 load_refuses incarnation given seen s (faults.Behind found) is h = (s, is, h)
+load_refuses incarnation given seen s faults.NotPartitionZero is h = absurd h
 load_refuses incarnation given seen s faults.Memory is h = tt
 
 pub load_own : (incarnation : ℕ) (seen : Point) (fault : NodeFault) → RefusesLoad incarnation seen fault → IsOfFile fault
@@ -95,6 +98,7 @@ load_own incarnation seen (faults.History fault) h = tt
 load_own incarnation seen (faults.Wire fault) h = absurd h
 load_own incarnation seen faults.NoFile h = absurd h
 load_own incarnation seen (faults.Behind found) h = tt
+load_own incarnation seen faults.NotPartitionZero h = absurd h
 load_own incarnation seen faults.Memory h = tt
 
 -- what holds anyhow holds where a load was done
@@ -115,6 +119,7 @@ bytes_uncounted name bytes (faults.History fault) n h = refl
 bytes_uncounted name bytes (faults.Wire fault) n h = refl
 bytes_uncounted name bytes faults.NoFile n h = refl
 bytes_uncounted name bytes (faults.Behind found) n h = refl
+bytes_uncounted name bytes faults.NotPartitionZero n h = refl
 bytes_uncounted name bytes faults.Memory n h = refl
 
 pub found_uncounted : (name : List ℕ) (found : Option (List ℕ)) (fault : NodeFault) (n : ℕ) → RefusesFound name found fault → faults_after_load (load_told fault) n ≡ n
@@ -130,6 +135,7 @@ load_uncounted incarnation seen (Err (faults.History fault)) n h = refl
 load_uncounted incarnation seen (Err (faults.Wire fault)) n h = refl
 load_uncounted incarnation seen (Err faults.NoFile) n h = refl
 load_uncounted incarnation seen (Err (faults.Behind found)) n h = refl
+load_uncounted incarnation seen (Err faults.NotPartitionZero) n h = refl
 load_uncounted incarnation seen (Err faults.Memory) n h = refl
 
 -- the read of the folder failed

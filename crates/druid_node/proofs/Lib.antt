@@ -1,4 +1,5 @@
 pub mod HeldLemmas
+pub mod TombstoneLemmas
 pub mod StateLemmas
 pub mod AnswerLemmas
 pub mod FileLemmas

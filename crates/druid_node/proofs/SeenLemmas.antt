@@ -3,9 +3,9 @@ use Rattle.std.proofs.Common.{length-append, ◌≡◌, ◌<◌, ◌+◌, ℕ, B
 use Rattle.std.specs.Io.KnownBytes.{Keeps}
 use Rattle.std.specs.Option.{option_or}
 use Rattle.std.proofs.lemmas.Option.{same_Some}
+use Rattle.druid_segid.specs.Identifier.{Identifier}
 use Rattle.druid_shard.specs.Described.{Described}
 use Rattle.druid_shard.specs.Replay.{is_strict, has_room}
-use Rattle.druid_rows.specs.Segment.{Segment}
 use Rattle.druid_changes.specs.declared.fault.HistoryFault.{HistoryFault}
 use Rattle.druid_changes.specs.declared.fault.HistoryFault.TheVariants.{Served, NotServed, Full, CountAtEnd}
 use Rattle.druid_message.specs.Requests.{RequestValue}
@@ -24,8 +24,8 @@ use Rattle.druid_shard.specs.Orders.{mark_cmp-total}
 use Rattle.druid_shard.specs.declared.change.Change.{Change}
 use Rattle.druid_shard.specs.declared.change.Change.TheVariants.{Load, Drop}
 use Rattle.druid_changes.specs.Kept.{Kept, IsKept, last_count, refusal}
-use Rattle.druid_node.specs.State.{State, Records, Refuses, RefusesToDrop}
-use Rattle.druid_node.specs.Seen.{mark_of, IsBehind, IsAtLeast, IsLoadRefusal, RefusesAsSeen, RefusesLoad, RefusesDrop, AnswersFrom, AnswersSince, IsServedAsSeen, IsPassedBy, IsUnserved}
+use Rattle.druid_node.specs.State.{State, Records, tombstone_of, Refuses, RefusesToDrop, RefusesToCover}
+use Rattle.druid_node.specs.Seen.{mark_of, IsBehind, IsAtLeast, IsLoadRefusal, RefusesAsSeen, RefusesLoad, RefusesDrop, RefusesTombstone, AnswersFrom, AnswersSince, IsServedAsSeen, IsPassedBy, IsUnserved}
 
 -- a change more is a greater count
 counted : (old new : Kept) (c : Change) → IsKept old → Records old new c → new.count ≡ old.count + 1
@@ -83,6 +83,7 @@ load_told kept d incarnation seen (faults.History fault) h = load_refusal kept d
 load_told kept d incarnation seen (faults.Wire fault) h = absurd h
 load_told kept d incarnation seen faults.NoFile h = absurd h
 load_told kept d incarnation seen (faults.Behind found) h = absurd h
+load_told kept d incarnation seen faults.NotPartitionZero h = absurd h
 load_told kept d incarnation seen faults.Memory h = tt
 
 pub load_as : (kept : Kept) (d : Described) (incarnation : ℕ) (found seen : Point) (fault : NodeFault) → RefusesAsSeen incarnation (Refuses kept (Load d)) found seen fault → RefusesLoad incarnation seen fault
@@ -111,15 +112,32 @@ drop_found kept d incarnation seen (faults.History fault) h = drop_refusal kept 
 drop_found kept d incarnation seen (faults.Wire fault) h = absurd h
 drop_found kept d incarnation seen faults.NoFile h = absurd h
 drop_found kept d incarnation seen (faults.Behind found) h = absurd h
+drop_found kept d incarnation seen faults.NotPartitionZero h = absurd h
 drop_found kept d incarnation seen faults.Memory h = tt
 
-drop_told : (kept : Kept) (o : Option Segment) (incarnation : ℕ) (seen : Point) (fault : NodeFault) → RefusesToDrop kept o fault → RefusesDrop incarnation seen fault
+drop_told : (kept : Kept) (o : Option Described) (incarnation : ℕ) (seen : Point) (fault : NodeFault) → RefusesToDrop kept o fault → RefusesDrop incarnation seen fault
 drop_told kept None incarnation seen fault h = subst (RefusesDrop incarnation seen) (sym h) (inl refl)
-drop_told kept (Some s) incarnation seen fault h = drop_found kept s.descriptor incarnation seen fault h
+drop_told kept (Some d) incarnation seen fault h = drop_found kept d incarnation seen fault h
 
-pub drop_as : (kept : Kept) (o : Option Segment) (incarnation : ℕ) (found seen : Point) (fault : NodeFault) → RefusesAsSeen incarnation (RefusesToDrop kept o) found seen fault → RefusesDrop incarnation seen fault
+pub drop_as : (kept : Kept) (o : Option Described) (incarnation : ℕ) (found seen : Point) (fault : NodeFault) → RefusesAsSeen incarnation (RefusesToDrop kept o) found seen fault → RefusesDrop incarnation seen fault
 drop_as kept o incarnation found seen fault (inl (behind, told)) = subst (RefusesDrop incarnation seen) (sym told) behind
 drop_as kept o incarnation found seen fault (inr (at, why)) = drop_told kept o incarnation seen fault why
+
+cover_told : (kept : Kept) (id : Identifier) (incarnation : ℕ) (seen : Point) (fault : NodeFault) → RefusesToCover kept id fault → RefusesTombstone incarnation id seen fault
+cover_told kept id incarnation seen faults.Device h = absurd h
+cover_told kept id incarnation seen (faults.File fault) h = absurd h
+cover_told kept id incarnation seen faults.NameDiffers h = absurd h
+cover_told kept id incarnation seen (faults.History fault) h = (h.0, load_refusal kept (tombstone_of id) fault h.1)
+cover_told kept id incarnation seen (faults.Wire fault) h = absurd h
+cover_told kept id incarnation seen faults.NoFile h = absurd h
+cover_told kept id incarnation seen (faults.Behind found) h = absurd h
+cover_told kept id incarnation seen faults.NotPartitionZero h = h
+cover_told kept id incarnation seen faults.Memory h = h.0
+
+pub cover_as : (kept : Kept) (id : Identifier) (incarnation : ℕ) (found seen : Point) (fault : NodeFault) → id.partition ≡ 0 → RefusesAsSeen incarnation (RefusesToCover kept id) found seen fault
+    → RefusesTombstone incarnation id seen fault
+cover_as kept id incarnation found seen fault whole (inl (behind, told)) = subst (RefusesTombstone incarnation id seen) (sym told) (whole, behind)
+cover_as kept id incarnation found seen fault whole (inr (at, why)) = cover_told kept id incarnation seen fault why
 
 -- ---- what was served
 

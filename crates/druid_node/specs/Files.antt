@@ -36,6 +36,7 @@ RefusesFile incarnation given seen (faults.History fault) = (s : Segment) × (gi
 RefusesFile incarnation given seen (faults.Wire fault) = ⊥
 RefusesFile incarnation given seen faults.NoFile = given ≡ Err faults.NoFile
 RefusesFile incarnation given seen (faults.Behind found) = (s : Segment) × (given ≡ Ok s) × IsBehind incarnation found seen
+RefusesFile incarnation given seen faults.NotPartitionZero = ⊥
 RefusesFile incarnation given seen faults.Memory = ⊤
 
 -- a fault that loading a file tells: of a file's own faults those that its bytes decide
@@ -44,6 +45,7 @@ IsOfFile (faults.File file.Read) = ⊥
 IsOfFile (faults.File file.Write) = ⊥
 IsOfFile (faults.File file.Memory) = ⊥
 IsOfFile (faults.Wire fault) = ⊥
+IsOfFile faults.NotPartitionZero = ⊥
 IsOfFile other = ⊤
 
 -- the fault that tells what a file's bytes are: out of memory is that
@@ -67,6 +69,7 @@ RefusesBytes name bytes (faults.History fault) = ⊥
 RefusesBytes name bytes (faults.Wire fault) = ⊥
 RefusesBytes name bytes faults.NoFile = ⊥
 RefusesBytes name bytes (faults.Behind found) = ⊥
+RefusesBytes name bytes faults.NotPartitionZero = ⊥
 RefusesBytes name bytes faults.Memory = IsOk (segment_at bytes)
 
 -- the same where there may be no file

@@ -2,6 +2,7 @@
 use Rattle.std.specs.Prelude.{◌≡◌, ◌≢◌, ◌⊎◌, ⊤, ℕ, List, codes, Option, Some, None, IfSome, Vec}
 use Rattle.std.specs.Global.{Global}
 use Rattle.std.specs.declared.cmp.Ordering.TheVariants.{Less, Greater}
+use Rattle.druid_segid.specs.Identifier.{Identifier}
 use Rattle.druid_shard.specs.Mark.{Point, mark_cmp}
 use Rattle.druid_changes.specs.Kept.{IsKept}
 use Rattle.druid_changes.specs.declared.fault.HistoryFault.{HistoryFault}
@@ -33,7 +34,7 @@ abbrev pub RefusesAsSeen : ℕ → (NodeFault → Type 0) → Point → Point �
 RefusesAsSeen incarnation Why found seen fault =
     (IsBehind incarnation found seen × (fault ≡ faults.Behind found)) ⊎ (IsAtLeast found seen × Why fault)
 
--- a load is refused for the segments that are held, or for the count
+-- a load is refused for what is served, or for the count
 abbrev pub IsLoadRefusal : HistoryFault → Type 0
 IsLoadRefusal Served = ⊤
 IsLoadRefusal NotServed = ⊥
@@ -50,6 +51,7 @@ RefusesLoad incarnation seen (faults.History fault) = IsLoadRefusal fault
 RefusesLoad incarnation seen (faults.Wire fault) = ⊥
 RefusesLoad incarnation seen faults.NoFile = ⊥
 RefusesLoad incarnation seen (faults.Behind found) = IsBehind incarnation found seen
+RefusesLoad incarnation seen faults.NotPartitionZero = ⊥
 RefusesLoad incarnation seen faults.Memory = ⊤
 
 -- why nothing was dropped from a node of that incarnation, of which that mark was seen
@@ -61,7 +63,20 @@ RefusesDrop incarnation seen (faults.History fault) = (fault ≡ NotServed) ⊎ 
 RefusesDrop incarnation seen (faults.Wire fault) = ⊥
 RefusesDrop incarnation seen faults.NoFile = ⊥
 RefusesDrop incarnation seen (faults.Behind found) = IsBehind incarnation found seen
+RefusesDrop incarnation seen faults.NotPartitionZero = ⊥
 RefusesDrop incarnation seen faults.Memory = ⊤
+
+-- why a tombstone was not placed in a node of that incarnation, of which that mark was seen: N7 before all else
+abbrev pub RefusesTombstone : ℕ → Identifier → Point → NodeFault → Type 0
+RefusesTombstone incarnation id seen faults.Device = ⊥
+RefusesTombstone incarnation id seen (faults.File fault) = ⊥
+RefusesTombstone incarnation id seen faults.NameDiffers = ⊥
+RefusesTombstone incarnation id seen (faults.History fault) = (id.partition ≡ 0) × IsLoadRefusal fault
+RefusesTombstone incarnation id seen (faults.Wire fault) = ⊥
+RefusesTombstone incarnation id seen faults.NoFile = ⊥
+RefusesTombstone incarnation id seen (faults.Behind found) = (id.partition ≡ 0) × IsBehind incarnation found seen
+RefusesTombstone incarnation id seen faults.NotPartitionZero = id.partition ≢ 0
+RefusesTombstone incarnation id seen faults.Memory = id.partition ≡ 0
 
 -- a state of that incarnation, whose mark is the second and not below the first, answers so
 abbrev pub AnswersFrom : ℕ → Point → Point → RequestValue → ℕ → List ℕ → Type 0

@@ -1,5 +1,5 @@
 -- What a node keeps: its history, and the segments that it holds.
-use Rattle.std.specs.Prelude.{◌≡◌, ◌⊎◌, ◌↔◌, ◌++◌, List, [], ◌∷◌, map, All, Contains, Option, Some, None}
+use Rattle.std.specs.Prelude.{◌≡◌, ◌⊎◌, ◌↔◌, ◌++◌, true, not, List, [], ◌∷◌, map, filter, All, Contains, Option, Some, None}
 use Rattle.druid_segid.specs.Identifier.{Identifier}
 use Rattle.druid_shard.specs.Described.{Described}
 use Rattle.druid_shard.specs.declared.change.Change.{Change}
@@ -23,9 +23,13 @@ descriptor_of s = s.descriptor
 abbrev pub descriptors_of : List Segment → List Described
 descriptors_of held = map descriptor_of held
 
--- it holds what its history says that it serves
+-- those that are no tombstones
+abbrev pub with_rows : List Described → List Described
+with_rows ds = filter (λ d. not d.tombstone) ds
+
+-- it holds the segments with rows that its history says that it serves
 pub record IsState (state : State) : Type 0 where
-  pub serves : descriptors_of state.held ≡ state.history.set
+  pub serves : descriptors_of state.held ≡ with_rows state.history.set
   pub each : All IsSegment state.held
   pub words : All HaveWords state.held
 
@@ -50,10 +54,19 @@ pub record Takes (old new : State) (segment : Segment) : Type 0 where
   pub records : Records old.history new.history (Load segment.descriptor)
   pub holds : HoldsMore old.held new.held segment
 
--- the segment was dropped
-pub record Leaves (old new : State) (segment : Segment) : Type 0 where
-  pub records : Records old.history new.history (Drop segment.descriptor)
-  pub holds : HoldsLess old.held new.held segment.descriptor.id
+-- the segment or tombstone was dropped
+pub record Leaves (old new : State) (d : Described) : Type 0 where
+  pub records : Records old.history new.history (Drop d)
+  pub holds : HoldsLess old.held new.held d.id
+
+-- the tombstone of that identifier
+abbrev pub tombstone_of : Identifier → Described
+tombstone_of id = record { id = id; core = 1; size = 0; tombstone = true }
+
+-- the tombstone of that identifier was placed, and the same segments are held
+pub record Covers (old new : State) (id : Identifier) : Type 0 where
+  pub records : Records old.history new.history (Load (tombstone_of id))
+  pub held : new.held ≡ old.held
 
 -- why a change is not made: what the history refuses it for, and out of memory only where it refuses nothing
 abbrev pub Refuses : Kept → Change → NodeFault → Type 0
@@ -64,9 +77,22 @@ Refuses kept change (faults.History fault) = refusal kept change ≡ Some fault
 Refuses kept change (faults.Wire fault) = ⊥
 Refuses kept change faults.NoFile = ⊥
 Refuses kept change (faults.Behind found) = ⊥
+Refuses kept change faults.NotPartitionZero = ⊥
 Refuses kept change faults.Memory = refusal kept change ≡ None
 
--- why what was found under an identifier is not dropped
-abbrev pub RefusesToDrop : Kept → Option Segment → NodeFault → Type 0
+-- why what the history has under an identifier is not dropped
+abbrev pub RefusesToDrop : Kept → Option Described → NodeFault → Type 0
 RefusesToDrop kept None fault = fault ≡ faults.History NotServed
-RefusesToDrop kept (Some s) fault = Refuses kept (Drop s.descriptor) fault
+RefusesToDrop kept (Some d) fault = Refuses kept (Drop d) fault
+
+-- why the tombstone of an identifier is not placed: N7 first
+abbrev pub RefusesToCover : Kept → Identifier → NodeFault → Type 0
+RefusesToCover kept id faults.Device = ⊥
+RefusesToCover kept id (faults.File fault) = ⊥
+RefusesToCover kept id faults.NameDiffers = ⊥
+RefusesToCover kept id (faults.History fault) = (id.partition ≡ 0) × (refusal kept (Load (tombstone_of id)) ≡ Some fault)
+RefusesToCover kept id (faults.Wire fault) = ⊥
+RefusesToCover kept id faults.NoFile = ⊥
+RefusesToCover kept id (faults.Behind found) = ⊥
+RefusesToCover kept id faults.NotPartitionZero = id.partition ≡ 0 → ⊥
+RefusesToCover kept id faults.Memory = (id.partition ≡ 0) × (refusal kept (Load (tombstone_of id)) ≡ None)

@@ -5,7 +5,7 @@ ghost use Rattle.druid_rows.specs.Segment.{Segment};
 ghost use Rattle.druid_folder.specs.Folder.{IsOwnFault, read_part, bytes_read};
 ghost use Rattle.druid_segfile.specs.Reading.{segment_at};
 ghost use Rattle.druid_node.specs.Files.{file_name, named, file_at, told_as, RefusesFile, IsOfFile, RefusesBytes, RefusesFound, faults_after_load};
-ghost use Rattle.druid_node.specs.Seen.{IsBehind, RefusesLoad, RefusesDrop, AnswersFrom, text_of};
+ghost use Rattle.druid_node.specs.Seen.{IsBehind, RefusesLoad, RefusesDrop, RefusesTombstone, AnswersFrom, text_of};
 ghost use Rattle.druid_node.specs.Questions.{IsBasisFrom};
 
 use crate::question::{Question, question_of};
@@ -20,7 +20,8 @@ use druid_shard::Mark;
 use std::alloc::{AllocError, Global};
 use std::sync::{Mutex, Wait};
 
-/// A data node: it loads segments from files, and answers requests. Its state is under a lock, so threads may share it.
+/// A data node: it loads segments from files, places tombstones, and answers requests. Its state is under a lock, so threads may
+/// share it.
 ///
 /// A caller of it has a mark of its own, `seen`, which is (0, 0) at first: that of the last state that did what it asked for.
 /// A call that is given `seen` never answers Ok from a state whose mark is below it: no later Ok with that `seen` answers from
@@ -189,8 +190,28 @@ impl<I: Incarnation> DataNode<I> {
         }
     }
 
-    /// Drops a segment, and sees the mark after that. N8 where the node's state is older than what was seen, and then the refusals
-    /// of `NodeState::drop_segment`. Where it fails all is as it was.
+    /// Places the tombstone of that identifier among what the node serves, and sees the mark after that. N7 where the identifier
+    /// is not of partition 0. Then N8 where the node's state is older than what was seen, and then the other refusals of
+    /// `NodeState::place_tombstone`. Where it fails all is as it was.
+    pub fn place_tombstone(
+        &self,
+        rt: &impl Wait,
+        id: SegmentId,
+        seen: &mut Mark,
+    ) -> Result<(), NodeFault>
+        ensures raised { OnOk result (mark_cmp seen.old seen.new ≡ Less) }
+        ensures own { OnOk result (seen.new.incarnation ≡ I.number) }
+        ensures err { IfErr result (RefusesTombstone I.number id seen.old) }
+        ensures unseen { OnErr result (seen.new ≡ seen.old) }
+    {
+        if id.partition() != 0 {
+            return Err(NodeFault::NotPartitionZero);
+        }
+        self.state.lock(rt).place_tombstone(id, seen)
+    }
+
+    /// Drops a segment or a tombstone, and sees the mark after that. N8 where the node's state is older than what was seen, and
+    /// then the refusals of `NodeState::drop_segment`. Where it fails all is as it was.
     pub fn drop_segment(
         &self,
         rt: &impl Wait,

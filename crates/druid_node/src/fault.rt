@@ -29,6 +29,9 @@ pub enum NodeFault {
     /// N6: the folder has no file of that name.
     #[error("N6: no such file")]
     NoFile,
+    /// N7: a tombstone of another partition than 0.
+    #[error("N7: a tombstone of another partition than 0")]
+    NotPartitionZero,
     /// N8: its state is older than the mark that the caller has seen. It tells the state's mark.
     #[error("N8: behind what was seen")]
     Behind(Mark),

@@ -7,7 +7,7 @@ ghost use Rattle.druid_node.specs.Routes.{route_of};
 pub(crate) enum Route {
     // Whether the node is there.
     Health,
-    // The segments that it serves.
+    // The segments and tombstones that it serves.
     Segments,
     // Queries.
     Query,

@@ -3,10 +3,9 @@ ghost use Rattle.std.specs.Prelude.{◌≡◌, Some, IfOk, IfErr, OnOk, OnErr};
 ghost use Rattle.std.specs.declared.cmp.Ordering.TheVariants.{Less};
 ghost use Rattle.druid_shard.specs.Mark.{mark_cmp};
 ghost use Rattle.druid_shard.specs.declared.change.Change.TheVariants.{Load};
-ghost use Rattle.druid_rows.specs.Segment.{Segment};
-ghost use Rattle.druid_changes.specs.Kept.{IsKept};
-ghost use Rattle.druid_partial.specs.Once.{segment_named};
-ghost use Rattle.druid_node.specs.State.{IsState, Takes, Leaves, Refuses, RefusesToDrop};
+ghost use Rattle.druid_shard.specs.Described.{Described};
+ghost use Rattle.druid_changes.specs.Kept.{IsKept, described_named};
+ghost use Rattle.druid_node.specs.State.{IsState, Takes, Leaves, Covers, Refuses, RefusesToDrop, RefusesToCover};
 ghost use Rattle.druid_node.specs.Seen.{mark_of, IsBehind, IsAtLeast, RefusesAsSeen};
 ghost use Rattle.druid_node.specs.Questions.{IsBasisInTurn, IsBasisFrom, IsMadeInTurn};
 
@@ -104,13 +103,39 @@ impl<I: Incarnation> StateIn<I> {
         }
     }
 
-    // Drops a segment, where it is not older than what was seen, and sees that.
-    pub(crate) fn drop_segment(&mut self, id: &SegmentId, seen: &mut Mark) -> Result<(), NodeFault>
-        ensures ok { OnOk result (IsAtLeast (mark_of self.old) seen.old
-            × ((s : Segment) × (segment_named id.now self.old.held ≡ Some s) × Leaves self.old self.new s) × (seen.new ≡ mark_of self.new)) }
+    // Places a tombstone, where it is not older than what was seen, and sees that.
+    pub(crate) fn place_tombstone(
+        &mut self,
+        id: SegmentId,
+        seen: &mut Mark,
+    ) -> Result<(), NodeFault>
+        ensures ok { OnOk result (IsAtLeast (mark_of self.old) seen.old × Covers self.old self.new id × (seen.new ≡ mark_of self.new)) }
         ensures raised { OnOk result (mark_cmp seen.old seen.new ≡ Less) }
         ensures own { OnOk result (seen.new.incarnation ≡ I.number) }
-        ensures err { IfErr result (RefusesAsSeen I.number (RefusesToDrop self.old.history (segment_named id.now self.old.held)) (mark_of self.old) seen.old) }
+        ensures err { IfErr result (RefusesAsSeen I.number (RefusesToCover self.old.history id) (mark_of self.old) seen.old) }
+        ensures unchanged { OnErr result (self.new ≡ self.old) }
+        ensures unseen { OnErr result (seen.new ≡ seen.old) }
+    {
+        match self.mark_as_seen(*seen) {
+            Ok(_) => {}
+            Err(fault) => return Err(fault),
+        }
+        match self.state.place_tombstone(id) {
+            Ok(()) => {
+                *seen = self.state.mark();
+                Ok(())
+            }
+            Err(fault) => Err(fault),
+        }
+    }
+
+    // Drops a segment or a tombstone, where it is not older than what was seen, and sees that.
+    pub(crate) fn drop_segment(&mut self, id: &SegmentId, seen: &mut Mark) -> Result<(), NodeFault>
+        ensures ok { OnOk result (IsAtLeast (mark_of self.old) seen.old
+            × ((d : Described) × (described_named id.now self.old.history.set ≡ Some d) × Leaves self.old self.new d) × (seen.new ≡ mark_of self.new)) }
+        ensures raised { OnOk result (mark_cmp seen.old seen.new ≡ Less) }
+        ensures own { OnOk result (seen.new.incarnation ≡ I.number) }
+        ensures err { IfErr result (RefusesAsSeen I.number (RefusesToDrop self.old.history (described_named id.now self.old.history.set)) (mark_of self.old) seen.old) }
         ensures unchanged { OnErr result (self.new ≡ self.old) }
         ensures unseen { OnErr result (seen.new ≡ seen.old) }
     {

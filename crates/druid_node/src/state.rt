@@ -1,13 +1,13 @@
-ghost use Rattle.std.specs.Prelude.{◌≡◌, ◌≤◌, [], List, Some, None, IfOk, IfErr, OnOk, OnErr};
+ghost use Rattle.std.specs.Prelude.{◌≡◌, ◌≤◌, false, true, [], List, Some, None, IfOk, IfErr, OnOk, OnErr};
 ghost use Rattle.std.specs.Arc.{arc_value};
 ghost use Rattle.druid_shard.specs.Reply.{max_changes};
 ghost use Rattle.druid_shard.specs.declared.change.Change.{Change as Event};
 ghost use Rattle.druid_shard.specs.declared.change.Change.TheVariants.{Load, Drop as Dropped};
 ghost use Rattle.druid_rows.specs.Segment.{Segment};
-ghost use Rattle.druid_changes.specs.Kept.{StandsFor, IsKept, refusal};
+ghost use Rattle.druid_shard.specs.Described.{Described};
+ghost use Rattle.druid_changes.specs.Kept.{StandsFor, IsKept, described_named, refusal};
 ghost use Rattle.druid_changes.specs.Answer.{answer, HasCopies, mark_behind};
-ghost use Rattle.druid_node.specs.State.{State, IsState, Takes, Leaves, Refuses, RefusesToDrop};
-ghost use Rattle.druid_partial.specs.Once.{segment_named};
+ghost use Rattle.druid_node.specs.State.{State, IsState, Records, Takes, Leaves, Covers, Refuses, RefusesToDrop, RefusesToCover};
 ghost use Rattle.druid_node.specs.Answers.{IsAnswerOf};
 ghost use Rattle.druid_node.specs.Held.{state_of};
 
@@ -19,12 +19,13 @@ use druid_partial_text::NodeAnswer;
 use druid_query::SubQuery;
 use druid_rows::Segment;
 use druid_segid::SegmentId;
-use druid_shard::{Ask, Change, Descriptor, MAX_SEGMENTS, Mark, Reply};
+use druid_shard::{Ask, Change, Descriptor, Mark, Reply};
 use std::alloc::Global;
 use std::marker::Model;
 use std::sync::Arc;
 
-/// The segments that a node holds, and the history of its loads and drops in this incarnation.
+/// The segments that a node holds, and the history of its loads and drops in this incarnation. It serves these segments and
+/// some tombstones, of which only the history tells.
 #[derive(Debug, Drop)]
 pub struct NodeState {
     alloc: Global,
@@ -73,22 +74,64 @@ fn put(
     }
 }
 
+// Records a drop that is not refused.
+fn record_drop(history: &mut History, descriptor: Descriptor)
+    requires { refusal history.old (Dropped descriptor) ≡ None }
+    ensures { Records history.old history.new (Dropped descriptor) }
+{
+    let Ok(()) = history.record(Change::Drop(descriptor)) else {
+        unreachable!()
+    };
+}
+
 // Takes a segment, whose drop is not refused, out of those that are held, and records that.
 fn take_out(held: &mut Held, history: &mut History, id: &SegmentId, descriptor: Descriptor)
     requires state { IsState (state_of history.old held.old) }
     requires taken { refusal history.old (Dropped descriptor) ≡ None }
-    requires found { (s : Segment) × (Some s ≡ segment_named id.now held.old) × (descriptor ≡ s.descriptor) }
-    ensures left { (s : Segment) × (segment_named id.now held.old ≡ Some s)
-        × Leaves (state_of history.old held.old) (state_of history.new held.new) s }
+    requires found { described_named id.now history.old.set ≡ Some descriptor }
+    requires ordinary { descriptor.tombstone ≡ false }
+    ensures left { Leaves (state_of history.old held.old) (state_of history.new held.new) descriptor }
     ensures state { IsState (state_of history.new held.new) }
 {
     // For the proof: reading it exposes the invariant of its type.
     let _held = held.len();
     let _mark = history.mark();
-    let Ok(()) = history.record(Change::Drop(descriptor)) else {
-        unreachable!()
-    };
+    record_drop(history, descriptor);
     held.remove(id);
+}
+
+// Records the drop of a tombstone, which is not refused. The same segments are held.
+fn uncover(held: &Held, history: &mut History, id: &SegmentId, descriptor: Descriptor)
+    requires state { IsState (state_of history.old held.now) }
+    requires taken { refusal history.old (Dropped descriptor) ≡ None }
+    requires found { described_named id.now history.old.set ≡ Some descriptor }
+    requires bare { descriptor.tombstone ≡ true }
+    ensures left { Leaves (state_of history.old held.now) (state_of history.new held.now) descriptor }
+    ensures state { IsState (state_of history.new held.now) }
+{
+    // For the proof: reading it exposes the invariant of its type.
+    let _held = held.len();
+    let _mark = history.mark();
+    record_drop(history, descriptor);
+}
+
+// Records the load of a tombstone, which is not refused. The same segments are held. Out of memory leaves all as it was.
+fn cover(held: &Held, history: &mut History, tombstone: Descriptor) -> Result<(), NodeFault>
+    requires state { IsState (state_of history.old held.now) }
+    requires taken { refusal history.old (Load tombstone) ≡ None }
+    requires bare { tombstone.tombstone ≡ true }
+    ensures ok { OnOk result (Records history.old history.new (Load tombstone)) }
+    ensures err { IfErr result (λ fault. fault ≡ NodeFault.Memory) }
+    ensures unchanged { OnErr result (history.new ≡ history.old) }
+    ensures state { IsState (state_of history.new held.now) }
+{
+    // For the proof: reading it exposes the invariant of its type.
+    let _held = held.len();
+    let _mark = history.mark();
+    match history.record(Change::Load(tombstone)) {
+        Ok(()) => Ok(()),
+        Err(_) => Err(NodeFault::Memory),
+    }
 }
 
 impl NodeState {
@@ -118,24 +161,6 @@ impl NodeState {
         self.alloc
     }
 
-    // Why a load is refused, whatever memory there is.
-    fn refusal_of_load(&self, segment: &Descriptor) -> Option<HistoryFault>
-        ensures { result ≡ refusal self.now.history (Load segment.now) }
-    {
-        let held = self.held.len();
-        if self.held.holds(segment.id()) {
-            return Some(HistoryFault::Served);
-        }
-        if held >= MAX_SEGMENTS {
-            return Some(HistoryFault::Full);
-        }
-        let mark = self.history.mark();
-        if mark.count() == u64::MAX {
-            return Some(HistoryFault::CountAtEnd);
-        }
-        None
-    }
-
     // Loads a segment that is not refused. Out of memory leaves all as it was.
     fn take(&mut self, segment: Segment) -> Result<(), NodeFault>
         requires { refusal self.old.history (Load segment.descriptor) ≡ None }
@@ -147,37 +172,57 @@ impl NodeState {
         put(self.alloc, held, &mut self.history, segment)
     }
 
-    /// Loads a segment, and records it. N4 where the history refuses that: H1 where a segment of that identifier is held, then
-    /// H3 where 20,000 segments are, then H4 at a count of 2^64 - 1. Then N9 where memory runs out. A refused load leaves
-    /// all as it was.
+    /// Loads a segment, and records it. N4 where the history refuses that: H1 where a segment or a tombstone of that identifier
+    /// is served, then H3 where 20,000 segments and tombstones are, then H4 at a count of 2^64 - 1. Then N9 where memory runs
+    /// out. A refused load leaves all as it was.
     pub fn load(&mut self, segment: Segment) -> Result<(), NodeFault>
         ensures ok { OnOk result (Takes self.old self.new segment) }
         ensures err { IfErr result (Refuses self.old.history (Load segment.descriptor)) }
         ensures unchanged { OnErr result (self.new ≡ self.old) }
     {
-        match self.refusal_of_load(segment.descriptor()) {
+        match self.history.refusal_of_load(segment.descriptor()) {
             Some(fault) => Err(NodeFault::History(fault)),
             None => self.take(segment),
         }
     }
 
-    /// Drops the segment of that identifier, and records it. N4 where the history refuses that: H2 where no such segment is
-    /// held, then H4 at a count of 2^64 - 1. Then N9 where memory runs out. A refused drop leaves all as it was.
-    pub fn drop_segment(&mut self, id: &SegmentId) -> Result<(), NodeFault>
-        ensures ok { OnOk result ((s : Segment) × (segment_named id.now self.old.held ≡ Some s) × Leaves self.old self.new s) }
-        ensures err { IfErr result (RefusesToDrop self.old.history (segment_named id.now self.old.held)) }
+    /// Places the tombstone of that identifier among what it serves, and records that as a load. N7 where the identifier is not
+    /// of partition 0. N4 where the history refuses that: H1 where a segment or a tombstone of that identifier is served, then
+    /// H3 where 20,000 segments and tombstones are, then H4 at a count of 2^64 - 1. Then N9 where memory runs out. Where it
+    /// fails all is as it was.
+    pub fn place_tombstone(&mut self, id: SegmentId) -> Result<(), NodeFault>
+        ensures ok { OnOk result (Covers self.old self.new id) }
+        ensures err { IfErr result (RefusesToCover self.old.history id) }
         ensures unchanged { OnErr result (self.new ≡ self.old) }
     {
-        // For the proof: reading it exposes the invariant of its type.
-        let _held = self.held.len();
-        let Some(segment) = self.held.find(id) else {
+        let Some(tombstone) = Descriptor::tombstone(id) else {
+            return Err(NodeFault::NotPartitionZero);
+        };
+        match self.history.refusal_of_load(&tombstone) {
+            Some(fault) => Err(NodeFault::History(fault)),
+            None => cover(&self.held, &mut self.history, tombstone),
+        }
+    }
+
+    /// Drops the segment or the tombstone of that identifier, and records it. N4 where the history refuses that: H2 where no
+    /// such segment or tombstone is served, then H4 at a count of 2^64 - 1. Then N9 where memory runs out. A refused drop
+    /// leaves all as it was.
+    pub fn drop_segment(&mut self, id: &SegmentId) -> Result<(), NodeFault>
+        ensures ok { OnOk result ((d : Described) × (described_named id.now self.old.history.set ≡ Some d) × Leaves self.old self.new d) }
+        ensures err { IfErr result (RefusesToDrop self.old.history (described_named id.now self.old.history.set)) }
+        ensures unchanged { OnErr result (self.new ≡ self.old) }
+    {
+        let Some(found) = self.history.find(id) else {
             return Err(NodeFault::History(HistoryFault::NotServed));
         };
-        let mark = self.history.mark();
-        if mark.count() == u64::MAX {
-            return Err(NodeFault::History(HistoryFault::CountAtEnd));
+        if let Some(fault) = self.history.refusal_of_drop(found) {
+            return Err(NodeFault::History(fault));
         }
-        let descriptor = segment.descriptor().clone()?;
+        let descriptor = found.clone()?;
+        if descriptor.is_tombstone() {
+            uncover(&self.held, &mut self.history, id, descriptor);
+            return Ok(());
+        }
         let held = Arc::make_mut(&mut self.held)?;
         take_out(held, &mut self.history, id, descriptor);
         Ok(())

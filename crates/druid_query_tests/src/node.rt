@@ -150,6 +150,12 @@ fn load_in_vain<R: Abort + Wait>(
     node.load_file(rt, &mut failing, name, seen)
 }
 
+// The segment of `w` of that text.
+fn id_of(rt: &impl Abort, alloc: Global, text: &str) -> SegmentId {
+    let source = Name::new(alloc, "w").expect(rt, "a name");
+    SegmentId::parse(alloc, &source, text).expect(rt, "an identifier")
+}
+
 // What dropping a segment of `w` tells, by the text of its identifier.
 fn drop_named<R: Abort + Wait>(
     rt: &R,
@@ -158,9 +164,7 @@ fn drop_named<R: Abort + Wait>(
     id: &str,
     seen: &mut Mark,
 ) -> Result<(), NodeFault> {
-    let source = Name::new(alloc, "w").expect(rt, "a name");
-    let id = SegmentId::parse(alloc, &source, id).expect(rt, "an identifier");
-    node.drop_segment(rt, &id, seen)
+    node.drop_segment(rt, &id_of(rt, alloc, id), seen)
 }
 
 /// A text in which `|` stands for a carriage return and a line feed, `_` for a line feed, `^` for a carriage return, `%` for
@@ -439,8 +443,8 @@ const AFTER_DROP: &str =
 const AFTER_MORE: &str =
     "?counter=0&hash=1 = 200 {\"counter\":{\"counter\":3,\"hash\":1},\"from\":null,\"requests\":[],\"resetCause\":\"TooOld\",\"resetCounter\":true}";
 
-// What is done to the node: a file is loaded, from a device that works or one that fails, or a segment is dropped by the
-// text of its identifier.
+// What is done to the node: a file is loaded, from a device that works or one that fails, a tombstone is placed, or a segment
+// is dropped, these two by the text of the identifier.
 fn done<R: Abort + Wait>(
     rt: &R,
     alloc: Global,
@@ -453,6 +457,7 @@ fn done<R: Abort + Wait>(
     match what {
         "load" => load(rt, alloc, layout, node, name, seen),
         "fail" => load_in_vain(rt, alloc, layout, node, name, seen),
+        "place" => node.place_tombstone(rt, id_of(rt, alloc, name), seen),
         _ => drop_named(rt, alloc, node, name, seen),
     }
 }
@@ -533,7 +538,67 @@ fn node_after_load(rt: HostRuntime) {
     }
 }
 
-const TEXTS_OF_FAULTS: [(NodeFault, &str); 2] = [
+const PLACED: &str =
+    "place w_1970-01-01T00:00:00.000Z_1970-01-02T00:00:00.000Z_v_1 = N7: a tombstone of another partition than 0
+place w_1970-01-01T00:00:00.000Z_1970-01-02T00:00:00.000Z_v = ok
+place w_1970-01-01T00:00:00.000Z_1970-01-02T00:00:00.000Z_v = N4: H1: served already
+load w_1970-01-01T00:00:00.000Z_1970-01-02T00:00:00.000Z_v.seg = N4: H1: served already";
+
+const AFTER_PLACING: &str =
+    " = 200 {\"counter\":{\"counter\":1,\"hash\":1},\"from\":null,\"requests\":[{\"action\":\"load\",\"dataSource\":\"w\",\"interval\":\"1970-01-01T00:00:00.000Z/1970-01-02T00:00:00.000Z\",\"shardSpec\":{\"partitionNum\":0,\"partitions\":1,\"type\":\"numbered\"},\"size\":0,\"tombstone\":true,\"version\":\"v\"}],\"resetCause\":null,\"resetCounter\":false}";
+
+// A tombstone that was dropped makes room for the segment.
+const REPLACED: &str = "drop w_1970-01-01T00:00:00.000Z_1970-01-02T00:00:00.000Z_v = ok
+load w_1970-01-01T00:00:00.000Z_1970-01-02T00:00:00.000Z_v.seg = ok";
+
+const AFTER_REPLACING: &str =
+    " = 200 {\"counter\":{\"counter\":3,\"hash\":1},\"from\":null,\"requests\":[@],\"resetCause\":null,\"resetCounter\":false}";
+
+// A query for the segment of `w`, and what a node answers that holds it as a tombstone, and then with its row.
+const ASKED: &str =
+    "{\"queryType\":\"timeseries\",\"dataSource\":\"w\",\"granularity\":\"all\",\"intervals\":{\"type\":\"segments\",\"segments\":[{\"chunk\":\"1970-01-01/1970-01-02\",\"itvl\":\"1970-01-01/1970-01-02\",\"part\":0,\"ver\":\"v\"}]},\"queryIntervals\":[\"1970-01-01/1970-01-02\"],\"aggregations\":[{\"type\":\"count\",\"name\":\"n\"}]}";
+
+const MISSED: &str =
+    "200 {\"missing\":[{\"chunk\":\"1970-01-01T00:00:00.000Z/1970-01-02T00:00:00.000Z\",\"itvl\":\"1970-01-01T00:00:00.000Z/1970-01-02T00:00:00.000Z\",\"part\":0,\"ver\":\"v\"}],\"rows\":[]}";
+
+const COUNTED: &str = "200 {\"missing\":[],\"rows\":[[0,[],[1]]]}";
+
+// Asserts that the node answers that query so.
+fn assert_asked<R: Abort + Wait>(
+    rt: &R,
+    alloc: Global,
+    node: &DataNode<First>,
+    wanted: &str,
+    seen: &mut Mark,
+) {
+    let length = ASKED.len();
+    let head = format!(in alloc;
+        "POST /druid/v2 HTTP/1.1\r\nContent-Length: {length}\r\n\r\n{ASKED}"
+    );
+    let message = head.expect(rt, "memory");
+    assert!(rt;
+        answers(rt, alloc, node, message.as_bytes(), wanted, seen),
+        "{wanted}"
+    );
+}
+
+#[test]
+fn tombstones_have_no_rows(rt: HostRuntime) {
+    let node = empty_node(&rt, rt.alloc());
+    let mut seen = Mark::never();
+    let placed = (PLACED, AFTER_PLACING);
+    assert_goes_on(&rt, rt.alloc(), Layout::ByRows, &node, &placed, &mut seen);
+    assert_asked(&rt, rt.alloc(), &node, MISSED, &mut seen);
+    let replaced = (REPLACED, AFTER_REPLACING);
+    assert_goes_on(&rt, rt.alloc(), Layout::ByRows, &node, &replaced, &mut seen);
+    assert_asked(&rt, rt.alloc(), &node, COUNTED, &mut seen);
+}
+
+const TEXTS_OF_FAULTS: [(NodeFault, &str); 3] = [
+    (
+        NodeFault::NotPartitionZero,
+        "N7: a tombstone of another partition than 0",
+    ),
     (NodeFault::Device, "N1: the device failed"),
     (NodeFault::Memory, "N9: out of memory"),
 ];

@@ -46,6 +46,14 @@ fn edits(rt: &impl Abort, alloc: Global, state: &mut NodeState, id: &SegmentId) 
     state.load(segment(rt, alloc)).expect(rt, "a load");
 }
 
+// Places a tombstone on a node without segments.
+fn places(rt: &impl Abort, alloc: Global, state: &mut NodeState, id: &SegmentId) {
+    let id = id.clone().expect(rt, "memory");
+    begin(rt, alloc);
+    let told = end(rt, alloc, state.place_tombstone(id));
+    assert_call(rt, "NodeState::place_tombstone", moves(told, state, 1));
+}
+
 fn make_state(rt: &impl Abort, alloc: Global) {
     begin(rt, alloc);
     let made = end(rt, alloc, NodeState::new(alloc, 1, 2));
@@ -121,6 +129,11 @@ fn loads<R: Abort + Wait>(rt: &R, alloc: Global, node: &DataNode<First>, id: &Se
     begin(rt, alloc);
     let told = end(rt, alloc, node.drop_segment(rt, id, &mut seen));
     assert_call(rt, "DataNode::drop_segment", is_seen(told, seen, 2));
+    let _ = node.drop_segment(rt, id, &mut seen);
+    let id = id.clone().expect(rt, "memory");
+    begin(rt, alloc);
+    let told = end(rt, alloc, node.place_tombstone(rt, id, &mut seen));
+    assert_call(rt, "DataNode::place_tombstone", is_seen(told, seen, 3));
 }
 
 fn serves<R: Abort + Wait>(rt: &R, alloc: Global, node: &DataNode<First>) {
@@ -149,6 +162,8 @@ fn of_state(rt: &impl Abort, alloc: Global, id: &SegmentId) {
     let mut state = NodeState::new(alloc, 1, 5).expect(rt, "a node");
     edits(rt, alloc, &mut state, id);
     answers(rt, alloc, &state);
+    let mut state = NodeState::new(alloc, 1, 5).expect(rt, "a node");
+    places(rt, alloc, &mut state, id);
 }
 
 #[test]

@@ -203,6 +203,16 @@ fn timeline_reads(rt: &impl Abort, alloc: Global, timeline: &Timeline, segment: 
         },
     );
     begin(rt, alloc);
+    let nodes = end(rt, alloc, timeline.served(segment.id()));
+    assert_call(
+        rt,
+        "Timeline::served",
+        match &nodes {
+            Ok(nodes) => nodes.as_slice() == [0].as_slice(),
+            Err(_) => true,
+        },
+    );
+    begin(rt, alloc);
     let nodes = end(rt, alloc, timeline.replicas(segment.id()));
     assert_call(
         rt,

@@ -1,5 +1,5 @@
 -- What a segment is, and the length of its text.
-use Rattle.std.specs.Prelude.{ℕ, ℤ, ◌+◌, ◌≤◌, List, [], ◌∷◌, ◌++◌, length, map, All, Option, None, Some, slice_index_or}
+use Rattle.std.specs.Prelude.{◌≡◌, ℕ, ℤ, false, ◌+◌, ◌≤◌, List, [], ◌∷◌, ◌++◌, length, map, All, Option, None, Some, slice_index_or}
 use Rattle.std.specs.List.{sum}
 use Rattle.druid_shard.specs.Described.{Described}
 use Rattle.druid_rows.specs.Rows.{Schema, Row, IsSchema, HasShape, IsInside, HasShortValues, HasWords, no_row}
@@ -75,7 +75,9 @@ AreInside content = All (IsInside content.descriptor.id.interval) content.rows
 abbrev pub HaveWords : Segment → Type 0
 HaveWords content = All HasWords content.rows
 
+-- it is announced as no tombstone, which has no rows
 pub record IsSegment (content : Segment) : Type 0 where
+  pub ordinary : content.descriptor.tombstone ≡ false
   pub schema : IsSchema content.fields
   pub within : IsWithinLimits content
   pub shape : HaveShape content

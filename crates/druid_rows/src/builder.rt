@@ -1,4 +1,4 @@
-ghost use Rattle.std.specs.Prelude.{◌≡◌, ◌↔◌, ◌-◌, [], IfOk, OnOk, OnErr, OnSome, SomeIff, IsErrOf, IsOkUnless};
+ghost use Rattle.std.specs.Prelude.{◌≡◌, ◌↔◌, ◌-◌, [], true, false, IfOk, OnOk, OnErr, OnSome, SomeIff, IsErrOf, IsOkUnless};
 ghost use Rattle.druid_rows.specs.Rows.{texts_by, row_of, IsSchema, HasShape, IsInside, HasWords};
 ghost use Rattle.druid_rows.specs.Segment.{Segment, IsWithinLimits, HaveWords, IsSegment, segment_of, with_row, text_length, max_text};
 
@@ -37,8 +37,9 @@ impl Model for SegmentBuilder {
 }
 
 impl SegmentBuilder {
-    /// A segment that has no rows yet. `BadSchema` where a name is no field name or stands twice, then `TooLong` where
-    /// there are more than 64 dimensions or 64 metrics, and then `Memory`.
+    /// A segment that has no rows yet. `Tombstone` where the descriptor is one, then `BadSchema` where a name is no
+    /// field name or stands twice, then `TooLong` where there are more than 64 dimensions or 64 metrics, and then
+    /// `Memory`.
     pub fn new(
         alloc: Global,
         descriptor: Descriptor,
@@ -47,9 +48,12 @@ impl SegmentBuilder {
         ensures value { IfOk result (λ builder. builder ≡ segment_of descriptor schema []) }
         ensures accepts { IsSegment (segment_of descriptor schema [])
             → IsOkUnless result RowFault.Memory }
-        ensures bad_schema { IsErrOf result RowFault.BadSchema ↔ (¬ IsSchema schema) }
+        ensures tombstone { IsErrOf result RowFault.Tombstone ↔ (descriptor.tombstone ≡ true) }
+        ensures bad_schema { IsErrOf result RowFault.BadSchema
+            ↔ ((descriptor.tombstone ≡ false) × (¬ IsSchema schema)) }
         ensures too_long { IsErrOf result RowFault.TooLong
-            ↔ (IsSchema schema
+            ↔ ((descriptor.tombstone ≡ false)
+            × IsSchema schema
             × (¬ IsWithinLimits (segment_of descriptor schema []))) }
     {
         match judge(&descriptor, &schema, &[]) {

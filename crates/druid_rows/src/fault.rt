@@ -7,6 +7,9 @@ use thiserror::Error;
 /// Why a descriptor, a schema and rows make no segment.
 #[derive(Clone, Copy, Debug, PartialEq, Eq, Drop, Error)]
 pub enum RowFault {
+    /// U5: the descriptor is a tombstone, which has no rows.
+    #[error("U5: a tombstone")]
+    Tombstone,
     /// U1: a name of the schema is no field name, or stands twice.
     #[error("U1: a bad schema")]
     BadSchema,

@@ -1,4 +1,4 @@
-ghost use Rattle.std.specs.Prelude.{◌≡◌, ◌↔◌, ◌*◌, List, ℕ, ◌-◌, ◌<◌, ◌≤◌, ◌==◌, length, map, sum, slice_index_or, None, All, IsTrue, SomeIff, IfOk, OnSome, OnOk, OnErr, IsOk, IsErrOf, IsOkUnless};
+ghost use Rattle.std.specs.Prelude.{◌≡◌, ◌↔◌, ◌*◌, true, false, List, ℕ, ◌-◌, ◌<◌, ◌≤◌, ◌==◌, length, map, sum, slice_index_or, None, All, IsTrue, SomeIff, IfOk, OnSome, OnOk, OnErr, IsOk, IsErrOf, IsOkUnless};
 ghost use Rattle.std.specs.List.Sorted.{IsNonDecreasing};
 ghost use Rattle.std.specs.Option.{option_map};
 ghost use Rattle.druid_time.specs.Extent.{Has};
@@ -116,19 +116,28 @@ pub(crate) fn judge(
     ensures words { OnOk result (HaveWords (segment_of descriptor.now schema.now rows.now)) }
     ensures room { IfOk result (λ room. room ≡ max_text - text_length (segment_of descriptor.now schema.now rows.now)) }
     ensures accepts { IsSegment (segment_of descriptor.now schema.now rows.now) → IsOk result }
-    ensures bad_schema { IsErrOf result RowFault.BadSchema ↔ (¬ IsSchema schema.now) }
+    ensures tombstone { IsErrOf result RowFault.Tombstone ↔ (descriptor.now.tombstone ≡ true) }
+    ensures bad_schema { IsErrOf result RowFault.BadSchema
+        ↔ ((descriptor.now.tombstone ≡ false) × (¬ IsSchema schema.now)) }
     ensures too_long { IsErrOf result RowFault.TooLong
-        ↔ (IsSchema schema.now × (¬ IsWithinLimits (segment_of descriptor.now schema.now rows.now))) }
+        ↔ ((descriptor.now.tombstone ≡ false)
+        × IsSchema schema.now
+        × (¬ IsWithinLimits (segment_of descriptor.now schema.now rows.now))) }
     ensures row_shape { IsErrOf result RowFault.RowShape
-        ↔ (IsSchema schema.now
+        ↔ ((descriptor.now.tombstone ≡ false)
+        × IsSchema schema.now
         × IsWithinLimits (segment_of descriptor.now schema.now rows.now)
         × (¬ HaveShape (segment_of descriptor.now schema.now rows.now))) }
     ensures row_outside { IsErrOf result RowFault.RowOutside
-        ↔ (IsSchema schema.now
+        ↔ ((descriptor.now.tombstone ≡ false)
+        × IsSchema schema.now
         × IsWithinLimits (segment_of descriptor.now schema.now rows.now)
         × HaveShape (segment_of descriptor.now schema.now rows.now)
         × (¬ AreInside (segment_of descriptor.now schema.now rows.now))) }
 {
+    if descriptor.is_tombstone() {
+        return Err(RowFault::Tombstone);
+    }
     if !schema.is_valid() {
         return Err(RowFault::BadSchema);
     }
@@ -156,8 +165,8 @@ fn read_metrics(columns: &[Numbers])
 impl Segment {
     /// The segment of these rows, in this order.
     ///
-    /// `BadSchema` where a name of the schema is no field name or stands twice, then `TooLong` where there are more
-    /// than 64 dimensions, 64 metrics or 100,000 rows, a value has more than 1,024 bytes, or the text of the segment
+    /// `Tombstone` where the descriptor is one, then `BadSchema` where a name of the schema is no field name or stands
+    /// twice, then `TooLong` where there are more than 64 dimensions, 64 metrics or 100,000 rows, a value has more than 1,024 bytes, or the text of the segment
     /// has more than 16,777,216, then `RowShape` where a row has another number of values than the schema has
     /// fields, then `RowOutside` where a row lies outside the interval, and then `Memory`.
     pub fn new(
@@ -171,16 +180,21 @@ impl Segment {
         ensures words { IfOk result HaveWords }
         ensures accepts { IsSegment (segment_of descriptor schema rows.items)
             → IsOkUnless result RowFault.Memory }
-        ensures bad_schema { IsErrOf result RowFault.BadSchema ↔ (¬ IsSchema schema) }
+        ensures tombstone { IsErrOf result RowFault.Tombstone ↔ (descriptor.tombstone ≡ true) }
+        ensures bad_schema { IsErrOf result RowFault.BadSchema
+            ↔ ((descriptor.tombstone ≡ false) × (¬ IsSchema schema)) }
         ensures too_long { IsErrOf result RowFault.TooLong
-            ↔ (IsSchema schema
+            ↔ ((descriptor.tombstone ≡ false)
+            × IsSchema schema
             × (¬ IsWithinLimits (segment_of descriptor schema rows.items))) }
         ensures row_shape { IsErrOf result RowFault.RowShape
-            ↔ (IsSchema schema
+            ↔ ((descriptor.tombstone ≡ false)
+            × IsSchema schema
             × IsWithinLimits (segment_of descriptor schema rows.items)
             × (¬ HaveShape (segment_of descriptor schema rows.items))) }
         ensures row_outside { IsErrOf result RowFault.RowOutside
-            ↔ (IsSchema schema
+            ↔ ((descriptor.tombstone ≡ false)
+            × IsSchema schema
             × IsWithinLimits (segment_of descriptor schema rows.items)
             × HaveShape (segment_of descriptor schema rows.items)
             × (¬ AreInside (segment_of descriptor schema rows.items))) }

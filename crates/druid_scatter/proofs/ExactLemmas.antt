@@ -390,7 +390,7 @@ module _ (order : List ℕ → List ℕ) (inventory : List Entry) (query : Query
         (plan.paired.all a).1 (record {
           of_source = by.4;
           shown = subst (Contains plan.pieces) (λ i. record { interval = p.0.interval; group = p.2 i }) p.1;
-          member = (x.member, member, ap (λ (i : Identifier). i.partition) by.3);
+          served = (x.member, member, ap (λ (i : Identifier). i.partition) by.3, ap not by.5);
         }),
         refl,
         p.3,

@@ -101,7 +101,7 @@ wanted_over : (source : List ℕ) (old new : List Held) (ps qs : List Shown) (a 
 wanted_over source old new ps qs a same e w = record {
   of_source = w.of_source;
   shown = subst (λ (ss : List Shown). Contains ss (record { interval = a.1; group = group_of a.0 })) e w.shown;
-  member = (w.member.0, (SameHeld-members old new (group_of a.0) same w.member.0).1 w.member.1, w.member.2);
+  served = (w.served.0, (SameHeld-members old new (group_of a.0) same w.served.0).1 w.served.1, w.served.2, w.served.3);
 }
 
 pub one_plan : (inventory : List Entry) (query : Query) (ps qs : List Pair) → IsPlanOf inventory query ps → IsPlanOf inventory query qs → ps ≡ qs
@@ -154,11 +154,11 @@ shown_as a = record { interval = a.1; group = group_of a.0 }
 segment_served : (inventory : List Entry) (source : List ℕ) (held : List Held) (pieces : List Shown) (a : Asked) → IsHoldingOf inventory source held → IsWanted source held pieces a
     → (node : ℕ) × (d : Described) × Serves inventory node d × (d.id ≡ a.0)
 segment_served inventory source held pieces a holding w =
-    let of = Contains-map (λ (h : Held). h.member) _ w.member.0 w.member.1 in
+    let of = Contains-map (λ (h : Held). h.member) _ w.served.0 w.served.1 in
     let kept = from_filter _ held of.0 of.1 in
     let group : of.0.group ≡ group_of a.0 = same_group-exact of.0.group (group_of a.0) kept.1 in
     let from = (holding of.0).0 kept.0 in
-    let partition : from.1.id.partition ≡ a.0.partition = ap (λ (h : Held). h.member.partition) (sym from.4) ∙ ap (λ (m : Member). m.partition) of.2 ∙ w.member.2 in
+    let partition : from.1.id.partition ≡ a.0.partition = ap (λ (h : Held). h.member.partition) (sym from.4) ∙ ap (λ (m : Member). m.partition) of.2 ∙ w.served.2 in
     (from.0, from.1, from.2, same_id from.1 a.0 (from.3 ∙ sym w.of_source) (ap (λ (h : Held). h.group) (sym from.4) ∙ group) partition)
 
 sorted_later : {K : Type 0} (R : K → K → Ordering) (xs : List K) → IsStrictlySortedBy R xs → (i j : ℕ) (d : K) → i < j → j < length xs → R (get_or xs i d) (get_or xs j d) ≡ Less

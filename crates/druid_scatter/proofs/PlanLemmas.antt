@@ -1,5 +1,5 @@
 -- The pieces of a plan are all that are wanted, once each and in order.
-use Rattle.std.proofs.Common.{◌≡◌, ◌∙◌, ◌↔◌, inl, inr, ℕ, suc, ◌+◌, ◌<◌, ◌≤◌, List, [], ◌∷◌, ◌++◌, length, get_or, map, take, All, Contains, append_assoc, refl, sym, ap, subst, arith}
+use Rattle.std.proofs.Common.{◌≡◌, ◌∙◌, ◌↔◌, ◌==◌, inl, inr, ℕ, suc, ◌+◌, ◌<◌, ◌≤◌, Bool, true, false, not, cond, List, [], ◌∷◌, ◌++◌, length, get_or, map, filter, take, All, Contains, append_assoc, refl, sym, ap, subst, arith}
 use Rattle.std.specs.List.{AllByRecursion}
 use Rattle.std.specs.List.Sorted.{IsStrictlyIncreasing, IsStrictlySortedBy}
 use Rattle.std.specs.Ordering.{nat_cmp, ordering_then, MatchOrdering}
@@ -7,15 +7,19 @@ use Rattle.std.proofs.lemmas.List.Kept.{AllPairs-from_increasing}
 use Rattle.std.specs.declared.cmp.Ordering.{Ordering}
 use Rattle.std.specs.declared.cmp.Ordering.TheVariants.{Less, Equal, Greater}
 use Rattle.std.proofs.lemmas.Cmp.{ranked}
+use borrow.Author.Tests.{eqb-true}
+use Rattle.std.proofs.lemmas.Bool.{cases_Bool, false≢true}
 use Rattle.std.proofs.lemmas.List.Elements.{All-weaker, Contains-get_or, Contains-append_cases, All-contains, All-head, All-tail, All-from_recursion}
 use Rattle.std.proofs.lemmas.List.{map_push, map_more, take_more, take_all, flat_map_more}
 use Rattle.druid_time.specs.Extent.{Extent, AnyHas, SameInstants}
-use Rattle.druid_segid.specs.Group.{Group, group_of}
+use Rattle.druid_segid.specs.Group.{Group, group_of, same_group}
 use Rattle.druid_segid.specs.Identifier.{Identifier}
 use Rattle.druid_shard.specs.Described.{Described}
-use Rattle.druid_members.specs.Members.{HasPartition}
+use Rattle.druid_members.specs.Members.{Member, HasPartition}
 use Rattle.druid_shard.proofs.MemberLemmas.{Contains-map, Contains-map_back, Contains-flat_map, Contains-flat_map_back, Contains-cons, Contains-later, Contains-nil}
-use Rattle.druid_timeline.specs.Holding.{Held, Serving, held_of, members_of, IsServed}
+use Rattle.druid_timeline.specs.Holding.{Held, Serving, held_of, members_of, HasRows, ServesRows}
+use Rattle.druid_timeline.proofs.HoldingLemmas.{in_filter, from_filter}
+use Rattle.druid_chunks.proofs.ChunkLemmas.{same_group-same, same_group-exact}
 use Rattle.druid_timeline.specs.Pieces.{Shown, Told, shown_of, AreRuns, ArePiecesIn, ArePartitions}
 use Rattle.druid_timeline.specs.Visible.{IsVisible}
 use Rattle.druid_timeline.proofs.RunsLemmas.{AreRuns-first, AreRuns-rest}
@@ -23,8 +27,8 @@ use Rattle.druid_inventory.specs.Entry.{Entry}
 use Rattle.druid_inventory.specs.Sources.{Serves, HasSource, IsHoldingOf}
 use Rattle.druid_query.specs.Query.{Query}
 use Rattle.druid_query.specs.Asked.{Asked}
-use Rattle.druid_scatter.specs.Plan.{Pair, asked_of, IsWanted, AreReplicas, place_cmp, IsPlanOf}
-use Rattle.druid_scatter.specs.Planned.{asked_at, asked_for, asked_in, IsServedBy}
+use Rattle.druid_scatter.specs.Plan.{Pair, asked_of, IsPartServed, IsWanted, AreReplicas, place_cmp, IsPlanOf}
+use Rattle.druid_scatter.specs.Planned.{asked_at, asked_for, asked_in, IsPart, has_nodes, IsServedBy}
 
 -- ---- order
 
@@ -121,12 +125,12 @@ in_order source (t ∷ told) r up =
 
 -- ---- what is wanted
 
-pub wanted : (source : List ℕ) (held : List Held) (told : List Told) → All (λ t. ArePartitions (members_of held t.group) t.parts) told → (a : Asked)
-    → Contains (asked_in source told) a ↔ IsWanted source held (map shown_of told) a
-wanted source held told parts a = (
+pub part_of : (source : List ℕ) (held : List Held) (told : List Told) → All (λ t. ArePartitions (members_of held t.group) t.parts) told → (a : Asked)
+    → Contains (asked_in source told) a ↔ IsPart source held (map shown_of told) a
+part_of source held told parts a = (
   λ c. let of = Contains-flat_map (asked_for source) told a c in
       let at = Contains-map (asked_at source of.0) of.0.parts a of.2 in
-      subst (IsWanted source held (map shown_of told)) at.2 (record {
+      subst (IsPart source held (map shown_of told)) at.2 (record {
         of_source = refl;
         shown = Contains-map_back shown_of told of.0 of.1;
         member = ((All-contains (λ t. ArePartitions (members_of held t.group) t.parts) told of.0 parts of.1).all at.0).0 at.1;
@@ -146,11 +150,15 @@ wanted source held told parts a = (
 -- ---- replicas
 
 pub served_new : (serving : Serving) (p : Pair) (a : Asked) (nodes : List ℕ) → p ≡ record { asked = a; nodes = nodes } → IsStrictlyIncreasing nodes
-    → ((n : ℕ) → Contains nodes n ↔ IsServed serving n a.0) → IsServedBy serving p
+    → ((n : ℕ) → Contains nodes n ↔ ServesRows serving n a.0) → IsServedBy serving p
 served_new serving p a nodes e up all = subst (IsServedBy serving) (sym e) (record { rising = up; all = all })
 
 pub same_id : (d : Described) (id : Identifier) → d.id.source ≡ id.source → group_of d.id ≡ group_of id → d.id.partition ≡ id.partition → d.id ≡ id
 same_id d id s g p i = record { source = s i; interval = (g i).interval; version = (g i).version; partition = p i }
+
+not_true : (b : Bool) → not b ≡ true → b ≡ false
+not_true true e = absurd (false≢true e)
+not_true false e = refl
 
 pub replicas_of : (inventory : List Entry) (serving : Serving) (source : List ℕ) → serving.source ≡ source → IsHoldingOf inventory source serving.held
     → (p : Pair) → p.asked.0.source ≡ source → IsServedBy serving p → AreReplicas inventory p.asked.0 p.nodes
@@ -161,7 +169,8 @@ replicas_of inventory serving source e held p of_source s = record {
         let node : n ≡ from.0 = sym h.4 ∙ ap (λ (x : Held). x.member.node) from.4 in
         let group : group_of from.1.id ≡ group_of p.asked.0 = ap (λ (x : Held). x.group) (sym from.4) ∙ h.2 in
         let partition : from.1.id.partition ≡ p.asked.0.partition = ap (λ (x : Held). x.member.partition) (sym from.4) ∙ h.3 in
-        (from.1, subst (λ (k : ℕ). Serves inventory k from.1) (sym node) from.2, same_id from.1 p.asked.0 (from.3 ∙ sym of_source) group partition),
+        let rows : from.1.tombstone ≡ false = not_true from.1.tombstone (ap (λ (x : Held). x.member.serves) (sym from.4) ∙ h.5) in
+        (from.1, subst (λ (k : ℕ). Serves inventory k from.1) (sym node) from.2, same_id from.1 p.asked.0 (from.3 ∙ sym of_source) group partition, rows),
     λ r. let d = r.0 in
         (s.all n).1 (
           of_source ∙ sym e,
@@ -171,6 +180,7 @@ replicas_of inventory serving source e held p of_source s = record {
             ap group_of r.2,
             ap (λ (id : Identifier). id.partition) r.2,
             refl,
+            ap not r.3,
           ),
         ),
   );
@@ -211,31 +221,107 @@ any_same set intervals held pieces same p = record {
   shows = λ t g. (λ s. let is = (p.shows t g).0 s in ((same t).0 is.0, is.1), λ v. (p.shows t g).1 ((same t).1 v.0, v.1));
 }
 
-pub planned : (inventory : List Entry) (query : Query) (serving : Serving) (source : List ℕ) (set : List Extent) (told : List Told) (pairs : List Pair) → source ≡ query.source → serving.source ≡ source
+-- ---- the pairs that some node serves
+
+pub filter_sorted : (p : Pair → Bool) (ps : List Pair) → IsStrictlySortedBy place_cmp (asked_of ps) → IsStrictlySortedBy place_cmp (asked_of (filter p ps))
+unfolding IsStrictlySortedBy
+filter_sorted p [] s = tt
+filter_sorted p (x ∷ xs) s = by (p x) (filter_sorted p xs s.1) where
+  by : (b : Bool) → IsStrictlySortedBy place_cmp (asked_of (filter p xs)) → IsStrictlySortedBy place_cmp (asked_of (cond b (x ∷ filter p xs) (filter p xs)))
+  by true rest = (
+    each_less place_cmp x.asked (asked_of (filter p xs)) (λ y c.
+        let of = Contains-map (λ (q : Pair). q.asked) (filter p xs) y c in
+        subst (λ (a : Asked). place_cmp x.asked a ≡ Less) of.2
+        (less_each place_cmp x.asked (asked_of xs) s.0 of.0.asked (Contains-map_back (λ (q : Pair). q.asked) xs of.0 (from_filter p xs of.0 of.1).0))),
+    rest,
+  )
+  by false rest = rest
+
+some_node : (nodes : List ℕ) → not (length nodes == 0) ≡ true → (n : ℕ) × Contains nodes n
+some_node [] e = absurd (false≢true e)
+some_node (n ∷ nodes) e = (n, (0, omega arith, refl))
+
+some_nodes : (nodes : List ℕ) (n : ℕ) → Contains nodes n → not (length nodes == 0) ≡ true
+some_nodes nodes n there = elim (cases_Bool (length nodes == 0)) [
+  | inl none ↦ let empty : length nodes ≡ 0 = eqb-true (length nodes) 0 none in let below = there.1 in absurd (omega arith)
+  | inr some ↦ ap not some
+]
+
+-- a node that has the rows of a segment serves its partition
+rows_served : (held : List Held) (n : ℕ) (id : Identifier) → HasRows held n id → IsPartServed (members_of held (group_of id)) id.partition
+rows_served held n id (h, there, group, partition, at_n, serves) = (
+  h.member,
+  Contains-map_back (λ (m : Held). m.member) (filter (λ m. same_group m.group (group_of id)) held) h
+      (in_filter (λ m. same_group m.group (group_of id)) held h there (same_group-same h.group (group_of id) group)),
+  partition,
+  serves,
+)
+
+served_rows : (held : List Held) (id : Identifier) → IsPartServed (members_of held (group_of id)) id.partition → (n : ℕ) × HasRows held n id
+served_rows held id (m, there, partition, serves) =
+    let of = Contains-map (λ (h : Held). h.member) (filter (λ h. same_group h.group (group_of id)) held) m there in
+    let kept = from_filter (λ h. same_group h.group (group_of id)) held of.0 of.1 in
+    let same : of.0.member ≡ m = of.2 in (
+      m.node,
+      (
+        of.0,
+        kept.0,
+        same_group-exact of.0.group (group_of id) kept.1,
+        ap (λ (x : Member). x.partition) same ∙ partition,
+        ap (λ (x : Member). x.node) same,
+        ap (λ (x : Member). x.serves) same ∙ serves,
+      ),
+    )
+
+pub planned : (inventory : List Entry) (query : Query) (serving : Serving) (source : List ℕ) (set : List Extent) (told : List Told) (all pairs : List Pair) → source ≡ query.source → serving.source ≡ source
     → IsHoldingOf inventory source serving.held → SameInstants set query.intervals → ArePiecesIn (AnyHas set) serving.held (map shown_of told)
-    → All (λ t. ArePartitions (members_of serving.held t.group) t.parts) told → asked_of pairs ≡ asked_in source told → All (IsServedBy serving) pairs → IsPlanOf inventory query pairs
-planned inventory query serving source set told pairs s e holding instants pieces parts asked served = record {
+    → All (λ t. ArePartitions (members_of serving.held t.group) t.parts) told → asked_of all ≡ asked_in source told → All (IsServedBy serving) all → pairs ≡ filter has_nodes all → IsPlanOf inventory query pairs
+planned inventory query serving source set told all pairs s e holding instants pieces parts asked served kept = subst (IsPlanOf inventory query) (sym kept) (record {
   held = serving.held;
   pieces = map shown_of told;
   holding = subst (λ (n : _). IsHoldingOf inventory n serving.held) s holding;
   visible = any_same set query.intervals serving.held (map shown_of told) instants pieces;
   paired = record {
-    all = λ a. subst (λ (xs : _). Contains xs a ↔ IsWanted query.source serving.held (map shown_of told) a) (sym asked)
-        (subst (λ (n : _). Contains (asked_in source told) a ↔ IsWanted n serving.held (map shown_of told) a) s (wanted source serving.held told parts a));
+    all = λ a. subst (λ (n : _). Contains (asked_of (filter has_nodes all)) a ↔ IsWanted n serving.held (map shown_of told) a) s (forth a, back a);
     replicas = each_replica;
-    ordered = pairs_sorted source serving.held (AnyHas set) told pairs asked pieces parts;
+    ordered = filter_sorted has_nodes all (pairs_sorted source serving.held (AnyHas set) told all asked pieces parts);
   };
-}
+})
   where
-    of_source : (p : Pair) → Contains pairs p → p.asked.0.source ≡ source
-    of_source p c =
-        let in_it : Contains (asked_in source told) p.asked = subst (λ (xs : _). Contains xs p.asked) asked (Contains-map_back (λ (q : Pair). q.asked) pairs p c) in
-        ((wanted source serving.held told parts p.asked).0 in_it).of_source
+    part : (a : Asked) → Contains (asked_of all) a → IsPart source serving.held (map shown_of told) a
+    part a there = (part_of source serving.held told parts a).0 (subst (λ (xs : _). Contains xs a) asked there)
 
-    each_replica : All (λ p. AreReplicas inventory p.asked.0 p.nodes) pairs
+    in_all : (p : Pair) → Contains all p → Contains (asked_of all) p.asked
+    in_all p there = Contains-map_back (λ (q : Pair). q.asked) all p there
+
+    forth : (a : Asked) → Contains (asked_of (filter has_nodes all)) a → IsWanted source serving.held (map shown_of told) a
+    forth a there =
+        let of = Contains-map (λ (q : Pair). q.asked) (filter has_nodes all) a there in
+        let is = from_filter has_nodes all of.0 of.1 in
+        let node = some_node of.0.nodes is.1 in
+        let serves = ((All-contains (IsServedBy serving) all of.0 served is.0).all node.0).0 node.1 in
+        let mine = part of.0.asked (in_all of.0 is.0) in
+        subst (IsWanted source serving.held (map shown_of told)) of.2 (record {
+          of_source = mine.of_source;
+          shown = mine.shown;
+          served = rows_served serving.held node.0 of.0.asked.0 serves.1;
+        })
+
+    back : (a : Asked) → IsWanted source serving.held (map shown_of told) a → Contains (asked_of (filter has_nodes all)) a
+    back a w =
+        let in_it = (part_of source serving.held told parts a).1 (record { of_source = w.of_source; shown = w.shown; member = (w.served.0, w.served.1, w.served.2) }) in
+        let of = Contains-map (λ (q : Pair). q.asked) all a (subst (λ (xs : _). Contains xs a) (sym asked) in_it) in
+        let rows = served_rows serving.held a.0 w.served in
+        let serves : ServesRows serving rows.0 of.0.asked.0 = subst (λ (b : Asked). ServesRows serving rows.0 b.0) (sym of.2) (w.of_source ∙ sym e, rows.1) in
+        let node = ((All-contains (IsServedBy serving) all of.0 served of.1).all rows.0).1 serves in
+        subst (Contains (asked_of (filter has_nodes all))) of.2
+        (Contains-map_back (λ (q : Pair). q.asked) (filter has_nodes all) of.0 (in_filter has_nodes all of.0 of.1 (some_nodes of.0.nodes rows.0 node)))
+
+    each_replica : All (λ p. AreReplicas inventory p.asked.0 p.nodes) (filter has_nodes all)
     each_replica = λ k d within.
-        let there = Contains-get_or pairs k d within in
-        replicas_of inventory serving source e holding (get_or pairs k d) (of_source (get_or pairs k d) there) (served k d within)
+        let p = get_or (filter has_nodes all) k d in
+        let is = from_filter has_nodes all p (Contains-get_or (filter has_nodes all) k d within) in
+        replicas_of inventory serving source e holding p (part p.asked (in_all p is.0)).of_source (All-contains (IsServedBy serving) all p served is.0)
 
 -- ---- loops
 

@@ -1,5 +1,5 @@
 -- What a gathered answer is good for, where the nodes' answers were honest: the rows that are visible, but those of missing pieces.
-use Rattle.std.specs.Prelude.{◌≡◌, ◌&&◌, ℕ, Bool, true, not, List, map, filter, Contains, ◌↔◌}
+use Rattle.std.specs.Prelude.{◌≡◌, ◌&&◌, ℕ, Bool, true, false, not, List, map, filter, Contains, ◌↔◌}
 use Rattle.std.specs.List.{flat_map, list_any}
 use Rattle.druid_time.specs.Extent.{AnyHas}
 use Rattle.druid_segid.specs.Group.{group_of}
@@ -29,12 +29,13 @@ IsHonest query segments e =
     (missing : List Asked) (groups : List Group) → Answers query e missing groups
     → IsResult (kinds_of query) (told query segments (without missing e.asked)) groups
 
--- these are the segments of the source that nodes serve, one of each identifier
+-- these are the segments of the source whose rows nodes serve, one of each identifier: a tombstone has none
 pub record AreServed (inventory : List Entry) (source : List ℕ) (segments : List Segment) : Type 0 where
   pub own : HaveOwnSegments segments
   pub each : (s : Segment) → Contains segments s
       → (node : ℕ) × (d : Described) × Serves inventory node d × (d.id ≡ s.descriptor.id) × (s.descriptor.id.source ≡ source)
-  pub all : (node : ℕ) (d : Described) → Serves inventory node d → d.id.source ≡ source
+      × (d.tombstone ≡ false)
+  pub all : (node : ℕ) (d : Described) → Serves inventory node d → d.id.source ≡ source → d.tombstone ≡ false
       → (s : Segment) × Contains segments s × (s.descriptor.id ≡ d.id)
 
 -- the test tells which rows are visible and asked for: at the row's time its segment's chunk is what is visible, and the query

@@ -1,5 +1,5 @@
--- Which pieces of which segments a query is answered from, and which nodes serve each.
-use Rattle.std.specs.Prelude.{◌≡◌, ℕ, List, map, All, Contains, ◌↔◌}
+-- Which pieces of which segments a query is answered from, and which nodes serve rows of each.
+use Rattle.std.specs.Prelude.{◌≡◌, ℕ, true, false, List, map, All, Contains, ◌↔◌}
 use Rattle.std.specs.List.Sorted.{IsStrictlyIncreasing, IsStrictlySortedBy}
 use Rattle.std.specs.declared.cmp.Ordering.{Ordering}
 use Rattle.std.specs.Ordering.{nat_cmp, then_cmp}
@@ -7,7 +7,7 @@ use Rattle.druid_time.specs.Extent.{AnyHas}
 use Rattle.druid_segid.specs.Group.{group_of}
 use Rattle.druid_segid.specs.Identifier.{Identifier}
 use Rattle.druid_shard.specs.Described.{Described}
-use Rattle.druid_members.specs.Members.{HasPartition}
+use Rattle.druid_members.specs.Members.{Member}
 use Rattle.druid_timeline.specs.Holding.{Held, members_of}
 use Rattle.druid_timeline.specs.Pieces.{Shown, ArePiecesIn}
 use Rattle.druid_inventory.specs.Entry.{Entry}
@@ -15,7 +15,7 @@ use Rattle.druid_inventory.specs.Sources.{Serves, IsHoldingOf}
 use Rattle.druid_query.specs.Query.{Query}
 use Rattle.druid_query.specs.Asked.{Asked}
 
--- a piece of a segment, and the nodes that serve the segment
+-- a piece of a segment, and the nodes that serve its rows
 pub record Pair : Type 0 where
   pub asked : Asked
   pub nodes : List ℕ
@@ -23,17 +23,22 @@ pub record Pair : Type 0 where
 abbrev pub asked_of : List Pair → List Asked
 asked_of pairs = map (λ p. p.asked) pairs
 
--- the piece is asked for: its segment is of the source, and one of the chunk that is visible in just that piece
+-- a node serves rows of the partition: it holds it as no tombstone
+abbrev pub IsPartServed : List Member → ℕ → Type 0
+IsPartServed ms partition = (m : Member) × Contains ms m × (m.partition ≡ partition) × (m.serves ≡ true)
+
+-- the piece is asked for: its segment is of the source, and one of the chunk that is visible in just that piece, of which a
+-- node serves rows
 pub record IsWanted (source : List ℕ) (held : List Held) (pieces : List Shown) (a : Asked) : Type 0 where
   pub of_source : a.0.source ≡ source
   pub shown : Contains pieces (record { interval = a.1; group = group_of a.0 })
-  pub member : HasPartition (members_of held (group_of a.0)) a.0.partition
+  pub served : IsPartServed (members_of held (group_of a.0)) a.0.partition
 
--- the node serves the segment
+-- the node serves rows of the segment
 abbrev pub IsReplica : List Entry → Identifier → ℕ → Type 0
-IsReplica inventory id node = (d : Described) × Serves inventory node d × (d.id ≡ id)
+IsReplica inventory id node = (d : Described) × Serves inventory node d × (d.id ≡ id) × (d.tombstone ≡ false)
 
--- the nodes are all that serve the segment, rising
+-- the nodes are all that serve rows of the segment, rising
 pub record AreReplicas (inventory : List Entry) (id : Identifier) (nodes : List ℕ) : Type 0 where
   pub rising : IsStrictlyIncreasing nodes
   pub all : (n : ℕ) → Contains nodes n ↔ IsReplica inventory id n

@@ -1,9 +1,9 @@
 //! Plans, made of an inventory.
-ghost use Rattle.std.specs.Prelude.{◌≡◌, ◌++◌, ◌<◌, ◌^◌, All, Contains, IfOk, OnOk};
+ghost use Rattle.std.specs.Prelude.{◌≡◌, ◌++◌, ◌<◌, ◌^◌, All, Contains, filter, IfOk, OnOk};
 ghost use Rattle.druid_segid.specs.Identifier.{IsIdentifier};
 ghost use Rattle.druid_timeline.specs.Pieces.{ArePartitions};
 ghost use Rattle.druid_scatter.specs.Plan.{IsPlanOf, asked_of};
-ghost use Rattle.druid_scatter.specs.Planned.{asked_for, asked_in, IsServedBy};
+ghost use Rattle.druid_scatter.specs.Planned.{asked_for, asked_in, has_nodes, IsServedBy};
 
 use crate::{GatherFault, Pair, Plan};
 use druid_inventory::Inventory;
@@ -13,7 +13,7 @@ use druid_time::IntervalSet;
 use druid_timeline::{Piece, Timeline};
 use std::alloc::{AllocError, Global};
 
-// The pair of a partition of a visible chunk.
+// The pair of a partition of a visible chunk. A partition that is held as a tombstone alone has no nodes.
 fn pair_of(
     timeline: &Timeline,
     source: &Name,
@@ -31,7 +31,7 @@ fn pair_of(
         key.version().clone()?,
         partition,
     );
-    let nodes = timeline.replicas(&segment)?;
+    let nodes = timeline.served(&segment)?;
     Ok(Pair::new((segment, piece.interval()), nodes))
 }
 
@@ -67,8 +67,16 @@ fn pairs_of(
     Ok(pairs)
 }
 
-/// From which pieces of which segments the query is answered, and which nodes serve each, as far as the inventory tells:
-/// the chunks that are visible in the intervals of the query, each in just the pieces in which it is visible.
+// Lets go of the pairs of which no node serves rows.
+fn keep_served(pairs: &mut Vec<Pair>)
+    ensures { pairs.new.items ≡ filter has_nodes pairs.old.items }
+{
+    pairs.retain(|pair| !pair.nodes().is_empty());
+}
+
+/// From which pieces of which segments the query is answered, and which nodes serve rows of each, as far as the inventory
+/// tells: the chunks that are visible in the intervals of the query, each in just the pieces in which it is visible. What is
+/// held as a tombstone alone overshadows, but is not asked for.
 pub fn plan(alloc: Global, inventory: &Inventory, query: &Query) -> Result<Plan, GatherFault>
     ensures ok { IfOk result (λ plan. IsPlanOf inventory.now query.now plan) }
 {
@@ -78,5 +86,7 @@ pub fn plan(alloc: Global, inventory: &Inventory, query: &Query) -> Result<Plan,
     };
     let set = IntervalSet::of(alloc, query.intervals())?;
     let pieces = timeline.lookup(&set)?;
-    Ok(Plan::new(pairs_of(alloc, timeline, source, &pieces)?))
+    let mut pairs = pairs_of(alloc, timeline, source, &pieces)?;
+    keep_served(&mut pairs);
+    Ok(Plan::new(pairs))
 }

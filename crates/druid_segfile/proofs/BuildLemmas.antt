@@ -1,12 +1,12 @@
 -- A segment that is built from the rows that are read: there is always room for them.
-use Rattle.std.proofs.Common.{◌≡◌, ℕ, ◌+◌, ◌-◌, ◌<◌, ◌≤◌, List, [], ◌∷◌, ◌++◌, map, length, take, Option, ℤ, Result, Ok, Err, IsOk, refl, sym, ap, subst, ◌∙◌, arith}
+use Rattle.std.proofs.Common.{false, ◌≡◌, ℕ, ◌+◌, ◌-◌, ◌<◌, ◌≤◌, List, [], ◌∷◌, ◌++◌, map, length, take, Option, ℤ, Result, Ok, Err, IsOk, refl, sym, ap, subst, ◌∙◌, arith}
 use Rattle.std.specs.List.{sum}
 use Rattle.std.specs.Int.{w32, to_be_bytes}
 use Rattle.std.proofs.lemmas.List.{length-append, length-take, length-map, length_push, map_push}
 use Rattle.std.proofs.lemmas.List.Sums.{sum_by_push}
 use Rattle.std.proofs.lemmas.List.Elements.{All-nil, All-push, All-weaker}
 use Rattle.std.proofs.lemmas.Bool.{lt-ltb}
-use Rattle.druid_shard.specs.Described.{Described, IsDescribed}
+use Rattle.druid_shard.specs.Described.{Described}
 use Rattle.druid_rows.specs.Rows.{Schema, Row, row_of, HasShape, IsInside, HasShortValues}
 use Rattle.druid_rows.specs.Segment.{Segment, IsSegment, segment_of, with_row, text_length, head_length, row_length, max_rows, max_text}
 use Rattle.druid_segfile.specs.declared.fault.FileFault.{FileFault}
@@ -23,7 +23,7 @@ use Rattle.druid_segfile.specs.Building.{content_of, IsHead, IsWhole, IsWholeByC
 use Rattle.druid_segfile.specs.Lent.{bytes_of, texts_lent, values_lent}
 use Rattle.std.specs.Borrow.{Bor}
 use Rattle.druid_segfile.proofs.PartLemmas.{IsBytes, IsBytes-take, IsBytes-drop, ok_is}
-use Rattle.druid_segfile.proofs.HeadLemmas.{descriptor_read}
+use Rattle.druid_segfile.proofs.HeadLemmas.{descriptor_read, IsAnnounced}
 use Rattle.druid_segfile.proofs.FieldLemmas.{AreFields, fields_read}
 use Rattle.druid_segfile.proofs.RowLemmas.{IsTextValue, IsRow, values_read}
 use Rattle.druid_segfile.proofs.LengthLemmas.{length_row, length_head}
@@ -38,6 +38,7 @@ text_length-with_row s v =
 
 segment_with_row : (s : Segment) (v : Row) → IsSegment s → IsRow (shape_of s.descriptor s.fields) v → length s.rows < max_rows → text_length (with_row s v) ≤ max_text → IsSegment (with_row s v)
 segment_with_row s v h is more short = record {
+  ordinary = h.ordinary;
   schema = h.schema;
   within = record {
     dimensions = h.within.dimensions;
@@ -69,8 +70,9 @@ room_for_row short s shape count i bytes v after room lt fits e =
 
 -- ---- before the first row
 
-none_yet : (d : Described) (fields : Schema) → AreFields fields → head_length d fields ≤ max_text → IsSegment (segment_of d fields [])
-none_yet d fields h short = record {
+none_yet : (d : Described) (fields : Schema) → d.tombstone ≡ false → AreFields fields → head_length d fields ≤ max_text → IsSegment (segment_of d fields [])
+none_yet d fields ordinary h short = record {
+  ordinary = ordinary;
   schema = h.schema;
   within = record {
     dimensions = h.dimensions;
@@ -85,7 +87,7 @@ none_yet d fields h short = record {
 
 -- what stands before the rows, without the name of the layout
 pub record TakesHead (d : Described) (fields : Schema) (count : ℕ) (bytes rest : List ℕ) : Type 0 where
-  pub described : IsDescribed d
+  pub described : IsAnnounced d
   pub fields_are : AreFields fields
   pub few : count ≤ max_rows
   pub len : 4 + length bytes ≡ head_length d fields + length rest
@@ -104,7 +106,7 @@ room_behind_head : (short : FileFault) (bytes : List ℕ) (d : Described) (field
 room_behind_head short bytes d fields count rest fits small h =
     let t = head_takes short bytes d fields count rest fits h in
     record {
-      valid = none_yet d fields t.fields_are (omega (arith, t.len, small));
+      valid = none_yet d fields t.described.ordinary t.fields_are (omega (arith, t.len, small));
       shaped = refl;
       rows = omega (arith, t.few);
       text = omega (arith, t.len, small);

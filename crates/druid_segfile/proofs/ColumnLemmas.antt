@@ -9,7 +9,7 @@ use Rattle.std.proofs.lemmas.List.Folds.{flat_map-map}
 use Rattle.std.proofs.lemmas.List.FromFn.{get_or-map-range_with_len, length-map-range_with_len}
 use Rattle.std.proofs.lemmas.Option.{slice_get-get_or, slice_get_past}
 use Rattle.std.proofs.lemmas.Bool.{cases_lt}
-use Rattle.druid_shard.specs.Described.{Described, IsDescribed}
+use Rattle.druid_shard.specs.Described.{Described}
 use Rattle.druid_rows.specs.Rows.{Schema, Row, row_of, no_row}
 use Rattle.druid_rows.specs.Columns.{column, value_at, across, AreLong}
 use Rattle.druid_rows.specs.Segment.{Segment, segment_of, text_length, max_rows, max_text}
@@ -21,7 +21,7 @@ use Rattle.druid_time.specs.Results.{◌>>=◌}
 use Rattle.druid_segfile.specs.Parts.{at_most, each_at, row_count_at, row_time_at, Shape, shape_of}
 use Rattle.druid_segfile.specs.ColumnReading.{dimension_at, metric_at, Columns, columns_at, decoded, rows_of, of_length, column_content_at}
 use Rattle.druid_segfile.proofs.PartLemmas.{bind_ok, ok_is, at_most_ok, at_most_within, IsBytes, Takes, Takes-then, Reads, step_takes, step_again, wide32, number_read, IsText, AreEach, each_read}
-use Rattle.druid_segfile.proofs.HeadLemmas.{descriptor_read}
+use Rattle.druid_segfile.proofs.HeadLemmas.{descriptor_read, IsAnnounced}
 use Rattle.druid_segfile.proofs.FieldLemmas.{fields_text, AreFields, fields_read}
 use Rattle.druid_segfile.proofs.RowLemmas.{IsRowTime, row_time_read, IsTextValue, IsNumberValue, IsRow, AreRows}
 use Rattle.druid_segfile.proofs.ContentLemmas.{IsContent}
@@ -193,7 +193,7 @@ module _ (d : Described) (fields : Schema) (rows : ℕ) (columns : Columns) (h :
         subst (λ vs. IsCoded vs coded) (sym values) (is_coded rows coded (h.dimensions.1 place no_values lt));
   }
 
-  pub is_content : IsDescribed d → AreFields fields → rows ≤ max_rows → IsContent whole
+  pub is_content : IsAnnounced d → AreFields fields → rows ≤ max_rows → IsContent whole
   is_content described are few = record { descriptor = described; fields = are; rows = are_rows (shape_of d fields) rows columns h few }
 
   pub long_rows : length whole.rows ≡ rows

@@ -1,19 +1,18 @@
 -- The content of a segment in rows, read and written.
 use Rattle.std.proofs.Common.{◌≡◌, List, ◌++◌, ℕ, Ok, ap, subst, ◌∙◌, append_assoc}
-use Rattle.druid_shard.specs.Described.{IsDescribed}
 use Rattle.druid_rows.specs.Segment.{Segment, segment_of}
 use Rattle.druid_segfile.specs.declared.fault.FileFault.{FileFault}
 use Rattle.druid_segfile.specs.Spelling.{magic, descriptor, names, rows, spelling}
 use Rattle.druid_segfile.specs.Parts.{shape_of}
 use Rattle.druid_segfile.specs.Reading.{row_content_at}
 use Rattle.druid_segfile.proofs.PartLemmas.{ok_is, IsBytes, Takes, Takes-then, step_takes, step_again}
-use Rattle.druid_segfile.proofs.HeadLemmas.{descriptor_read}
+use Rattle.druid_segfile.proofs.HeadLemmas.{IsAnnounced, descriptor_read}
 use Rattle.druid_segfile.proofs.FieldLemmas.{fields_text, AreFields, fields_read}
 use Rattle.druid_segfile.proofs.RowLemmas.{AreRows, rows_read}
 
 -- what has a spelling, but for its length
 pub record IsContent (content : Segment) : Type 0 where
-  pub descriptor : IsDescribed content.descriptor
+  pub descriptor : IsAnnounced content.descriptor
   pub fields : AreFields content.fields
   pub rows : AreRows (shape_of content.descriptor content.fields) content.rows
 

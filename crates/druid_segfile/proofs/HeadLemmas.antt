@@ -1,8 +1,8 @@
 -- What stands before the names of the fields, read and written.
-use Rattle.std.proofs.Common.{◌≡◌, ℕ, ◌^◌, ◌<◌, ◌≤◌, cond, ltb, nat_le, List, ◌++◌, Option, Some, None, Ok, Err, refl, sym, ap, subst, ◌∙◌, append_assoc, arith}
+use Rattle.std.proofs.Common.{◌≡◌, ℕ, Bool, false, ◌^◌, ◌<◌, ◌≤◌, cond, ltb, nat_le, List, ◌++◌, Option, Some, None, Ok, Err, refl, sym, ap, subst, ◌∙◌, append_assoc, arith}
 use Rattle.std.specs.Prelude.{ok_or}
 use Rattle.std.specs.Int.{w16, w64, to_be_bytes}
-use Rattle.std.proofs.lemmas.Bool.{ltb-true, lt-ltb, leb-true, le-leb}
+use Rattle.std.proofs.lemmas.Bool.{false≢true, ltb-true, lt-ltb, leb-true, le-leb}
 use Rattle.druid_time.specs.Extent.{Extent, IsExtent}
 use Rattle.druid_time.specs.Instant.{unix_ms, IsInstant, instant_count}
 use Rattle.druid_segid.specs.Names.{is_name, IsName, is_version, IsVersion}
@@ -66,11 +66,17 @@ unfolding core_at
 core_read short =
     accepted_read (λ n. nat_le n max_core) (λ n. n ≤ max_core) (number_read short w16 (2 ^ 16) wide16) (λ core is fine. leb-true core max_core is) (λ core h. (omega arith, le-leb core max_core h))
 
+-- what a file announces: a segment that has rows
+pub record IsAnnounced (d : Described) : Type 0 where
+  pub described : IsDescribed d
+  pub ordinary : d.tombstone ≡ false
+
 abbrev pub described : List ℕ → Extent → List ℕ → ℕ → ℕ → ℕ → Described
 described source extent version partition core size = record {
   id = record { source = source; interval = extent; version = version; partition = partition };
   core = core;
   size = size;
+  tombstone = false;
 }
 
 descriptor_joins : (a b c d e f g source : List ℕ) (extent : Extent) (version : List ℕ) (partition core size : ℕ) → Takes a (short_text source) b → Takes b (interval extent) c → Takes c (short_text version) d → Takes d (to_be_bytes w16 partition) e → Takes e (to_be_bytes w16 core) f → Takes f (to_be_bytes w64 size) g
@@ -86,7 +92,7 @@ descriptor_joins a b c d e f g source extent version partition core size t1 t2 t
     let j5 = Takes-then a s4 e (to_be_bytes w16 core) f j4 t5 in
     Takes-then a s5 f (to_be_bytes w64 size) g j5 t6
 
-descriptor_takes : (short : FileFault) (bytes : List ℕ) (x : Described × List ℕ) → IsBytes bytes → descriptor_at short bytes ≡ Ok x → Takes bytes (descriptor x.0) x.1 × IsDescribed x.0
+descriptor_takes : (short : FileFault) (bytes : List ℕ) (x : Described × List ℕ) → IsBytes bytes → descriptor_at short bytes ≡ Ok x → Takes bytes (descriptor x.0) x.1 × IsAnnounced x.0
 unfolding descriptor_at
 descriptor_takes short bytes x fits e =
     let s1 = step_takes (name_read short) _ bytes x fits e in
@@ -96,8 +102,18 @@ descriptor_takes short bytes x fits e =
     let s5 = step_takes (core_read short) _ s4.0.1 x s4.1.rest_fits s4.3 in
     let s6 = step_takes (number_read short w64 (2 ^ 64) wide64) _ s5.0.1 x s5.1.rest_fits s5.3 in
     let joined = descriptor_joins bytes s1.0.1 s2.0.1 s3.0.1 s4.0.1 s5.0.1 s6.0.1 s1.0.0 s2.0.0 s3.0.0 s4.0.0 s5.0.0 s6.0.0 s1.1 s2.1 s3.1 s4.1 s5.1 s6.1 in
-    subst (λ (p : Described × List ℕ). Takes bytes (descriptor p.0) p.1 × IsDescribed p.0) (ok_is (described s1.0.0 s2.0.0 s3.0.0 s4.0.0 s5.0.0 s6.0.0, s6.0.1) x s6.3)
-    (joined, record { id = record { source = s1.2; interval = s2.2; version = s3.2; partition = s4.2 }; core = s5.2; size = s6.2 })
+    subst (λ (p : Described × List ℕ). Takes bytes (descriptor p.0) p.1 × IsAnnounced p.0) (ok_is (described s1.0.0 s2.0.0 s3.0.0 s4.0.0 s5.0.0 s6.0.0, s6.0.1) x s6.3) (
+      joined,
+      record {
+        described = record {
+          id = record { source = s1.2; interval = s2.2; version = s3.2; partition = s4.2 };
+          core = s5.2;
+          size = s6.2;
+          tombstone = λ no. absurd (false≢true no);
+        };
+        ordinary = refl;
+      },
+    )
 
 descriptor_regroups : (source : List ℕ) (extent : Extent) (version : List ℕ) (partition core size : ℕ) (rest : List ℕ)
     → descriptor (described source extent version partition core size) ++ rest
@@ -117,9 +133,10 @@ descriptor_regroups source extent version partition core size rest =
     ∙ append_assoc s2 (short_text version) r4
     ∙ append_assoc (short_text source) (interval extent) r3
 
-descriptor_again : (short : FileFault) (d : Described) (rest : List ℕ) → IsDescribed d → descriptor_at short (descriptor d ++ rest) ≡ Ok (d, rest)
+descriptor_again : (short : FileFault) (d : Described) (rest : List ℕ) → IsAnnounced d → descriptor_at short (descriptor d ++ rest) ≡ Ok (d, rest)
 unfolding descriptor_at
-descriptor_again short d rest h =
+descriptor_again short d rest announced =
+    let h = announced.described in
     let s = d.id.source in
     let i = d.id.interval in
     let v = d.id.version in
@@ -130,8 +147,9 @@ descriptor_again short d rest h =
     ∙ step_again (number_read short w16 (2 ^ 16) wide16) _ d.id.partition (to_be_bytes w16 d.core ++ (to_be_bytes w64 d.size ++ rest)) (omega (arith, h.id.partition))
     ∙ step_again (core_read short) _ d.core (to_be_bytes w64 d.size ++ rest) h.core
     ∙ step_again (number_read short w64 (2 ^ 64) wide64) _ d.size rest h.size
+    ∙ ap (λ (flag : Bool). Ok (record { id = d.id; core = d.core; size = d.size; tombstone = flag }, rest)) (sym announced.ordinary)
 
-pub descriptor_read : (short : FileFault) → Reads Described (descriptor_at short) descriptor IsDescribed
+pub descriptor_read : (short : FileFault) → Reads Described (descriptor_at short) descriptor IsAnnounced
 descriptor_read short = record {
   takes = λ bytes x fits e. descriptor_takes short bytes x fits e;
   again = λ d rest h. descriptor_again short d rest h;

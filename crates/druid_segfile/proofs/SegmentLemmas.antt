@@ -123,6 +123,7 @@ text_value_from (Some text) short utf8 = (short, utf8)
 
 pub content_segment : (s : Segment) → IsContent s → text_length s ≤ max_text → IsSegment s
 content_segment s h short = record {
+  ordinary = h.descriptor.ordinary;
   schema = h.fields.schema;
   within = record {
     dimensions = h.fields.dimensions;
@@ -137,7 +138,7 @@ content_segment s h short = record {
 
 content_fits : (s : Segment) → IsContent s → Fits s
 content_fits s h = record {
-  descriptor = h.descriptor;
+  descriptor = h.descriptor.described;
   rows = All-weaker (IsRow (shape_of s.descriptor s.fields)) AreValues (λ row is. record {
     texts = All-weaker IsTextValue (λ value. IfSome value IsUtf8) text_is_utf8 row.dimensions is.texts.1;
     numbers = is.numbers.1;
@@ -153,7 +154,7 @@ is_row extent fields row valid shape inside short values = record {
 
 segment_content : (s : Segment) → IsSegment s → Fits s → IsContent s
 segment_content s h fits = record {
-  descriptor = fits.descriptor;
+  descriptor = record { described = fits.descriptor; ordinary = h.ordinary };
   fields = record { schema = h.schema; dimensions = h.within.dimensions; metrics = h.within.metrics };
   rows = (h.within.rows, λ k d lt. is_row s.descriptor.id.interval s.fields _ fits.descriptor.id.interval (h.shape k d lt) (h.inside k d lt) (h.within.values k d lt) (fits.rows k d lt));
 }

@@ -125,9 +125,9 @@ text_at P texts i item text each lt is e =
 six_behind : (o a b c d e f : List ℕ) → (((((o ++ a) ++ b) ++ c) ++ d) ++ e) ++ f ≡ o ++ (((((a ++ b) ++ c) ++ d) ++ e) ++ f)
 six_behind o a b c d e f = simp append_assoc
 
-same_described : (d : Described) (source : List ℕ) (extent : Extent) (version : List ℕ) (partition core size : ℕ) → source ≡ d.id.source → extent ≡ d.id.interval → version ≡ d.id.version → partition ≡ d.id.partition → core ≡ d.core → size ≡ d.size
-    → described source extent version partition core size ≡ d
-same_described d source extent version partition core size p q r s t u = rw (p, q, r, s, t, u) refl
+same_descriptor : (d : Described) (source : List ℕ) (extent : Extent) (version : List ℕ) (partition core size : ℕ) → source ≡ d.id.source → extent ≡ d.id.interval → version ≡ d.id.version → partition ≡ d.id.partition → core ≡ d.core → size ≡ d.size
+    → descriptor (described source extent version partition core size) ≡ descriptor d
+same_descriptor d source extent version partition core size p q r s t u = rw (p, q, r, s, t, u) refl
 
 pub descriptor_grown : (d : Described) (o0 o1 o2 o3 o4 o5 o6 source : List ℕ) (extent : Extent) (version : List ℕ) (partition core size : ℕ) → source ≡ d.id.source → extent ≡ d.id.interval → version ≡ d.id.version → partition ≡ d.id.partition → core ≡ d.core → size ≡ d.size
     → o1 ≡ o0 ++ short_text source → o2 ≡ o1 ++ interval extent → o3 ≡ o2 ++ short_text version → o4 ≡ o3 ++ to_be_bytes w16 partition → o5 ≡ o4 ++ to_be_bytes w16 core → o6 ≡ o5 ++ to_be_bytes w64 size → o6 ≡ o0 ++ descriptor d
@@ -138,7 +138,7 @@ descriptor_grown d o0 o1 o2 o3 o4 o5 o6 source extent version partition core siz
     let f5 : o5 ≡ ((((o0 ++ short_text source) ++ interval extent) ++ short_text version) ++ to_be_bytes w16 partition) ++ to_be_bytes w16 core = e5 ∙ ap (λ (x : List ℕ). x ++ to_be_bytes w16 core) f4 in
     e6 ∙ ap (λ (x : List ℕ). x ++ to_be_bytes w64 size) f5
     ∙ six_behind o0 (short_text source) (interval extent) (short_text version) (to_be_bytes w16 partition) (to_be_bytes w16 core) (to_be_bytes w64 size)
-    ∙ ap (λ (x : Described). o0 ++ descriptor x) (same_described d source extent version partition core size p q r s t u)
+    ∙ ap (λ (x : List ℕ). o0 ++ x) (same_descriptor d source extent version partition core size p q r s t u)
 
 pub interval_grown : (extent : Extent) (o0 o1 o2 : List ℕ) (start end : ℕ) → start ≡ extent.start → end ≡ extent.end → o1 ≡ o0 ++ instant start → o2 ≡ o1 ++ instant end → o2 ≡ o0 ++ interval extent
 interval_grown extent o0 o1 o2 start end p q e1 e2 =

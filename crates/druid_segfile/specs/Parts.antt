@@ -1,6 +1,6 @@
 -- The parts of a segment file, read from left to right. A part that is read is a value and the bytes after it; `short` is
 -- the fault where the bytes end in it.
-use Rattle.std.specs.Prelude.{ℕ, ℤ, pos, negsuc, zero, suc, ◌+ℤ◌, Bool, ◌&&◌, not, List, [], ◌∷◌, ◌++◌, length, take, drop, Option, Some, None, ok_or, Result, Ok, Err, nat_lt, nat_le, if◌then◌else◌, bytes_eq}
+use Rattle.std.specs.Prelude.{ℕ, ℤ, pos, negsuc, zero, suc, ◌+ℤ◌, Bool, false, ◌&&◌, not, List, [], ◌∷◌, ◌++◌, length, take, drop, Option, Some, None, ok_or, Result, Ok, Err, nat_lt, nat_le, if◌then◌else◌, bytes_eq}
 use Rattle.std.specs.List.{list_any}
 use Rattle.std.specs.Int.{Width, w16, w32, w64, byte_len, from_be_bytes, cast_signed}
 use Rattle.std.specs.Str.{is_utf8}
@@ -121,6 +121,7 @@ descriptor_at short bytes = do
       id = record { source = source.0; interval = interval.0; version = version.0; partition = partition.0 };
       core = core.0;
       size = size.0;
+      tombstone = false;
     },
     size.1,
   )

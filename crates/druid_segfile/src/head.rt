@@ -26,7 +26,7 @@ pub(crate) struct Announced<'a> {
 }
 
 impl<'a> Model for Announced<'a> {
-    ghost use Rattle.std.specs.Prelude.{◌≤◌};
+    ghost use Rattle.std.specs.Prelude.{◌≤◌, false};
     ghost use Rattle.druid_segid.specs.Names.{IsName, IsVersion};
     ghost use Rattle.druid_shard.specs.Described.{Described, max_core};
 
@@ -36,6 +36,7 @@ impl<'a> Model for Announced<'a> {
       id = record { source = a.source.now; interval = a.interval; version = a.version.now; partition = a.partition };
       core = a.core;
       size = a.size;
+      tombstone = false;
     } };
 
     ghost invariant = { λ a. IsName a.source.now × IsVersion a.version.now × (a.core ≤ max_core) };

@@ -76,6 +76,9 @@ fn node_reason(alloc: Global, place: usize, node: &NodeConfig, cause: &Cause) ->
             format!(in alloc; "nodes[{place}].folder: {folder}/incarnation: {fault}")
         }
         Cause::Names(fault) => format!(in alloc; "nodes[{place}].folder: {folder}: {fault}"),
+        Cause::Tombstone(at, fault) => format!(in alloc;
+            "nodes[{place}].tombstones[{at}]: {fault}"
+        ),
         Cause::Listener => format!(in alloc; "nodes[{place}].address: listening on {address}"),
         Cause::Memory => format!(in alloc; "nodes[{place}]: out of memory, or no thread"),
     };

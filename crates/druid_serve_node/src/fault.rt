@@ -2,6 +2,7 @@
 ghost use Rattle.std.specs.Prelude.{◌≡◌, ⊤, Some, IfSome};
 ghost use Rattle.druid_serve_node.specs.Faults.{of_store, of_node, NamesFile};
 ghost use Rattle.druid_serve_node.specs.declared.fault.ClusterFault.TheVariants.{Device};
+ghost use Rattle.druid_serve_node.specs.declared.fault.Cause.TheVariants.{Tombstone};
 
 use druid_folder::StoreFault;
 use druid_node::NodeFault;
@@ -61,6 +62,7 @@ impl From<NodeFault> for ClusterFault {
             | NodeFault::NameDiffers
             | NodeFault::History(_)
             | NodeFault::NoFile
+            | NodeFault::NotPartitionZero
             | NodeFault::Behind(_) => ClusterFault::BadFolder,
             NodeFault::Device | NodeFault::Wire(_) | NodeFault::Memory => ClusterFault::Device,
         }
@@ -96,6 +98,8 @@ pub enum Cause {
     Incarnation(StoreFault),
     /// The names of the folder's files.
     Names(StoreFault),
+    /// The tombstone at a place of the node's list, from 0.
+    Tombstone(usize, NodeFault),
     /// The socket that listens.
     Listener,
     /// Memory, or a thread.
@@ -142,6 +146,17 @@ impl StartFault {
         StartFault {
             fault: (*fault).into(),
             cause: file_cause(alloc, name, fault),
+        }
+    }
+
+    // The fault of the tombstone at a place of its list.
+    pub(crate) fn of_tombstone(place: usize, fault: &NodeFault) -> StartFault
+        ensures fault { result.fault ≡ of_node fault.now }
+        ensures cause { result.cause ≡ Some (Tombstone place fault.now) }
+    {
+        StartFault {
+            fault: (*fault).into(),
+            cause: Some(Cause::Tombstone(place, *fault)),
         }
     }
 }

@@ -1,5 +1,5 @@
 //! A data node: its folder, its sockets and its threads.
-ghost use Rattle.std.specs.Prelude.{◌≡◌, ◌≢◌, ◌≤◌, [], All, Some, Ok, IfOk, IfErr, IfSome, OnOk, map, string_bytes};
+ghost use Rattle.std.specs.Prelude.{◌≡◌, ◌≢◌, ◌≤◌, [], All, Some, Ok, length, IfOk, IfErr, IfSome, OnOk, map, string_bytes};
 ghost use Rattle.std.specs.declared.cmp.Ordering.TheVariants.{Greater};
 ghost use Rattle.druid_shard.specs.Mark.{mark_cmp};
 ghost use Rattle.druid_shard.specs.Reply.{max_changes};
@@ -8,16 +8,18 @@ ghost use Rattle.druid_rows.specs.Segment.{Segment};
 ghost use Rattle.druid_folder.specs.Folder.{names_of, read_part};
 ghost use Rattle.druid_node.specs.Files.{file_at};
 ghost use Rattle.druid_incarnation.specs.Incarnation.{number_file, number_text};
-ghost use Rattle.druid_node.specs.declared.fault.NodeFault.{NodeFault};
-ghost use Rattle.druid_serve_node.specs.Faults.{of_node, NamesFile, IsOfRaise, IsOfLoad};
+ghost use Rattle.druid_node.specs.declared.fault.NodeFault.{NodeFault as Refusal};
+ghost use Rattle.druid_serve_node.specs.Faults.{of_node, NamesFile, IsOfRaise, IsOfLoad, IsOfPlacing};
 ghost use Rattle.druid_serve_node.specs.Files.{is_segment_file, IsTaken, HoldsSegments, IsStarted};
 
 use crate::fault::{Cause, DeviceFailed, StartFault};
 use crate::outside::{REST_MILLISECONDS, limit, listen};
+use druid_changes::HistoryFault;
 use druid_config::NodeConfig;
 use druid_folder::{Folder, StoreFault};
 use druid_incarnation::next_incarnation;
-use druid_node::{DataNode, Incarnation, NodeState};
+use druid_node::{DataNode, Incarnation, NodeFault, NodeState};
+use druid_segid::SegmentId;
 use druid_shard::Mark;
 use druid_store::{Device, DiskFolder};
 use std::alloc::{AllocError, Global};
@@ -65,7 +67,7 @@ fn load_one<R: Wait, F: Folder, I: Incarnation>(
         → OnOk result ((s : Segment) × (file_at name.now (read_part (F.content folder.old name.now)) ≡ Ok s)) }
     ensures content { F.is_honest folder.new → F.content folder.new ≡ F.content folder.old }
     ensures honest { F.is_honest folder.new → F.is_honest folder.old }
-    ensures cause { IfErr result (λ start. (why : NodeFault) × (start.fault ≡ of_node why) × IfSome start.cause (NamesFile name.now why)) }
+    ensures cause { IfErr result (λ start. (why : Refusal) × (start.fault ≡ of_node why) × IfSome start.cause (NamesFile name.now why)) }
 {
     match node.load_file(rt, folder, name, seen) {
         Ok(()) => Ok(()),
@@ -110,6 +112,40 @@ fn load_files<R: Wait, F: Folder, I: Incarnation>(
         Err(fault) => return Err(StartFault::of_store(fault, Cause::Names(fault))),
     };
     load_named(rt, alloc, node, folder, &names, &mut Mark::never())
+}
+
+// Places a tombstone; one that is served already is passed over.
+fn place_one<R: Wait, I: Incarnation>(
+    rt: &R,
+    node: &DataNode<I>,
+    id: SegmentId,
+    seen: &mut Mark,
+) -> Result<(), NodeFault> {
+    match node.place_tombstone(rt, id, seen) {
+        Ok(()) => Ok(()),
+        Err(NodeFault::History(HistoryFault::Served)) => Ok(()),
+        Err(fault) => Err(fault),
+    }
+}
+
+// Places the tombstones of a config, in order.
+fn place_tombstones<R: Wait, I: Incarnation>(
+    rt: &R,
+    node: &DataNode<I>,
+    ids: &[SegmentId],
+) -> Result<(), StartFault>
+    ensures { IfErr result (λ start. IfSome start.cause (IsOfPlacing (length ids.now) start.fault)) }
+{
+    let mut seen = Mark::never();
+    for place in 0..ids.len() {
+        let Ok(id) = ids[place].clone() else {
+            return Err(StartFault::device(Cause::Memory));
+        };
+        if let Err(fault) = place_one(rt, node, id, &mut seen) {
+            return Err(StartFault::of_tombstone(place, &fault));
+        }
+    }
+    Ok(())
 }
 
 // The state in which a node of a folder starts: it raises the incarnation, and reads no segment.
@@ -279,8 +315,8 @@ fn start_worker<
     }
 }
 
-// Starts a node that goes on from that state, whose incarnation its folder has: loads the segment files of the folder, listens,
-// and starts its threads.
+// Starts a node that goes on from that state, whose incarnation its folder has: loads the segment files of the folder, places
+// the config's tombstones, listens, and starts its threads.
 fn start_from<
     R: Files<File = File>
         + Net<Listener = TcpListener, Stream = TcpStream>
@@ -308,6 +344,7 @@ where
     requires has { F.is_honest folder.old → F.content folder.old number_file ≡ Some (number_text state.history.incarnation) }
 {
     let node: Arc<DataNode<I>, Global> = Arc::new(alloc, loaded(rt, alloc, folder, state)?)?;
+    place_tombstones(rt, &node, config.tombstones())?;
     let Ok(listener) = listen(rt, config.address()) else {
         return Err(StartFault::device(Cause::Listener));
     };
@@ -321,7 +358,8 @@ where
     Ok(loader)
 }
 
-/// Starts a data node: raises its incarnation, loads the segment files of its folder, listens, and starts its threads. It
+/// Starts a data node: raises its incarnation, loads the segment files of its folder, places the config's tombstones, but for
+/// those of a segment that is served already, listens, and starts its threads. It
 /// gives the thread that loads the files that come later. The device `D` is the one under the folder that it makes, and `L` the one
 /// under the folder that the thread makes at the same path: the call picks both.
 pub fn start_node<

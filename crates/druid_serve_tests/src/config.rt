@@ -46,6 +46,8 @@ fn taken_configs(rt: HostRuntime) {
 \"kept\":1000 = \"kept\":1
 [\"a.seg\"] = []
 [{\"broker\":0,\"query\":{}}] = []
+\"name\":\"n0\" = \"name\":\"n0\",\"tombstones\":[]
+\"name\":\"n0\" = \"name\":\"n0\",\"tombstones\":[{\"dataSource\":\"w\",\"interval\":\"2024-01-01/2024-01-02\",\"version\":\"v\"},{\"dataSource\":\"w\",\"interval\":\"2024-01-01/2024-01-02\",\"version\":\"v\"}]
 {} = {\"a\":[1,null]}";
     assert_told(&rt, rt.alloc(), rows, "taken");
 }
@@ -70,6 +72,11 @@ fn refused_configs(rt: HostRuntime) {
 \"f\" = 1
 [\"a.seg\"] = [1]
 [\"a.seg\"] = {}
+\"name\":\"n0\" = \"name\":\"n0\",\"tombstones\":null
+\"name\":\"n0\" = \"name\":\"n0\",\"tombstones\":{\"dataSource\":\"w\",\"interval\":\"2024-01-01/2024-01-02\",\"version\":\"v\"}
+\"name\":\"n0\" = \"name\":\"n0\",\"tombstones\":[{}]
+\"name\":\"n0\" = \"name\":\"n0\",\"tombstones\":[{\"dataSource\":\"w\",\"interval\":\"2024-01-01\",\"version\":\"v\"}]
+\"name\":\"n0\" = \"name\":\"n0\",\"tombstones\":[{\"dataSource\":\"w\",\"interval\":\"2024-01-01/2024-01-02\",\"version\":\"v_1\"}]
 127.0.0.1:9001 = 127.0.0.1:0
 127.0.0.1:9001 = 127.0.0.1
 127.0.0.1:9001 = 127.0.0.1:65536

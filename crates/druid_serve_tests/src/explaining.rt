@@ -42,6 +42,7 @@ fn fields(rt: HostRuntime) {
 \"nodes\":[ = \"nodes\":[{\"name\":\"n9\"},{}, -> nodes[0].address: not 127.0.0.1: and a port from 1 to 65535
 \"nodes\":[ = \"nodes\":[{\"name\":\"n9\",\"address\":\"127.0.0.1:1\"}, -> nodes[0].folder: not a text
 \"nodes\":[ = \"nodes\":[{\"name\":\"n9\",\"address\":\"127.0.0.1:1\",\"folder\":\"f\"}, -> nodes[0].loads: not a list of texts
+\"name\":\"n0\" = \"name\":\"n0\",\"tombstones\":[{\"dataSource\":\"w\",\"interval\":\"2024-01-01/2024-01-02\",\"version\":\"v\"},{}] -> nodes[0].tombstones: not a list of objects with dataSource, interval and version
 \"workers\":1} = \"workers\":0} -> nodes[0].workers: not a number from 1 to 16
 \"brokers\" = \"broker\" -> brokers: not a list
 [{\"address\":\"127.0.0.1:9001\",\"workers\":16}] = [] -> brokers: not 1 to 64 of them

@@ -23,26 +23,30 @@ fn absent_files(rt: &impl Abort, alloc: Global, count: usize) -> String {
     names
 }
 
-// A config of one node of a folder, which loads so many files later, with so many workers.
+// A config of one node of a folder and with these tombstones, which loads so many files later, with so many workers.
 fn config(
     rt: &impl Abort,
     alloc: Global,
-    (address, folder): (&str, &str),
+    address: &str,
+    folder: &str,
+    tombstones: &str,
     loads: usize,
     workers: u8,
 ) -> Config {
     let names = absent_files(rt, alloc, loads);
     let text = format!(in alloc;
-        "{{\"brokers\":[{{\"address\":\"127.0.0.1:1\",\"workers\":1}}],\"connections\":0,\"kept\":1,\"nodes\":[{{\"address\":\"{address}\",\"folder\":\"{folder}\",\"loads\":[{names}],\"name\":\"n0\",\"workers\":{workers}}}],\"queries\":[],\"turns\":1}}"
+        "{{\"brokers\":[{{\"address\":\"127.0.0.1:1\",\"workers\":1}}],\"connections\":0,\"kept\":1,\"nodes\":[{{\"address\":\"{address}\",\"folder\":\"{folder}\",\"loads\":[{names}],\"name\":\"n0\",\"tombstones\":[{tombstones}],\"workers\":{workers}}}],\"queries\":[],\"turns\":1}}"
     ).expect(rt, "memory");
     read_config(alloc, text.as_bytes()).expect(rt, "a config")
 }
 
-// What a node that is started over a folder tells of its segments, once it has tried the files that it loads later.
+// What a node that is started over a folder, with these tombstones, tells of its segments, once it has tried the files that it
+// loads later.
 fn told_over<R: Host + Net<Listener = TcpListener, Stream = TcpStream>>(
     rt: &R,
     alloc: Global,
     folder: &str,
+    tombstones: &str,
     loads: usize,
     workers: u8,
     kept: usize,
@@ -51,7 +55,15 @@ fn told_over<R: Host + Net<Listener = TcpListener, Stream = TcpStream>>(
     requires few { kept ≤ 1000 }
 {
     let address = free_address(rt, alloc);
-    let config = config(rt, alloc, (address.as_str(), folder), loads, workers);
+    let config = config(
+        rt,
+        alloc,
+        address.as_str(),
+        folder,
+        tombstones,
+        loads,
+        workers,
+    );
     let node = config.nodes().first().expect(rt, "a node");
     let loader = start_node::<R, Brand, Brand>(rt, alloc, node, kept).expect(
         rt,
@@ -87,7 +99,15 @@ fn assert_starts<R: Host + Net<Listener = TcpListener, Stream = TcpStream>>(
 {
     let folder = fresh_folder(rt, alloc, "druid_serve_node");
     put_parts(rt, alloc, folder.as_str(), count);
-    let told = told_over(rt, alloc, folder.as_str(), count as usize, workers, kept);
+    let told = told_over(
+        rt,
+        alloc,
+        folder.as_str(),
+        "",
+        count as usize,
+        workers,
+        kept,
+    );
     assert!(rt;
         is_at(rt, alloc, told.as_str(), count as usize, "1"),
         "{count}: {told}"
@@ -113,7 +133,7 @@ fn assert_raised<R: Host + Net<Listener = TcpListener, Stream = TcpStream>>(
     let folder = fresh_folder(rt, alloc, "druid_serve_incarnation");
     let text = format!(in alloc; "{before}\n").expect(rt, "memory");
     put(rt, alloc, folder.as_str(), "incarnation", text.as_bytes());
-    let told = told_over(rt, alloc, folder.as_str(), 0, 1, 10);
+    let told = told_over(rt, alloc, folder.as_str(), "", 0, 1, 10);
     assert!(rt; is_at(rt, alloc, told.as_str(), 0, after), "{row}: {told}");
     fs::remove_dir_all(rt, folder.as_str()).expect(rt, "a folder");
 }
@@ -131,4 +151,23 @@ fn many_starts(rt: HostRuntime) {
     for row in rows.lines() {
         assert_raised(&rt, rt.alloc(), row);
     }
+}
+
+// The tombstones of the first part of the day, which is served already, and of a day without segments, twice.
+const TOMBSTONES: &str =
+    "{\"dataSource\":\"wiki\",\"interval\":\"2024-01-01/2024-01-02\",\"version\":\"v1\"},{\"dataSource\":\"wiki\",\"interval\":\"2024-01-02/2024-01-03\",\"version\":\"v1\"},{\"dataSource\":\"wiki\",\"interval\":\"2024-01-02/2024-01-03\",\"version\":\"v1\"}";
+
+// A node places the tombstones of its config after its files, and passes over those of what is served already.
+fn assert_placed<R: Host + Net<Listener = TcpListener, Stream = TcpStream>>(rt: &R, alloc: Global) {
+    let folder = fresh_folder(rt, alloc, "druid_serve_tombstones");
+    put_parts(rt, alloc, folder.as_str(), 2);
+    let told = told_over(rt, alloc, folder.as_str(), TOMBSTONES, 0, 1, 10);
+    assert!(rt; is_at(rt, alloc, told.as_str(), 3, "1"), "{told}");
+    assert!(rt; told.split("\"tombstone\":true").count() == 2, "{told}");
+    fs::remove_dir_all(rt, folder.as_str()).expect(rt, "a folder");
+}
+
+#[test]
+fn tombstones_of_a_config(rt: HostRuntime) {
+    assert_placed(&rt, rt.alloc());
 }

@@ -1,6 +1,6 @@
 -- Segments in the order of their identifiers' texts.
 use Rattle.std.proofs.Common.{◌≡◌, ◌+◌, ◌-◌, ◌<◌, ℕ, zero, suc, List, length, get_or, true, refl, sym, ap, ◌∙◌, inl, inr, arith}
-use Rattle.std.specs.Ordering.{nat_cmp, is_lt, ordering_reverse, ordering_then}
+use Rattle.std.specs.Ordering.{nat_cmp, is_lt, ordering_reverse, ordering_then, bool_cmp}
 use Rattle.std.specs.declared.cmp.Ordering.{Ordering}
 use Rattle.std.specs.declared.cmp.Ordering.TheVariants.{Less, Equal, Greater}
 use Rattle.std.specs.Cmp.Lexicographic.{slice_cmp}
@@ -47,7 +47,9 @@ AreSorted-own ds h i j d li lj same =
     ]
 
 less_first : (a b : Described) → IsBefore a b → described_cmp a b ≡ Less
-less_first a b before = (λ i. ordering_then (ordering_then (ordering_then (before i) (parts_cmp a.id b.id)) (nat_cmp a.core b.core)) (nat_cmp a.size b.size))
+less_first a b before =
+    (λ i. ordering_then (ordering_then (ordering_then (ordering_then (before i) (parts_cmp a.id b.id)) (nat_cmp a.core b.core)) (nat_cmp a.size b.size))
+    (bool_cmp a.tombstone b.tombstone))
 
 -- sorted by an order that looks at the texts first, and with no identifier twice, they are in order
 pub own-AreSorted : (ds : List Described) → IsSorted described_cmp ds → HaveOwnIdentifiers ds → AreSorted ds

@@ -1,7 +1,7 @@
 -- The JSON of a descriptor.
-use Rattle.std.specs.Prelude.{◌≡◌, ℕ, List, codes, Option, Some, None, Result, Ok, Err, IsOk, ⊤, option_and_then, nat_le, if◌then◌else◌}
+use Rattle.std.specs.Prelude.{◌≡◌, ◌==◌, ◌&&◌, ℕ, Bool, false, true, List, codes, Option, Some, None, Result, Ok, Err, IsOk, ⊤, option_and_then, nat_le, if◌then◌else◌}
 use Rattle.std.specs.Str.{bytes_eq}
-use Rattle.serde_json.specs.Data.{Data, object, member, no_members, number, unsigned, string}
+use Rattle.serde_json.specs.Data.{Data, null, boolean, number, string, array, object, Members, member, no_members, unsigned}
 use Rattle.serde_json.specs.Find.{get, as_str, as_number, as_u64, as_object}
 use Rattle.druid_time.specs.Extent.{Extent}
 use Rattle.druid_time.specs.Results.{◌>>=◌}
@@ -19,13 +19,22 @@ shard_data partition core =
     (member (codes "partitions") (number (unsigned core))
     (member (codes "type") (string (codes "numbered")) no_members)))
 
-unfoldable pub descriptor_data : Described → Data
-descriptor_data d =
+-- what says that it is a tombstone, before the other members; an ordinary segment has no such key
+abbrev pub flagged : Bool → Members → Members
+flagged false others = others
+flagged true others = member (codes "tombstone") (boolean true) others
+
+-- a descriptor with this flag
+unfoldable pub flagged_data : Bool → Described → Data
+flagged_data flag d =
     object (member (codes "dataSource") (string d.id.source)
     (member (codes "interval") (string (extent_text d.id.interval))
     (member (codes "shardSpec") (shard_data d.id.partition d.core)
     (member (codes "size") (number (unsigned d.size))
-    (member (codes "version") (string d.id.version) no_members)))))
+    (flagged flag (member (codes "version") (string d.id.version) no_members))))))
+
+abbrev pub descriptor_data : Described → Data
+descriptor_data d = flagged_data d.tombstone d
 
 -- ---- read
 
@@ -34,6 +43,7 @@ pub data Refusal : Type 0 where
   other_type : Refusal
   bad_shard : Refusal
   bad_field : (key : List ℕ) → Refusal
+  bad_tombstone : Refusal
 
 -- the value, or else the refusal
 abbrev pub or_refuse : {A : Type 0} → Option A → Refusal → Result A Refusal
@@ -74,9 +84,33 @@ place_at d = do
   core ← or_refuse (limited_at max_core (codes "partitions") spec) bad_shard
   Ok (record { partition = partition; core = core })
 
--- a descriptor: the source, the interval, the version, the size, and last the shard spec
-unfoldable pub descriptor_at : Data → Result Described Refusal
-descriptor_at d = do
+-- whether a value says that it is a tombstone: null and false say no
+abbrev pub flag_of : Data → Option Bool
+flag_of null = Some false
+flag_of (boolean b) = Some b
+flag_of (number n) = None
+flag_of (string s) = None
+flag_of (array ds) = None
+flag_of (object ms) = None
+
+-- the same of the value at `tombstone`, where there is one
+abbrev pub flag_at : Option Data → Option Bool
+flag_at None = Some false
+flag_at (Some d) = flag_of d
+
+-- the whole of its chunk, in one partition of no size
+abbrev pub is_whole_chunk : Described → Bool
+is_whole_chunk d = d.id.partition == 0 && d.core == 1 && d.size == 0
+
+-- the flag of a segment, which only a whole chunk may carry
+abbrev pub tombstone_at : Described → Data → Option Bool
+tombstone_at segment d = option_and_then
+    (λ flag. if flag then (if is_whole_chunk segment then Some true else None) else Some false)
+    (flag_at (get (codes "tombstone") d))
+
+-- a descriptor but for its flag: the source, the interval, the version, the size, and last the shard spec
+unfoldable pub segment_at : Data → Result Described Refusal
+segment_at d = do
   source ← or_refuse (source_at d) (bad_field (codes "dataSource"))
   interval ← or_refuse (interval_at d) (bad_field (codes "interval"))
   version ← or_refuse (version_at d) (bad_field (codes "version"))
@@ -86,13 +120,22 @@ descriptor_at d = do
     id = record { source = source; interval = interval; version = version; partition = place.partition };
     core = place.core;
     size = size;
+    tombstone = false;
   })
+
+-- a descriptor, the flag last
+unfoldable pub descriptor_at : Data → Result Described Refusal
+descriptor_at d = do
+  segment ← segment_at d
+  tombstone ← or_refuse (tombstone_at segment d) bad_tombstone
+  Ok (record { id = segment.id; core = segment.core; size = segment.size; tombstone = tombstone })
 
 -- the fault that tells a refusal
 abbrev pub Tells : {A : Type 0} → ShardFault → Result A Refusal → Type 0
 Tells faults.ShardType read = read ≡ Err other_type
 Tells faults.BadShard read = read ≡ Err bad_shard
 Tells (faults.BadField key) read = read ≡ Err (bad_field key.now)
+Tells faults.BadTombstone read = read ≡ Err bad_tombstone
 -- out of memory only where nothing else is refused
 Tells faults.Memory read = IsOk read
 

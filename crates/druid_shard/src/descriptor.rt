@@ -1,4 +1,4 @@
-ghost use Rattle.std.specs.Prelude.{◌≡◌, ◌≤◌, ◌<◌, ◌↔◌, Some, refl, IsTrue, SomeIff, IfSome};
+ghost use Rattle.std.specs.Prelude.{◌≡◌, ◌≤◌, ◌<◌, ◌↔◌, Some, refl, false, true, IsTrue, SomeIff, IfSome};
 ghost use Rattle.druid_shard.specs.Described.{IsDescribed, same_described, described_cmp, max_core};
 ghost use Rattle.druid_shard.specs.Orders as orders;
 
@@ -58,12 +58,17 @@ impl Shard {
     }
 }
 
-/// What a node announces of a segment. Descriptors are ordered by their identifiers, and then by core count and size.
+/// What a node announces of a segment. Descriptors are ordered by their identifiers, and then by core count, size, and
+/// whether they are tombstones.
+///
+/// A tombstone is a segment without a file and without rows, which overshadows what older versions have in its interval:
+/// the whole of its chunk, in one partition of size 0.
 #[derive(Debug, Drop)]
 pub struct Descriptor {
     id: SegmentId,
     core: u16,
     size: u64,
+    tombstone: bool,
 }
 
 impl Model for Descriptor {
@@ -71,9 +76,9 @@ impl Model for Descriptor {
 
     ghost Value = { Described };
 
-    ghost view = { λ a. record { id = a.id; core = a.core; size = a.size } };
+    ghost view = { λ a. record { id = a.id; core = a.core; size = a.size; tombstone = a.tombstone } };
 
-    ghost invariant = { λ a. IsDescribed (record { id = a.id; core = a.core; size = a.size }) };
+    ghost invariant = { λ a. IsDescribed (record { id = a.id; core = a.core; size = a.size; tombstone = a.tombstone }) };
 }
 
 impl Clone for Descriptor {
@@ -84,6 +89,7 @@ impl Clone for Descriptor {
             id: self.id.clone()?,
             core: self.core,
             size: self.size,
+            tombstone: self.tombstone,
         })
     }
 }
@@ -92,13 +98,35 @@ impl Descriptor {
     /// The descriptor of a segment whose chunk has that many core partitions; `size` is what its producer states.
     /// None where there are more than 32,768 core partitions.
     pub fn new(id: SegmentId, core: u16, size: u64) -> Option<Descriptor>
-        ensures value { SomeIff result (core ≤ max_core) (record { id = id; core = core; size = size }) }
+        ensures value { SomeIff result (core ≤ max_core) (record { id = id; core = core; size = size; tombstone = false }) }
         ensures valid { IfSome result IsDescribed }
     {
         // For the proof: reading it exposes the invariant of its type.
         let _ = id.partition();
         if core <= MAX_CORE {
-            Some(Descriptor { id, core, size })
+            Some(Descriptor {
+                id,
+                core,
+                size,
+                tombstone: false,
+            })
+        } else {
+            None
+        }
+    }
+
+    /// The tombstone of a chunk. None where the partition is not 0.
+    pub fn tombstone(id: SegmentId) -> Option<Descriptor>
+        ensures value { SomeIff result (id.partition ≡ 0) (record { id = id; core = 1; size = 0; tombstone = true }) }
+        ensures valid { IfSome result IsDescribed }
+    {
+        if id.partition() == 0 {
+            Some(Descriptor {
+                id,
+                core: 1,
+                size: 0,
+                tombstone: true,
+            })
         } else {
             None
         }
@@ -127,6 +155,14 @@ impl Descriptor {
     {
         self.size
     }
+
+    /// Whether it is a tombstone: without a file and without rows.
+    pub fn is_tombstone(&self) -> bool
+        ensures value { result ≡ self.now.tombstone }
+        ensures valid { IsDescribed self.now }
+    {
+        self.tombstone
+    }
 }
 
 impl PartialEq for Descriptor {
@@ -139,7 +175,10 @@ impl PartialEq for Descriptor {
         ensures value { result ≡ same_described self.now other.now }
         ensures same { IsTrue result ↔ (self.now ≡ other.now) }
     {
-        self.id == other.id && self.core == other.core && self.size == other.size
+        self.id == other.id
+            && self.core == other.core
+            && self.size == other.size
+            && self.tombstone == other.tombstone
     }
 }
 
@@ -169,6 +208,9 @@ impl Ord for Descriptor {
     fn cmp(&self, other: &Descriptor) -> Ordering {
         let id = self.id.cmp(&other.id);
         let core = self.core.cmp(&other.core);
-        id.then(core).then(self.size.cmp(&other.size))
+        let size = self.size.cmp(&other.size);
+        id.then(core)
+            .then(size)
+            .then(self.tombstone.cmp(&other.tombstone))
     }
 }

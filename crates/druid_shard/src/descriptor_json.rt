@@ -1,7 +1,7 @@
-ghost use Rattle.std.specs.Prelude.{◌≡◌, ◌≢◌, ◌≤◌, IfOk, option_map, option_and_then, option_copied};
+ghost use Rattle.std.specs.Prelude.{◌≡◌, ◌≢◌, ◌≤◌, false, true, IfOk, option_map, option_and_then, option_copied};
 ghost use Rattle.serde_json.specs.View.{view};
 ghost use Rattle.serde_json.specs.Find.{as_object, as_str, get};
-ghost use Rattle.druid_shard.specs.Json.{descriptor_data, descriptor_at, place_at, text_at, number_at, limited_at, interval_at, source_at, version_at, Gives, Checks};
+ghost use Rattle.druid_shard.specs.Json.{shard_data, flagged_data, descriptor_data, descriptor_at, segment_at, place_at, text_at, number_at, limited_at, interval_at, source_at, version_at, flag_at, tombstone_at, Gives, Checks};
 ghost use Rattle.druid_shard.specs.Described.{max_core};
 
 use crate::descriptor::MAX_CORE;
@@ -12,25 +12,64 @@ use serde_json::{Value, json};
 use std::alloc::{AllocError, Global};
 use std::marker::Model;
 
-/// The JSON of a descriptor: `dataSource`, `interval`, `shardSpec`, `size` and `version`.
-#[tactic(auto, unfolding(crate::specs::Json::descriptor_data))]
-pub fn descriptor_value(alloc: Global, descriptor: &Descriptor) -> Result<Value, AllocError>
-    ensures { IfOk result (λ v. view v ≡ descriptor_data descriptor.now) }
+/// The JSON of a numbered shard spec.
+pub fn shard_value(alloc: Global, descriptor: &Descriptor) -> Result<Value, AllocError>
+    ensures { IfOk result (λ v. view v ≡ shard_data descriptor.now.id.partition descriptor.now.core) }
+{
+    json!(in alloc; {
+        "partitionNum": descriptor.id().partition(),
+        "partitions": descriptor.core(),
+        "type": "numbered",
+    })
+}
+
+// The JSON of an ordinary segment.
+#[tactic(auto, unfolding(crate::specs::Json::flagged_data))]
+fn segment_value(alloc: Global, descriptor: &Descriptor) -> Result<Value, AllocError>
+    ensures { IfOk result (λ v. view v ≡ flagged_data false descriptor.now) }
 {
     let id = descriptor.id();
     let interval = id.interval().text(alloc)?;
     let version = id.version().text(alloc)?;
+    let shard = shard_value(alloc, descriptor)?;
     json!(in alloc; {
         "dataSource": id.source().as_str(),
         "interval": interval.as_str(),
-        "shardSpec": {
-            "partitionNum": id.partition(),
-            "partitions": descriptor.core(),
-            "type": "numbered",
-        },
+        "shardSpec": shard,
         "size": descriptor.size(),
         "version": version.as_str(),
     })
+}
+
+// The JSON of a tombstone.
+#[tactic(auto, unfolding(crate::specs::Json::flagged_data))]
+fn tombstone_value(alloc: Global, descriptor: &Descriptor) -> Result<Value, AllocError>
+    ensures { IfOk result (λ v. view v ≡ flagged_data true descriptor.now) }
+{
+    let id = descriptor.id();
+    let interval = id.interval().text(alloc)?;
+    let version = id.version().text(alloc)?;
+    let shard = shard_value(alloc, descriptor)?;
+    json!(in alloc; {
+        "dataSource": id.source().as_str(),
+        "interval": interval.as_str(),
+        "shardSpec": shard,
+        "size": descriptor.size(),
+        "tombstone": true,
+        "version": version.as_str(),
+    })
+}
+
+/// The JSON of a descriptor: `dataSource`, `interval`, `shardSpec`, `size`, `"tombstone":true` where it is one, and
+/// `version`.
+pub fn descriptor_value(alloc: Global, descriptor: &Descriptor) -> Result<Value, AllocError>
+    ensures { IfOk result (λ v. view v ≡ descriptor_data descriptor.now) }
+{
+    if descriptor.is_tombstone() {
+        tombstone_value(alloc, descriptor)
+    } else {
+        segment_value(alloc, descriptor)
+    }
 }
 
 /// The text at a key of an object; None where there is no such key or it holds no text.
@@ -113,7 +152,17 @@ fn version_field(value: &Value) -> Option<&str>
     }
 }
 
-// What the value of a descriptor says, with borrowed texts.
+// What the value at `tombstone` says: absent, null and false are one.
+fn flag(value: Option<&Value>) -> Option<bool>
+    ensures { result ≡ flag_at (option_map (λ v. view v.now) value.entry) }
+{
+    match value {
+        None | Some(Value::Null) => Some(false),
+        Some(value) => value.as_bool(),
+    }
+}
+
+// What the value of a descriptor says but for its flag, with borrowed texts.
 #[derive(Drop)]
 struct Parts<'a> {
     source: &'a str,
@@ -124,6 +173,7 @@ struct Parts<'a> {
 }
 
 impl<'a> Model for Parts<'a> {
+    ghost use Rattle.std.specs.Prelude.{false};
     ghost use Rattle.druid_shard.specs.Described.{Described};
 
     ghost Value = { Described };
@@ -132,12 +182,13 @@ impl<'a> Model for Parts<'a> {
       id = record { source = a.source.now; interval = a.interval; version = a.version.now; partition = a.shard.partition };
       core = a.shard.core;
       size = a.size;
+      tombstone = false;
     } };
 }
 
-#[tactic(auto, unfolding(crate::specs::Json::descriptor_at))]
+#[tactic(auto, unfolding(crate::specs::Json::segment_at))]
 fn parts_of(value: &Value) -> Result<Parts<'_>, ShardFault>
-    ensures read { Gives result (descriptor_at (view value.now)) }
+    ensures read { Gives result (segment_at (view value.now)) }
     ensures memory { result ≢ Err ShardFault.Memory }
 {
     let Some(source) = source_field(value) else {
@@ -164,26 +215,51 @@ fn parts_of(value: &Value) -> Result<Parts<'_>, ShardFault>
     }
 }
 
+// Whether it is a tombstone. None where the flag is none, or stands at a segment that cannot be one.
+fn tombstone_field(value: &Value, parts: &Parts<'_>) -> Option<bool>
+    ensures { result ≡ tombstone_at parts.now (view value.now) }
+{
+    if !flag(value.get("tombstone"))? {
+        return Some(false);
+    }
+    let shard = parts.shard;
+    if shard.partition() == 0 && shard.core() == 1 && parts.size == 0 {
+        Some(true)
+    } else {
+        None
+    }
+}
+
 /// Whether a value is a descriptor: the refusal of `read_descriptor` where it is none. Does not allocate.
+#[tactic(auto, unfolding(crate::specs::Json::descriptor_at))]
 pub fn check_descriptor(value: &Value) -> Result<(), ShardFault>
     ensures read { Checks result (descriptor_at (view value.now)) }
     ensures memory { result ≢ Err ShardFault.Memory }
 {
-    match parts_of(value) {
-        Ok(_) => Ok(()),
-        Err(fault) => Err(fault),
+    let parts = match parts_of(value) {
+        Ok(parts) => parts,
+        Err(fault) => return Err(fault),
+    };
+    match tombstone_field(value, &parts) {
+        Some(_) => Ok(()),
+        None => Err(ShardFault::BadTombstone),
     }
 }
 
 /// Reads a descriptor. S3 for `dataSource`, `interval`, `version` and `size`, in this order; then S2 where
-/// `shardSpec` is no object, S1 where its `type` is not `numbered`, and S2 where its numbers are out of range. S9 comes
-/// last. Other keys are passed over.
+/// `shardSpec` is no object, S1 where its `type` is not `numbered`, and S2 where its numbers are out of range; then S4
+/// where `tombstone` is neither a boolean nor null, or is true with another partition than 0, core count than 1 or size
+/// than 0. S9 comes last. Other keys are passed over.
+#[tactic(auto, unfolding(crate::specs::Json::descriptor_at))]
 pub fn read_descriptor(alloc: Global, value: &Value) -> Result<Descriptor, ShardFault>
     ensures { Gives result (descriptor_at (view value.now)) }
 {
     let parts = match parts_of(value) {
         Ok(parts) => parts,
         Err(fault) => return Err(fault),
+    };
+    let Some(tombstone) = tombstone_field(value, &parts) else {
+        return Err(ShardFault::BadTombstone);
     };
     let Ok(source) = Name::new(alloc, parts.source) else {
         return Err(ShardFault::Memory);
@@ -192,5 +268,8 @@ pub fn read_descriptor(alloc: Global, value: &Value) -> Result<Descriptor, Shard
         return Err(ShardFault::Memory);
     };
     let id = SegmentId::new(source, parts.interval, version, parts.shard.partition());
+    if tombstone {
+        return Descriptor::tombstone(id).ok_or(ShardFault::BadTombstone);
+    }
     Descriptor::new(id, parts.shard.core(), parts.size).ok_or(ShardFault::BadShard)
 }

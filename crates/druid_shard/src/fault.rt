@@ -12,6 +12,10 @@ pub enum ShardFault {
     /// S3: the field of this key is absent, or is not what it has to be.
     #[error("S3: a bad field: {0}")]
     BadField(&'static str),
+    /// S4: `tombstone` is neither a boolean nor null, or is true of a segment that is not the whole of its chunk in one
+    /// partition of size 0.
+    #[error("S4: a bad tombstone")]
+    BadTombstone,
     /// S9: out of memory.
     #[error("S9: out of memory")]
     Memory,

@@ -14,7 +14,8 @@ mod sets;
 pub use change::{Ask, Cause, Change};
 pub use descriptor::{Descriptor, MAX_CORE, Shard};
 pub use descriptor_json::{
-    check_descriptor, descriptor_value, limited_field, number_field, read_descriptor, text_field,
+    check_descriptor, descriptor_value, limited_field, number_field, read_descriptor, shard_value,
+    text_field,
 };
 pub use fault::ShardFault;
 pub use items::Items;

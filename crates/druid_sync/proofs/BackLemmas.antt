@@ -1,20 +1,20 @@
 -- Replies as JSON: what is written is read back.
-use Rattle.std.proofs.Common.{◌≡◌, ◌≤◌, ℕ, List, [], map, codes, Contains, Option, Some, None, Ok, refl, arith, le-leb, is_some}
+use Rattle.std.proofs.Common.{◌≡◌, ◌<◌, ◌≤◌, ℕ, Bool, false, true, List, [], map, codes, Contains, Option, Some, None, Ok, refl, arith, le-leb, is_some}
 use Rattle.serde_json.specs.Data.{Data}
 use Rattle.serde_json.specs.View.{items_of}
 use Rattle.druid_time.proofs.TextLemmas.{extent_at-extent_text}
 use Rattle.druid_segid.proofs.NameLemmas.{is_name-true, is_version-true}
 use Rattle.druid_shard.specs.Mark.{Point}
 use Rattle.druid_shard.proofs.EachLemmas.{each_back}
-use Rattle.druid_shard.specs.Described.{Described, IsDescribed}
-use Rattle.druid_shard.specs.Json.{descriptor_at, place_at}
+use Rattle.druid_shard.specs.Described.{Described, IsDescribed, IsWholeChunk}
+use Rattle.druid_shard.specs.Json.{text_at, descriptor_at, segment_at, place_at, tombstone_at}
 use Rattle.druid_shard.specs.declared.change.Change.{Change}
 use Rattle.druid_shard.specs.declared.change.Change.TheVariants.{Load, Drop}
 use Rattle.druid_shard.specs.declared.change.Cause.{Cause}
 use Rattle.druid_shard.specs.declared.change.Cause.TheVariants.{OtherIncarnation, Ahead, TooOld}
 use Rattle.serde_json.specs.Find.{as_null}
 use Rattle.druid_shard.specs.declared.reply.Body.TheVariants.{Delta, Snapshot, Reset}
-use Rattle.druid_sync.specs.Written.{mark_data, from_data, request_data, change_data, load_data, segment_of, cause_data, five_fields, reply_data}
+use Rattle.druid_sync.specs.Written.{mark_data, from_data, flagged_request, request_data, change_data, load_data, segment_of, cause_data, five_fields, reply_data}
 use Rattle.druid_sync.specs.Read.{mark_at, change_at, load_at, cause_at, five_at, followed, whole, begun_again, reset_at, snapshot_at, delta_at, changes_at, form_at}
 
 -- ---- marks
@@ -25,26 +25,66 @@ mark_at-data m h = let first = le-leb 1 m.incarnation h in rw first refl
 
 -- ---- changes
 
-place_at-request : (action : List ℕ) (d : Described) → IsDescribed d → place_at (request_data action d) ≡ Ok (record { partition = d.id.partition; core = d.core })
-unfolding place_at request_data
-place_at-request action d h =
-    let low = le-leb d.id.partition 65_535 (omega (arith, h.id.partition)) in
+-- the segment but for its flag
+abbrev unflagged : Described → Described
+unflagged d = record { id = d.id; core = d.core; size = d.size; tombstone = false }
+
+partition_small : (p : ℕ) → p < 65_536 → p ≤ 65_535
+partition_small p h = omega arith
+
+place_at-request : (flag : Bool) (action : List ℕ) (d : Described) → IsDescribed d → place_at (flagged_request flag action d) ≡ Ok (record { partition = d.id.partition; core = d.core })
+unfolding place_at flagged_request
+place_at-request false action d h =
+    let low = le-leb d.id.partition 65_535 (partition_small d.id.partition h.id.partition) in
+    let high = le-leb d.core 32_768 h.core in
+    rw (low, high) refl
+place_at-request true action d h =
+    let low = le-leb d.id.partition 65_535 (partition_small d.id.partition h.id.partition) in
     let high = le-leb d.core 32_768 h.core in
     rw (low, high) refl
 
-descriptor_at-request : (action : List ℕ) (d : Described) → IsDescribed d → descriptor_at (request_data action d) ≡ Ok d
-unfolding descriptor_at request_data
-descriptor_at-request action d h =
+segment_at-request : (flag : Bool) (action : List ℕ) (d : Described) → IsDescribed d → segment_at (flagged_request flag action d) ≡ Ok (unflagged d)
+unfolding segment_at flagged_request
+segment_at-request false action d h =
     let source = is_name-true d.id.source h.id.source in
     let version = is_version-true d.id.version h.id.version in
     let interval = extent_at-extent_text d.id.interval h.id.interval in
-    let place = place_at-request action d h in
+    let place = place_at-request false action d h in
+    rw (source, interval, version) (rw place refl)
+segment_at-request true action d h =
+    let source = is_name-true d.id.source h.id.source in
+    let version = is_version-true d.id.version h.id.version in
+    let interval = extent_at-extent_text d.id.interval h.id.interval in
+    let place = place_at-request true action d h in
     rw (source, interval, version) (rw place refl)
 
+tombstone_at-request : (flag : Bool) (action : List ℕ) (d : Described) → (flag ≡ true → IsWholeChunk d) → tombstone_at (unflagged d) (flagged_request flag action d) ≡ Some flag
+unfolding flagged_request
+tombstone_at-request false action d h = refl
+tombstone_at-request true action d h =
+    let whole = h refl in
+    rw (whole.0, whole.1, whole.2) refl
+
+descriptor_at-request : (action : List ℕ) (d : Described) → IsDescribed d → descriptor_at (request_data action d) ≡ Ok d
+unfolding descriptor_at
+descriptor_at-request action d h =
+    let segment = segment_at-request d.tombstone action d h in
+    let flag = tombstone_at-request d.tombstone action d h.tombstone in
+    rw segment (rw flag refl)
+
+action_at : (flag : Bool) (action : List ℕ) (d : Described) → text_at (codes "action") (flagged_request flag action d) ≡ Some action
+unfolding flagged_request
+action_at false action d = refl
+action_at true action d = refl
+
 pub change_at-data : (c : Change) → IsDescribed (segment_of c) → change_at (change_data c) ≡ Some c
-unfolding change_at request_data
-change_at-data (Load d) h = let read = descriptor_at-request (codes "load") d h in rw read refl
-change_at-data (Drop d) h = let read = descriptor_at-request (codes "drop") d h in rw read refl
+unfolding change_at
+change_at-data (Load d) h =
+    let action = action_at d.tombstone (codes "load") d in
+    let read = descriptor_at-request (codes "load") d h in rw action (rw read refl)
+change_at-data (Drop d) h =
+    let action = action_at d.tombstone (codes "drop") d in
+    let read = descriptor_at-request (codes "drop") d h in rw action (rw read refl)
 
 pub load_at-data : (d : Described) → IsDescribed d → load_at (load_data d) ≡ Some d
 load_at-data d h = let read = change_at-data (Load d) h in rw read refl

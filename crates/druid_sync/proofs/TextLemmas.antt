@@ -14,12 +14,16 @@ use Rattle.druid_shard.specs.declared.change.Change.{Change}
 use Rattle.druid_shard.specs.declared.change.Cause.{Cause}
 use Rattle.druid_shard.specs.declared.change.Cause.TheVariants.{OtherIncarnation, Ahead, TooOld}
 use Rattle.druid_shard.specs.declared.reply.Body.TheVariants.{Delta, Snapshot, Reset}
-use Rattle.druid_sync.specs.Written.{mark_data, from_data, request_data, change_data, load_data, five_fields, reply_data, front_text, back_text, reply_text}
+use Rattle.druid_sync.specs.Written.{mark_data, from_data, flagged_request, request_data, change_data, load_data, five_fields, reply_data, front_text, back_text, reply_text}
 
 -- no reply has a float
+flagged_plain : (flag : Bool) (action : List ℕ) (d : Described) → has_float (flagged_request flag action d) ≡ false
+unfolding flagged_request
+flagged_plain false action d = refl
+flagged_plain true action d = refl
+
 pub request_plain : (action : List ℕ) (d : Described) → has_float (request_data action d) ≡ false
-unfolding request_data
-request_plain action d = refl
+request_plain action d = flagged_plain d.tombstone action d
 
 pub from_plain : (from : Option Point) → has_float (from_data from) ≡ false
 unfolding mark_data

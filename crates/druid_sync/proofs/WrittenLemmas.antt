@@ -1,5 +1,5 @@
 -- The text of a reply is JSON that reads as the reply's.
-use Rattle.std.proofs.Common.{◌≡◌, ◌≤◌, ◌<◌, ◌^◌, ℕ, arith, List, [], map, codes, All, Option, Some, None, IfSome, refl, sym, subst, ap, ◌∙◌}
+use Rattle.std.proofs.Common.{◌≡◌, ◌≤◌, ◌<◌, ◌^◌, ℕ, Bool, false, true, arith, List, [], map, codes, All, Option, Some, None, IfSome, refl, sym, subst, ap, ◌∙◌}
 use Rattle.std.proofs.lemmas.List.Elements.{All-contains}
 use Rattle.json.proofs.Printed.Decimals.{IsNumber-decimal}
 use Rattle.serde_json.specs.Data.{Data, depth, items_depth}
@@ -17,7 +17,7 @@ use Rattle.druid_shard.proofs.WrittenLemmas.{IsBack, AreBack, items_back, items_
 use Rattle.druid_shard.specs.ReplyBody.{IsReply}
 use Rattle.druid_sync.specs.Back.{IsReadBack}
 use Rattle.druid_sync.proofs.BackLemmas.{delta_back, snapshot_back, reset_back}
-use Rattle.druid_sync.specs.Written.{mark_data, from_data, request_data, change_data, load_data, segment_of, cause_data, five_fields, reply_data, reply_text, IsOfDescriptors, IsWord, IsOfWords}
+use Rattle.druid_sync.specs.Written.{mark_data, from_data, flagged_request, request_data, change_data, load_data, segment_of, cause_data, five_fields, reply_data, reply_text, IsOfDescriptors, IsWord, IsOfWords}
 
 mark_back : (m : Point) → IsWord m → IsBack (mark_data m)
 unfolding mark_data
@@ -30,9 +30,9 @@ from_back : (from : Option Point) → IfSome from IsWord → IsBack (from_data f
 from_back None is = (tt, refl)
 from_back (Some m) is = mark_back m is
 
-request_back : (action : List ℕ) (d : Described) → IsDescribed d → IsBack (request_data action d)
-unfolding request_data
-request_back action d is =
+flagged_back : (flag : Bool) (action : List ℕ) (d : Described) → IsDescribed d → IsBack (flagged_request flag action d)
+unfolding flagged_request
+flagged_back false action d is =
     let low : d.id.partition < 2 ^ 64 = omega (arith, is.id.partition) in
     let few : d.core < 2 ^ 64 = omega (arith, is.core) in
     let part = number_of-decimal d.id.partition low in
@@ -41,6 +41,18 @@ request_back action d is =
       (tt, (tt, (tt, ((IsNumber-decimal d.id.partition low, (IsNumber-decimal d.core few, (tt, tt))), (IsNumber-decimal d.size is.size, (tt, tt)))))),
       rw (part, core, size) refl,
     )
+flagged_back true action d is =
+    let low : d.id.partition < 2 ^ 64 = omega (arith, is.id.partition) in
+    let few : d.core < 2 ^ 64 = omega (arith, is.core) in
+    let part = number_of-decimal d.id.partition low in
+    let core = number_of-decimal d.core few in
+    let size = number_of-decimal d.size is.size in (
+      (tt, (tt, (tt, ((IsNumber-decimal d.id.partition low, (IsNumber-decimal d.core few, (tt, tt))), (IsNumber-decimal d.size is.size, (tt, (tt, tt))))))),
+      rw (part, core, size) refl,
+    )
+
+request_back : (action : List ℕ) (d : Described) → IsDescribed d → IsBack (request_data action d)
+request_back action d is = flagged_back d.tombstone action d is
 
 change_back : (c : Change) → IsDescribed (segment_of c) → IsBack (change_data c)
 change_back (Load d) is = request_back (codes "load") d is
@@ -76,9 +88,14 @@ from_shallow : (from : Option Point) → depth (from_data from) ≤ 1
 from_shallow None = omega arith
 from_shallow (Some m) = mark_shallow m
 
+flagged_shallow : (flag : Bool) (action : List ℕ) (d : Described) → depth (flagged_request flag action d) ≤ 2
+unfolding flagged_request
+flagged_shallow false action d = omega arith
+flagged_shallow true action d = omega arith
+
 change_shallow : (c : Change) → depth (change_data c) ≤ 2
-unfolding request_data
-change_shallow c = omega arith
+change_shallow (Load d) = flagged_shallow d.tombstone (codes "load") d
+change_shallow (Drop d) = flagged_shallow d.tombstone (codes "drop") d
 
 cause_shallow : (cause : Option Cause) → depth (cause_data cause) ≤ 0
 cause_shallow None = omega arith

@@ -1,12 +1,12 @@
 -- The text of a reply.
-use Rattle.std.specs.Prelude.{◌<◌, ◌^◌, ℕ, List, [], ◌++◌, codes, map, Option, Some, None, is_some, Contains, ⊤}
+use Rattle.std.specs.Prelude.{◌<◌, ◌^◌, ℕ, Bool, List, [], ◌++◌, codes, map, Option, Some, None, is_some, Contains, ⊤}
 use Rattle.serde_json.specs.Data.{Data, null, boolean, object, member, no_members, array, number, unsigned, string}
 use Rattle.serde_json.specs.View.{items_of}
 use Rattle.serde_json.specs.Written.{compact_text}
 use Rattle.druid_time.specs.Texts.{extent_text}
 use Rattle.druid_shard.specs.Mark.{Point}
 use Rattle.druid_shard.specs.Described.{Described, IsDescribed}
-use Rattle.druid_shard.specs.Json.{shard_data}
+use Rattle.druid_shard.specs.Json.{shard_data, flagged}
 use Rattle.druid_shard.specs.declared.change.Change.{Change}
 use Rattle.druid_shard.specs.declared.change.Change.TheVariants.{Load, Drop}
 use Rattle.druid_shard.specs.declared.change.Cause.{Cause}
@@ -30,15 +30,18 @@ abbrev pub segment_of : Change → Described
 segment_of (Load d) = d
 segment_of (Drop d) = d
 
--- a change: the keys of the descriptor, and `action`
-unfoldable pub request_data : List ℕ → Described → Data
-request_data action d =
+-- a change of a segment with this flag: the keys of the descriptor, and `action`
+unfoldable pub flagged_request : Bool → List ℕ → Described → Data
+flagged_request flag action d =
     object (member (codes "action") (string action)
     (member (codes "dataSource") (string d.id.source)
     (member (codes "interval") (string (extent_text d.id.interval))
     (member (codes "shardSpec") (shard_data d.id.partition d.core)
     (member (codes "size") (number (unsigned d.size))
-    (member (codes "version") (string d.id.version) no_members))))))
+    (flagged flag (member (codes "version") (string d.id.version) no_members)))))))
+
+abbrev pub request_data : List ℕ → Described → Data
+request_data action d = flagged_request d.tombstone action d
 
 abbrev pub change_data : Change → Data
 change_data c = request_data (action_of c) (segment_of c)

@@ -1,14 +1,13 @@
 //! Replies, written.
-ghost use Rattle.std.specs.Prelude.{◌≡◌, ◌++◌, false, codes, map, All, Some, IfSome, IfOk, OnOk, string_bytes};
+ghost use Rattle.std.specs.Prelude.{◌≡◌, ◌++◌, false, true, codes, map, All, Some, IfSome, IfOk, OnOk, string_bytes};
 ghost use Rattle.serde_json.specs.Read.{read};
 ghost use Rattle.serde_json.specs.View.{view, items_of};
 ghost use Rattle.serde_json.specs.Written.{compact_text, comma_if, items_text};
 ghost use Rattle.druid_shard.specs.Described.{IsDescribed};
-ghost use Rattle.druid_shard.specs.Json.{shard_data};
 ghost use Rattle.druid_sync.specs.Back.{IsReadBack};
-ghost use Rattle.druid_sync.specs.Written.{mark_data, from_data, request_data, change_data, load_data, segment_of, IsWord, front_text, back_text, reply_data, reply_text};
+ghost use Rattle.druid_sync.specs.Written.{mark_data, from_data, flagged_request, request_data, change_data, load_data, segment_of, IsWord, front_text, back_text, reply_data, reply_text};
 
-use druid_shard::{Body, Cause, Change, Descriptor, Mark, Reply};
+use druid_shard::{Body, Cause, Change, Descriptor, Mark, Reply, shard_value};
 use serde_json::{Value, json};
 use std::alloc::{AllocError, Global};
 
@@ -24,23 +23,38 @@ pub fn mark_value(alloc: Global, mark: Mark) -> Result<Value, AllocError>
     })
 }
 
-// The JSON of a numbered shard spec.
-fn shard_value(alloc: Global, descriptor: &Descriptor) -> Result<Value, AllocError>
-    ensures { IfOk result (λ v.
-        view v ≡ shard_data descriptor.now.id.partition descriptor.now.core) }
+// The JSON of a change that does this with a tombstone.
+#[tactic(auto, unfolding(crate::specs::Written::flagged_request))]
+fn tombstone_request(
+    alloc: Global,
+    action: &str,
+    descriptor: &Descriptor,
+) -> Result<Value, AllocError>
+    ensures { IfOk result (λ v. view v ≡ flagged_request true action.now descriptor.now) }
 {
+    let id = descriptor.id();
+    let interval = id.interval().text(alloc)?;
+    let version = id.version().text(alloc)?;
+    let shard = shard_value(alloc, descriptor)?;
     json!(in alloc; {
-        "partitionNum": descriptor.id().partition(),
-        "partitions": descriptor.core(),
-        "type": "numbered",
+        "action": action,
+        "dataSource": id.source().as_str(),
+        "interval": interval.as_str(),
+        "shardSpec": shard,
+        "size": descriptor.size(),
+        "tombstone": true,
+        "version": version.as_str(),
     })
 }
 
-// The JSON of a change that does this with a segment.
-#[tactic(auto, unfolding(crate::specs::Written::request_data))]
-fn request_value(alloc: Global, action: &str, descriptor: &Descriptor) -> Result<Value, AllocError>
-    ensures value { IfOk result (λ v. view v ≡ request_data action.now descriptor.now) }
-    ensures described { IfOk result (λ _. IsDescribed descriptor.now) }
+// The JSON of a change that does this with an ordinary segment.
+#[tactic(auto, unfolding(crate::specs::Written::flagged_request))]
+fn segment_request(
+    alloc: Global,
+    action: &str,
+    descriptor: &Descriptor,
+) -> Result<Value, AllocError>
+    ensures { IfOk result (λ v. view v ≡ flagged_request false action.now descriptor.now) }
 {
     let id = descriptor.id();
     let interval = id.interval().text(alloc)?;
@@ -54,6 +68,18 @@ fn request_value(alloc: Global, action: &str, descriptor: &Descriptor) -> Result
         "size": descriptor.size(),
         "version": version.as_str(),
     })
+}
+
+// The JSON of a change that does this with a segment.
+fn request_value(alloc: Global, action: &str, descriptor: &Descriptor) -> Result<Value, AllocError>
+    ensures value { IfOk result (λ v. view v ≡ request_data action.now descriptor.now) }
+    ensures described { IfOk result (λ _. IsDescribed descriptor.now) }
+{
+    if descriptor.is_tombstone() {
+        tombstone_request(alloc, action, descriptor)
+    } else {
+        segment_request(alloc, action, descriptor)
+    }
 }
 
 // What stands before an item of a list.

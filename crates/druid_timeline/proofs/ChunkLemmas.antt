@@ -8,11 +8,11 @@ use Rattle.std.proofs.lemmas.List.Elements.{filter-append, All-head}
 use Rattle.std.proofs.lemmas.Map.Keys.{IsDistinct-tail}
 use Rattle.druid_segid.specs.Identifier.{Identifier}
 use Rattle.druid_segid.specs.Group.{Group, group_of, same_group}
-use Rattle.druid_members.specs.Members.{Member, IsComplete, HasMember, HoldsPlace, Adds, RemovesPlace, RemovesOne, SameMembers}
+use Rattle.druid_members.specs.Members.{Member, IsComplete, HasMember, HoldsPlace, ServesPlace, Adds, RemovesPlace, RemovesOne, SameMembers}
 use Rattle.druid_shard.proofs.MemberLemmas.{Contains-nil, Contains-later, Contains-map, Contains-map_back, Contains-flat_map, Contains-flat_map_back}
 use Rattle.druid_chunks.specs.Chunks.{Chunk, AreChunks, members_at, IsCompleteOf}
 use Rattle.druid_chunks.proofs.ChunkLemmas.{same_group-same, same_group-other, cases_group, at_head, at_tail, head_alone, members_at-found, members_at-entry}
-use Rattle.druid_timeline.specs.Holding.{Held, members_of, HoldsNothing, IsHeld, IsPlaceOf, IsCompleteIn, AddsHeld, RemovesHeld, RemovesOneHeld, SameHeld}
+use Rattle.druid_timeline.specs.Holding.{Held, members_of, HoldsNothing, IsHeld, HasRows, IsPlaceOf, IsCompleteIn, AddsHeld, RemovesHeld, RemovesOneHeld, SameHeld}
 use Rattle.druid_timeline.specs.Chunks.{held_at, held_in}
 
 -- ---- what is held, and what the chunks have
@@ -38,6 +38,17 @@ IsHeld-chunk cs are node id = (forth, back) where
 
   back : HoldsPlace (members_at cs (group_of id)) id.partition node → IsHeld (held_in cs) node id
   back (x, there, partition, at) = let h : Held = held_at (group_of id) x in (h, of_chunk cs h there, refl, partition, at)
+
+-- the same of a node that has its rows
+pub HasRows-chunk : (cs : List Chunk) → AreChunks cs → (node : ℕ) (id : Identifier) → HasRows (held_in cs) node id ↔ ServesPlace (members_at cs (group_of id)) id.partition node
+HasRows-chunk cs are node id = (forth, back) where
+  forth : HasRows (held_in cs) node id → ServesPlace (members_at cs (group_of id)) id.partition node
+  forth (x, there, group, partition, at, serves) =
+      (x.member, subst (λ (g : Group). Contains (members_at cs g) x.member) group (in_chunk cs are x there), partition, at, serves)
+
+  back : ServesPlace (members_at cs (group_of id)) id.partition node → HasRows (held_in cs) node id
+  back (x, there, partition, at, serves) =
+      let h : Held = held_at (group_of id) x in (h, of_chunk cs h there, refl, partition, at, serves)
 
 -- an answer about the place is one about the segment
 pub holds_held : (cs : List Chunk) → AreChunks cs → (node : ℕ) (id other : Identifier) (b : Bool) → other ≡ id → IsTrue b ↔ HoldsPlace (members_at cs (group_of other)) other.partition node → IsTrue b ↔ IsHeld (held_in cs) node id

@@ -1,11 +1,11 @@
--- What nodes serve of one data source.
-use Rattle.std.specs.Prelude.{◌≡◌, ℕ, List, map, filter, ◌⊎◌, ◌↔◌, Contains}
+-- What nodes hold of one data source.
+use Rattle.std.specs.Prelude.{◌≡◌, ℕ, true, List, map, filter, ◌⊎◌, ◌↔◌, Contains}
 use Rattle.druid_segid.specs.Identifier.{Identifier}
 use Rattle.druid_segid.specs.Group.{Group, group_of, same_group}
 use Rattle.druid_shard.specs.Described.{Described}
-use Rattle.druid_members.specs.Members.{Member, IsComplete}
+use Rattle.druid_members.specs.Members.{Member, member_of, IsComplete}
 
--- a segment that a node serves: its chunk, and its place there. Of a descriptor only the size is left out
+-- a segment that a node holds: its chunk, and its place there. Of a descriptor only the size is left out
 pub record Held : Type 0 where
   pub group : Group
   pub member : Member
@@ -14,7 +14,7 @@ pub record Held : Type 0 where
 abbrev pub held_of : ℕ → Described → Held
 held_of node d = record {
   group = group_of d.id;
-  member = record { node = node; partition = d.id.partition; core = d.core };
+  member = member_of node d;
 }
 
 -- the members of a chunk
@@ -30,22 +30,32 @@ pub record Serving : Type 0 where
   pub source : List ℕ
   pub held : List Held
 
--- no node serves a segment
+-- no node holds a segment
 abbrev pub HoldsNothing : List Held → Type 0
 HoldsNothing held = (h : Held) → Contains held h → ⊥
 
--- the node serves the segment of this identifier
+-- the node holds the segment of this identifier
 abbrev pub IsHeld : List Held → ℕ → Identifier → Type 0
 IsHeld held node id =
     (h : Held) × Contains held h × (h.group ≡ group_of id) × (h.member.partition ≡ id.partition) × (h.member.node ≡ node)
 
--- the segment of this identifier, where the node serves it
+-- the node holds the segment of this identifier as no tombstone, so that it has its rows
+abbrev pub HasRows : List Held → ℕ → Identifier → Type 0
+HasRows held node id =
+    (h : Held) × Contains held h × (h.group ≡ group_of id) × (h.member.partition ≡ id.partition) × (h.member.node ≡ node)
+    × (h.member.serves ≡ true)
+
+-- the segment of this identifier, where the node holds it
 abbrev pub IsPlaceOf : ℕ → Identifier → Held → Type 0
 IsPlaceOf node id h = (h.group ≡ group_of id) × (h.member.partition ≡ id.partition) × (h.member.node ≡ node)
 
--- the segment of this identifier is of the source, and the node serves it
+-- the segment of this identifier is of the source, and the node holds it
 abbrev pub IsServed : Serving → ℕ → Identifier → Type 0
 IsServed s node id = (id.source ≡ s.source) × IsHeld s.held node id
+
+-- the same as no tombstone
+abbrev pub ServesRows : Serving → ℕ → Identifier → Type 0
+ServesRows s node id = (id.source ≡ s.source) × HasRows s.held node id
 
 -- at most one stands for a node and an identifier
 abbrev pub OnePerPlace : List Held → Type 0
@@ -56,11 +66,11 @@ OnePerPlace held =
 abbrev pub AddsHeld : List Held → List Held → Held → Type 0
 AddsHeld old new h = (x : Held) → Contains new x ↔ ((x ≡ h) ⊎ Contains old x)
 
--- the set new is old without what the node serves of this identifier
+-- the set new is old without what the node holds of this identifier
 abbrev pub RemovesHeld : List Held → List Held → ℕ → Identifier → Type 0
 RemovesHeld old new node id = (x : Held) → Contains new x ↔ (Contains old x × (IsPlaceOf node id x → ⊥))
 
--- the set old is new with one more, which the node serves of this identifier
+-- the set old is new with one more, which the node holds of this identifier
 abbrev pub RemovesOneHeld : List Held → List Held → ℕ → Identifier → Type 0
 RemovesOneHeld old new node id = (h : Held) × IsPlaceOf node id h × AddsHeld new old h
 

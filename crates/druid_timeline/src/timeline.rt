@@ -3,7 +3,7 @@ ghost use Rattle.std.specs.List.Sorted.{IsStrictlyIncreasing, IsStrictlySortedBy
 ghost use Rattle.druid_time.specs.Extent.{AnyHas};
 ghost use Rattle.druid_segid.specs.Group.{Group, group_of};
 ghost use Rattle.druid_timeline.specs.Edited.{HasOthers};
-ghost use Rattle.druid_timeline.specs.Holding.{held_of, members_of, HoldsNothing, IsHeld, IsServed, AddsHeld, RemovesHeld, RemovesOneHeld, SameHeld};
+ghost use Rattle.druid_timeline.specs.Holding.{held_of, members_of, HoldsNothing, IsHeld, IsServed, ServesRows, AddsHeld, RemovesHeld, RemovesOneHeld, SameHeld};
 ghost use Rattle.druid_timeline.specs.Overshadowed.{IsOvershadowed, place_cmp};
 ghost use Rattle.druid_timeline.specs.Pieces.{ArePieces, ArePiecesIn, ArePartitions, shown_at, shown_of};
 ghost use Rattle.druid_timeline.specs.Visible.{IsVisible, NothingVisible};
@@ -190,7 +190,7 @@ impl Timeline {
         overshadowed_in(self.alloc, &self.chunks, &self.runs, meter)
     }
 
-    /// The nodes that serve a segment, rising; none where it is of another source.
+    /// The nodes that hold a segment, rising; none where it is of another source.
     pub fn replicas(&self, id: &SegmentId) -> Result<Vec<NodeNo>, AllocError>
         ensures rising { IfOk result (λ v. IsStrictlyIncreasing v.items) }
         ensures nodes { IfOk result (λ v. (n : ℕ) → Contains v.items n ↔ IsServed self.now n id.now) }
@@ -199,6 +199,17 @@ impl Timeline {
             return Ok(Vec::new(self.alloc));
         }
         Vec::from_slice(self.alloc, self.chunks.replicas(id))
+    }
+
+    /// The nodes that hold a segment as no tombstone, rising; none where it is of another source.
+    pub fn served(&self, id: &SegmentId) -> Result<Vec<NodeNo>, AllocError>
+        ensures rising { IfOk result (λ v. IsStrictlyIncreasing v.items) }
+        ensures nodes { IfOk result (λ v. (n : ℕ) → Contains v.items n ↔ ServesRows self.now n id.now) }
+    {
+        if !self.is_source_of(id) {
+            return Ok(Vec::new(self.alloc));
+        }
+        Vec::from_slice(self.alloc, self.chunks.served(id))
     }
 
     /// A timeline of equal holding.

@@ -4,29 +4,29 @@ use Rattle.std.specs.BTreeMap as tree
 use Rattle.std.specs.List.{Contains}
 use Rattle.std.specs.Result.{IfOk}
 use Rattle.std.specs.Bool.{IsTrue}
-use Rattle.druid_members.specs.Slots.{NoneEmpty}
+use Rattle.druid_members.specs.Slots.{Statement, Replica, NoneEmpty}
 use Rattle.druid_members.proofs.SlotLemmas.{NoneEmpty-update, HasOne, HasOne-added}
 use Rattle.druid_members.proofs.members.add_member.Goals as goal
 
 -- what holds of two slots holds of them where a map has them
-at_slots : (node core : ℕ) (r : ℕ × ℕ) (new old : Option (List (ℕ × ℕ))) (s t : List (ℕ × ℕ)) → new ≡ Some s → t ≡ unwrap_or old [] → (Contains s r ↔ ((r ≡ (node, core)) ⊎ Contains t r)) → Contains (unwrap_or new []) r ↔ ((r ≡ (node, core)) ⊎ Contains (unwrap_or old []) r)
-at_slots node core r new old s t e f h =
-    let h' = subst (λ (xs : List (ℕ × ℕ)). Contains s r ↔ ((r ≡ (node, core)) ⊎ Contains xs r)) f h in
-    subst (λ (o : Option (List (ℕ × ℕ))). Contains (unwrap_or o []) r ↔ ((r ≡ (node, core)) ⊎ Contains (unwrap_or old []) r)) (sym e) h'
+at_slots : (node : ℕ) (stated : Statement) (r : Replica) (new old : Option (List Replica)) (s t : List Replica) → new ≡ Some s → t ≡ unwrap_or old [] → (Contains s r ↔ ((r ≡ (node, stated)) ⊎ Contains t r)) → Contains (unwrap_or new []) r ↔ ((r ≡ (node, stated)) ⊎ Contains (unwrap_or old []) r)
+at_slots node stated r new old s t e f h =
+    let h' = subst (λ (xs : List Replica). Contains s r ↔ ((r ≡ (node, stated)) ⊎ Contains xs r)) f h in
+    subst (λ (o : Option (List Replica)). Contains (unwrap_or o []) r ↔ ((r ≡ (node, stated)) ⊎ Contains (unwrap_or old []) r)) (sym e) h'
 
 pub returns-in-Some-clause-held : goal.returns-in-Some-clause-held
 returns-in-Some-clause-held c =
-    subst (λ (o : Option (List (ℕ × ℕ))). IfOk c.add.result (λ added. IsTrue added ↔ (Contains (map (λ r. r.0) (unwrap_or o [])) c.args.node → ⊥))) c.in-Some.ensures.value c.add.ensures.held
+    subst (λ (o : Option (List Replica)). IfOk c.add.result (λ added. IsTrue added ↔ (Contains (map (λ r. r.0) (unwrap_or o [])) c.args.node → ⊥))) c.in-Some.ensures.value c.add.ensures.held
 
 pub returns-in-Some-clause-added : goal.returns-in-Some-clause-added
 returns-in-Some-clause-added c h r =
     let was = c.in-Some.ensures.value in
     let written = (c.get_mut.follows.holds c.add.new.self).3 (subst IsSome was refl) in
-    at_slots c.args.node c.args.core r (tree.get nat_cmp (c.get_mut.follows.lender c.add.new.self) c.args.partition) (tree.get nat_cmp c.args.slots.now c.args.partition) c.add.new.self c.in-Some.slot.now written.1 (ap (λ (o : Option (List (ℕ × ℕ))). unwrap_or o []) was) (c.add.ensures.added h r)
+    at_slots c.args.node c.args.stated r (tree.get nat_cmp (c.get_mut.follows.lender c.add.new.self) c.args.partition) (tree.get nat_cmp c.args.slots.now c.args.partition) c.add.new.self c.in-Some.slot.now written.1 (ap (λ (o : Option (List Replica)). unwrap_or o []) was) (c.add.ensures.added h r)
 
-nothing_there : (node : ℕ) (xs : List (ℕ × ℕ)) → xs ≡ [] → Contains (map (λ (r : ℕ × ℕ). r.0) xs) node → ⊥
+nothing_there : (node : ℕ) (xs : List Replica) → xs ≡ [] → Contains (map (λ (r : Replica). r.0) xs) node → ⊥
 nothing_there node xs e there =
-    let none = subst (λ (ys : List (ℕ × ℕ)). Contains (map (λ (r : ℕ × ℕ). r.0) ys) node) e there in
+    let none = subst (λ (ys : List Replica). Contains (map (λ (r : Replica). r.0) ys) node) e there in
     let below : none.0 < 0 = none.1 in
     omega arith
 
@@ -35,19 +35,19 @@ returns-clause-added c h r =
     let was = c.in_default.ensures.value in
     let empty = c.new-slot.ensures in
     let yes = c.in_ok-add.ensures.held.1 (nothing_there c.args.node c.new-slot.result empty) in
-    let all = subst (λ (xs : List (ℕ × ℕ)). Contains c.add-2.new.self r ↔ ((r ≡ (c.args.node, c.args.core)) ⊎ Contains xs r)) empty (c.in_ok-add.ensures.added yes r) in
-    at_slots c.args.node c.args.core r (tree.get nat_cmp c.insert.new.self c.args.partition) (tree.get nat_cmp c.args.slots.now c.args.partition) c.add-2.new.self [] c.in_ok-insert.ensures.updates.1 (ap (λ (o : Option (List (ℕ × ℕ))). unwrap_or o []) was) all
+    let all = subst (λ (xs : List Replica). Contains c.add-2.new.self r ↔ ((r ≡ (c.args.node, c.args.stated)) ⊎ Contains xs r)) empty (c.in_ok-add.ensures.added yes r) in
+    at_slots c.args.node c.args.stated r (tree.get nat_cmp c.insert.new.self c.args.partition) (tree.get nat_cmp c.args.slots.now c.args.partition) c.add-2.new.self [] c.in_ok-insert.ensures.updates.1 (ap (λ (o : Option (List Replica)). unwrap_or o []) was) all
 
 pub returns-in-Some-clause-none_empty : goal.returns-in-Some-clause-none_empty
 returns-in-Some-clause-none_empty c none =
     let was = c.in-Some.ensures.value in
     let written = (c.get_mut.follows.holds c.add.new.self).3 (subst IsSome was refl) in
     let one = none c.args.partition c.in-Some.slot.now (sym was) in
-    NoneEmpty-update c.args.slots.now (c.get_mut.follows.lender c.add.new.self) c.add.new.self (tree.is_at (nat_cmp c.args.partition)) written.0 (HasOne-added c.add.result c.in-Some.slot.now c.add.new.self c.args.node c.args.core c.add.ensures.added c.add.ensures.same c.add.ensures.err one) none
+    NoneEmpty-update c.args.slots.now (c.get_mut.follows.lender c.add.new.self) c.add.new.self (tree.is_at (nat_cmp c.args.partition)) written.0 (HasOne-added c.add.result c.in-Some.slot.now c.add.new.self c.args.node c.args.stated c.add.ensures.added c.add.ensures.same c.add.ensures.err one) none
 
 pub returns-clause-none_empty : goal.returns-clause-none_empty
 returns-clause-none_empty c none =
     let empty = c.new-slot.ensures in
     let told = c.in_ok-add.ensures.held.1 (nothing_there c.args.node c.new-slot.result empty) in
-    let one : HasOne c.add-2.new.self = ((c.args.node, c.args.core), (c.in_ok-add.ensures.added told (c.args.node, c.args.core)).1 (inl refl)) in
+    let one : HasOne c.add-2.new.self = ((c.args.node, c.args.stated), (c.in_ok-add.ensures.added told (c.args.node, c.args.stated)).1 (inl refl)) in
     NoneEmpty-update c.get_mut.follows.lender-at-none c.insert.new.self c.add-2.new.self (tree.is_at (nat_cmp c.args.partition)) c.in_ok-insert.ensures.updates.0 one (subst NoneEmpty (sym c.get_mut.follows.holds-at-none) none)

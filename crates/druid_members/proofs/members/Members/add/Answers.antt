@@ -4,8 +4,8 @@ use Rattle.std.specs.List.{Contains}
 use Rattle.std.specs.Result.{OnErr}
 use Rattle.druid_segid.specs.Identifier.{Identifier}
 use Rattle.std.proofs.lemmas.Bool.{false≢true}
-use Rattle.druid_members.specs.Members.{Member, HoldsPlace, Adds, SameMembers, member_of}
-use Rattle.druid_members.specs.Slots.{members_in}
+use Rattle.druid_members.specs.Members.{core_count, Member, HoldsPlace, Adds, SameMembers, member_of}
+use Rattle.druid_members.specs.Slots.{Statement, member_at, members_in}
 use Rattle.druid_members.proofs.CountLemmas.{kept_below-same}
 use Rattle.druid_members.proofs.SlotLemmas.{Adds-slot, SameMembers-slot, HoldsPlace-slot, core_count-adds, core_count-same, HasMember-same}
 use Rattle.druid_members.proofs.members.Members.add.Goals as goal
@@ -37,8 +37,8 @@ returns-in_err-added-clause-err c =
 pub invariant_of-self-then-added : goal.invariant_of-self-then-added
 invariant_of-self-then-added c =
     let e = c.add_member.ensures in
-    let adds = Adds-slot c.self.inside.slots c.add_member.new.slots c.partition-partition.result c.args.node c.core-core.result e.was_ordered e.ordered e.others (c.in_ok-added.ensures.added c.if-added.true) in
-    (c.max-self-inside.ensures ∙ ap (λ (k : ℕ). max k c.core-core.result) c.self.invariant.0 ∙ sym (core_count-adds _ _ _ adds), (λ _. (record { node = c.args.node; partition = c.partition-partition.result; core = c.core-core.result }, (adds _).1 (inl refl)), λ _. refl), e.none_empty c.self.invariant.2, c.within_after-self-inside.ensures c.self.inside.slots e.others c.contains_key-was.ensures c.self.invariant.3)
+    let adds = Adds-slot c.self.inside.slots c.add_member.new.slots c.partition-partition.result c.args.node c.of-stated.result e.was_ordered e.ordered e.others (c.in_ok-added.ensures.added c.if-added.true) in
+    (c.max-self-inside.ensures ∙ ap (λ (k : ℕ). max k c.core-core.result) c.self.invariant.0 ∙ ap (λ (k : ℕ). max (core_count (members_in c.self.inside.slots.entries)) k) (c.core-core.ensures.value ∙ sym (ap (λ (s : Statement). s.core) c.of-stated.ensures)) ∙ sym (core_count-adds _ _ _ adds), (λ _. (member_at c.partition-partition.result (c.args.node, c.of-stated.result), (adds _).1 (inl refl)), λ _. refl), e.none_empty c.self.invariant.2, c.within_after-self-inside.ensures c.self.inside.slots e.others c.contains_key-was.ensures c.self.invariant.3)
 
 -- where nothing was added the slot is as before
 unchanged : (added : Bool) (P : Type 0) → added ≡ false → (IsTrue added ⊎ P) → P
@@ -58,11 +58,11 @@ returns-then-added-clause-held c =
 pub returns-then-added-clause-added : goal.returns-then-added-clause-added
 returns-then-added-clause-added c told =
     let e = c.add_member.ensures in
-    let adds = Adds-slot c.self.inside.slots c.add_member.new.slots c.partition-partition.result c.args.node c.core-core.result e.was_ordered e.ordered e.others (c.in_ok-added.ensures.added c.if-added.true) in
+    let adds = Adds-slot c.self.inside.slots c.add_member.new.slots c.partition-partition.result c.args.node c.of-stated.result e.was_ordered e.ordered e.others (c.in_ok-added.ensures.added c.if-added.true) in
     let at = c.partition-partition.ensures.value ∙ ap (λ (id : Identifier). id.partition) c.id.ensures.value in
-    let one : record { node = c.args.node; partition = c.partition-partition.result; core = c.core-core.result } ≡ member_of c.args.node c.args.descriptor.now = λ i. record { node = c.args.node; partition = at i; core = c.core-core.ensures.value i } in
+    let one : member_at c.partition-partition.result (c.args.node, c.of-stated.result) ≡ member_of c.args.node c.args.descriptor.now = λ i. member_at (at i) (c.args.node, c.of-stated.ensures i) in
     subst (λ (m : Member). Adds c.args.self.now (members_in c.add_member.new.slots.entries) m) one
-    (subst (λ (ms : List Member). Adds ms (members_in c.add_member.new.slots.entries) (record { node = c.args.node; partition = c.partition-partition.result; core = c.core-core.result })) c.self.view_is adds)
+    (subst (λ (ms : List Member). Adds ms (members_in c.add_member.new.slots.entries) (member_at c.partition-partition.result (c.args.node, c.of-stated.result))) c.self.view_is adds)
 
 pub returns-else-added-clause-held : goal.returns-else-added-clause-held
 returns-else-added-clause-held c =

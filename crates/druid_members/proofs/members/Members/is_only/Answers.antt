@@ -5,10 +5,11 @@ use Rattle.std.proofs.lemmas.Map.Iter.{rest_more, rest_all}
 use Rattle.druid_members.specs.Members.{Member, AllAt}
 use Rattle.druid_members.proofs.SlotLemmas.{AreAtOrLeft, AreAtOrLeft-start, AreAtOrLeft-next, AreAtOrLeft-end, AllAt-slot}
 use Rattle.druid_members.proofs.members.Members.is_only.Goals as goal
+use Rattle.druid_members.specs.Slots.{Replica}
 use Rattle.druid_members.proofs.members.Members.is_only.Goals.{then-other-partition-via-then-other-partition, then-other-partition-via-else-other-partition+then-not-is_only}
 
 abbrev Entries : Type 0
-Entries = List (ℕ × List (ℕ × ℕ))
+Entries = List (ℕ × List Replica)
 
 pub loop-other-init : goal.loop-other-init
 loop-other-init c = (

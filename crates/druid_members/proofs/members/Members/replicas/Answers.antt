@@ -2,6 +2,7 @@ use Rattle.std.proofs.Common.{◌∙◌, ◌≡◌, ◌↔◌, ℕ, List, [], ma
 use Rattle.std.specs.List.{Contains}
 use Rattle.druid_members.specs.Members.{Member, HoldsPlace, ServedOnce}
 use Rattle.druid_members.proofs.SlotLemmas.{HoldsPlace-slot, ServedOnce-slot, ServedOnce-none}
+use Rattle.druid_members.specs.Slots.{Replica}
 use Rattle.druid_members.proofs.members.Members.replicas.Goals as goal
 
 -- what holds of the members in the slots holds of the value, and what the slot gives is what the map has
@@ -13,19 +14,19 @@ lent members value nodes slot p n e f h = (
 
 pub returns-in-Some-clause-nodes : goal.returns-in-Some-clause-nodes
 returns-in-Some-clause-nodes c n =
-    lent _ c.args.self.now c.nodes.result.now _ c.args.partition n c.self.view_is (c.nodes.ensures.value ∙ ap (λ (o : Option (List (ℕ × ℕ))). map (λ (r : ℕ × ℕ). r.0) (unwrap_or o [])) c.in-Some.ensures.value) (HoldsPlace-slot c.self.inside.slots c.args.partition n c.len.ensures.ordered)
+    lent _ c.args.self.now c.nodes.result.now _ c.args.partition n c.self.view_is (c.nodes.ensures.value ∙ ap (λ (o : Option (List Replica)). map (λ (r : Replica). r.0) (unwrap_or o [])) c.in-Some.ensures.value) (HoldsPlace-slot c.self.inside.slots c.args.partition n c.len.ensures.ordered)
 
 pub returns-in-None-clause-nodes : goal.returns-in-None-clause-nodes
 returns-in-None-clause-nodes c n =
-    lent _ c.args.self.now [] _ c.args.partition n c.self.view_is (ap (λ (o : Option (List (ℕ × ℕ))). map (λ (r : ℕ × ℕ). r.0) (unwrap_or o [])) c.in-None.ensures.value) (HoldsPlace-slot c.self.inside.slots c.args.partition n c.len.ensures.ordered)
+    lent _ c.args.self.now [] _ c.args.partition n c.self.view_is (ap (λ (o : Option (List Replica)). map (λ (r : Replica). r.0) (unwrap_or o [])) c.in-None.ensures.value) (HoldsPlace-slot c.self.inside.slots c.args.partition n c.len.ensures.ordered)
 
 pub returns-in-Some-clause-once : goal.returns-in-Some-clause-once
 returns-in-Some-clause-once c =
     subst (λ (ms : List Member). ServedOnce ms c.args.partition) c.self.view_is
     (ServedOnce-slot c.self.inside.slots c.args.partition c.len.ensures.ordered
-    (subst (λ (s : List (ℕ × ℕ)). (x y : ℕ × ℕ) → Contains s x → Contains s y → x.0 ≡ y.0 → x ≡ y) (ap (λ (o : Option (List (ℕ × ℕ))). unwrap_or o []) c.in-Some.ensures.value) c.nodes.ensures.once))
+    (subst (λ (s : List Replica). (x y : Replica) → Contains s x → Contains s y → x.0 ≡ y.0 → x ≡ y) (ap (λ (o : Option (List Replica)). unwrap_or o []) c.in-Some.ensures.value) c.nodes.ensures.once))
 
 pub returns-in-None-clause-once : goal.returns-in-None-clause-once
 returns-in-None-clause-once c =
     subst (λ (ms : List Member). ServedOnce ms c.args.partition) c.self.view_is
-    (ServedOnce-none c.self.inside.slots c.args.partition c.len.ensures.ordered (sym (ap (λ (o : Option (List (ℕ × ℕ))). unwrap_or o []) c.in-None.ensures.value)))
+    (ServedOnce-none c.self.inside.slots c.args.partition c.len.ensures.ordered (sym (ap (λ (o : Option (List Replica)). unwrap_or o []) c.in-None.ensures.value)))

@@ -1,28 +1,9 @@
-use Rattle.std.proofs.Common.{◌∙◌, ◌≡◌, ◌<◌, ◌≤◌, ◌↔◌, ℕ, List, length, get_or, map, sym, ap, refl, subst, arith}
+use Rattle.std.proofs.Common.{◌≡◌, ◌↔◌, List, subst}
+use Rattle.std.specs.Bool.{IsTrue}
 use Rattle.std.specs.List.{Contains}
-use Rattle.std.proofs.lemmas.Bool.{false≢true}
-use Rattle.std.proofs.lemmas.List.{get_or_default}
-use Rattle.std.proofs.lemmas.List.Elements.{Contains-get_or}
-use Rattle.druid_shard.proofs.MemberLemmas.{Contains-map, Contains-map_back}
-use Rattle.druid_members.proofs.PairLemmas.{map-zip}
+use Rattle.druid_members.specs.Slots.{Replica}
 use Rattle.druid_members.proofs.slot.Slot.is_only.Goals as goal
-
--- each of the pairs is of the node where each of the nodes is it
-all_of : (nodes : List ℕ) (ps : List (ℕ × ℕ)) (n : ℕ) → nodes ≡ map (λ (r : ℕ × ℕ). r.0) ps → ((k : ℕ) → Contains nodes k → k ≡ n) ↔ ((x : ℕ × ℕ) → Contains ps x → x.0 ≡ n)
-all_of nodes ps n e = (
-  λ h x there. h x.0 (subst (λ (ks : List ℕ). Contains ks x.0) (sym e) (Contains-map_back (λ (r : ℕ × ℕ). r.0) ps x there)),
-  λ h k there. let x = Contains-map (λ (r : ℕ × ℕ). r.0) ps k (subst (λ (ks : List ℕ). Contains ks k) e there) in sym x.2 ∙ h x.0 x.1,
-)
-
-each_at : (nodes : List ℕ) (i n : ℕ) → length nodes ≤ i → ((k : ℕ) → k < i → get_or nodes k 0 ≡ n) → (k : ℕ) → Contains nodes k → k ≡ n
-each_at nodes i n done h k (j, l, e) = sym e ∙ get_or_default nodes j k 0 l ∙ h j (omega arith)
-
-pub returns-then-other-node : goal.returns-then-other-node
-returns-then-other-node c =
-    let e = c.deref-other-items.ensures.value ∙ (sym (map-zip _ _ c.self.invariant.0) ∙ ap (map (λ (r : ℕ × ℕ). r.0)) c.self.view_is) in
-    (λ f. absurd (false≢true f), λ all. absurd (c.if-other-node.true ((all_of c.deref-other-items.result.now c.args.self.now c.args.node e).1 all _ (Contains-get_or c.deref-other-items.result.now c.loop-other.other-index 0 c.loop-other-test.true))))
 
 pub returns : goal.returns
 returns c =
-    let e = c.deref-other-items.ensures.value ∙ (sym (map-zip _ _ c.self.invariant.0) ∙ ap (map (λ (r : ℕ × ℕ). r.0)) c.self.view_is) in
-    (λ _. (all_of c.deref-other-items.result.now c.args.self.now c.args.node e).0 (each_at c.deref-other-items.result.now c.loop-other.other-index c.args.node c.loop-other-test.false c.loop-other.invariant), λ _. refl)
+    subst (λ (rs : List Replica). IsTrue c.is_only.result ↔ ((x : Replica) → Contains rs x → x.0 ≡ c.args.node)) c.self.view_is c.is_only.ensures
