@@ -5,14 +5,16 @@ fuzz.py [SECONDS]     an hour for each of the four, side by side, unless said ot
 
 It makes a static library of the proved readers in a folder for temporary files, over copies of the crates, with the kit's clang
 told to count which branches are taken, and links it with libFuzzer. What it looks for is an end that is none of Rust's: a signal, an
-input that takes longer than ten seconds, more than 2 GiB. It begins with inputs made of the examples, and keeps what it finds
-in tests/fuzz/corpus, one folder each, which later runs begin with. It needs Debian's `clang` and `libclang-rt-14-dev`. Crates
-whose libraries do not stand are proved first. It ends with 1 where an input was found, and leaves it beside the corpus.
+input that takes longer than ten seconds, more than 2 GiB. It begins with inputs made of the examples and with those that earlier
+runs kept, and at its end keeps, in tests/fuzz/corpus.tar.gz, those without which some branch would not be taken. It needs Debian's
+`clang` and `libclang-rt-14-dev`. Crates whose libraries do not stand are proved first. It ends with 1 where an input was found,
+and leaves it beside this file.
 """
 import os
 import shutil
 import subprocess
 import sys
+import tarfile
 import tempfile
 
 HERE = os.path.dirname(os.path.abspath(__file__))
@@ -21,6 +23,7 @@ sys.path.insert(0, os.path.join(TOP, 'bench'))
 from lib import below, crates  # noqa: E402
 
 KIT = os.path.dirname(os.path.dirname(os.path.realpath(shutil.which('rt') or '/opt/rattle/bin/rt')))
+CORPUS = os.path.join(HERE, 'corpus.tar.gz')
 TARGETS = ['fuzz_request', 'fuzz_query', 'fuzz_reply', 'fuzz_segment']
 USES = ['druid_wire', 'druid_query_text', 'druid_sync', 'druid_segfile']
 COUNTS = '-fsanitize-coverage=inline-8bit-counters,pc-table'
@@ -96,27 +99,51 @@ def seeds(place):
                 file.write(data)
 
 
+def plain(member):
+    """A member of the archive without a time or an owner, so that the same inputs make the same archive."""
+    member.mtime = member.uid = member.gid = 0
+    member.uname = member.gname = ''
+    return member
+
+
+def keep(place):
+    """Keeps the inputs of each target without which some branch would not be taken."""
+    kept = os.path.join(place, 'kept')
+    shutil.rmtree(kept, ignore_errors=True)
+    for target in TARGETS:
+        os.makedirs(os.path.join(kept, target))
+        subprocess.run([os.path.join(place, target), '-merge=1', os.path.join(kept, target), os.path.join(place, 'corpus', target)],
+                       check=True, stderr=subprocess.DEVNULL)
+    with tarfile.open(CORPUS, 'w:gz') as pack:
+        pack.add(kept, '.', filter=plain)
+
+
 def main(words):
     seconds = int(words[0]) if words else 3_600
     place = os.path.join(tempfile.gettempdir(), 'druid_cluster_fuzz')
     os.makedirs(place, exist_ok=True)
     archive = library(place)
     seeds(place)
+    shutil.rmtree(os.path.join(place, 'corpus'), ignore_errors=True)
+    if os.path.exists(CORPUS):
+        with tarfile.open(CORPUS) as pack:
+            pack.extractall(os.path.join(place, 'corpus'))
     running = []
     for target in TARGETS:
-        program, corpus = os.path.join(place, target), os.path.join(HERE, 'corpus', target)
+        program, corpus = os.path.join(place, target), os.path.join(place, 'corpus', target)
         os.makedirs(corpus, exist_ok=True)
         subprocess.run(['clang', '-O1', '-fsanitize=fuzzer', f'-DTARGET={target}', os.path.join(HERE, 'harness.c'), archive,
                         os.path.join(KIT, 'c', 'liblibc_c.a'), '-o', program], check=True)
         running.append((target, subprocess.Popen(
             [program, f'-max_total_time={seconds}', '-timeout=10', '-rss_limit_mb=2048', '-max_len=65536', '-print_final_stats=1',
-             f'-artifact_prefix={corpus}-found-', corpus, os.path.join(place, 'seeds', target)], stderr=subprocess.PIPE, text=True)))
+             f'-artifact_prefix={HERE}/found-{target}-', corpus, os.path.join(place, 'seeds', target)], stderr=subprocess.PIPE, text=True)))
     status = 0
     for target, process in running:
         lines = process.communicate()[1].splitlines()
         last = next((line for line in reversed(lines) if 'cov:' in line), '')
         print(f'{target}: ended with {process.returncode}; {last}; ' + '; '.join(line for line in lines if 'number_of_executed_units' in line))
         status = status or (1 if process.returncode else 0)
+    keep(place)
     return status
 
 

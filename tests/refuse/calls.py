@@ -14,14 +14,19 @@ TOP = os.path.dirname(os.path.dirname(os.path.dirname(os.path.abspath(__file__))
 
 NO_ALLOCATOR = 'takes no allocator and owns none'
 BY_CALLER = 'its condition holds only within the call that makes it: '
+NEVER = 'allocates nothing, and its contract gives no fault of memory'
+WITHIN = 'all that it allocates is allocated within: '
 DEVICE = 'reaches the system, whose own faults come first; by tests with a device that fails'
 LEFT_OUT = {
     'druid_asked_text::are_apart': BY_CALLER + 'read_subquery',
     'druid_asked_text::asked_list': BY_CALLER + 'read_subquery',
+    'druid_changes::History::refusal_of_drop': NEVER,
+    'druid_changes::History::refusal_of_load': NEVER,
     'druid_config::config_of': BY_CALLER + 'read_config',
     'druid_query::Query::new': BY_CALLER + 'read_query',
     'druid_shard::apply_change': BY_CALLER + 'History::record, Inventory::advance',
     'druid_shard::check_descriptor': NO_ALLOCATOR,
+    'druid_shard::shard_value': WITHIN + 'descriptor_value',
     'druid_wire::response_of': NO_ALLOCATOR,
     'druid_wire::write_request': NO_ALLOCATOR,
     'druid_wire::write_response': NO_ALLOCATOR,
