@@ -81,7 +81,7 @@ pub enum Reason {
     /// A write to standard output.
     #[error("standard output: a write failed")]
     Output,
-    /// Memory, for an answer or for its text, or a write of it.
+    /// Memory, for a line, for an answer or for its text.
     #[error("out of memory")]
     Memory,
     /// There are more lines than can be counted.

@@ -19,6 +19,15 @@ use std::io::{BufRead, ErrorKind, Write};
 // The most bytes of a line, its line feed left out.
 const MAX_LINE: usize = 16_777_216;
 
+// What failed where a line was not read.
+fn of_read(error: &io::Error) -> Reason {
+    if error.kind() == ErrorKind::OutOfMemory {
+        Reason::Memory
+    } else {
+        Reason::Input
+    }
+}
+
 // What failed where an answer was not written.
 fn of_write(error: &io::Error) -> Reason {
     if error.kind() == ErrorKind::OutOfMemory {
@@ -77,7 +86,7 @@ fn answer_lines<R: BufRead, W: Write>(
             Ok(Next::Line) => {}
             Ok(Next::TooLong) => return Err(Stop::bad(count + 1, BadLine::TooLong)),
             Ok(Next::End) => return Ok(count),
-            Err(_) => return Err(Stop::device(count + 1, Reason::Input)),
+            Err(error) => return Err(Stop::device(count + 1, of_read(&error))),
         }
         match answer_to(alloc, state, &line, count + 1, writer) {
             Ok(next) => state = next,
