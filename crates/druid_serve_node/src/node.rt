@@ -359,9 +359,9 @@ where
 }
 
 /// Starts a data node: raises its incarnation, loads the segment files of its folder, places the config's tombstones, but for
-/// those of a segment that is served already, listens, and starts its threads. It
-/// gives the thread that loads the files that come later. The device `D` is the one under the folder that it makes, and `L` the one
-/// under the folder that the thread makes at the same path: the call picks both.
+/// those of what is served already, listens, and starts its threads. It gives the thread that loads the files that come later.
+/// The device `D` is the one under the folder that it makes, and `L` the one under the folder that the thread makes at the same
+/// path: the call picks both.
 pub fn start_node<
     R: Files<File = File>
         + Net<Listener = TcpListener, Stream = TcpStream>
