@@ -1,7 +1,7 @@
 #!/usr/bin/env python3
 """Lets libFuzzer feed the readers of what comes from outside: requests, queries and subqueries, replies, segment files.
 
-fuzz.py [SECONDS]     an hour for each of the four, side by side, unless said otherwise
+fuzz.py [SECONDS [TARGET..]]     an hour for each of the four, side by side, unless said otherwise
 
 It makes a static library of the proved readers in a folder for temporary files, over copies of the crates, with the kit's clang
 told to count which branches are taken, and links it with libFuzzer. What it looks for is an end that is none of Rust's: a signal, an
@@ -119,7 +119,7 @@ def keep(place):
 
 
 def main(words):
-    seconds = int(words[0]) if words else 3_600
+    seconds, chosen = int(words[0]) if words else 3_600, words[1:] or TARGETS
     place = os.path.join(tempfile.gettempdir(), 'druid_cluster_fuzz')
     os.makedirs(place, exist_ok=True)
     archive = library(place)
@@ -134,6 +134,8 @@ def main(words):
         os.makedirs(corpus, exist_ok=True)
         subprocess.run(['clang', '-O1', '-fsanitize=fuzzer', f'-DTARGET={target}', os.path.join(HERE, 'harness.c'), archive,
                         os.path.join(KIT, 'c', 'liblibc_c.a'), '-o', program], check=True)
+        if target not in chosen:
+            continue
         running.append((target, subprocess.Popen(
             [program, f'-max_total_time={seconds}', '-timeout=10', '-rss_limit_mb=2048', '-max_len=65536', '-print_final_stats=1',
              f'-artifact_prefix={HERE}/found-{target}-', corpus, os.path.join(place, 'seeds', target)], stderr=subprocess.PIPE, text=True)))
