@@ -29,6 +29,8 @@ mod joining;
 #[cfg(test)]
 mod members;
 #[cfg(test)]
+mod pages;
+#[cfg(test)]
 mod printing;
 #[cfg(test)]
 mod rows;

@@ -1,0 +1,13 @@
+//! Pages: how a set of segments that is too large for one message is cut, and put together again.
+#![tactic(auto)]
+
+mod assembly;
+mod fault;
+mod laws;
+mod pages;
+mod parts;
+
+pub use assembly::Assembly;
+pub use fault::PageFault;
+pub use laws::pages_give_their_set;
+pub use pages::{MAX_PAGE, page_of, pages_of};

@@ -1,0 +1,38 @@
+ghost use Rattle.std.specs.Prelude.{◌≡◌, IfOk};
+ghost use Rattle.druid_pages.specs.Pages.{page_at, IsCutInto};
+
+use druid_shard::Descriptor;
+use std::alloc::{AllocError, Global};
+
+/// The most segments of a page.
+pub const MAX_PAGE: usize = 20_000;
+
+/// How many pages a set of so many segments takes.
+pub fn pages_of(segments: usize) -> usize
+    ensures { IsCutInto segments result }
+{
+    segments.div_ceil(MAX_PAGE)
+}
+
+// Copies of segments, in their order.
+pub(crate) fn copies_of(
+    alloc: Global,
+    segments: &[Descriptor],
+) -> Result<Vec<Descriptor>, AllocError>
+    ensures { IfOk result (λ copies. copies.items ≡ segments.now) }
+{
+    let mut copies = Vec::with_capacity(alloc, segments.len())?;
+    for segment in segments {
+        copies.push(segment.clone()?)?;
+    }
+    Ok(copies)
+}
+
+/// Copies of the segments of that page of a set, counted from 0; none past its last page.
+pub fn page_of(alloc: Global, set: &[Descriptor], page: u16) -> Result<Vec<Descriptor>, AllocError>
+    ensures { IfOk result (λ segments. segments.items ≡ page_at set.now page) }
+{
+    let start = set.len().min(page as usize * MAX_PAGE);
+    let end = set.len().min(start + MAX_PAGE);
+    copies_of(alloc, &set[start..end])
+}
