@@ -136,12 +136,16 @@ def main(words):
                         os.path.join(KIT, 'c', 'liblibc_c.a'), '-o', program], check=True)
         if target not in chosen:
             continue
-        running.append((target, subprocess.Popen(
-            [program, f'-max_total_time={seconds}', '-timeout=10', '-rss_limit_mb=2048', '-max_len=65536', '-print_final_stats=1',
-             f'-artifact_prefix={HERE}/found-{target}-', corpus, os.path.join(place, 'seeds', target)], stderr=subprocess.PIPE, text=True)))
+        # What it says goes to a file: a pipe that nobody reads would hold it once it is full.
+        with open(os.path.join(place, f'{target}.log'), 'w') as log:
+            running.append((target, subprocess.Popen(
+                [program, f'-max_total_time={seconds}', '-timeout=10', '-rss_limit_mb=2048', '-max_len=65536', '-print_final_stats=1',
+                 f'-artifact_prefix={HERE}/found-{target}-', corpus, os.path.join(place, 'seeds', target)], stderr=log)))
     status = 0
     for target, process in running:
-        lines = process.communicate()[1].splitlines()
+        process.wait()
+        with open(os.path.join(place, f'{target}.log')) as log:
+            lines = log.read().splitlines()
         last = next((line for line in reversed(lines) if 'cov:' in line), '')
         print(f'{target}: ended with {process.returncode}; {last}; ' + '; '.join(line for line in lines if 'number_of_executed_units' in line))
         status = status or (1 if process.returncode else 0)
