@@ -1,5 +1,7 @@
 use crate::printing::{assert_printed, assert_rows, assert_told, owned, printed};
-use crate::rows::{change, descriptor, mark_told, parsed, push_partition, push_partitions};
+use crate::rows::{
+    change, first_segments, mark_told, numbered, parsed, push_partition, push_partitions,
+};
 use druid_changes::{History, HistoryFault};
 use druid_shard::{Ask, Body, Cause, Change, Descriptor, MAX_SEGMENTS, Mark, Reply};
 use std::alloc::Global;
@@ -77,6 +79,7 @@ fn reply_told(rt: &impl Abort, alloc: Global, reply: &Reply) -> String {
             delta_told(rt, alloc, *from, *to, changes.as_slice())
         }
         Body::Snapshot { at, segments } => snapshot_told(rt, alloc, *at, segments.as_slice()),
+        Body::Page { at, .. } => kind_told(rt, alloc, "page", *at),
         Body::Reset { cause, at } => reset_told(rt, alloc, *cause, *at),
     }
 }
@@ -110,22 +113,18 @@ fn set_after(rt: &impl Abort, alloc: Global, text: &str) -> String {
     }
 }
 
-fn load(
-    rt: &impl Abort,
-    alloc: Global,
-    history: &mut History,
-    partition: u16,
-) -> Result<(), HistoryFault> {
-    history.record(Change::Load(descriptor(rt, alloc, partition)))
-}
-
-// Why a node of 20,000 segments loads no more.
+// Why a node of 200,000 segments loads no more.
 fn fault_when_full(rt: &impl Abort, alloc: Global) -> Option<HistoryFault> {
     let mut history = History::new(alloc, 1, 1).expect(rt, "memory");
-    for partition in 0..MAX_SEGMENTS as u16 {
-        load(rt, alloc, &mut history, partition).expect(rt, "a refused load");
+    for segment in first_segments(rt, alloc, 200_000) {
+        history
+            .record(Change::Load(segment))
+            .expect(rt, "a refused load");
     }
-    load(rt, alloc, &mut history, 20_000).err()
+    assert!(rt; MAX_SEGMENTS == 200_000);
+    history
+        .record(Change::Load(numbered(rt, alloc, 200_000)))
+        .err()
 }
 
 #[test]

@@ -119,7 +119,7 @@ fn longest_line(rt: HostRuntime) {
 
 #[test]
 fn too_many_segments(rt: HostRuntime) {
-    assert_too_many(&rt, rt.alloc(), "@at1;", 20_000);
+    assert_too_many(&rt, rt.alloc(), "@page1;", 20_000);
 }
 
 // How reading a reply ends, as it is reported.
@@ -139,6 +139,7 @@ null = Y2: not a reply";
         (SyncFault::TooMany, "Y5: too many segments or changes"),
         (SyncFault::LengthOfDelta, "Y3: a delta of another length"),
         (SyncFault::DoubledSegment, "Y4: a doubled segment"),
+        (SyncFault::BadPage, "Y7: a bad page"),
         (SyncFault::Memory, "Y9: out of memory"),
     ];
     assert_printed(&rt, rt.alloc(), &rows);

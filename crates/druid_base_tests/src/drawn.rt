@@ -5,13 +5,18 @@ ghost use Rattle.std.specs.Prelude.{◌<◌};
 use crate::rows::descriptor;
 use druid_inventory::Inventory;
 use druid_shard::{Change, Mark, NodeNo};
-use druid_world::{Event, Sim, SimFault};
+use druid_world::{AskKind, Event, Sim, SimFault};
 use std::alloc::Global;
 use std::process::Abort;
 
 const RUNS: u64 = 1000;
 
 const EVENTS: usize = 100;
+
+// Runs in which node 0 begins with so many segments that it is followed in pages; 1,000 of them were run beside the gate.
+const PAGED_RUNS: u64 = 12;
+
+const PAGED_EVENTS: usize = 600;
 
 const NODES: NodeNo = 3;
 
@@ -42,8 +47,32 @@ impl Draws {
         (self.state >> 33) % bound
     }
 
-    fn node(&mut self) -> NodeNo {
+    // One of three nodes; where there are pages, node 0 four times in five.
+    fn node(&mut self, paged: bool) -> NodeNo {
+        if paged && self.below(5) < 4 {
+            return 0;
+        }
         self.below(3) as NodeNo
+    }
+
+    // A node that starts again: where there are pages, not the one that has them.
+    fn restarting(&mut self, paged: bool) -> NodeNo {
+        if paged {
+            return 1;
+        }
+        self.below(3) as NodeNo
+    }
+
+    // The whole once in four times, and else what comes next; where there are pages, one of them as often as both.
+    fn kind(&mut self, paged: bool) -> AskKind {
+        if paged && self.below(2) == 0 {
+            return AskKind::Page(self.below(3) as u16);
+        }
+        if self.below(4) == 0 {
+            AskKind::Whole
+        } else {
+            AskKind::Next
+        }
     }
 
     fn broker(&mut self) -> usize {
@@ -70,7 +99,7 @@ enum Drawn {
     Ask {
         broker: usize,
         node: NodeNo,
-        whole: bool,
+        kind: AskKind,
     },
     Answer {
         packet: usize,
@@ -79,6 +108,7 @@ enum Drawn {
         peer: usize,
         broker: usize,
         node: NodeNo,
+        page: u16,
     },
     Deliver {
         packet: usize,
@@ -92,17 +122,17 @@ enum Drawn {
     },
 }
 
-fn draw(draws: &mut Draws, packets: usize) -> Drawn {
+fn draw(draws: &mut Draws, packets: usize, paged: bool) -> Drawn {
     match draws.below(32) {
         0..=6 => Drawn::Record {
-            node: draws.node(),
+            node: draws.node(paged),
             load: draws.below(5) < 3,
             partition: draws.below(6) as u16,
         },
         7..=12 => Drawn::Ask {
             broker: draws.broker(),
-            node: draws.node(),
-            whole: draws.below(4) == 0,
+            node: draws.node(paged),
+            kind: draws.kind(paged),
         },
         13..=19 => Drawn::Answer {
             packet: draws.packet(packets),
@@ -113,16 +143,19 @@ fn draw(draws: &mut Draws, packets: usize) -> Drawn {
         28 => Drawn::Seed {
             peer: draws.broker(),
             broker: draws.broker(),
-            node: draws.node(),
+            node: draws.node(paged),
+            page: draws.below(3) as u16,
         },
         29 => Drawn::Cut {
             packet: draws.packet(packets),
         },
         30 => Drawn::Fail {
             broker: draws.broker(),
-            node: draws.node(),
+            node: draws.node(paged),
         },
-        _ => Drawn::Restart { node: draws.node() },
+        _ => Drawn::Restart {
+            node: draws.restarting(paged),
+        },
     }
 }
 
@@ -146,17 +179,19 @@ fn event(rt: &impl Abort, alloc: Global, drawn: Drawn) -> Event {
             change: change(rt, alloc, load, partition),
         },
         Drawn::Restart { node } => Event::Restart { node },
-        Drawn::Ask {
-            broker,
-            node,
-            whole,
-        } => Event::Ask {
-            broker,
-            node,
-            whole,
-        },
+        Drawn::Ask { broker, node, kind } => Event::Ask { broker, node, kind },
         Drawn::Answer { packet } => Event::Answer { packet },
-        Drawn::Seed { peer, broker, node } => Event::Seed { peer, broker, node },
+        Drawn::Seed {
+            peer,
+            broker,
+            node,
+            page,
+        } => Event::Seed {
+            peer,
+            broker,
+            node,
+            page,
+        },
         Drawn::Deliver { packet } => Event::Deliver { packet },
         Drawn::Cut { packet } => Event::Cut { packet },
         Drawn::Fail { broker, node } => Event::Fail { broker, node },
@@ -175,6 +210,8 @@ struct Told {
 // What there was in a run, kept plainly.
 #[derive(Drop)]
 struct Plain {
+    // So many loads came first at node 0: of the partitions from `BALLAST` on.
+    ballast: u64,
     told: Vec<Told>,
     restarts: Vec<NodeNo>,
     packets: usize,
@@ -215,15 +252,30 @@ fn keep(rt: &impl Abort, plain: &mut Plain, drawn: Drawn) {
     }
 }
 
+// The first partition that no drawn event is of.
+const BALLAST: u16 = 100;
+
 fn bit(partition: u16) -> u64 {
     1_u64.wrapping_shl(partition as u32)
 }
 
+// The drawn partitions that are there, as bits, and how many others.
+#[derive(Clone, Copy, PartialEq)]
+struct Held {
+    bits: u64,
+    ballast: u64,
+}
+
 // What a node served at a mark, by a plain replay; None where it did not come to it.
-fn replayed(told: &[Told], node: NodeNo, mark: Mark) -> Option<u64> {
+fn replayed(plain: &Plain, node: NodeNo, mark: Mark) -> Option<Held> {
     let mut set = 0_u64;
     let mut left = mark.count();
-    for change in told {
+    let mut ballast = 0_u64;
+    if node == 0 && mark.incarnation() == 1 {
+        ballast = left.min(plain.ballast);
+        left -= ballast;
+    }
+    for change in &plain.told {
         if left > 0 && change.node == node && change.incarnation == mark.incarnation() {
             left -= 1;
             set = if change.load {
@@ -233,16 +285,26 @@ fn replayed(told: &[Told], node: NodeNo, mark: Mark) -> Option<u64> {
             };
         }
     }
-    if left == 0 { Some(set) } else { None }
+    if left == 0 {
+        Some(Held { bits: set, ballast })
+    } else {
+        None
+    }
 }
 
-// The partitions of a node that are known, as bits.
-fn held(rt: &impl Abort, inventory: &Inventory, node: NodeNo) -> u64 {
-    let mut held = 0_u64;
+// The partitions of a node that are known.
+fn partitions_of(rt: &impl Abort, inventory: &Inventory, node: NodeNo) -> Held {
+    let mut bits = 0_u64;
+    let mut ballast = 0_u64;
     for segment in inventory.segments(node).expect(rt, "no node") {
-        held |= bit(segment.id().partition());
+        let partition = segment.id().partition();
+        if partition < BALLAST {
+            bits |= bit(partition);
+        } else {
+            ballast = ballast.wrapping_add(1);
+        }
     }
-    held
+    Held { bits, ballast }
 }
 
 fn mark_of(rt: &impl Abort, inventory: &Inventory, node: NodeNo) -> Mark {
@@ -252,8 +314,8 @@ fn mark_of(rt: &impl Abort, inventory: &Inventory, node: NodeNo) -> Mark {
 // Whether what is known of each node is what it served at that mark.
 fn is_true(rt: &impl Abort, plain: &Plain, inventory: &Inventory) -> bool {
     for node in 0..NODES {
-        let served = replayed(&plain.told, node, mark_of(rt, inventory, node));
-        if served != Some(held(rt, inventory, node)) {
+        let served = replayed(plain, node, mark_of(rt, inventory, node));
+        if served != Some(partitions_of(rt, inventory, node)) {
             return false;
         }
     }
@@ -279,9 +341,17 @@ fn agree(rt: &impl Abort, plain: &Plain, first: &Inventory, second: &Inventory) 
 }
 
 // Makes the events of a run.
-fn run(rt: &impl Abort, alloc: Global, draws: &mut Draws, sim: &mut Sim, plain: &mut Plain) {
-    for _event in 0..EVENTS {
-        let drawn = draw(draws, plain.packets);
+fn run(
+    rt: &impl Abort,
+    alloc: Global,
+    draws: &mut Draws,
+    events: usize,
+    sim: &mut Sim,
+    plain: &mut Plain,
+) {
+    let paged = plain.ballast > 0;
+    for _event in 0..events {
+        let drawn = draw(draws, plain.packets, paged);
         match sim.step(event(rt, alloc, drawn)) {
             Ok(()) => keep(rt, plain, drawn),
             Err(fault) => assert!(rt; fault != SimFault::Memory),
@@ -313,11 +383,20 @@ fn are_true(rt: &impl Abort, sim: &Sim, plain: &Plain) -> bool {
     true
 }
 
-// In how many entries nodes were synced, and in how many of these they had changes.
+// In how many entries nodes were synced, in how many of these they had changes, and in how many more than a page has segments.
 #[derive(Clone, Copy, Drop)]
 struct Entries {
     synced: u64,
     changed: u64,
+    paged: u64,
+}
+
+fn no_entries() -> Entries {
+    Entries {
+        synced: 0,
+        changed: 0,
+        paged: 0,
+    }
 }
 
 impl Entries {
@@ -327,6 +406,9 @@ impl Entries {
         }
         if mark.count() > 0 {
             self.changed = self.changed.wrapping_add(1);
+        }
+        if mark.count() > 20_000 {
+            self.paged = self.paged.wrapping_add(1);
         }
     }
 
@@ -341,29 +423,58 @@ impl Entries {
     }
 }
 
+fn fresh_plain(alloc: Global, ballast: u64) -> Plain {
+    Plain {
+        ballast,
+        told: Vec::new(alloc),
+        restarts: Vec::new(alloc),
+        packets: 0,
+    }
+}
+
 // Whether all is true after a drawn run; counts how much brokers came to know.
 fn drawn_run(rt: &impl Abort, alloc: Global, seed: u64, entries: &mut Entries) -> bool {
     let mut draws = Draws::new(seed);
     let mut sim = Sim::new(alloc, 3, 4, 5).expect(rt, "memory");
-    let mut plain = Plain {
-        told: Vec::new(alloc),
-        restarts: Vec::new(alloc),
-        packets: 0,
-    };
-    run(rt, alloc, &mut draws, &mut sim, &mut plain);
+    let mut plain = fresh_plain(alloc, 0);
+    run(rt, alloc, &mut draws, EVENTS, &mut sim, &mut plain);
+    entries.count_all(rt, &sim);
+    are_true(rt, &sim, &plain)
+}
+
+// The same where node 0 first loads 20,001 segments or some more.
+fn paged_run(rt: &impl Abort, alloc: Global, seed: u64, entries: &mut Entries) -> bool {
+    let mut draws = Draws::new(seed);
+    let mut sim = Sim::new(alloc, 3, 4, 5).expect(rt, "memory");
+    let ballast = 20_001 + draws.below(25_000);
+    for number in 0..ballast {
+        let partition = BALLAST.wrapping_add(number as u16);
+        let change = Change::Load(descriptor(rt, alloc, partition));
+        sim.step(Event::Record { node: 0, change })
+            .expect(rt, "a refused load");
+    }
+    let mut plain = fresh_plain(alloc, ballast);
+    run(rt, alloc, &mut draws, PAGED_EVENTS, &mut sim, &mut plain);
     entries.count_all(rt, &sim);
     are_true(rt, &sim, &plain)
 }
 
 #[test]
 fn brokers_at_equal_marks_are_equal(rt: HostRuntime) {
-    let mut entries = Entries {
-        synced: 0,
-        changed: 0,
-    };
+    let mut entries = no_entries();
     for seed in 0..RUNS {
         assert!(rt; drawn_run(&rt, rt.alloc(), seed, &mut entries), "at {seed}");
     }
     // of 12 entries in each of 1,000 runs
     assert!(rt; entries.synced > 3000 && entries.changed > 2000);
+}
+
+#[test]
+fn brokers_that_follow_in_pages_are_equal(rt: HostRuntime) {
+    let mut entries = no_entries();
+    for seed in 0..PAGED_RUNS {
+        assert!(rt; paged_run(&rt, rt.alloc(), seed, &mut entries), "at {seed}");
+    }
+    // of 4 entries in each run
+    assert!(rt; entries.paged > PAGED_RUNS / 4);
 }

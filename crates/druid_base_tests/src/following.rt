@@ -1,7 +1,4 @@
-use crate::script::{assert_answered, assert_too_many, push};
-use std::alloc::Global;
-use std::fmt::Write;
-use std::process::Abort;
+use crate::script::{assert_answered, assert_too_many};
 
 #[test]
 fn deltas(rt: HostRuntime) {
@@ -66,51 +63,15 @@ fn too_many_changes(rt: HostRuntime) {
     assert_too_many(&rt, rt.alloc(), "@to;1@from;0@by;", 1_000);
 }
 
-// Appends a change of a partition of a chunk that any member completes.
-fn push_change(rt: &impl Abort, rows: &mut String, action: &str, partition: u64) {
-    write!(
-        rows,
-        r#"{{"action":"{action}","dataSource":"wiki","interval":"2024-01-01/2024-01-02","shardSpec":{{"partitionNum":{partition},"partitions":0,"type":"numbered"}},"size":0,"version":"v1"}}"#
-    )
-    .expect(rt, "memory");
-}
-
-// Appends a snapshot of 20,000 partitions.
-fn push_snapshot(rt: &impl Abort, rows: &mut String) {
-    push(rt, rows, "@node0;@at1;");
-    push_change(rt, rows, "load", 0);
-    for partition in 1..20_000 {
-        push(rt, rows, ",");
-        push_change(rt, rows, "load", partition);
-    }
-    push(rt, rows, "@end;} => @moved1;\n");
-}
-
-// Appends two changes after a mark, and their answer.
-fn push_two(
-    rt: &impl Abort,
-    rows: &mut String,
-    first: (&str, u64),
-    second: (&str, u64),
-    answer: &str,
-) {
-    push(rt, rows, "@node0;@to;3@from;1@by;");
-    push_change(rt, rows, first.0, first.1);
-    push(rt, rows, ",");
-    push_change(rt, rows, second.0, second.1);
-    push(rt, rows, "@end;} => ");
-    push(rt, rows, answer);
-    push(rt, rows, "\n");
-}
-
+// A page is no snapshot: nothing moves. One that is not full and not the last, one without how many there are, and one that is a
+// reset as well are none.
 #[test]
-fn too_many_held(rt: HostRuntime) {
-    let refused = r#"{"refused":"A6"}"#;
-    let moved = r#"{"mark":{"counter":3,"hash":1},"outcome":"Moved"}"#;
-    let mut rows = String::new(rt.alloc());
-    push(&rt, &mut rows, "@brokers; => {\"brokers\":1}\n");
-    push_snapshot(&rt, &mut rows);
-    push_two(&rt, &mut rows, ("load", 20_000), ("drop", 0), refused);
-    push_two(&rt, &mut rows, ("drop", 0), ("load", 20_000), moved);
-    assert_answered(&rt, rt.alloc(), rows.as_str());
+fn pages_of_a_snapshot(rt: HostRuntime) {
+    let rows = r#"@brokers; => {"brokers":1}
+@node0;@last1;@load;@p0of1;@end;} => {"mark":{"counter":0,"hash":0},"outcome":"AskPages"}
+@node0;@page1;@load;@p0of1;@end;} => {"refused":"Y7"}
+@node0;@last1;@load;@p0of1;,@load;@p0of1;@end;} => {"refused":"Y7"}
+@node0;{"counter":{"counter":1,"hash":1},"from":null,"page":1,"requests":[@load;@p0of1;@end;} => {"refused":"Y2"}
+@node0;@last1;@load;@p0of1;@begun;} => {"refused":"Y2"}"#;
+    assert_answered(&rt, rt.alloc(), rows);
 }

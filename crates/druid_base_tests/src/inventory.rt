@@ -132,6 +132,7 @@ fn name_of(outcome: Outcome) -> &'static str {
         Outcome::Moved => "Moved",
         Outcome::AlreadyHave => "AlreadyHave",
         Outcome::AskWhole => "AskWhole",
+        Outcome::AskPages => "AskPages",
     }
 }
 

@@ -1,13 +1,16 @@
-use crate::printing::assert_rows;
-use crate::rows::{descriptor, parsed, push_partitions};
-use druid_pages::{Assembly, MAX_PAGE, PageFault, page_of, pages_of};
-use druid_shard::{Body, Descriptor, Mark, Reply};
+use crate::printing::{assert_rows, assert_told};
+use crate::rows::{descriptor, name, parsed, push_partitions};
+use druid_changes::History;
+use druid_inventory::{Assembly as Replies, Inventory};
+use druid_pages::{Assembly, PageFault, page_of, pages_of};
+use druid_shard::{Ask, Body, Change, Descriptor, MAX_PAGE, Mark, Reply};
+use druid_sync::ask_target;
 use std::alloc::Global;
 use std::process::Abort;
 
 // Pages that come one after another, each as an incarnation and a count, the page and of how many it is, and its partitions; and
 // what each gives.
-const TAKEN: &str =
+const ASSEMBLED: &str =
     "1 9 0/3 1;1 9 2/3 5;1 9 2/3 5;1 9 0/3 1;1 9 1/3 3 4 = none;none;none;none;whole 1 3 4 5
 1 9 0/2 1;1 10 0/2 2;1 9 1/2 3;1 10 1/2 4 = none;none;none;whole 2 4
 1 9 0/2 1;2 1 1/2 4;2 1 0/2 3;1 9 1/2 2 = none;none;whole 3 4;none
@@ -29,7 +32,7 @@ fn segments_of(rt: &impl Abort, alloc: Global, words: &str) -> Vec<Descriptor> {
 }
 
 // What is given for a page of these segments, which rise.
-fn given(
+fn give(
     rt: &impl Abort,
     alloc: Global,
     assembly: &mut Assembly,
@@ -41,12 +44,13 @@ fn given(
         return Ok(None);
     };
     let segments = segments.as_slice();
-    assert!(rt; 2 <= of && page < of && !segments.is_empty());
+    assert!(rt; 2 <= of && of <= 10 && page < of);
+    assert!(rt; !segments.is_empty() && segments.len() <= 20_000);
     assembly.take(*at, page, of, segments)
 }
 
 // The mark, the page, and of how many it is.
-fn page_told<'a>(rt: &impl Abort, text: &'a str) -> (Mark, u16, u16, &'a str) {
+fn page_read<'a>(rt: &impl Abort, text: &'a str) -> (Mark, u16, u16, &'a str) {
     let (incarnation, rest) = text.split_once(' ').expect(rt, "an incarnation");
     let (count, rest) = rest.split_once(' ').expect(rt, "a count");
     let (page, partitions) = rest.split_once(' ').expect(rt, "partitions");
@@ -55,37 +59,37 @@ fn page_told<'a>(rt: &impl Abort, text: &'a str) -> (Mark, u16, u16, &'a str) {
     (mark, parsed(rt, page), parsed(rt, of), partitions)
 }
 
-fn push_taken(
+fn push_given(
     rt: &impl Abort,
     alloc: Global,
     assembly: &mut Assembly,
-    text: &str,
-    told: &mut String,
+    row: &str,
+    given: &mut String,
 ) {
-    let (mark, page, of, words) = page_told(rt, text);
+    let (mark, page, of, words) = page_read(rt, row);
     assert!(rt; mark.incarnation() != 0);
     let reply = Reply::snapshot(mark, segments_of(rt, alloc, words)).expect(rt, "own partitions");
-    match given(rt, alloc, assembly, page, of, &reply) {
-        Ok(None) => told.push_str("none").expect(rt, "memory"),
+    match give(rt, alloc, assembly, page, of, &reply) {
+        Ok(None) => given.push_str("none").expect(rt, "memory"),
         Ok(Some(whole)) => {
-            told.push_str("whole").expect(rt, "memory");
-            push_partitions(rt, told, whole.as_slice());
+            given.push_str("whole").expect(rt, "memory");
+            push_partitions(rt, given, whole.as_slice());
         }
-        Err(PageFault::Conflict) => told.push_str("conflict").expect(rt, "memory"),
-        Err(PageFault::Memory) => told.push_str("memory").expect(rt, "memory"),
+        Err(PageFault::Conflict) => given.push_str("conflict").expect(rt, "memory"),
+        Err(PageFault::Memory) => given.push_str("memory").expect(rt, "memory"),
     }
 }
 
-fn taken(rt: &impl Abort, alloc: Global, pages: &str) -> String {
+fn assembled(rt: &impl Abort, alloc: Global, pages: &str) -> String {
     let mut assembly = Assembly::new(alloc);
-    let mut told = String::new(alloc);
+    let mut given = String::new(alloc);
     for page in pages.split(';') {
-        if !told.is_empty() {
-            told.push_str(";").expect(rt, "memory");
+        if !given.is_empty() {
+            given.push_str(";").expect(rt, "memory");
         }
-        push_taken(rt, alloc, &mut assembly, page, &mut told);
+        push_given(rt, alloc, &mut assembly, page, &mut given);
     }
-    told
+    given
 }
 
 // How many segments the page of a set of 45,000 has.
@@ -102,7 +106,7 @@ fn first_of(rt: &impl Abort, alloc: Global, set: &[Descriptor], page: u16) -> u1
 
 #[test]
 fn ample_memory(rt: HostRuntime) {
-    assert_rows(&rt, rt.alloc(), TAKEN, taken);
+    assert_rows(&rt, rt.alloc(), ASSEMBLED, assembled);
 }
 
 #[test]
@@ -125,4 +129,115 @@ fn sizes_of_pages(rt: HostRuntime) {
         assert!(&rt; length == lengths[page as usize], "{page}");
     }
     assert!(&rt; first_of(&rt, alloc, set.as_slice(), 2) == 40_000);
+}
+
+// Loads partitions of one chunk, from the first on.
+fn load(rt: &impl Abort, alloc: Global, node: &mut History, first: u16, count: u16) {
+    for number in 0..count {
+        let segment = descriptor(rt, alloc, first.wrapping_add(number));
+        node.record(Change::Load(segment))
+            .expect(rt, "a refused load");
+    }
+}
+
+// What a reply says, and how long it is.
+fn reply_said(rt: &impl Abort, alloc: Global, reply: &Reply) -> String {
+    let said = match reply.body() {
+        Body::Delta { to, changes, .. } => {
+            let count = changes.as_slice().len();
+            format!(in alloc; "{count} changes to {}", to.count())
+        }
+        Body::Snapshot { at, segments } => {
+            let count = segments.as_slice().len();
+            format!(in alloc; "{count} at {}", at.count())
+        }
+        Body::Page {
+            at,
+            page,
+            of,
+            segments,
+        } => {
+            let count = segments.as_slice().len();
+            format!(in alloc; "{page} of {of} at {}: {count}", at.count())
+        }
+        Body::Reset { cause, at } => format!(in alloc; "{cause:?} at {}", at.count()),
+    };
+    said.expect(rt, "memory")
+}
+
+// What a node answers to an ask.
+fn ask(rt: &impl Abort, node: &mut History, ask: &Ask) -> Reply {
+    node.since(ask).expect(rt, "memory")
+}
+
+fn assert_said(rt: &impl Abort, alloc: Global, node: &mut History, asked: &Ask, wanted: &str) {
+    let reply = ask(rt, node, asked);
+    assert_told(rt, "a reply", reply_said(rt, alloc, &reply), wanted);
+}
+
+// What a page gives.
+fn deliver(rt: &impl Abort, assembly: &mut Replies, reply: &Reply) -> Option<Reply> {
+    match reply.body() {
+        Body::Page { .. } => assembly.take(reply).expect(rt, "a refused page"),
+        _ => None,
+    }
+}
+
+// A broker of one node, once these pages of the node at that mark came to it.
+fn broker_after(
+    rt: &impl Abort,
+    alloc: Global,
+    node: &mut History,
+    mark: Mark,
+    pages: &[u16],
+) -> Inventory {
+    let mut names = Vec::new(alloc);
+    names.push(name(rt, alloc, "n0")).expect(rt, "memory");
+    let mut inventory = Inventory::new(alloc, names).expect(rt, "an inventory");
+    let mut assembly = Replies::new(alloc);
+    for page in pages {
+        let reply = ask(rt, node, &Ask::Page(mark, *page));
+        if let Some(snapshot) = deliver(rt, &mut assembly, &reply) {
+            let (next, _) = inventory.apply(0, &snapshot).expect(rt, "a snapshot");
+            inventory = next;
+        }
+    }
+    inventory
+}
+
+// Whether two replies are pages of the same segments.
+fn are_same_pages(first: &Reply, second: &Reply) -> bool {
+    match (first.body(), second.body()) {
+        (Body::Page { segments: a, .. }, Body::Page { segments: b, .. }) => {
+            a.as_slice() == b.as_slice()
+        }
+        _ => false,
+    }
+}
+
+#[test]
+fn pages_of_a_node(rt: HostRuntime) {
+    let alloc = rt.alloc();
+    let mut node = History::new(alloc, 1, 10).expect(&rt, "memory");
+    load(&rt, alloc, &mut node, 0, 45_000);
+    let mark = Mark::new(1, 45_000);
+    assert_said(&rt, alloc, &mut node, &Ask::Whole, "0 of 3 at 45000: 20000");
+    let before = broker_after(&rt, alloc, &mut node, mark, &[0, 2, 2, 0]);
+    assert!(&rt; before.mark(0) == Some(Mark::never()));
+    let after = broker_after(&rt, alloc, &mut node, mark, &[0, 2, 2, 0, 1]);
+    assert!(&rt; after.mark(0) == Some(mark));
+    assert!(&rt; after.segments(0).expect(&rt, "a node").len() == 45_000);
+    let page = ask(&rt, &mut node, &Ask::Page(mark, 1));
+    load(&rt, alloc, &mut node, 45_000, 10);
+    let again = ask(&rt, &mut node, &Ask::Page(mark, 1));
+    assert!(&rt; are_same_pages(&page, &again));
+    let since = Ask::Since(mark);
+    assert_said(&rt, alloc, &mut node, &since, "10 changes to 45010");
+    load(&rt, alloc, &mut node, 45_010, 1);
+    let second = Ask::Page(mark, 1);
+    assert_said(&rt, alloc, &mut node, &second, "TooOld at 45011");
+    assert_said(&rt, alloc, &mut node, &Ask::Whole, "0 of 3 at 45011: 20000");
+    let target = ask_target(alloc, &second).expect(&rt, "memory");
+    let wanted = "/druid-internal/v1/segments?counter=45000&hash=1&page=1";
+    assert_told(&rt, "an ask", target, wanted);
 }

@@ -50,6 +50,30 @@ pub(crate) fn descriptor(rt: &impl Abort, alloc: Global, partition: u16) -> Desc
     member(rt, alloc, partition, 0)
 }
 
+/// The segment of that number: of four chunks of `wiki`, a day each, of 50,000 partitions without core partitions.
+pub(crate) fn numbered(rt: &impl Abort, alloc: Global, number: u32) -> Descriptor {
+    let chunk = match number / 50_000 {
+        0 => "2024-01-01/2024-01-02",
+        1 => "2024-01-02/2024-01-03",
+        2 => "2024-01-03/2024-01-04",
+        3 => "2024-01-04/2024-01-05",
+        _ => "2024-01-05/2024-01-06",
+    };
+    let id = segment(rt, alloc, chunk, "v1", (number % 50_000) as u16);
+    Descriptor::new(id, 0, 7).expect(rt, "a descriptor")
+}
+
+/// The segments of the first numbers.
+pub(crate) fn first_segments(rt: &impl Abort, alloc: Global, count: u32) -> Vec<Descriptor> {
+    let mut segments = Vec::new(alloc);
+    for number in 0..count {
+        segments
+            .push(numbered(rt, alloc, number))
+            .expect(rt, "memory");
+    }
+    segments
+}
+
 /// Of `+3` the load of partition 3, and of `-3` the drop.
 pub(crate) fn change(rt: &impl Abort, alloc: Global, text: &str) -> Change {
     match text.strip_prefix('+') {

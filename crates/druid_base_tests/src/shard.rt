@@ -1,5 +1,5 @@
 use crate::printing::{assert_printed, assert_rows, assert_told, owned, printed};
-use crate::rows::descriptor;
+use crate::rows::first_segments;
 use druid_shard::{
     Descriptor, Mark, Reply, ReplyFault, ShardFault, descriptor_value, read_descriptor,
 };
@@ -71,20 +71,14 @@ fn refused_descriptors(rt: HostRuntime) {
     assert_rows(&rt, rt.alloc(), REFUSED, refusal);
 }
 
-fn snapshot_fault(rt: &impl Abort, alloc: Global, count: u16) -> Option<ReplyFault> {
-    let mut segments = Vec::new(alloc);
-    for partition in 0..count {
-        segments
-            .push(descriptor(rt, alloc, partition))
-            .expect(rt, "memory");
-    }
-    Reply::snapshot(Mark::new(1, 4), segments).err()
+fn snapshot_fault(rt: &impl Abort, alloc: Global, count: u32) -> Option<ReplyFault> {
+    Reply::snapshot(Mark::new(1, 4), first_segments(rt, alloc, count)).err()
 }
 
 #[test]
 fn the_limit_of_a_snapshot(rt: HostRuntime) {
-    assert!(rt; snapshot_fault(&rt, rt.alloc(), 20_000).is_none());
-    assert!(rt; snapshot_fault(&rt, rt.alloc(), 20_001) == Some(ReplyFault::TooMany));
+    assert!(rt; snapshot_fault(&rt, rt.alloc(), 200_000).is_none());
+    assert!(rt; snapshot_fault(&rt, rt.alloc(), 200_001) == Some(ReplyFault::TooMany));
 }
 
 #[test]
@@ -98,6 +92,7 @@ fn texts_of_faults(rt: HostRuntime) {
         (ReplyFault::TooMany, "Y5: too many segments or changes"),
         (ReplyFault::LengthOfDelta, "Y3: a delta of another length"),
         (ReplyFault::DoubledSegment, "Y4: a doubled segment"),
+        (ReplyFault::BadPage, "Y7: a bad page"),
         (ReplyFault::Memory, "Y9: out of memory"),
     ];
     assert_printed(&rt, rt.alloc(), &rows);

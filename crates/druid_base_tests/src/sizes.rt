@@ -1,13 +1,13 @@
 //! That calls succeed where memory serves, at each size up to the limits, and what is one beyond them is refused.
-use crate::rows::{descriptor, interval, name};
+use crate::rows::{descriptor, first_segments, interval, name, numbered};
 use druid_changes::History;
-use druid_inventory::{Inventory, Outcome};
+use druid_inventory::{ApplyFault, Inventory, Outcome};
 use druid_segid::{Meter, Name, SegmentId, Version};
 use druid_shard::{Ask, Body, Change, Descriptor, Mark, Reply, ReplyFault};
 use druid_sync::{SyncFault, read_reply, reply_text};
 use druid_time::{Instant, Interval, IntervalSet};
 use druid_timeline::Timeline;
-use druid_world::{Event, Sim};
+use druid_world::{AskKind, Event, Sim};
 use std::alloc::Global;
 use std::process::Abort;
 
@@ -188,12 +188,8 @@ fn simulates(rt: &impl Abort, alloc: Global, count: u16) -> bool {
         sim.step(Event::Restart { node }).expect(rt, "a restart");
         sim.step(Event::Restart { node }).expect(rt, "a restart");
         let broker = node as usize;
-        let whole = false;
-        let ask = Event::Ask {
-            broker,
-            node,
-            whole,
-        };
+        let kind = AskKind::Next;
+        let ask = Event::Ask { broker, node, kind };
         sim.step(ask).expect(rt, "an ask");
     }
     true
@@ -236,7 +232,47 @@ fn one_beyond(rt: HostRuntime) {
     let (from, to) = (Mark::new(1, 0), Mark::new(1, 1_001));
     let delta = Reply::delta(from, to, loads(&rt, alloc, 1_001));
     assert!(&rt; delta.err() == Some(ReplyFault::TooMany));
-    let snapshot = Reply::snapshot(from, partitions(&rt, alloc, 20_001));
+    let snapshot = Reply::snapshot(from, first_segments(&rt, alloc, 200_001));
     assert!(&rt; snapshot.err() == Some(ReplyFault::TooMany));
     assert!(&rt; read_reply(alloc, b"\xff").err() == Some(SyncFault::NotJson));
+}
+
+// A broker that knows 200,000 segments of a node after a change.
+fn full(rt: &impl Abort, alloc: Global) -> Inventory {
+    let snapshot = Reply::snapshot(Mark::new(1, 1), first_segments(rt, alloc, 200_000));
+    let snapshot = snapshot.expect(rt, "a snapshot");
+    let (inventory, _) = fresh(rt, alloc, 1)
+        .apply(0, &snapshot)
+        .expect(rt, "a refused snapshot");
+    inventory
+}
+
+// What it makes of two changes after that.
+fn two_changes(
+    rt: &impl Abort,
+    alloc: Global,
+    inventory: &Inventory,
+    first: Change,
+    second: Change,
+) -> Result<Outcome, ApplyFault> {
+    let mut changes = Vec::new(alloc);
+    changes.push(first).expect(rt, "memory");
+    changes.push(second).expect(rt, "memory");
+    let delta = Reply::delta(Mark::new(1, 1), Mark::new(1, 3), changes).expect(rt, "a delta");
+    match inventory.apply(0, &delta) {
+        Ok((_, outcome)) => Ok(outcome),
+        Err(fault) => Err(fault),
+    }
+}
+
+#[test]
+fn too_many_held(rt: HostRuntime) {
+    let alloc = rt.alloc();
+    let inventory = full(&rt, alloc);
+    let load = || Change::Load(numbered(&rt, alloc, 200_000));
+    let drop = || Change::Drop(numbered(&rt, alloc, 0));
+    let refused = two_changes(&rt, alloc, &inventory, load(), drop());
+    assert!(&rt; refused == Err(ApplyFault::TooMany));
+    let moved = two_changes(&rt, alloc, &inventory, drop(), load());
+    assert!(&rt; moved == Ok(Outcome::Moved));
 }

@@ -1,7 +1,7 @@
 use crate::printing::{assert_printed, assert_told, owned, printed};
 use crate::rows::{change, mark_told, parsed, push_partitions};
 use druid_inventory::Inventory;
-use druid_world::{Event, Sim, SimFault};
+use druid_world::{AskKind, Event, Sim, SimFault};
 use std::alloc::Global;
 use std::process::Abort;
 
@@ -50,6 +50,8 @@ restart 1 = E1: no such node
 ask 0 1 = E1: no such node
 ask 9 1 = E1: no such node
 ask 2 0 = E2: no such broker
+page 2 0 = E2: no such broker
+page 0 0 = E5: no pages came
 seed 0 1 1 = E1: no such node
 seed 9 9 1 = E1: no such node
 seed 2 1 0 = E2: no such broker
@@ -97,8 +99,9 @@ fn long_event(rt: &impl Abort, alloc: Global, word: &str, first: &str, second: &
             node: parsed(rt, first),
             change: change(rt, alloc, second),
         },
-        "ask" => ask(rt, first, second, false),
-        "whole" => ask(rt, first, second, true),
+        "ask" => ask(rt, first, second, AskKind::Next),
+        "whole" => ask(rt, first, second, AskKind::Whole),
+        "page" => ask(rt, first, second, AskKind::Page(0)),
         "fail" => Event::Fail {
             broker: parsed(rt, first),
             node: parsed(rt, second),
@@ -107,11 +110,11 @@ fn long_event(rt: &impl Abort, alloc: Global, word: &str, first: &str, second: &
     }
 }
 
-fn ask(rt: &impl Abort, broker: &str, node: &str, whole: bool) -> Event {
+fn ask(rt: &impl Abort, broker: &str, node: &str, kind: AskKind) -> Event {
     Event::Ask {
         broker: parsed(rt, broker),
         node: parsed(rt, node),
-        whole,
+        kind,
     }
 }
 
@@ -121,6 +124,7 @@ fn seed(rt: &impl Abort, peer: &str, rest: &str) -> Event {
         peer: parsed(rt, peer),
         broker: parsed(rt, broker),
         node: parsed(rt, node),
+        page: 0,
     }
 }
 

@@ -5,3 +5,4 @@ pub mod PlanLemmas
 pub mod ServeLemmas
 pub mod RowLemmas
 pub mod RouteLemmas
+pub mod PagingLemmas

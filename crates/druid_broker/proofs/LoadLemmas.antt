@@ -5,9 +5,9 @@ use Rattle.std.proofs.lemmas.Bool.Decides.{leb_tells}
 use Rattle.std.proofs.lemmas.List.{drop_more}
 use Rattle.std.proofs.lemmas.Option.{slice_get_past, slice_get_within, get_or_from_slice_get}
 use Rattle.druid_shard.specs.Mark.{Point}
+use Rattle.druid_shard.specs.declared.change.Ask.{Ask}
 use Rattle.druid_shard.specs.declared.reply.Body.{Body}
-use Rattle.druid_shard.specs.declared.reply.Body.TheVariants.{Snapshot}
-use Rattle.druid_inventory.specs.Entry.{Entry, IsUnsynced, IsEntryOf}
+use Rattle.druid_inventory.specs.Entry.{Entry, IsUnsynced, IsAnswerOf, answer_of}
 use Rattle.druid_broker.specs.Routes.{is_loaded}
 
 of_some : (o : Option Entry) (m : Point) → Some m ≡ option_map (λ e. e.mark) o → (e : Entry) × (o ≡ Some e) × (m ≡ e.mark)
@@ -46,11 +46,11 @@ loaded_end entries i h = ap is_loaded (drop_of_length-le entries h)
 pub no_node : (entries : List Entry) (node : ℕ) → length entries ≤ node → slice_get entries node ≡ None
 no_node entries node h = slice_get_past entries node h
 
-entry_in : (entries : List Entry) (node : ℕ) (o : Option Entry) → slice_get entries node ≡ o → (slice_get entries node ≡ None → ⊥) → (IsUnsynced entries node → ⊥)
-    → (reply : Body) × IsEntryOf entries node reply
-entry_in entries node None is known synced = absurd (known is)
-entry_in entries node (Some e) is known synced = (Snapshot e.mark e.set, (e, is, (λ never. synced (e, is, never)), refl))
+answer_in : (entries : List Entry) (node : ℕ) (ask : Ask) (o : Option Entry) → slice_get entries node ≡ o → (slice_get entries node ≡ None → ⊥) → (IsUnsynced entries node → ⊥)
+    → (reply : Body) × IsAnswerOf entries node ask reply
+answer_in entries node ask None is known synced = absurd (known is)
+answer_in entries node ask (Some e) is known synced = (answer_of e ask, (e, is, (λ never. synced (e, is, never)), refl))
 
 -- of a node that was synced there is something to tell
-pub an_entry : (entries : List Entry) (node : ℕ) → (slice_get entries node ≡ None → ⊥) → (IsUnsynced entries node → ⊥) → (reply : Body) × IsEntryOf entries node reply
-an_entry entries node known synced = entry_in entries node (slice_get entries node) refl known synced
+pub an_answer : (entries : List Entry) (node : ℕ) (ask : Ask) → (slice_get entries node ≡ None → ⊥) → (IsUnsynced entries node → ⊥) → (reply : Body) × IsAnswerOf entries node ask reply
+an_answer entries node ask known synced = answer_in entries node ask (slice_get entries node) refl known synced

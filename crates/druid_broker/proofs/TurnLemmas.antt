@@ -5,7 +5,7 @@ use mathlib.Core.List.{IsPrefix}
 use Rattle.druid_shard.specs.declared.change.Ask.{Ask}
 use Rattle.druid_shard.specs.declared.change.Ask.TheVariants.{Whole}
 use Rattle.druid_shard.specs.declared.reply.Body.{Body}
-use Rattle.druid_inventory.specs.Entry.{Entry, ask_of}
+use Rattle.druid_inventory.specs.Entry.{Entry}
 use Rattle.druid_inventory.specs.Step.{StepsAt, Tells, RefusedAt}
 use Rattle.druid_inventory.specs.declared.fault.Outcome.{Outcome}
 use Rattle.druid_inventory.specs.declared.fault.ApplyFault.{ApplyFault}
@@ -16,31 +16,53 @@ use Rattle.druid_published.specs.Fold.{Published, PublisherValue, fold_of}
 use Rattle.druid_published.proofs.FoldLemmas.{fold_names}
 use Rattle.druid_published.proofs.Beginnings.{prefix_self, prefix_trans}
 use Rattle.druid_broker.specs.Lent.{RefusesTurn}
-use Rattle.druid_broker.specs.Turns.{Fetches, ask_request, IsFetched, IsFetchedFrom, FailsTurn, Publishes, TakesSharedTurn, FailsSharedTurn, IsSharedTurn, MakesTurns}
+use Rattle.druid_broker.specs.Turns.{IsTold, Fetches, ask_request, FollowsPages, IsAsked, StartsAgain, IsFetched, IsFetchedFrom, TakesTurn, FailsTurn, Publishes, TakesSharedTurn, FailsSharedTurn, IsSharedTurn, MakesTurns}
 use Rattle.druid_broker.specs.declared.fault.TurnFault.{TurnFault}
 use Rattle.druid_broker.specs.declared.fault.TurnFault.TheVariants as turn
 
--- what was fetched is a fault, which is not that of a reply
-pub turn_lacks : (Fetched : Result Body TurnFault → Type 0) (inventory : List Entry) (node : ℕ) (told : TurnFault)
-    → Fetched (Err told) → ((fault : ApplyFault) → Fetched (Err (turn.Apply fault)) → ⊥) → FailsTurn Fetched inventory node told
-turn_lacks Fetched inventory node (turn.Apply fault) fetched never = absurd (never fault fetched)
-turn_lacks Fetched inventory node turn.Memory fetched never = inl fetched
-turn_lacks Fetched inventory node (turn.Wire fault) fetched never = fetched
-turn_lacks Fetched inventory node (turn.Status status) fetched never = fetched
-turn_lacks Fetched inventory node (turn.Reply fault) fetched never = fetched
+-- what was fetched is a fault
+pub turn_lacks : (Fetched : Result Body TurnFault → Type 0) (inventory : List Entry) (node : ℕ) (fault : TurnFault) → Fetched (Err fault) → FailsTurn Fetched inventory node fault
+turn_lacks Fetched inventory node (turn.Apply fault) fetched = inl fetched
+turn_lacks Fetched inventory node turn.Memory fetched = inl fetched
+turn_lacks Fetched inventory node (turn.Wire fault) fetched = fetched
+turn_lacks Fetched inventory node (turn.Status status) fetched = fetched
+turn_lacks Fetched inventory node (turn.Reply fault) fetched = fetched
+turn_lacks Fetched inventory node turn.PageLost fetched = fetched
+
+-- and why a reply is not published
+pub turn_refused : (Fetched : Result Body TurnFault → Type 0) (inventory : List Entry) (node : ℕ) (reply : Body) (fault : TurnFault) → Fetched (Ok reply)
+    → RefusesTurn inventory node reply fault → FailsTurn Fetched inventory node fault
+turn_refused Fetched inventory node reply (turn.Apply fault) fetched r = inr (reply, fetched, r)
+turn_refused Fetched inventory node reply turn.Memory fetched r = inr (reply, r.0, r.1, fetched, r.2)
+turn_refused Fetched inventory node reply (turn.Wire fault) fetched r = absurd r
+turn_refused Fetched inventory node reply (turn.Status status) fetched r = absurd r
+turn_refused Fetched inventory node reply (turn.Reply fault) fetched r = absurd r
+turn_refused Fetched inventory node reply turn.PageLost fetched r = absurd r
+
+module _ {X : Type 0} (Fetched : Result Body TurnFault → Type 0) (node : ℕ) (reply : Body) (fetched : Fetched (Ok reply)) where
+  pub takes_turn : (old new : PublisherValue) (r : Result (Outcome × X) TurnFault) → IfOk r (λ x. Publishes old node reply x.0 new) → IfOk r (λ x. TakesTurn Fetched old node x.0 new)
+  takes_turn old new (Ok x) publishes = (reply, fetched, publishes)
+  takes_turn old new (Err fault) publishes = tt
+
+  pub fails_turn : (inventory : List Entry) (r : Result (Outcome × X) TurnFault) → IfErr r (RefusesTurn inventory node reply) → IfErr r (FailsTurn Fetched inventory node)
+  fails_turn inventory (Ok x) refuses = tt
+  fails_turn inventory (Err fault) refuses = turn_refused Fetched inventory node reply fault fetched refuses
+
+-- ---- what a node is asked for
 
 module _ {L : Type 0} (step : L → List ℕ → Came → L → Type 0) where
-  pub no_fault_of_replies : (request : RequestValue) (old new : L) (fault : ApplyFault) → Fetches step request old new (Err (turn.Apply fault)) → ⊥
-  no_fault_of_replies request old new fault (inl told) = told.told
-  no_fault_of_replies request old new fault (inr (wants, same)) = absurd (cc)
+  -- a reply comes of an exchange
+  pub by_exchange : (request : RequestValue) (old new : L) (reply : Body) → Fetches step request old new (Ok reply) → IsTold step request old new (Ok reply)
+  by_exchange request old new reply (inl exchange) = exchange
+  by_exchange request old new reply (inr (wants, same)) = absurd (cc)
 
-  pub no_fault_of_fetched : (ask : Ask) (old new : L) (fault : ApplyFault) → IsFetched step ask old new (Err (turn.Apply fault)) → ⊥
-  no_fault_of_fetched ask old new fault (inl (fetched, _)) = no_fault_of_replies (ask_request ask) old new fault fetched
-  no_fault_of_fetched ask old new fault (inr (between, first, told, again, fetched)) = no_fault_of_replies (ask_request Whole) between new fault fetched
+  pub fetched_first : (ask : Ask) (old between new : L) (first : Body) (answer : Result Body TurnFault) → Fetches step (ask_request ask) old between (Ok first) → (StartsAgain ask (Ok first) → ⊥)
+      → FollowsPages step ask_request first between new answer → IsFetched step ask old new answer
+  fetched_first ask old between new first answer fetches stays follows = inr (inl (between, first, by_exchange (ask_request ask) old between first fetches, stays, follows))
 
-  pub no_fault_of_fetched_from : (inventory : List Entry) (node : ℕ) (old new : L) (fault : ApplyFault)
-      → IsFetchedFrom step inventory node old new (Err (turn.Apply fault)) → ⊥
-  no_fault_of_fetched_from inventory node old new fault (e, there, fetched) = no_fault_of_fetched (ask_of e.mark) old new fault fetched
+  pub fetched_again : (ask : Ask) (old between new : L) (first : Body) (answer : Result Body TurnFault) → Fetches step (ask_request ask) old between (Ok first) → StartsAgain ask (Ok first)
+      → IsAsked step ask_request Whole between new answer → IsFetched step ask old new answer
+  fetched_again ask old between new first answer fetches again asked = inr (inr (between, first, by_exchange (ask_request ask) old between first fetches, again, asked))
 
 -- a reply that is not applied, of a node that is there, is refused
 pub refused_at : (inventory : List Entry) (node : ℕ) (body : Body) (fault : ApplyFault) → (slice_get inventory node ≡ None → ⊥) → fault ≢ apply.Memory
@@ -51,6 +73,7 @@ refused_at inventory node body apply.Gap there other told = told
 refused_at inventory node body (apply.NotStrict index) there other told = told
 refused_at inventory node body apply.TooMany there other told = told
 refused_at inventory node body apply.Conflict there other told = told
+refused_at inventory node body apply.PageConflict there other told = told
 refused_at inventory node body apply.Memory there other told = absurd (other refl)
 
 -- ---- turns of threads that share a publisher
@@ -80,20 +103,14 @@ module _ {L : Type 0} (step : L → List ℕ → Came → L → Type 0) (opening
   -- a turn whose reply is not published
   pub unpublished : (old new : Published) (link after : L) (reply : Body) (fault : TurnFault) → IsPrefix old new → IsFetchedFrom step (fold_of opening new) node link after (Ok reply)
       → ((before : Published) × RefusesTurn (fold_of opening before) node reply fault) → FailsSharedTurn step opening node old new link after fault
-  unpublished old new link after reply fault goes fetched (before, refused) = inr (before, goes, by fault refused)
-    where
-      by : (fault : TurnFault) → RefusesTurn (fold_of opening before) node reply fault → FailsTurn (IsFetchedFrom step (fold_of opening new) node link after) (fold_of opening before) node fault
-      by (turn.Apply f) r = (reply, fetched, r)
-      by turn.Memory r = inr (reply, r.0, r.1, fetched, r.2)
-      by (turn.Wire f) r = absurd r
-      by (turn.Status s) r = absurd r
-      by (turn.Reply f) r = absurd r
+  unpublished old new link after reply fault goes fetched (before, refused) =
+      inr (before, goes, turn_refused (IsFetchedFrom step (fold_of opening new) node link after) (fold_of opening before) node reply fault fetched refused)
 
   -- one that fetched none
   pub unfetched : (old new : Published) (link after : L) (fault : TurnFault) → IsPrefix old new → IsFetchedFrom step (fold_of opening new) node link after (Err fault)
       → FailsSharedTurn step opening node old new link after fault
   unfetched old new link after fault goes fetched =
-      inr (new, goes, turn_lacks (IsFetchedFrom step (fold_of opening new) node link after) (fold_of opening new) node fault fetched (no_fault_of_fetched_from step (fold_of opening new) node link after))
+      inr (new, goes, turn_lacks (IsFetchedFrom step (fold_of opening new) node link after) (fold_of opening new) node fault fetched)
 
 -- ---- what is published under a lock
 

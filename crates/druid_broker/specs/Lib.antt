@@ -6,3 +6,4 @@ pub mod Lent
 pub mod Views
 -- words of private contracts
 pub mod Rows
+pub mod Paging

@@ -8,12 +8,14 @@ use Rattle.serde_json.specs.Data.{Data, array, string}
 use Rattle.serde_json.specs.View.{items_of}
 use Rattle.serde_json.specs.Written.{compact_text}
 use Rattle.druid_segid.specs.Numbers.{number_at}
+use Rattle.druid_shard.specs.declared.change.Ask.{Ask}
 use Rattle.druid_shard.specs.declared.reply.Body.{Body}
+use Rattle.druid_sync.specs.Asks.{ask_at}
 use Rattle.druid_sync.specs.Written.{reply_text}
-use Rattle.druid_inventory.specs.Entry.{Entry, IsUnsynced, IsEntryOf}
+use Rattle.druid_inventory.specs.Entry.{Entry, IsUnsynced, IsAnswerOf}
 use Rattle.druid_inventory.specs.Sources.{HasSource}
 use Rattle.druid_link.specs.Links.{Came}
-use Rattle.druid_message.specs.Requests.{RequestValue}
+use Rattle.druid_message.specs.Requests.{RequestValue, parameters_of}
 use Rattle.druid_wire.specs.Served.{Tells, Allows}
 use Rattle.druid_broker.specs.Queries.{AnswersQuery, WantsMemory}
 
@@ -77,17 +79,22 @@ abbrev pub loaded_text : Bool → List ℕ
 loaded_text true = codes "{\"inventoryInitialized\":true}"
 loaded_text false = codes "{\"inventoryInitialized\":false}"
 
--- what is known of a node
-abbrev pub AnswersNode : List Entry → ℕ → ℕ → List ℕ → Type 0
-AnswersNode inventory node status body =
+-- what is known of a node, as it is asked for
+abbrev pub AnswersNode : List Entry → ℕ → Ask → ℕ → List ℕ → Type 0
+AnswersNode inventory node ask status body =
     ((slice_get inventory node ≡ None) × Tells 404 (codes "{\"error\":\"V2\"}") status body)
     ⊎ (IsUnsynced inventory node × Tells 404 (codes "{\"error\":\"V3\"}") status body)
-    ⊎ ((reply : Body) × IsEntryOf inventory node reply × OrOutOfMemory (Tells 200 (reply_text reply)) status body)
+    ⊎ ((reply : Body) × IsAnswerOf inventory node ask reply × OrOutOfMemory (Tells 200 (reply_text reply)) status body)
 
--- of the node with that number
-abbrev pub AnswersEntry : List Entry → Option ℕ → ℕ → List ℕ → Type 0
-AnswersEntry inventory None status body = Tells 404 (codes "{\"error\":\"V2\"}") status body
-AnswersEntry inventory (Some node) status body = AnswersNode inventory node status body
+-- of the node with that number, where one reads
+abbrev pub AnswersNumber : List Entry → Option ℕ → Ask → ℕ → List ℕ → Type 0
+AnswersNumber inventory None ask status body = Tells 404 (codes "{\"error\":\"V2\"}") status body
+AnswersNumber inventory (Some node) ask status body = AnswersNode inventory node ask status body
+
+-- to that ask, where one reads, and else whatever the node is
+abbrev pub AnswersEntry : List Entry → Option ℕ → Option Ask → ℕ → List ℕ → Type 0
+AnswersEntry inventory number None status body = Tells 400 (codes "{\"error\":\"Y6\"}") status body
+AnswersEntry inventory number (Some ask) status body = AnswersNumber inventory number ask status body
 
 -- ---- the whole
 
@@ -100,7 +107,8 @@ TellsAt health inventory request status body = Gets request (Tells 200 (codes "t
 TellsAt query inventory request status body = ⊥
 TellsAt sources inventory request status body = Gets request (OrOutOfMemory (AnswersSources inventory)) status body
 TellsAt load_status inventory request status body = Gets request (Tells 200 (loaded_text (is_loaded inventory))) status body
-TellsAt (entry node) inventory request status body = Gets request (AnswersEntry inventory (number_at node)) status body
+TellsAt (entry node) inventory request status body =
+    Gets request (AnswersEntry inventory (number_at node) (ask_at (parameters_of request.target))) status body
 TellsAt nowhere inventory request status body = Tells 404 (codes "{\"error\":\"NoRoute\"}") status body
 
 -- the answer to a query that is posted; another method uses no link

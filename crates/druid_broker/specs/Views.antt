@@ -2,23 +2,25 @@
 use Rattle.std.specs.Prelude.{◌≡◌, ◌⊎◌, ℕ, true, List, codes, bytes_eq, IsSome, Ok}
 use mathlib.Core.List.{IsPrefix}
 use Rattle.druid_segid.specs.Numbers.{number_at}
+use Rattle.druid_sync.specs.Asks.{ask_at}
 use Rattle.druid_inventory.specs.Entry.{Entry}
 use Rattle.druid_published.specs.Fold.{Published, fold_of}
 use Rattle.druid_query.specs.Query.{Query}
 use Rattle.druid_query.specs.Read.{IsReadOf}
 use Rattle.druid_link.specs.Links.{Came}
-use Rattle.druid_message.specs.Requests.{RequestValue, path_of}
+use Rattle.druid_message.specs.Requests.{RequestValue, path_of, parameters_of}
 use Rattle.druid_wire.specs.Served.{Tells}
 use Rattle.druid_broker.specs.Routes.{Route, health, query, sources, load_status, entry, nowhere, route_of, AnswersAt, IsOutOfMemory}
 
 -- an answer takes the inventory where a query is posted that reads as one, and where what is known is got: of all nodes, or of
--- one that goes by a number
+-- one that goes by a number, as an ask that reads asks
 abbrev pub TakesInventory : Route → RequestValue → Type 0
 TakesInventory health request = ⊥
 TakesInventory query request = (bytes_eq request.method (codes "POST") ≡ true) × ((asked : Query) × IsReadOf request.body (Ok asked))
 TakesInventory sources request = bytes_eq request.method (codes "GET") ≡ true
 TakesInventory load_status request = bytes_eq request.method (codes "GET") ≡ true
-TakesInventory (entry node) request = (bytes_eq request.method (codes "GET") ≡ true) × IsSome (number_at node)
+TakesInventory (entry node) request =
+    (bytes_eq request.method (codes "GET") ≡ true) × IsSome (number_at node) × IsSome (ask_at (parameters_of request.target))
 TakesInventory nowhere request = ⊥
 
 -- what is answered where nothing was read: the view was given no reading, or memory was refused

@@ -19,6 +19,9 @@ pub enum TurnFault {
     /// K2: the body of the response is no reply.
     #[error("K2: {0}")]
     Reply(SyncFault),
+    /// K5: the reply is not the page that was asked for.
+    #[error("K5: another page")]
+    PageLost,
     /// K3: the reply is not applied.
     #[error("K3: {0}")]
     Apply(ApplyFault),

@@ -68,9 +68,10 @@ fn publish_locked<W: Wait, J: Publication, R: Wait + Drop>(
     publish_behind(node, reply, &mut publisher)
 }
 
-/// A turn of one of the threads that share a publisher: fetches what changed of a node by what the view reads, while nothing waits
-/// for the publisher; publishes it under the lock; and tells the view the receipt. K3 where the reply is not applied, K9 where the view
-/// has no reading, and else the faults of `fetch`; then what is published stays as it was.
+/// A turn of one of the threads that share a publisher: fetches what changed of a node by what the view reads, page by page where it
+/// is sent so, in at most 11 exchanges, while nothing waits for the publisher; publishes it under the lock; and tells the view the
+/// receipt. K3 where the reply is not applied, K9 where the view has no reading, and else the faults of `fetch`, K5 of a page that is
+/// lost among them; then what is published stays as it was.
 pub fn shared_turn<W: Wait, J: Publication, R: Wait + Drop, L: Link>(
     rt: &W,
     alloc: Global,

@@ -3,16 +3,17 @@ ghost use Rattle.std.specs.Prelude.{◌≡◌, ◌++◌, [], IfOk, OnOk, codes, 
 ghost use Rattle.json.specs.Print.{print};
 ghost use Rattle.serde_json.specs.Written.{compact_text};
 ghost use Rattle.druid_segid.specs.Numbers.{number_at};
+ghost use Rattle.druid_sync.specs.Asks.{ask_at};
 ghost use Rattle.druid_sync.specs.Written.{reply_text};
 ghost use Rattle.druid_wire.specs.Served.{Tells};
 ghost use Rattle.druid_partial_text.specs.Tokens.{tokens_of};
-ghost use Rattle.druid_broker.specs.Routes.{names_data, AnswersSources, is_loaded, loaded_text, OrOutOfMemory, AnswersNode, AnswersEntry};
+ghost use Rattle.druid_broker.specs.Routes.{names_data, AnswersSources, is_loaded, loaded_text, OrOutOfMemory, AnswersNode, AnswersNumber, AnswersEntry};
 
 use crate::response::Response;
 use druid_inventory::{Inventory, InventoryFault};
 use druid_segid::{Name, number_of};
-use druid_shard::{NodeNo, Reply};
-use druid_sync::reply_text;
+use druid_shard::{Ask, NodeNo, Reply};
+use druid_sync::{read_ask, reply_text};
 use http::StatusCode;
 use json::Writer;
 use std::alloc::{AllocError, Global};
@@ -105,11 +106,11 @@ fn tell_reply(alloc: Global, reply: &Reply) -> Response
     }
 }
 
-// What is known of a node of the list.
-fn tell_node(alloc: Global, inventory: &Inventory, node: NodeNo) -> Response
-    ensures { AnswersNode inventory.now node result.status result.body }
+// What is known of a node of the list, as it is asked for.
+fn tell_node(alloc: Global, inventory: &Inventory, node: NodeNo, ask: &Ask) -> Response
+    ensures { AnswersNode inventory.now node ask.now result.status result.body }
 {
-    match inventory.entry(node) {
+    match inventory.entry_page(node, ask) {
         Ok(reply) => tell_reply(alloc, &reply),
         Err(InventoryFault::UnknownNode) => unknown_node(),
         Err(InventoryFault::NotSynced) => Response::fixed(
@@ -121,10 +122,10 @@ fn tell_node(alloc: Global, inventory: &Inventory, node: NodeNo) -> Response
     }
 }
 
-/// What is known of the node of that number.
+// What is known of the node of that number, as it is asked for.
 #[tactic(auto, using(crate::proofs::LoadLemmas::no_node))]
-pub(crate) fn tell_entry(alloc: Global, inventory: &Inventory, number: &[u8]) -> Response
-    ensures { AnswersEntry inventory.now (number_at number.now) result.status result.body }
+fn tell_number(alloc: Global, inventory: &Inventory, number: &[u8], ask: &Ask) -> Response
+    ensures { AnswersNumber inventory.now (number_at number.now) ask.now result.status result.body }
 {
     let Some(number) = number_of(number) else {
         return unknown_node();
@@ -132,5 +133,27 @@ pub(crate) fn tell_entry(alloc: Global, inventory: &Inventory, number: &[u8]) ->
     if number >= u64::from(inventory.node_count()) {
         return unknown_node();
     }
-    tell_node(alloc, inventory, number as NodeNo)
+    tell_node(alloc, inventory, number as NodeNo, ask)
+}
+
+/// The answer where the parameters are no ask.
+pub(crate) fn no_ask() -> Response
+    ensures { Tells 400 (codes "{\"error\":\"Y6\"}") result.status result.body }
+{
+    Response::fixed(StatusCode::BAD_REQUEST, "{\"error\":\"Y6\"}")
+}
+
+/// What is known of the node of that number, as the parameters ask.
+pub(crate) fn tell_entry(
+    alloc: Global,
+    inventory: &Inventory,
+    number: &[u8],
+    parameters: &str,
+) -> Response
+    ensures { AnswersEntry inventory.now (number_at number.now) (ask_at parameters.now) result.status result.body }
+{
+    match read_ask(parameters) {
+        Ok(ask) => tell_number(alloc, inventory, number, &ask),
+        Err(_) => no_ask(),
+    }
 }

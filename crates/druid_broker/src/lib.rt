@@ -1,9 +1,11 @@
 //! The front of a broker: how it follows the nodes, and what it answers over HTTP.
 #![tactic(auto)]
 
+mod exchange;
 mod fault;
 mod following;
 mod knowing;
+mod paging;
 mod querying;
 mod responding;
 mod response;

@@ -1,13 +1,16 @@
 //! What a broker answers to requests.
-ghost use Rattle.std.specs.Prelude.{◌≡◌, ◌≢◌, ◌≤◌, ◌⊎◌, ◌↔◌, ℕ, true, false, Ok, IsTrue, List, codes, length, bytes_eq};
+ghost use Rattle.std.specs.Prelude.{◌≡◌, ◌≢◌, ◌≤◌, ◌⊎◌, ◌↔◌, ℕ, true, Ok, IsTrue, IsSome, List, codes, length, bytes_eq};
+ghost use Rattle.druid_segid.specs.Numbers.{number_at};
+ghost use Rattle.druid_sync.specs.Asks.{ask_at};
 ghost use Rattle.druid_inventory.specs.Entry.{Entry};
+ghost use Rattle.druid_message.specs.Requests.{parameters_of};
 ghost use Rattle.druid_wire.specs.Served.{Tells};
 ghost use Rattle.druid_broker.specs.Lent.{lent_route};
-ghost use Rattle.druid_broker.specs.Routes.{query, OrOutOfMemory, Gets, AnswersSources, AnswersAt};
+ghost use Rattle.druid_broker.specs.Routes.{query, OrOutOfMemory, Gets, AnswersSources, AnswersEntry, AnswersAt};
 ghost use Rattle.druid_broker.specs.Views.{TakesInventory, AnswersUnread, RespondsAt, RespondsBy};
 ghost use Rattle.druid_query.specs.Read.{IsReadOf};
 
-use crate::knowing::{tell_entry, tell_load_status, tell_sources, unknown_node};
+use crate::knowing::{no_ask, tell_entry, tell_load_status, tell_sources, unknown_node};
 use crate::querying::{answer_query, refuse_query};
 use crate::response::Response;
 use crate::routes::{Route, Routes};
@@ -19,10 +22,18 @@ use druid_query::Query;
 use druid_query_text::read_query;
 use druid_scatter::Pick;
 use druid_segid::number_of;
+use druid_sync::read_ask;
 use http::StatusCode;
 use std::alloc::Global;
 use std::sync::Wait;
 use std::thread::Threads;
+
+// Whether the number of a node reads, and what is asked of it.
+fn is_entry_asked(number: &[u8], request: &Request) -> bool
+    ensures { IsTrue result ↔ (IsSome (number_at number.now) × IsSome (ask_at (parameters_of request.now.target))) }
+{
+    number_of(number).is_some() && read_ask(request.parameters()).is_ok()
+}
 
 // Whether the answer takes the inventory, on a route that is no query's.
 fn takes_inventory(route: &Route, request: &Request) -> bool
@@ -34,7 +45,7 @@ fn takes_inventory(route: &Route, request: &Request) -> bool
         Route::Query => unreachable!(),
         Route::Sources => request.has_method("GET"),
         Route::LoadStatus => request.has_method("GET"),
-        Route::Entry(number) => request.has_method("GET") && number_of(number).is_some(),
+        Route::Entry(number) => request.has_method("GET") && is_entry_asked(number, request),
         Route::Nowhere => false,
     }
 }
@@ -49,12 +60,15 @@ fn health(request: &Request) -> Response
 }
 
 // What is answered of a node where the inventory is not taken.
-fn answer_no_node(request: &Request) -> Response
-    ensures method { bytes_eq request.now.method (codes "GET") ≡ false → Tells 405 (codes "{\"error\":\"Method\"}") result.status result.body }
-    ensures number { bytes_eq request.now.method (codes "GET") ≡ true → Tells 404 (codes "{\"error\":\"V2\"}") result.status result.body }
+fn answer_no_node(number: &[u8], request: &Request) -> Response
+    requires { (bytes_eq request.now.method (codes "GET") ≡ true) × IsSome (number_at number.now) × IsSome (ask_at (parameters_of request.now.target)) → ⊥ }
+    ensures { (inventory : List Entry) → Gets request.now (AnswersEntry inventory (number_at number.now) (ask_at (parameters_of request.now.target))) result.status result.body }
 {
     if !request.has_method("GET") {
         return Response::other_method();
+    }
+    if read_ask(request.parameters()).is_err() {
+        return no_ask();
     }
     unknown_node()
 }
@@ -71,7 +85,7 @@ fn answer_anyway<L: Link>(route: &Route, request: &Request) -> Response
         Route::Query => unreachable!(),
         Route::Sources => Response::other_method(),
         Route::LoadStatus => Response::other_method(),
-        Route::Entry(_) => answer_no_node(request),
+        Route::Entry(number) => answer_no_node(number, request),
         Route::Nowhere => Response::fixed(StatusCode::NOT_FOUND, "{\"error\":\"NoRoute\"}"),
     }
 }
@@ -99,7 +113,7 @@ fn answer_known<L: Link>(
         Route::Query => unreachable!(),
         Route::Sources => sources(alloc, inventory),
         Route::LoadStatus => tell_load_status(inventory),
-        Route::Entry(number) => tell_entry(alloc, inventory, number),
+        Route::Entry(number) => tell_entry(alloc, inventory, number, request.parameters()),
         Route::Health => unreachable!(),
         Route::Nowhere => unreachable!(),
     }

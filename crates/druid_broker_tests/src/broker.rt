@@ -136,6 +136,13 @@ GET /druid-internal/v1/inventory/00 HTTP/1.1|| = 404 {\"error\":\"V2\"}
 GET /druid-internal/v1/inventory/x HTTP/1.1|| = 404 {\"error\":\"V2\"}
 GET /druid-internal/v1/inventory/18446744073709551616 HTTP/1.1|| = 404 {\"error\":\"V2\"}
 GET /druid-internal/v1/inventory/65536 HTTP/1.1|| = 404 {\"error\":\"V2\"}
+GET /druid-internal/v1/inventory/0?page=0 HTTP/1.1|| = 400 {\"error\":\"Y6\"}
+GET /druid-internal/v1/inventory/1?counter=x HTTP/1.1|| = 400 {\"error\":\"Y6\"}
+GET /druid-internal/v1/inventory/x?hash=1 HTTP/1.1|| = 400 {\"error\":\"Y6\"}
+GET /druid-internal/v1/inventory/1?counter=1&hash=1 HTTP/1.1|| = 404 {\"error\":\"V3\"}
+GET /druid-internal/v1/inventory/2?counter=1&hash=1&page=0 HTTP/1.1|| = 404 {\"error\":\"V2\"}
+GET /druid-internal/v1/inventory/0?counter=1&hash=1&page=0 HTTP/1.1|| = 200 {\"counter\":{\"counter\":1,\"hash\":1},\"from\":null,\"requests\":[],\"resetCause\":\"TooOld\",\"resetCounter\":true}
+GET /druid-internal/v1/inventory/0?counter=1&hash=2&page=0 HTTP/1.1|| = 200 {\"counter\":{\"counter\":1,\"hash\":1},\"from\":null,\"requests\":[],\"resetCause\":\"OtherIncarnation\",\"resetCounter\":true}
 GET /druid-internal/v1/inventory/0/ HTTP/1.1|| = 404 {\"error\":\"NoRoute\"}
 GET /druid-internal/v1/inventory/ HTTP/1.1|| = 404 {\"error\":\"NoRoute\"}
 GET /druid-internal/v1/inventory HTTP/1.1|| = 404 {\"error\":\"NoRoute\"}

@@ -18,6 +18,7 @@ GET /druid-internal/v1/inventory/0 HTTP/1.1|| = 500 {\"error\":\"NoReading\"}
 @,\"descending\":true} = 400 {\"error\":\"Q3\",\"field\":\"descending\"}
 @,\"dataSource\":1} = 400 {\"error\":\"Q3\",\"field\":\"dataSource\"}
 GET /druid/v2 HTTP/1.1|| = 405 {\"error\":\"Method\"}
+GET /druid-internal/v1/inventory/0?page=0 HTTP/1.1|| = 400 {\"error\":\"Y6\"}
 GET /druid-internal/v1/inventory/x HTTP/1.1|| = 404 {\"error\":\"V2\"}
 POST /druid/v2/datasources HTTP/1.1|Content-Length: 0|| = 405 {\"error\":\"Method\"}
 GET /status/health HTTP/1.1|| = 200 true

@@ -1,6 +1,7 @@
 -- Where a broker is after the delta that a node answers.
 use Rattle.std.proofs.Common.{◌≡◌, ℕ, List, [], length, take, drop, Option, Some, None, sym, ap, ◌∙◌}
 use Rattle.std.specs.Option.{option_and_then}
+use Rattle.std.proofs.lemmas.Option.{same_Some}
 use Rattle.std.proofs.lemmas.List.{take-append-drop}
 use Rattle.druid_shard.specs.Described.{Described}
 use Rattle.druid_shard.specs.Mark.{Point}
@@ -8,7 +9,8 @@ use Rattle.druid_shard.specs.Replay.{replay, replay_from}
 use Rattle.druid_shard.specs.declared.change.Ask.TheVariants.{Since}
 use Rattle.druid_shard.specs.declared.change.Cause.{Cause}
 use Rattle.druid_shard.specs.declared.change.Change.{Change}
-use Rattle.druid_shard.specs.declared.reply.Body.TheVariants.{Delta}
+use Rattle.druid_shard.specs.declared.reply.Body.{Body}
+use Rattle.druid_shard.specs.declared.reply.Body.TheVariants.{Delta, Reset}
 use Rattle.druid_shard.proofs.ReplayLemmas.{replay_from-append}
 use Rattle.druid_changes.specs.Answer.{answer, cause_of, reset_or_delta, mark_behind}
 
@@ -19,14 +21,21 @@ behind_mark history n held set whole front =
     ∙ sym (replay_from-append [] (take n history) (drop n history))
     ∙ ap replay (take-append-drop n history) ∙ whole
 
-delta_only : (o : Option Cause) (incarnation : ℕ) (history changes : List Change) (mark from to : Point) → Some (reset_or_delta incarnation history mark o) ≡ Some (Delta from to changes)
-    → (mark ≡ from) × (mark_behind incarnation history ≡ to) × (drop mark.count history ≡ changes)
-delta_only None incarnation history changes mark from to h = (cc, cc, cc)
-delta_only (Some cause) incarnation history changes mark from to h = absurd (cc)
+abbrev told : Body → Option ℕ → Option (Body × Option ℕ)
+told body frozen = Some (body, frozen)
 
-pub delta_reaches : (incarnation limit : ℕ) (history changes : List Change) (mark from to : Point) (held set : List Described) → replay history ≡ Some set
-    → replay (take mark.count history) ≡ Some held → answer incarnation history limit (Since mark) ≡ Some (Delta from to changes)
+delta_only : (o : Option Cause) (incarnation : ℕ) (frozen after : Option ℕ) (history changes : List Change) (mark from to : Point) → told (reset_or_delta incarnation history mark o) frozen ≡ told (Delta from to changes) after
+    → (mark ≡ from) × (mark_behind incarnation history ≡ to) × (drop mark.count history ≡ changes)
+delta_only None incarnation frozen after history changes mark from to h =
+    let e : Delta mark (mark_behind incarnation history) (drop mark.count history) ≡ Delta from to changes = ap (λ (p : Body × Option ℕ). p.0) (same_Some _ _ h) in
+    (cc, cc, cc)
+delta_only (Some cause) incarnation frozen after history changes mark from to h =
+    let e : Reset cause (mark_behind incarnation history) ≡ Delta from to changes = ap (λ (p : Body × Option ℕ). p.0) (same_Some _ _ h) in
+    absurd (cc)
+
+pub delta_reaches : (incarnation limit : ℕ) (frozen after : Option ℕ) (history changes : List Change) (mark from to : Point) (held set : List Described) → replay history ≡ Some set
+    → replay (take mark.count history) ≡ Some held → answer incarnation history limit frozen (Since mark) ≡ Some (Delta from to changes, after)
     → (from ≡ mark) × (to ≡ mark_behind incarnation history) × (replay_from held changes ≡ Some set)
-delta_reaches incarnation limit history changes mark from to held set whole front h =
-    let told = delta_only (cause_of incarnation (length history) limit mark) incarnation history changes mark from to h in
+delta_reaches incarnation limit frozen after history changes mark from to held set whole front h =
+    let told = delta_only (cause_of incarnation (length history) limit mark) incarnation frozen after history changes mark from to h in
     (sym told.0, sym told.1, ap (replay_from held) (sym told.2) ∙ behind_mark history mark.count held set whole front)

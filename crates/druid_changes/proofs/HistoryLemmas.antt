@@ -1,26 +1,27 @@
 -- What is kept of a history: after one change more, and after a mark.
-use Rattle.std.proofs.Common.{◌≡◌, ℕ, ◌+◌, ◌-◌, ◌<◌, ◌≤◌, suc, zero, nat_eq, nat_lt, nat_le, if◌then◌else◌, append_assoc, add-one, Bool, true, false, not, List, [], ◌∷◌, ◌++◌, length, drop, Some, None, Result, Err, refl, sym, ap, ◌∙◌, subst, arith, inl, inr, length-append}
+use Rattle.std.proofs.Common.{◌≡◌, ℕ, ◌+◌, ◌-◌, ◌<◌, ◌≤◌, suc, zero, nat_eq, nat_lt, nat_le, if◌then◌else◌, append_assoc, add-one, Bool, true, false, not, List, [], ◌∷◌, ◌++◌, length, drop, take, Option, Some, None, Result, Err, refl, sym, ap, ◌∙◌, subst, arith, inl, inr, length-append}
 use Rattle.std.specs.Bool.{⊤}
 use Rattle.std.specs.Option.{option_and_then, option_or}
 use Rattle.std.specs.List.{slice_get}
-use Rattle.std.proofs.lemmas.Bool.{cases_Bool, eqb-true, ltb-false, leb-false}
-use Rattle.std.proofs.lemmas.List.{drop-drop, length-drop, drop-append-le}
+use Rattle.std.proofs.lemmas.Bool.{cases_Bool, eqb-true, ltb-false, leb-true, leb-false}
+use Rattle.std.proofs.lemmas.List.{drop-drop, length-drop, drop-append-le, take-append-le}
 use Rattle.std.proofs.lemmas.List.Sorted.{IsPermutation-sym, Contains-permutation}
 use Rattle.druid_shard.specs.Described.{Described}
 use Rattle.druid_shard.specs.Mark.{Point}
+use Rattle.druid_shard.specs.Reply.{max_page}
 use Rattle.druid_shard.specs.ReplyBody.{IsSnapshotOf}
 use Rattle.druid_shard.specs.Replay.{IsSegmentSet, is_strict, has_room, after, replay, replay_from}
 use Rattle.druid_shard.specs.declared.change.Change.{Change}
 use Rattle.druid_shard.specs.declared.change.Change.TheVariants.{Load, Drop}
 use Rattle.druid_shard.specs.declared.reply.Body.{Body}
-use Rattle.druid_shard.specs.declared.reply.Body.TheVariants.{Delta, Snapshot, Reset}
-use Rattle.druid_shard.proofs.ReplayLemmas.{changed-made, replay_from-append, sorted-one_list}
+use Rattle.druid_shard.specs.declared.reply.Body.TheVariants.{Delta, Snapshot, Page, Reset}
+use Rattle.druid_shard.proofs.ReplayLemmas.{changed-made, replay_from-append, replay_from-set, sorted-one_list}
 use Rattle.druid_shard.specs.declared.reply.ReplyFault.{ReplyFault}
-use Rattle.druid_shard.specs.declared.reply.ReplyFault.TheVariants.{TooMany, LengthOfDelta, DoubledSegment, Memory}
+use Rattle.druid_shard.specs.declared.reply.ReplyFault.TheVariants.{TooMany, LengthOfDelta, DoubledSegment, BadPage, Memory}
 use Rattle.druid_changes.specs.declared.fault.HistoryFault.{HistoryFault}
 use Rattle.druid_changes.specs.declared.fault.HistoryFault.TheVariants.{Full, CountAtEnd}
 use Rattle.druid_changes.specs.declared.fault.HistoryFault.TheVariants as faults
-use Rattle.druid_changes.specs.Kept.{Kept, StandsFor, IsKept, last_changes, last_count, not_strict, refusal}
+use Rattle.druid_changes.specs.Kept.{Kept, Frozen, StandsFor, StandsFrozen, IsFrozen, IsKept, frozen_after, last_changes, last_count, not_strict, refusal}
 use Rattle.druid_changes.specs.Answer.{cause_of}
 
 -- ---- one change more
@@ -35,6 +36,24 @@ last_more limit history kept c e =
     let place : k + (length (drop k more) - limit) ≡ length more - limit = omega arith in
     ap (last_changes limit) same ∙ drop-drop (length (drop k more) - limit) k more ∙ ap (λ i. drop i more) place
 
+frozen_in : (limit : ℕ) (history : List Change) (c : Change) (f : Frozen) (near : Bool) → nat_le (length history + 1) (f.count + limit) ≡ near → IsFrozen limit history f
+    → StandsFrozen limit (history ++ c ∷ []) (if near then Some f else None)
+frozen_in limit history c f false e h = tt
+frozen_in limit history c f true e h =
+    let total : length (history ++ c ∷ []) ≡ length history + 1 = length-append history (c ∷ []) in
+    let near = leb-true (length history + 1) (f.count + limit) e in
+    record {
+      within = omega (arith, h.within, total);
+      near = omega (arith, near, total);
+      set = ap replay (take-append-le f.count history (c ∷ []) h.within) ∙ h.set;
+      many = h.many;
+    }
+
+frozen-more : (limit : ℕ) (history : List Change) (c : Change) (frozen : Option Frozen) → StandsFrozen limit history frozen
+    → StandsFrozen limit (history ++ c ∷ []) (frozen_after limit (length history + 1) frozen)
+frozen-more limit history c None h = tt
+frozen-more limit history c (Some f) h = frozen_in limit history c f (nat_le (length history + 1) (f.count + limit)) refl h
+
 -- what is kept after one change more
 abbrev pub with_change : Kept → Change → Kept
 with_change old c = record {
@@ -43,6 +62,7 @@ with_change old c = record {
   set = after old.set c;
   changes = last_changes old.limit (old.changes ++ c ∷ []);
   limit = old.limit;
+  frozen = frozen_after old.limit (old.count + 1) old.frozen;
 }
 
 pub stands-more : (old : Kept) (c : Change) (history : List Change) → is_strict old.set c ≡ true → has_room old.set c ≡ true → StandsFor old history → StandsFor (with_change old c) (history ++ c ∷ [])
@@ -51,7 +71,12 @@ stands-more old c history strict room h =
     replay_from-append [] history (c ∷ []) ∙ ap (λ o. option_and_then (λ t. replay_from t (c ∷ [])) o) h.set
     ∙ ap (λ o. option_and_then (λ t. replay_from t []) o) (changed-made old.set c strict room) in
     let total : length (history ++ c ∷ []) ≡ length history + 1 = length-append history (c ∷ []) in
-    record { count = omega (arith, h.count); set = step; changes = last_more old.limit history old.changes c h.changes }
+    record {
+      count = omega (arith, h.count);
+      set = step;
+      changes = last_more old.limit history old.changes c h.changes;
+      frozen = subst (λ n. StandsFrozen old.limit (history ++ c ∷ []) (frozen_after old.limit n old.frozen)) (omega (arith, h.count)) (frozen-more old.limit history c old.frozen h.frozen);
+    }
 
 pub kept-more : (old : Kept) (c : Change) → is_strict old.set c ≡ true → has_room old.set c ≡ true → IsKept old → IsKept (with_change old c)
 kept-more old c strict room h = record {
@@ -109,10 +134,25 @@ behind-kept kept mark history h within =
     let place : k + first ≡ mark.count = omega (arith, h.count, within.near, within.before) in
     ap (drop first) h.changes ∙ drop-drop first k history ∙ ap (λ i. drop i history) place
 
+-- ---- the frozen set
+
+nothing_served : IsSegmentSet []
+nothing_served = record { few = omega arith; sorted = λ k d l. absurd (omega (arith, l)) }
+
+frozen-set : (limit : ℕ) (history : List Change) (frozen : Option Frozen) (f : Frozen) → frozen ≡ Some f → StandsFrozen limit history frozen → IsFrozen limit history f
+frozen-set limit history frozen f is stands = subst (StandsFrozen limit history) is stands
+
+-- it is a set that a node may serve, too large for one message
+pub frozen-kept : (kept : Kept) (f : Frozen) → IsKept kept → kept.frozen ≡ Some f → IsSegmentSet f.set × (max_page < length f.set)
+frozen-kept kept f h is =
+    let frozen = frozen-set kept.limit h.history kept.frozen f is h.stands.frozen in
+    (replay_from-set [] f.set (take f.count h.history) nothing_served frozen.set, frozen.many)
+
 -- ---- all that is served
 
 pub snapshot-is : (mark : Point) (set : List Described) (body : Body) → IsSegmentSet set → IsSnapshotOf mark set body → body ≡ Snapshot mark set
 snapshot-is mark set (Delta from to changes) h is = absurd is
+snapshot-is mark set (Page at page of segments) h is = absurd is
 snapshot-is mark set (Reset cause at) h is = absurd is
 snapshot-is mark set (Snapshot at segments) h is =
     let same = sorted-one_list segments set is.2.sorted h.sorted
@@ -167,11 +207,12 @@ fault_told f = Err f
 
 -- a fault has one of these names
 pub no_fault : (f : ReplyFault) → (fault_told f ≡ fault_told TooMany → ⊥) → (fault_told f ≡ fault_told LengthOfDelta → ⊥)
-    → (fault_told f ≡ fault_told DoubledSegment → ⊥) → (fault_told f ≡ fault_told Memory → ⊥) → ⊥
-no_fault TooMany many length doubled memory = many refl
-no_fault LengthOfDelta many length doubled memory = length refl
-no_fault DoubledSegment many length doubled memory = doubled refl
-no_fault Memory many length doubled memory = memory refl
+    → (fault_told f ≡ fault_told DoubledSegment → ⊥) → (fault_told f ≡ fault_told BadPage → ⊥) → (fault_told f ≡ fault_told Memory → ⊥) → ⊥
+no_fault TooMany many length doubled page memory = many refl
+no_fault LengthOfDelta many length doubled page memory = length refl
+no_fault DoubledSegment many length doubled page memory = doubled refl
+no_fault BadPage many length doubled page memory = page refl
+no_fault Memory many length doubled page memory = memory refl
 
 -- one kept change more is copied
 drop_at : (cs : List Change) (i : ℕ) (c : Change) → slice_get cs i ≡ Some c → drop i cs ≡ c ∷ drop (suc i) cs
@@ -197,11 +238,11 @@ within-state state now mark view h =
 pub taken-state : (state now : Kept) (c : Change) → state ≡ now → refusal now c ≡ None → IsTaken state c
 taken-state state now c view h = subst (λ (k : Kept). IsTaken k c) (sym view) (no_refusal now c h)
 
-pub with_change-is : (old : Kept) (c : Change) (set : List Described) (changes : List Change) (limit : ℕ) → set ≡ after old.set c
-    → changes ≡ last_changes old.limit (old.changes ++ c ∷ []) → limit ≡ old.limit
-    → record { incarnation = old.incarnation; count = old.count + 1; set = set; changes = changes; limit = limit } ≡ with_change old c
-with_change-is old c set changes limit set_is changes_are limit_is i =
-    record { incarnation = old.incarnation; count = old.count + 1; set = set_is i; changes = changes_are i; limit = limit_is i }
+pub with_change-is : (old : Kept) (c : Change) (set : List Described) (changes : List Change) (limit : ℕ) (frozen : Option Frozen) → set ≡ after old.set c
+    → changes ≡ last_changes old.limit (old.changes ++ c ∷ []) → limit ≡ old.limit → frozen ≡ frozen_after old.limit (old.count + 1) old.frozen
+    → record { incarnation = old.incarnation; count = old.count + 1; set = set; changes = changes; limit = limit; frozen = frozen } ≡ with_change old c
+with_change-is old c set changes limit frozen set_is changes_are limit_is frozen_is i =
+    record { incarnation = old.incarnation; count = old.count + 1; set = set_is i; changes = changes_are i; limit = limit_is i; frozen = frozen_is i }
 
 pub snapshot_of_view : (reply : Body) (mark : Point) (given set : List Described) (now : Kept) → IsSegmentSet set → given ≡ set
     → mark ≡ record { incarnation = now.incarnation; count = now.count } → set ≡ now.set → IsSnapshotOf mark given reply

@@ -13,7 +13,7 @@ pub enum HistoryFault {
     /// H2: no such segment or tombstone is served.
     #[error("H2: not served")]
     NotServed,
-    /// H3: 20,000 segments and tombstones are served.
+    /// H3: 200,000 segments and tombstones are served.
     #[error("H3: too many segments")]
     Full,
     /// H4: there were 2^64 - 1 changes.

@@ -1,20 +1,58 @@
-ghost use Rattle.std.specs.Prelude.{◌≡◌, ◌≢◌, ◌↔◌, ◌≤◌, ◌++◌, [], ◌∷◌, List, length, drop, Some, None, IsTrue, IfOk, IfErr, OnOk, OnErr, IsErrOf};
-ghost use Rattle.druid_shard.specs.Reply.{max_changes};
+ghost use Rattle.std.specs.Prelude.{◌≡◌, ◌≢◌, ◌↔◌, ◌≤◌, ◌<◌, ◌+◌, if◌then◌else◌, ◌++◌, [], ◌∷◌, List, length, drop, Some, None, IsTrue, IfOk, IfErr, OnOk, OnErr, IsErrOf};
+ghost use Rattle.druid_shard.specs.Reply.{max_page, max_changes};
+ghost use Rattle.druid_pages.specs.Pages.{pages_in};
 ghost use Rattle.druid_shard.specs.Replay.{replay, IsSegmentSet};
 ghost use Rattle.std.specs.Option.{option_copied};
 ghost use Rattle.druid_shard.specs.declared.change.Change.{Change as Event};
 ghost use Rattle.druid_shard.specs.declared.change.Change.TheVariants.{Load, Drop as Dropped};
 ghost use Rattle.druid_shard.specs.declared.reply.Body.TheVariants.{Delta, Snapshot};
-ghost use Rattle.druid_changes.specs.Kept.{StandsFor, IsKept, IsDrop, described_named, refusal_of_set, refusal_of_count, refusal};
-ghost use Rattle.druid_changes.specs.Answer.{answer, HasCopies, cause_of, mark_behind};
+ghost use Rattle.druid_changes.specs.Kept.{StandsFor, IsKept, IsDrop, described_named, frozen_after, frozen_count, with_frozen, KeepsOrFreezes, refusal_of_set, refusal_of_count, refusal};
+ghost use Rattle.druid_changes.specs.Answer.{answer, page_of, whole_answer, asked_page, HasCopies, cause_of, mark_behind};
 
 use crate::HistoryFault;
 use crate::segments::Segments;
 use circular_buffer::HeapCircularBuffer;
+use druid_pages::{page_of, pages_of};
 use druid_segid::SegmentId;
-use druid_shard::{Ask, Cause, Change, Descriptor, MAX_SEGMENTS, Mark, Reply};
+use druid_shard::{
+    Ask, Cause, Change, Descriptor, Descriptors, Items, MAX_PAGE, MAX_SEGMENTS, Mark, Reply,
+};
 use std::alloc::{AllocError, Global};
 use std::marker::Model;
+
+// A set that is kept for its pages, and how many changes came before it.
+#[derive(Debug, Drop)]
+struct Frozen {
+    count: u64,
+    set: Descriptors,
+}
+
+impl Model for Frozen {
+    ghost use Rattle.druid_changes.specs.Kept.{Frozen};
+
+    ghost Value = { Frozen };
+
+    ghost view = { λ a. record { count = a.count; set = a.set } };
+}
+
+// Whether more changes than are kept came after a set was frozen.
+fn is_past(frozen: &Option<Frozen>, count: u64, limit: usize) -> bool
+    ensures { frozen_after limit count frozen.now ≡ (if result then None else frozen.now) }
+{
+    match frozen {
+        Some(frozen) => count - frozen.count.min(count) > limit as u64,
+        None => false,
+    }
+}
+
+// Gives the frozen set up, where more changes than are kept came after it.
+fn give_up(frozen: &mut Option<Frozen>, count: u64, limit: usize)
+    ensures { frozen.new ≡ frozen_after limit count frozen.old }
+{
+    if is_past(frozen, count, limit) {
+        *frozen = None;
+    }
+}
 
 /// The changes of one incarnation of a node: how many there were, the set of segments and tombstones after them, and the
 /// last of them, which brokers may ask for.
@@ -27,6 +65,7 @@ pub struct History {
     count: u64,
     segments: Segments,
     changes: HeapCircularBuffer<Change>,
+    frozen: Option<Frozen>,
 }
 
 impl Model for History {
@@ -34,9 +73,9 @@ impl Model for History {
 
     ghost Value = { Kept };
 
-    ghost view = { λ a. record { incarnation = a.incarnation; count = a.count; set = a.segments; changes = a.changes.items; limit = a.changes.capacity } };
+    ghost view = { λ a. record { incarnation = a.incarnation; count = a.count; set = a.segments; changes = a.changes.items; limit = a.changes.capacity; frozen = a.frozen } };
 
-    ghost invariant = { λ a. IsKept (record { incarnation = a.incarnation; count = a.count; set = a.segments; changes = a.changes.items; limit = a.changes.capacity }) };
+    ghost invariant = { λ a. IsKept (record { incarnation = a.incarnation; count = a.count; set = a.segments; changes = a.changes.items; limit = a.changes.capacity; frozen = a.frozen }) };
 }
 
 impl History {
@@ -55,6 +94,7 @@ impl History {
             count: 0,
             segments: Segments::new(alloc),
             changes: HeapCircularBuffer::with_capacity(alloc, kept)?,
+            frozen: None,
         })
     }
 
@@ -136,7 +176,7 @@ impl History {
         self.refusal(change).is_none()
     }
 
-    /// Records a change. For a load: H1 where a segment or a tombstone of that identifier is served, then H3 where 20,000
+    /// Records a change. For a load: H1 where a segment or a tombstone of that identifier is served, then H3 where 200,000
     /// of them are. For a drop: H2 where no such segment or tombstone is served. Then H4 at a count of 2^64 - 1, and for a
     /// load H9 where memory ran out. A refused change leaves all as it was.
     pub fn record(&mut self, change: Change) -> Result<(), HistoryFault>
@@ -151,6 +191,7 @@ impl History {
         ensures memory { IsErrOf result HistoryFault.Memory → refusal self.old change ≡ None }
         ensures drops { IsDrop change → result ≢ Err HistoryFault.Memory }
         ensures unchanged { OnErr result (self.new ≡ self.old) }
+        ensures frozen { OnOk result (self.new.frozen ≡ frozen_after self.old.limit (self.old.count + 1) self.old.frozen) }
     {
         if let Some(fault) = self.refusal(&change) {
             return Err(fault);
@@ -158,6 +199,7 @@ impl History {
         self.segments.apply(&change)?;
         self.changes.push_back(change);
         self.count += 1;
+        give_up(&mut self.frozen, self.count, self.changes.capacity());
         Ok(())
     }
 
@@ -225,6 +267,73 @@ impl History {
         Ok(reply)
     }
 
+    // A page of a set that was served after so many changes.
+    fn page_of(&self, count: u64, page: u16, set: &[Descriptor]) -> Result<Reply, AllocError>
+        requires set { IsSegmentSet set.now }
+        requires many { max_page < length set.now }
+        requires there { page < pages_in (length set.now) }
+        ensures { IfOk result (λ reply. reply ≡ page_of self.now.incarnation count page set.now) }
+    {
+        let segments = page_of(self.alloc, set, page)?;
+        let mark = Mark::new(self.incarnation, count);
+        let Ok(reply) = Reply::page(mark, page, pages_of(set.len()) as u16, segments) else {
+            unreachable!();
+        };
+        Ok(reply)
+    }
+
+    // Freezes all that is served, and gives its first page.
+    fn freeze(&mut self) -> Result<Reply, AllocError>
+        requires many { max_page < length self.old.set }
+        requires none { self.old.frozen ≡ None }
+        ensures page { IfOk result (λ reply. reply ≡ page_of self.old.incarnation self.old.count 0 self.old.set) }
+        ensures frozen { OnOk result (self.new ≡ with_frozen self.old) }
+        ensures unchanged { OnErr result (self.new ≡ self.old) }
+    {
+        let set = self.segments.to_vec(self.alloc)?;
+        let reply = self.page_of(self.count, 0, &set)?;
+        self.frozen = Some(Frozen {
+            count: self.count,
+            set: Items::new(set),
+        });
+        Ok(reply)
+    }
+
+    // All that is served: whole, or the first page of the set that is frozen, or is from now on.
+    fn whole(&mut self) -> Result<Reply, AllocError>
+        ensures answer { IfOk result (λ reply. (history : List Event) → StandsFor self.old history
+            → whole_answer self.old.incarnation history (frozen_count self.old.frozen) self.old.set ≡ Some (reply, frozen_count self.new.frozen)) }
+        ensures only { OnOk result (KeepsOrFreezes self.old self.new) }
+        ensures unchanged { OnErr result (self.new ≡ self.old) }
+    {
+        if self.segments.len() <= MAX_PAGE {
+            return self.snapshot();
+        }
+        match &self.frozen {
+            Some(frozen) => self.page_of(frozen.count, 0, frozen.set.as_slice()),
+            None => self.freeze(),
+        }
+    }
+
+    // A page of the set at a mark, where it is frozen.
+    fn page(&self, mark: Mark, page: u16) -> Result<Reply, AllocError>
+        ensures memory { OnErr result (mark.incarnation ≡ self.now.incarnation) }
+        ensures answer { IfOk result (λ reply. (history : List Event) → StandsFor self.now history
+            → asked_page self.now.incarnation history (frozen_count self.now.frozen) mark page ≡ Some reply) }
+    {
+        if mark.incarnation() != self.incarnation {
+            return Ok(Reply::reset(Cause::OtherIncarnation, self.mark()));
+        }
+        let Some(frozen) = &self.frozen else {
+            return Ok(Reply::reset(Cause::TooOld, self.mark()));
+        };
+        let set = frozen.set.as_slice();
+        if frozen.count != mark.count() || pages_of(set.len()) <= page as usize {
+            return Ok(Reply::reset(Cause::TooOld, self.mark()));
+        }
+        self.page_of(frozen.count, page, set)
+    }
+
     // The changes after a mark, which are all kept.
     fn delta(&self, mark: Mark) -> Result<Reply, AllocError>
         requires { cause_of self.now.incarnation self.now.count self.now.limit mark ≡ None }
@@ -239,19 +348,25 @@ impl History {
         Ok(reply)
     }
 
-    /// What it answers to a broker: all that is served, or the changes after the broker's mark, or why it has not
-    /// these. Nothing waits.
-    pub fn since(&self, ask: &Ask) -> Result<Reply, AllocError>
-        ensures answer { IfOk result (λ reply. (history : List Event) → StandsFor self.now history
-            → answer self.now.incarnation history self.now.limit ask.now ≡ Some reply) }
-        ensures memory { OnErr result (HasCopies self.now.incarnation self.now.count self.now.limit ask.now) }
+    /// What it answers to a broker: all that is served, or the changes after the broker's mark, or a page of the set that it
+    /// froze, or why it has not these. Where all that is served is more than 20,000 segments it freezes that set, unless one is
+    /// frozen, and answers the first page of it. Nothing waits. Where memory runs out all is as it was.
+    pub fn since(&mut self, ask: &Ask) -> Result<Reply, AllocError>
+        ensures answer { IfOk result (λ reply. (history : List Event) → StandsFor self.old history
+            → answer self.old.incarnation history self.old.limit (frozen_count self.old.frozen) ask.now ≡ Some (reply, frozen_count self.new.frozen)) }
+        ensures stands { (history : List Event) → StandsFor self.old history → StandsFor self.new history }
+        ensures place { (self.new.incarnation ≡ self.old.incarnation) × (self.new.limit ≡ self.old.limit) }
+        ensures only { KeepsOrFreezes self.old self.new }
+        ensures memory { OnErr result (HasCopies self.old.incarnation self.old.count self.old.limit ask.now) }
+        ensures unchanged { OnErr result (self.new ≡ self.old) }
     {
         match ask {
-            Ask::Whole => self.snapshot(),
+            Ask::Whole => self.whole(),
             Ask::Since(mark) => match self.cause(*mark) {
                 Some(cause) => Ok(Reply::reset(cause, self.mark())),
                 None => self.delta(*mark),
             },
+            Ask::Page(mark, page) => self.page(*mark, *page),
         }
     }
 }

@@ -1,5 +1,5 @@
 //! What a node's answers are good for.
-ghost use Rattle.std.specs.Prelude.{◌≡◌, ℕ, List, take, Some};
+ghost use Rattle.std.specs.Prelude.{◌≡◌, ℕ, List, take, Option, Some};
 ghost use Rattle.druid_shard.specs.Described.{Described};
 ghost use Rattle.druid_shard.specs.Mark.{Point};
 ghost use Rattle.druid_shard.specs.Replay.{replay, replay_from};
@@ -11,8 +11,8 @@ ghost use Rattle.druid_changes.specs.Answer.{answer, mark_behind};
 /// A broker that has what a node served at a mark, and makes the changes of the delta that the node answers, has what
 /// the node serves, and its mark.
 pub fn deltas_reach_the_node()
-    ensures { (incarnation limit : ℕ) (history changes : List Change) (mark from to : Point) (held set : List Described)
+    ensures { (incarnation limit : ℕ) (frozen after : Option ℕ) (history changes : List Change) (mark from to : Point) (held set : List Described)
         → replay history ≡ Some set → replay (take mark.count history) ≡ Some held
-        → answer incarnation history limit (Since mark) ≡ Some (Delta from to changes)
+        → answer incarnation history limit frozen (Since mark) ≡ Some (Delta from to changes, after)
         → (from ≡ mark) × (to ≡ mark_behind incarnation history) × (replay_from held changes ≡ Some set) }
 {}

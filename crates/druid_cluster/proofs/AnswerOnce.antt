@@ -59,12 +59,14 @@ brokers_tree o (Refused refusals.Shape) next h = absurd h
 brokers_tree o (Refused refusals.TooMany) next h = absurd h
 brokers_tree o (Refused refusals.LengthOfDelta) next h = absurd h
 brokers_tree o (Refused refusals.DoubledSegment) next h = absurd h
+brokers_tree o (Refused refusals.BadPage) next h = absurd h
 brokers_tree o (Refused refusals.UnknownNode) next h = absurd h
 brokers_tree o (Refused refusals.OtherIncarnation) next h = absurd h
 brokers_tree o (Refused refusals.Gap) next h = absurd h
 brokers_tree o (Refused refusals.NotStrict) next h = absurd h
 brokers_tree o (Refused refusals.TooManySegments) next h = absurd h
 brokers_tree o (Refused refusals.Conflict) next h = absurd h
+brokers_tree o (Refused refusals.PageConflict) next h = absurd h
 brokers_tree o (Refused refusals.OtherNodes) next h = absurd h
 brokers_tree o (Refused refusals.OtherSets) next h = absurd h
 brokers_tree o (Taken count) next h = inr (h.0.0, inr (h.0.1, ap Taken h.1, h.2))
@@ -117,6 +119,7 @@ told_tree inventory node body steps.Gap refusal h is = inr (h.0, h.1, inl (_, re
 told_tree inventory node body (steps.NotStrict index) refusal h is = inr (h.0, h.1, inl (_, refusal, h.2, is, refl, refl))
 told_tree inventory node body steps.TooMany refusal h is = inr (h.0, h.1, inl (_, refusal, h.2, is, refl, refl))
 told_tree inventory node body steps.Conflict refusal h is = inr (h.0, h.1, inl (_, refusal, h.2, is, refl, refl))
+told_tree inventory node body steps.PageConflict refusal h is = inr (h.0, h.1, inl (_, refusal, h.2, is, refl, refl))
 told_tree inventory node body steps.Memory refusal h is = absurd cc
 
 refused_tree : (inventory : List Entry) (node : ℕ) (d : Data) (refusal : Refusal)
@@ -163,6 +166,7 @@ known inventory node (Err replies.Shape) answer next h e = cc
 known inventory node (Err replies.TooMany) answer next h e = cc
 known inventory node (Err replies.LengthOfDelta) answer next h e = cc
 known inventory node (Err replies.DoubledSegment) answer next h e = cc
+known inventory node (Err replies.BadPage) answer next h e = cc
 known inventory node (Err replies.Memory) answer next h e = let told = h.1 in cc
 
 judged_once : (inventory : List Entry) (node : ℕ) (r : Result Body SyncFault) (a b : Answer) (next other : List Entry) → OfRead inventory node r a next → OfRead inventory node r b other → IsOne a b next other
@@ -203,12 +207,14 @@ lookup_tree inventory interval source (Refused refusals.Shape) h = absurd h
 lookup_tree inventory interval source (Refused refusals.TooMany) h = absurd h
 lookup_tree inventory interval source (Refused refusals.LengthOfDelta) h = absurd h
 lookup_tree inventory interval source (Refused refusals.DoubledSegment) h = absurd h
+lookup_tree inventory interval source (Refused refusals.BadPage) h = absurd h
 lookup_tree inventory interval source (Refused refusals.UnknownNode) h = absurd h
 lookup_tree inventory interval source (Refused refusals.OtherIncarnation) h = absurd h
 lookup_tree inventory interval source (Refused refusals.Gap) h = absurd h
 lookup_tree inventory interval source (Refused refusals.NotStrict) h = absurd h
 lookup_tree inventory interval source (Refused refusals.TooManySegments) h = absurd h
 lookup_tree inventory interval source (Refused refusals.Conflict) h = absurd h
+lookup_tree inventory interval source (Refused refusals.PageConflict) h = absurd h
 lookup_tree inventory interval source (Refused refusals.OtherNodes) h = absurd h
 lookup_tree inventory interval source (Refused refusals.OtherSets) h = absurd h
 lookup_tree inventory interval source (Taken count) h = absurd h

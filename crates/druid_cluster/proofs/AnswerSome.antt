@@ -15,7 +15,7 @@ use Rattle.druid_time.specs.declared.fault.TimeFault.{TimeFault}
 use Rattle.druid_time.specs.declared.fault.TimeFault.TheVariants as times
 use Rattle.druid_segid.specs.Names.{IsName, max_name, is_name_byte}
 use Rattle.druid_shard.specs.declared.reply.Body.{Body}
-use Rattle.druid_shard.specs.declared.reply.Body.TheVariants.{Delta, Snapshot, Reset}
+use Rattle.druid_shard.specs.declared.reply.Body.TheVariants.{Delta, Snapshot, Page, Reset}
 use Rattle.druid_time.specs.Options.{◌>>=◌}
 use Rattle.druid_inventory.specs.Entry.{Entry, fresh, HaveOwnNames}
 use Rattle.druid_inventory.specs.Step.{Steps, Refuses}
@@ -75,6 +75,7 @@ refused_some inventory node d body read e got steps.UnknownNode h = absurd (unsa
   unsaid : (b : Body) → Refuses e b steps.UnknownNode → ⊥
   unsaid (Delta from to changes) h = h
   unsaid (Snapshot at set) h = h
+  unsaid (Page at page of segments) h = h
   unsaid (Reset cause at) h = h
 refused_some inventory node d body read e got steps.OtherIncarnation h =
     (Refused refusals.OtherIncarnation, inventory, (inr (body, read, steps.OtherIncarnation, (e, got, h), refl), refl))
@@ -86,10 +87,13 @@ refused_some inventory node d body read e got steps.TooMany h =
     (Refused refusals.TooManySegments, inventory, (inr (body, read, steps.TooMany, (e, got, h), refl), refl))
 refused_some inventory node d body read e got steps.Conflict h =
     (Refused refusals.Conflict, inventory, (inr (body, read, steps.Conflict, (e, got, h), refl), refl))
+refused_some inventory node d body read e got steps.PageConflict h =
+    (Refused refusals.PageConflict, inventory, (inr (body, read, steps.PageConflict, (e, got, h), refl), refl))
 refused_some inventory node d body read e got steps.Memory h = absurd (unsaid body h) where
   unsaid : (b : Body) → Refuses e b steps.Memory → ⊥
   unsaid (Delta from to changes) h = h
   unsaid (Snapshot at set) h = h
+  unsaid (Page at page of segments) h = h
   unsaid (Reset cause at) h = h
 
 entry_some : (inventory : List Entry) (node : ℕ) (d : Data) (body : Body) → IsRead d (Ok body) → (e : Entry) → slice_get inventory node ≡ Some e

@@ -96,6 +96,30 @@ sorted_cons y zs h before (suc k) d l =
 sorted_nil : AreSorted []
 sorted_nil k d l = absurd (omega (arith, l))
 
+-- what comes before the first comes before each
+before_each : (x y : Described) (ys : List Described) → AreSorted (y ∷ ys) → IsBefore x y → (d : Described) → Contains (y ∷ ys) d → IsBefore x d
+before_each x y ys h before d there =
+    elim (Contains-cons y ys d there) [
+      | inl here ↦ subst (IsBefore x) here before
+      | inr later ↦ nat_list_cmp_total.trans (identifier_text x.id) (identifier_text y.id) (identifier_text d.id) before (by_identifier.later y ys d h later)
+    ]
+
+before_decided : (x y : Described) → Decided (IsBefore x y)
+before_decided x y = by (slice_cmp nat_cmp (identifier_text x.id) (identifier_text y.id)) refl where
+  by : (o : Ordering) → slice_cmp nat_cmp (identifier_text x.id) (identifier_text y.id) ≡ o → Decided (IsBefore x y)
+  by Less e = inl e
+  by Equal e = inr (λ h. absurd (cc))
+  by Greater e = inr (λ h. absurd (cc))
+
+pub sorted_decided : (ds : List Described) → Decided (AreSorted ds)
+sorted_decided [] = inl sorted_nil
+sorted_decided (x ∷ []) = inl (sorted_cons x [] sorted_nil (λ d there. absurd (Contains-nil d there)))
+sorted_decided (x ∷ y ∷ ys) = by (before_decided x y) (sorted_decided (y ∷ ys)) where
+  by : Decided (IsBefore x y) → Decided (AreSorted (y ∷ ys)) → Decided (AreSorted (x ∷ y ∷ ys))
+  by (inl before) (inl rest) = inl (sorted_cons x (y ∷ ys) rest (before_each x y ys rest before))
+  by (inl before) (inr none) = inr (λ h. none (by_identifier.tail x (y ∷ ys) h))
+  by (inr other) rest = inr (λ h. other (h 0 x (omega arith)))
+
 abbrev Placed : Described → List Described → Type 0
 Placed x ys = (zs : List Described) × IsPermutation (x ∷ ys) zs × AreSorted zs
 
@@ -110,15 +134,8 @@ placed x (y ∷ ys) h none =
             | inr later ↦ by_identifier.later y ys d h later
           ]
 
-      ahead : IsBefore x y → (d : Described) → Contains (y ∷ ys) d → IsBefore x d
-      ahead before d there =
-          elim (Contains-cons y ys d there) [
-            | inl here ↦ subst (IsBefore x) here before
-            | inr later ↦ nat_list_cmp_total.trans (identifier_text x.id) (identifier_text y.id) (identifier_text d.id) before (by_identifier.later y ys d h later)
-          ]
-
       by : (o : Ordering) → slice_cmp nat_cmp (identifier_text x.id) (identifier_text y.id) ≡ o → Placed x ys → Placed x (y ∷ ys)
-      by Less e rest = (x ∷ y ∷ ys, IsPermutation-refl (x ∷ y ∷ ys), sorted_cons x (y ∷ ys) h (ahead e))
+      by Less e rest = (x ∷ y ∷ ys, IsPermutation-refl (x ∷ y ∷ ys), sorted_cons x (y ∷ ys) h (before_each x y ys h e))
       by Equal e rest =
           absurd (none y (0, omega arith, refl) (sym (slice_cmp-Equal (identifier_text x.id) (identifier_text y.id) e)))
       by Greater e rest =

@@ -4,7 +4,7 @@ use Rattle.std.proofs.lemmas.List.Elements.{All-set, All-replicate, All-head, Al
 use Rattle.std.proofs.lemmas.Option.{same_Some, none-some}
 use Rattle.serde_json.specs.Data.{Data}
 use Rattle.druid_shard.specs.declared.reply.Body.{Body}
-use Rattle.druid_shard.specs.declared.reply.Body.TheVariants.{Delta, Snapshot, Reset}
+use Rattle.druid_shard.specs.declared.reply.Body.TheVariants.{Delta, Snapshot, Page, Reset}
 use Rattle.druid_inventory.specs.Entry.{Entry, fresh}
 use Rattle.druid_inventory.specs.Join.{names_of, RefusesJoin}
 use Rattle.druid_inventory.specs.Step.{Steps}
@@ -13,7 +13,7 @@ use Rattle.druid_inventory.specs.declared.fault.ApplyFault.TheVariants as steps
 use Rattle.druid_inventory.specs.declared.fault.JoinFault.{JoinFault}
 use Rattle.druid_inventory.specs.declared.fault.JoinFault.TheVariants as joins
 use Rattle.druid_inventory.specs.declared.fault.Outcome.{Outcome}
-use Rattle.druid_inventory.specs.declared.fault.Outcome.TheVariants.{Moved, AlreadyHave, AskWhole}
+use Rattle.druid_inventory.specs.declared.fault.Outcome.TheVariants.{Moved, AlreadyHave, AskWhole, AskPages}
 use Rattle.druid_inventory.proofs.JoinLemmas.{later_each-names}
 use Rattle.druid_sync.specs.declared.fault.SyncFault.{SyncFault}
 use Rattle.druid_sync.specs.declared.fault.SyncFault.TheVariants as replies
@@ -35,12 +35,19 @@ Steps-name : (e : Entry) (b : Body) (o : Outcome) (new : Entry) → Steps e b o 
 Steps-name e (Delta from to changes) Moved new h = ap (λ (x : Entry). x.name) h.3
 Steps-name e (Delta from to changes) AlreadyHave new h = ap (λ (x : Entry). x.name) h.2
 Steps-name e (Delta from to changes) AskWhole new h = absurd h
+Steps-name e (Delta from to changes) AskPages new h = absurd h
 Steps-name e (Snapshot at set) Moved new h = ap (λ (x : Entry). x.name) h.1
 Steps-name e (Snapshot at set) AlreadyHave new h = ap (λ (x : Entry). x.name) h.1
 Steps-name e (Snapshot at set) AskWhole new h = absurd h
+Steps-name e (Snapshot at set) AskPages new h = absurd h
+Steps-name e (Page at page of segments) Moved new h = absurd h
+Steps-name e (Page at page of segments) AlreadyHave new h = absurd h
+Steps-name e (Page at page of segments) AskWhole new h = absurd h
+Steps-name e (Page at page of segments) AskPages new h = ap (λ (x : Entry). x.name) h
 Steps-name e (Reset cause at) Moved new h = absurd h
 Steps-name e (Reset cause at) AlreadyHave new h = absurd h
 Steps-name e (Reset cause at) AskWhole new h = ap (λ (x : Entry). x.name) h
+Steps-name e (Reset cause at) AskPages new h = absurd h
 
 names_set : (es : List Entry) (i : ℕ) (e new : Entry) → slice_get es i ≡ Some e → new.name ≡ e.name → names_of (slice_set es i new) ≡ names_of es
 names_set [] i e new f h = refl
@@ -107,6 +114,7 @@ unread_other replies.Shape e = absurd cc
 unread_other replies.TooMany e = absurd cc
 unread_other replies.LengthOfDelta e = absurd cc
 unread_other replies.DoubledSegment e = absurd cc
+unread_other replies.BadPage e = absurd cc
 unread_other replies.Memory e = absurd cc
 
 applied_other : (fault : ApplyFault) → not_applied fault ≡ Some refusals.OtherNodes → ⊥
@@ -116,6 +124,7 @@ applied_other steps.Gap e = absurd cc
 applied_other (steps.NotStrict index) e = absurd cc
 applied_other steps.TooMany e = absurd cc
 applied_other steps.Conflict e = absurd cc
+applied_other steps.PageConflict e = absurd cc
 applied_other steps.Memory e = absurd cc
 
 reply_other : (inventory new : List Entry) (node : ℕ) (d : Data) → TakesReply inventory node d (Refused refusals.OtherNodes) new → ⊥

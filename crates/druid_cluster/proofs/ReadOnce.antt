@@ -1,15 +1,15 @@
 -- A reply is read in one way, where memory is not wanted.
-use Rattle.std.proofs.Common.{◌≡◌, ◌<◌, ◌≤◌, List, length, Option, None, Some, Result, Ok, Err, ◌⊎◌, inl, inr, refl, sym, ap, ◌∙◌, arith}
+use Rattle.std.proofs.Common.{◌≡◌, ◌<◌, ◌≤◌, ℕ, List, length, Option, None, Some, Result, Ok, Err, ◌⊎◌, inl, inr, refl, sym, ap, ◌∙◌, arith}
 use Rattle.std.proofs.lemmas.List.Sorted.{length_permutation, IsPermutation-sym}
 use Rattle.druid_shard.specs.Described.{Described}
 use Rattle.druid_shard.specs.Mark.{Point}
-use Rattle.druid_shard.specs.Reply.{max_segments, max_changes, HaveOwnIdentifiers, IsAsFar}
+use Rattle.druid_shard.specs.Reply.{max_segments, max_page, max_changes, HaveOwnIdentifiers, IsAsFar, IsPageOf}
 use Rattle.druid_shard.specs.ReplyBody.{IsSnapshotOf}
 use Rattle.druid_shard.specs.declared.change.Change.{Change}
 use Rattle.druid_shard.specs.declared.reply.Body.{Body}
-use Rattle.druid_shard.specs.declared.reply.Body.TheVariants.{Delta, Snapshot, Reset}
+use Rattle.druid_shard.specs.declared.reply.Body.TheVariants.{Delta, Snapshot, Page, Reset}
 use Rattle.druid_shard.proofs.SortedLemmas.{AreSorted-own, own-permutation}
-use Rattle.druid_sync.specs.Read.{Form, followed, whole, begun_again, IsDeltaRead, IsSnapshotRead, Answers}
+use Rattle.druid_sync.specs.Read.{Form, followed, whole, paged, begun_again, IsDeltaRead, IsSnapshotRead, IsPageRead, Answers}
 use Rattle.druid_sync.specs.declared.fault.SyncFault.{SyncFault}
 use Rattle.druid_sync.specs.declared.fault.SyncFault.TheVariants as faults
 use Rattle.druid_cluster.proofs.OrderOnce.{sorted_once}
@@ -42,6 +42,7 @@ delta_tree from to changes (Err faults.Shape) h known = absurd h
 delta_tree from to changes (Err faults.TooMany) h known = inl (h, refl)
 delta_tree from to changes (Err faults.LengthOfDelta) h known = inr (h.0, inl (h.1, refl))
 delta_tree from to changes (Err faults.DoubledSegment) h known = absurd h
+delta_tree from to changes (Err faults.BadPage) h known = absurd h
 delta_tree from to changes (Err faults.Memory) h known = absurd (known refl)
 
 far_once : (from to : Point) (changes : List Change) (r q : Read) → OfFar from to changes r → OfFar from to changes q → r ≡ q
@@ -74,11 +75,13 @@ few mark given (Snapshot at set) h =
     let same = length_permutation given set h.1 in
     let short = h.2.few in
     omega (arith, same, short)
+few mark given (Page at page of segments) h = absurd h
 few mark given (Reset cause at) h = absurd h
 
 own : (mark : Point) (given : List Described) (body : Body) → IsSnapshotOf mark given body → HaveOwnIdentifiers given
 own mark given (Delta from to changes) h = absurd h
 own mark given (Snapshot at set) h = own-permutation set given (IsPermutation-sym given set h.1) (AreSorted-own set h.2.sorted)
+own mark given (Page at page of segments) h = absurd h
 own mark given (Reset cause at) h = absurd h
 
 snapshot_tree : (at : Point) (segments : List Described) (r : Read) → IsSnapshotRead at segments r → IsKnown r → OfSnapshot at segments r
@@ -88,12 +91,15 @@ snapshot_tree at segments (Err faults.Shape) h known = absurd h
 snapshot_tree at segments (Err faults.TooMany) h known = inl (h, refl)
 snapshot_tree at segments (Err faults.LengthOfDelta) h known = absurd h
 snapshot_tree at segments (Err faults.DoubledSegment) h known = inr (h.0, inl (h.1, refl))
+snapshot_tree at segments (Err faults.BadPage) h known = absurd h
 snapshot_tree at segments (Err faults.Memory) h known = absurd (known refl)
 
 body_once : (mark : Point) (given : List Described) (a b : Body) → IsSnapshotOf mark given a → IsSnapshotOf mark given b → a ≡ b
 body_once mark given (Delta from to changes) b h k = absurd h
+body_once mark given (Page at page of segments) b h k = absurd h
 body_once mark given (Reset cause at) b h k = absurd h
 body_once mark given (Snapshot at set) (Delta from to changes) h k = absurd k
+body_once mark given (Snapshot at set) (Page to page of segments) h k = absurd k
 body_once mark given (Snapshot at set) (Reset cause to) h k = absurd k
 body_once mark given (Snapshot at set) (Snapshot to other) h k =
     let marks : at ≡ to = h.0 ∙ sym k.0 in
@@ -112,6 +118,40 @@ snapshot_once at segments r q (inl x) (inr y) = absurd (omega (arith, x.0, y.0))
 snapshot_once at segments r q (inr x) (inl y) = absurd (omega (arith, x.0, y.0))
 snapshot_once at segments r q (inr x) (inr y) = own_once at segments r q x.1 y.1
 
+-- ---- a page: what is judged, in order
+
+abbrev OfPlace : Point → ℕ → ℕ → List Described → Read → Type 0
+OfPlace at page of segments r =
+    ((IsPageOf page of segments → ⊥) × (r ≡ Err faults.BadPage))
+    ⊎ (IsPageOf page of segments × (r ≡ Ok (Page at page of segments)))
+
+abbrev OfPage : Point → ℕ → ℕ → List Described → Read → Type 0
+OfPage at page of segments r =
+    ((max_page < length segments) × (r ≡ Err faults.TooMany))
+    ⊎ ((length segments ≤ max_page) × OfPlace at page of segments r)
+
+page_tree : (at : Point) (page of : ℕ) (segments : List Described) (r : Read) → IsPageRead at page of segments r → IsKnown r → OfPage at page of segments r
+page_tree at page of segments (Ok body) h known = inr (h.1.few, inr (h.1, ap Ok h.0))
+page_tree at page of segments (Err faults.NotJson) h known = absurd h
+page_tree at page of segments (Err faults.Shape) h known = absurd h
+page_tree at page of segments (Err faults.TooMany) h known = inl (h, refl)
+page_tree at page of segments (Err faults.LengthOfDelta) h known = absurd h
+page_tree at page of segments (Err faults.DoubledSegment) h known = absurd h
+page_tree at page of segments (Err faults.BadPage) h known = inr (h.0, inl (h.1, refl))
+page_tree at page of segments (Err faults.Memory) h known = absurd (known refl)
+
+place_once : (at : Point) (page of : ℕ) (segments : List Described) (r q : Read) → OfPlace at page of segments r → OfPlace at page of segments q → r ≡ q
+place_once at page of segments r q (inl x) (inl y) = both _ r q x.1 y.1
+place_once at page of segments r q (inl x) (inr y) = absurd (x.0 y.0)
+place_once at page of segments r q (inr x) (inl y) = absurd (y.0 x.0)
+place_once at page of segments r q (inr x) (inr y) = both _ r q x.1 y.1
+
+page_once : (at : Point) (page of : ℕ) (segments : List Described) (r q : Read) → OfPage at page of segments r → OfPage at page of segments q → r ≡ q
+page_once at page of segments r q (inl x) (inl y) = both _ r q x.1 y.1
+page_once at page of segments r q (inl x) (inr y) = absurd (omega (arith, x.0, y.0))
+page_once at page of segments r q (inr x) (inl y) = absurd (omega (arith, x.0, y.0))
+page_once at page of segments r q (inr x) (inr y) = place_once at page of segments r q x.1 y.1
+
 -- ---- a value of any form, or of none
 
 pub read_once : (f : Option Form) (r q : Result Body SyncFault) → Answers f r → Answers f q → IsKnown r → IsKnown q → r ≡ q
@@ -120,4 +160,6 @@ read_once (Some (followed from to changes)) r q h k known too =
     delta_once from to changes r q (delta_tree from to changes r h known) (delta_tree from to changes q k too)
 read_once (Some (whole at segments)) r q h k known too =
     snapshot_once at segments r q (snapshot_tree at segments r h known) (snapshot_tree at segments q k too)
+read_once (Some (paged at page of segments)) r q h k known too =
+    page_once at page of segments r q (page_tree at page of segments r h known) (page_tree at page of segments q k too)
 read_once (Some (begun_again cause at)) r q h k known too = h ∙ sym k

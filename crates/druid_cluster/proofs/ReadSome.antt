@@ -1,5 +1,5 @@
 -- Each value is read as a reply, or refused as one.
-use Rattle.std.proofs.Common.{◌≡◌, ℕ, ◌+◌, ◌<◌, ◌≤◌, Bool, true, false, cond, nat_le, List, codes, length, Option, None, Some, is_some, option_and_then, Ok, Err, ◌⊎◌, inl, inr, refl, ap, subst, arith}
+use Rattle.std.proofs.Common.{◌≡◌, ℕ, ◌+◌, ◌<◌, ◌≤◌, Bool, true, false, cond, nat_le, List, codes, length, Option, None, Some, is_some, option_and_then, Ok, Err, ◌⊎◌, inl, inr, ⊎_elim, refl, ap, subst, arith}
 use Rattle.std.specs.Prelude.{⊤}
 use Rattle.std.proofs.lemmas.Bool.{cases_lt, cases_eq}
 use Rattle.std.proofs.lemmas.Bool.Decides.{nat_tests}
@@ -10,20 +10,20 @@ use Rattle.serde_json.specs.Find.{get, as_null, as_bool, as_array}
 use Rattle.druid_time.specs.Options.{◌>>=◌}
 use Rattle.druid_segid.specs.Identifier.{identifier_text}
 use Rattle.druid_shard.specs.Described.{Described}
-use Rattle.druid_shard.specs.Json.{number_at}
+use Rattle.druid_shard.specs.Json.{number_at, limited_at}
 use Rattle.druid_shard.specs.Mark.{Point}
-use Rattle.druid_shard.specs.Reply.{max_segments, max_changes, HaveOwnIdentifiers, IsAsFar}
+use Rattle.druid_shard.specs.Reply.{max_segments, max_page, max_pages, max_changes, AreSorted, HaveOwnIdentifiers, IsAsFar, IsFull, IsPageOf}
 use Rattle.druid_shard.specs.declared.change.Change.{Change}
 use Rattle.druid_shard.specs.declared.reply.Body.{Body}
-use Rattle.druid_shard.specs.declared.reply.Body.TheVariants.{Delta, Snapshot, Reset}
+use Rattle.druid_shard.specs.declared.reply.Body.TheVariants.{Delta, Snapshot, Page, Reset}
 use Rattle.druid_shard.specs.Each.{each_of}
-use Rattle.druid_sync.specs.Read.{Form, followed, whole, begun_again, Five, mark_at, change_at, load_at, cause_at, none_in, five_at, reset_at, snapshot_at, delta_at, changes_at, form_at, Answers}
+use Rattle.druid_sync.specs.Read.{Form, followed, whole, paged, begun_again, Five, mark_at, change_at, load_at, cause_at, none_in, five_at, reset_at, snapshot_at, delta_at, changes_at, page_at, paged_at, tells_page, unpaged_at, form_at, Answers}
 use Rattle.druid_sync.specs.declared.fault.SyncFault.{SyncFault}
 use Rattle.druid_sync.specs.declared.fault.SyncFault.TheVariants as faults
 use Rattle.druid_cluster.specs.Serving.{unread}
 use Rattle.druid_cluster.specs.declared.answer.Refusal.{Refusal}
 use Rattle.druid_cluster.specs.declared.answer.Refusal.TheVariants as refusals
-use Rattle.druid_cluster.proofs.Decided.{Decided, own_decided, in_order}
+use Rattle.druid_cluster.proofs.Decided.{Decided, own_decided, sorted_decided, in_order}
 
 -- ---- the mark of a snapshot
 
@@ -94,6 +94,7 @@ five_marked d =
 abbrev pub IsMarkedForm : Form → Type 0
 IsMarkedForm (followed from to changes) = ⊤
 IsMarkedForm (whole at segments) = IsMarked at
+IsMarkedForm (paged at page of segments) = ⊤
 IsMarkedForm (begun_again cause at) = ⊤
 
 reset_marked : (five : Five) (form : Form) → reset_at five ≡ Some form → IsMarkedForm form
@@ -129,15 +130,44 @@ changes_marked five marked =
     (λ _. cond (is_some (as_null five.from)) (snapshot_at five.at five.requests) (delta_at five.at five.from five.requests))
     (λ _ _. either_marked five marked (is_some (as_null five.from)))
 
-form_of_five : (five : Five) → IsMarkedFive five → (b : Bool) (form : Form) → cond b (reset_at five) (changes_at five) ≡ Some form → IsMarkedForm form
-form_of_five five marked true form e = reset_marked five form e
-form_of_five five marked false form e = changes_marked five marked form e
+page_marked : (at : Point) (page of : ℕ) (requests : Items) (form : Form) → page_at at page of requests ≡ Some form → IsMarkedForm form
+unfolding page_at
+page_marked at page of requests =
+    each_next IsMarkedForm (each_of load_at requests) (λ segments. Some (paged at page of segments))
+    (λ segments _. given_so IsMarkedForm (paged at page of segments) tt)
+
+unless_reset : (at : Point) (page of : ℕ) (requests : Items) (b : Bool) (form : Form)
+    → cond b None (page_at at page of requests) ≡ Some form → IsMarkedForm form
+unless_reset at page of requests true form e = absurd cc
+unless_reset at page of requests false form e = page_marked at page of requests form e
+
+paged_marked : (d : Data) (five : Five) (form : Form) → paged_at d five ≡ Some form → IsMarkedForm form
+unfolding paged_at
+paged_marked d five =
+    each_next IsMarkedForm (limited_at 65_535 (codes "page") d)
+    (λ page. limited_at 65_535 (codes "pages") d >>= λ of. as_null five.from >>= λ _. as_null five.cause >>= λ _. cond five.reset None (page_at five.at page of five.requests))
+    (λ page _. each_next IsMarkedForm (limited_at 65_535 (codes "pages") d)
+    (λ of. as_null five.from >>= λ _. as_null five.cause >>= λ _. cond five.reset None (page_at five.at page of five.requests))
+    (λ of _. each_next IsMarkedForm (as_null five.from)
+    (λ _. as_null five.cause >>= λ _. cond five.reset None (page_at five.at page of five.requests))
+    (λ _ _. each_next IsMarkedForm (as_null five.cause)
+    (λ _. cond five.reset None (page_at five.at page of five.requests))
+    (λ _ _. unless_reset five.at page of five.requests five.reset))))
+
+unpaged_marked : (five : Five) → IsMarkedFive five → (b : Bool) (form : Form) → cond b (reset_at five) (changes_at five) ≡ Some form → IsMarkedForm form
+unpaged_marked five marked true form e = reset_marked five form e
+unpaged_marked five marked false form e = changes_marked five marked form e
+
+form_of_five : (d : Data) (five : Five) → IsMarkedFive five → (b : Bool) (form : Form)
+    → cond b (paged_at d five) (unpaged_at five) ≡ Some form → IsMarkedForm form
+form_of_five d five marked true form e = paged_marked d five form e
+form_of_five d five marked false form e = unpaged_marked five marked five.reset form e
 
 form_marked : (d : Data) (form : Form) → form_at d ≡ Some form → IsMarkedForm form
 unfolding form_at
 form_marked d =
-    each_next IsMarkedForm (five_at d) (λ five. cond five.reset (reset_at five) (changes_at five))
-    (λ five read. form_of_five five (five_marked d five read) five.reset)
+    each_next IsMarkedForm (five_at d) (λ five. cond (tells_page d) (paged_at d five) (unpaged_at five))
+    (λ five read. form_of_five d five (five_marked d five read) (tells_page d))
 
 -- ---- answers
 
@@ -170,6 +200,35 @@ snapshot_some at segments marked (inr short) (inl own) =
     let same = length_permutation segments sorted.0 sorted.1 in
     inl (Snapshot at sorted.0, (refl, sorted.1, record { incarnation = marked; few = omega (arith, same, short); sorted = sorted.2 }))
 
+full_decided : (page of count : ℕ) → Decided (IsFull page of count)
+full_decided page of count = by (cases_eq count max_page) (cases_lt 0 count) (cases_eq (page + 1) of) where
+  by : Decided (count ≡ max_page) → (0 < count) ⊎ (count ≤ 0) → Decided (page + 1 ≡ of) → Decided (IsFull page of count)
+  by (inl full) some last = inl (inl full)
+  by (inr other) (inl some) (inl last) = inl (inr (omega (arith, some), last))
+  by (inr other) (inl some) (inr before) = inr (λ h. ⊎_elim other (λ x. before x.1) h)
+  by (inr other) (inr none) last = inr (λ h. ⊎_elim other (λ x. let some = x.0 in omega (arith, some, none)) h)
+
+page_decided : (page of : ℕ) (segments : List Described) → length segments ≤ max_page → Decided (IsPageOf page of segments)
+page_decided page of segments few =
+    by (cases_lt 1 of) (cases_lt max_pages of) (cases_lt page of) (full_decided page of (length segments)) (sorted_decided segments) where
+      by : (1 < of) ⊎ (of ≤ 1) → (max_pages < of) ⊎ (of ≤ max_pages) → (page < of) ⊎ (of ≤ page)
+          → Decided (IsFull page of (length segments)) → Decided (AreSorted segments) → Decided (IsPageOf page of segments)
+      by (inr one) many within full sorted = inr (λ h. let several = h.several in omega (arith, several, one))
+      by (inl several) (inl many) within full sorted = inr (λ h. let not_many = h.not_many in omega (arith, not_many, many))
+      by (inl several) (inr not_many) (inr past) full sorted = inr (λ h. let within = h.within in omega (arith, within, past))
+      by (inl several) (inr not_many) (inl within) (inr short) sorted = inr (λ h. short h.full)
+      by (inl several) (inr not_many) (inl within) (inl full) (inr other) = inr (λ h. other h.sorted)
+      by (inl several) (inr not_many) (inl within) (inl full) (inl sorted) =
+          inl (record { several = omega (arith, several); not_many = not_many; within = within; few = few; full = full; sorted = sorted })
+
+page_some : (at : Point) (page of : ℕ) (segments : List Described) → (max_page < length segments) ⊎ (length segments ≤ max_page)
+    → IsReadSo (Some (paged at page of segments))
+page_some at page of segments (inl long) = inr (faults.TooMany, refusals.TooMany, long, refl)
+page_some at page of segments (inr short) = by (page_decided page of segments short) where
+  by : Decided (IsPageOf page of segments) → IsReadSo (Some (paged at page of segments))
+  by (inl is) = inl (Page at page of segments, (refl, is))
+  by (inr none) = inr (faults.BadPage, refusals.BadPage, (short, none), refl)
+
 form_some : (f : Option Form) → ((form : Form) → f ≡ Some form → IsMarkedForm form) → IsReadSo f
 form_some None marked = inr (faults.Shape, refusals.Shape, refl, refl)
 form_some (Some (followed from to changes)) marked =
@@ -177,6 +236,7 @@ form_some (Some (followed from to changes)) marked =
 form_some (Some (whole at segments)) marked =
     snapshot_some at segments (marked (whole at segments) refl) (cases_lt max_segments (length segments))
     (own_decided (λ (x : Described). identifier_text x.id) segments)
+form_some (Some (paged at page of segments)) marked = page_some at page of segments (cases_lt max_page (length segments))
 form_some (Some (begun_again cause at)) marked = inl (Reset cause at, refl)
 
 pub read_some : (d : Data) → IsReadSo (form_at d)

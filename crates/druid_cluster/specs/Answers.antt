@@ -8,7 +8,7 @@ use Rattle.druid_shard.specs.Mark.{Point}
 use Rattle.druid_sync.specs.Written.{mark_data}
 use Rattle.druid_timeline.specs.Pieces.{Told}
 use Rattle.druid_inventory.specs.declared.fault.Outcome.{Outcome}
-use Rattle.druid_inventory.specs.declared.fault.Outcome.TheVariants.{Moved, AlreadyHave, AskWhole}
+use Rattle.druid_inventory.specs.declared.fault.Outcome.TheVariants.{Moved, AlreadyHave, AskWhole, AskPages}
 use Rattle.druid_cluster.specs.declared.answer.Refusal.{Refusal}
 use Rattle.druid_cluster.specs.declared.answer.Refusal.TheVariants as refusals
 use Rattle.druid_cluster.specs.declared.answer.Answer.{Answer}
@@ -25,12 +25,14 @@ code_of refusals.Shape = codes "Y2"
 code_of refusals.TooMany = codes "Y5"
 code_of refusals.LengthOfDelta = codes "Y3"
 code_of refusals.DoubledSegment = codes "Y4"
+code_of refusals.BadPage = codes "Y7"
 code_of refusals.UnknownNode = codes "A1"
 code_of refusals.OtherIncarnation = codes "A3"
 code_of refusals.Gap = codes "A2"
 code_of refusals.NotStrict = codes "A4"
 code_of refusals.TooManySegments = codes "A6"
 code_of refusals.Conflict = codes "A5"
+code_of refusals.PageConflict = codes "A7"
 code_of refusals.OtherNodes = codes "J1"
 code_of refusals.OtherSets = codes "J2"
 
@@ -38,6 +40,7 @@ abbrev pub outcome_text : Outcome → List ℕ
 outcome_text Moved = codes "Moved"
 outcome_text AlreadyHave = codes "AlreadyHave"
 outcome_text AskWhole = codes "AskWhole"
+outcome_text AskPages = codes "AskPages"
 
 -- an object of one member
 abbrev pub lone : List ℕ → Data → Data

@@ -46,6 +46,7 @@ unread replies.Shape = Some refusals.Shape
 unread replies.TooMany = Some refusals.TooMany
 unread replies.LengthOfDelta = Some refusals.LengthOfDelta
 unread replies.DoubledSegment = Some refusals.DoubledSegment
+unread replies.BadPage = Some refusals.BadPage
 unread replies.Memory = None
 
 -- what tells that a reply was not applied
@@ -56,6 +57,7 @@ not_applied steps.Gap = Some refusals.Gap
 not_applied (steps.NotStrict index) = Some refusals.NotStrict
 not_applied steps.TooMany = Some refusals.TooManySegments
 not_applied steps.Conflict = Some refusals.Conflict
+not_applied steps.PageConflict = Some refusals.PageConflict
 not_applied steps.Memory = None
 
 -- a reply of a node is refused: it is read first, then the node is looked for, and then comes the step

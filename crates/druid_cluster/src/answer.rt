@@ -27,12 +27,14 @@ pub enum Refusal {
     DoubledNode,
     /// Y2: not a reply.
     Shape,
-    /// Y5: a snapshot of more than 20,000 segments, or a delta of more than 1,000 changes.
+    /// Y5: a snapshot of more than 200,000 segments, a page of more than 20,000, or a delta of more than 1,000 changes.
     TooMany,
     /// Y3: a delta whose marks are not as far apart as it has changes.
     LengthOfDelta,
     /// Y4: an identifier stands twice in a snapshot.
     DoubledSegment,
+    /// Y7: no page of 2 to 10, whose segments rise, and of which all but the last are full.
+    BadPage,
     /// A1: no such node.
     UnknownNode,
     /// A3: the delta is of another incarnation of the node.
@@ -41,10 +43,12 @@ pub enum Refusal {
     Gap,
     /// A4: a load of a segment whose identifier is held, or a drop of one that is not held as it is.
     NotStrict,
-    /// A6: a load onto 20,000 segments.
+    /// A6: a load onto 200,000 segments.
     TooManySegments,
     /// A5: the mark is the one held, and the set is another.
     Conflict,
+    /// A7: pages that tell of several snapshots at one mark. No page is put to others here, so none is refused so.
+    PageConflict,
     /// J1: inventories of other nodes.
     OtherNodes,
     /// J2: inventories that have other sets at one mark.
@@ -66,12 +70,14 @@ impl Refusal {
             Refusal::TooMany => "Y5",
             Refusal::LengthOfDelta => "Y3",
             Refusal::DoubledSegment => "Y4",
+            Refusal::BadPage => "Y7",
             Refusal::UnknownNode => "A1",
             Refusal::OtherIncarnation => "A3",
             Refusal::Gap => "A2",
             Refusal::NotStrict => "A4",
             Refusal::TooManySegments => "A6",
             Refusal::Conflict => "A5",
+            Refusal::PageConflict => "A7",
             Refusal::OtherNodes => "J1",
             Refusal::OtherSets => "J2",
         }
@@ -171,6 +177,7 @@ fn outcome_text(outcome: Outcome) -> &'static str
         Outcome::Moved => "Moved",
         Outcome::AlreadyHave => "AlreadyHave",
         Outcome::AskWhole => "AskWhole",
+        Outcome::AskPages => "AskPages",
     }
 }
 

@@ -106,6 +106,7 @@ fn unread(fault: SyncFault) -> Option<Refusal>
         SyncFault::TooMany => Some(Refusal::TooMany),
         SyncFault::LengthOfDelta => Some(Refusal::LengthOfDelta),
         SyncFault::DoubledSegment => Some(Refusal::DoubledSegment),
+        SyncFault::BadPage => Some(Refusal::BadPage),
         SyncFault::Memory => None,
     }
 }
@@ -121,6 +122,7 @@ fn not_applied(fault: ApplyFault) -> Option<Refusal>
         ApplyFault::NotStrict { .. } => Some(Refusal::NotStrict),
         ApplyFault::TooMany => Some(Refusal::TooManySegments),
         ApplyFault::Conflict => Some(Refusal::Conflict),
+        ApplyFault::PageConflict => Some(Refusal::PageConflict),
         ApplyFault::Memory => None,
     }
 }

@@ -1,12 +1,14 @@
 -- What a data node of ours answers to an ask is the answer of its history.
-use Rattle.std.proofs.Common.{◌≡◌, inl, inr, ℕ, List, Option, Some, Result, Ok, sym, ap, ◌∙◌, subst, arith}
+use Rattle.std.proofs.Common.{◌≡◌, inl, inr, ℕ, List, Option, Some, None, Result, Ok, sym, ap, ◌∙◌, subst, arith}
 use Rattle.std.proofs.lemmas.Option.{same_Some}
 use Rattle.druid_shard.specs.ReplyBody.{IsReply}
 use Rattle.druid_shard.specs.declared.change.Ask.{Ask}
 use Rattle.druid_shard.specs.declared.change.Ask.TheVariants.{Whole, Since}
+use Rattle.druid_shard.specs.declared.change.Ask.TheVariants as asks
+use Rattle.druid_shard.specs.declared.change.Change.{Change}
 use Rattle.druid_shard.specs.declared.reply.Body.{Body}
-use Rattle.druid_shard.specs.declared.reply.Body.TheVariants.{Delta, Snapshot, Reset}
-use Rattle.druid_changes.specs.Kept.{Kept}
+use Rattle.druid_shard.specs.declared.reply.Body.TheVariants.{Delta, Snapshot, Page, Reset}
+use Rattle.druid_changes.specs.Kept.{Frozen, StandsFrozen, frozen_count}
 use Rattle.druid_sync.specs.Asks.{ask_at, parameters_of}
 use Rattle.druid_sync.specs.Back.{IsReadBack}
 use Rattle.druid_sync.specs.Written.{reply_data, reply_text}
@@ -19,22 +21,21 @@ use Rattle.druid_node.specs.Routes.{IsReplyTo, AnswersFound, AnswersAsk, Respond
 use Rattle.druid_broker.specs.Turns.{ask_request, IsAnswerTo}
 use Rattle.druid_changes.specs.Answer.{answer}
 use Rattle.druid_world.specs.World.{Life, IsLife, IsHonest, eras_of}
-use Rattle.druid_world.proofs.WorldLemmas.{answer_true}
+use Rattle.druid_world.proofs.WorldLemmas.{HasFrozen, answer_true}
 use Rattle.druid_headline.specs.Headline.{IsLastOf}
-use Rattle.druid_headline.proofs.HonestLemmas.{written_is}
-
-same_ok : {A E : Type 0} {x y : A} → Path (Result A E) (Ok x) (Ok y) → x ≡ y
-same_ok e = cc
+use Rattle.druid_headline.proofs.HonestLemmas.{same_ok, written_is}
 
 -- a request for what an ask asks is answered by the history
-asked_of : (state : State) (ask : Ask) (status : ℕ) (body : List ℕ) → Responds state (ask_request ask) status body → AnswersAsk state.history (parameters_of ask) status body
-asked_of state Whole status body answer = answer
-asked_of state (Since m) status body answer = answer
+asked_of : (state next : State) (ask : Ask) (status : ℕ) (body : List ℕ) → Responds state next (ask_request ask) status body → AnswersAsk state next (parameters_of ask) status body
+asked_of state next Whole status body answer = answer
+asked_of state next (Since m) status body answer = answer
+asked_of state next (asks.Page m page) status body answer = answer
 
 -- what is read of the text of a reply is the reply
 answered : (told reply : Body) → IsReply told → Answers (Some (form_of told)) (Ok reply) → reply ≡ told
 answered (Delta from to changes) reply valid read = read.0
 answered (Snapshot at segments) reply valid read = snapshot_is at segments reply valid.sorted read
+answered (Page at page of segments) reply valid read = read.0
 answered (Reset cause at) reply valid read = same_ok read
 
 read_is : (told reply : Body) → IsReadBack told → IsReadOf (reply_text told) (Ok reply) → reply ≡ told
@@ -43,30 +44,38 @@ read_is told reply back read =
     answered told reply back.valid (subst (λ (f : Option Form). Answers f (Ok reply)) (ap form_at json ∙ back.form) read.2)
 
 -- a response that is read is what was written of a reply
-of_history : (kept : Kept) (ask : Ask) (status : ℕ) (body b rest : List ℕ) (reply : Body) → AnswersFound kept (Some ask) status body → IsResponse (wire.answer_text status body) 200 b rest → IsReadOf b (Ok reply)
-    → IsReplyTo kept ask reply
-of_history kept ask status body b rest reply found response read =
+of_history : (state next : State) (ask : Ask) (status : ℕ) (body b rest : List ℕ) (reply : Body) → AnswersFound state next (Some ask) status body → IsResponse (wire.answer_text status body) 200 b rest → IsReadOf b (Ok reply)
+    → IsReplyTo state.history next.history ask reply
+of_history state next ask status body b rest reply found response read =
     let is = found.3.status_is in
     let written = written_is status body b rest (omega (arith, is)) (omega (arith, is)) response in
     let same : reply ≡ found.0 = read_is found.0 reply found.2 (subst (λ (text : List ℕ). IsReadOf text (Ok reply)) (sym written.1 ∙ found.3.body_is) read) in
-    subst (IsReplyTo kept ask) (sym same) found.1
+    subst (IsReplyTo state.history next.history ask) (sym same) found.1
 
-pub answer_of_history : (state : State) (ask : Ask) (status : ℕ) (body : List ℕ) (reply : Body) → ask_at (parameters_of ask) ≡ Some ask → RespondsInTurn state (ask_request ask) status body
-    → IsAnswerTo (Ok (wire.answer_text status body)) (Ok reply) → IsReplyTo state.history ask reply
-answer_of_history state ask status body reply back (inl responds) told =
-    let found = subst (λ (o : Option Ask). AnswersFound state.history o status body) back (asked_of state ask status body responds) in
+pub answer_of_history : (state next : State) (ask : Ask) (status : ℕ) (body : List ℕ) (reply : Body) → ask_at (parameters_of ask) ≡ Some ask → RespondsInTurn state next (ask_request ask) status body
+    → IsAnswerTo (Ok (wire.answer_text status body)) (Ok reply) → IsReplyTo state.history next.history ask reply
+answer_of_history state next ask status body reply back (inl responds) told =
+    let found = subst (λ (o : Option Ask). AnswersFound state next o status body) back (asked_of state next ask status body responds) in
     let response = subst (λ (text : List ℕ). IsResponse text 200 told.1 told.3.0) (sym (same_ok told.2)) told.3.1 in
-    of_history state.history ask status body told.1 told.3.0 reply found response told.4
-answer_of_history state ask status body reply back (inr memory) told =
+    of_history state next ask status body told.1 told.3.0 reply found response told.4
+answer_of_history state next ask status body reply back (inr memory) told =
     let is = memory.status_is in
     let response = subst (λ (text : List ℕ). IsResponse text 200 told.1 told.3.0) (sym (same_ok told.2)) told.3.1 in
     let no = (written_is status body told.1 told.3.0 (omega (arith, is)) (omega (arith, is)) response).0 in
     absurd (omega (arith, is, no))
 
-pub honest_answer : (life : Life) (state : State) (ask : Ask) (status : ℕ) (body : List ℕ) (reply : Body) → IsLife life → IsLastOf life state
-    → ask_at (parameters_of ask) ≡ Some ask → RespondsInTurn state (ask_request ask) status body
+-- a set that is kept for its pages is that of the life
+has_frozen : (limit : ℕ) (changes : List Change) (frozen : Option Frozen) → StandsFrozen limit changes frozen → HasFrozen changes (frozen_count frozen)
+has_frozen limit changes None h = tt
+has_frozen limit changes (Some f) h = record { within = h.within; set = f.set; there = h.set; many = h.many }
+
+pub honest_answer : (life : Life) (state next : State) (ask : Ask) (status : ℕ) (body : List ℕ) (reply : Body) → IsLife life → IsLastOf life state
+    → ask_at (parameters_of ask) ≡ Some ask → RespondsInTurn state next (ask_request ask) status body
     → IsAnswerTo (Ok (wire.answer_text status body)) (Ok reply) → IsHonest (eras_of life) reply
-honest_answer life state ask status body reply valid last back responds told =
-    let is = answer_of_history state ask status body reply back responds told life.last.changes last.changes in
-    answer_true life ask reply valid
-    (ap (λ (i : ℕ). answer i life.last.changes life.kept ask) last.incarnation ∙ ap (λ (k : ℕ). answer state.history.incarnation life.last.changes k ask) last.kept ∙ is)
+honest_answer life state next ask status body reply valid last back responds told =
+    let is = answer_of_history state next ask status body reply back responds told life.last.changes last.changes in
+    let frozen = subst (HasFrozen life.last.changes) (sym last.frozen) (has_frozen state.history.limit life.last.changes state.history.frozen last.changes.frozen) in
+    (answer_true life ask reply (frozen_count next.history.frozen) valid frozen
+    (ap (λ (i : ℕ). answer i life.last.changes life.kept life.frozen ask) last.incarnation
+    ∙ ap (λ (k : ℕ). answer state.history.incarnation life.last.changes k life.frozen ask) last.kept
+    ∙ ap (λ (f : Option ℕ). answer state.history.incarnation life.last.changes state.history.limit f ask) last.frozen ∙ is)).0

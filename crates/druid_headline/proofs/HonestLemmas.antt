@@ -42,11 +42,11 @@ use Rattle.druid_headline.proofs.WordLemmas.{groups_held, all_of_each}
 -- ---- the request
 
 -- a request for pieces is a query
-routed : (state : State) (query : Query) (asked : List Asked) (status : ℕ) (body : List ℕ) → Responds state (request_for query asked) status body
+routed : (state next : State) (query : Query) (asked : List Asked) (status : ℕ) (body : List ℕ) → Responds state next (request_for query asked) status body
     → AnswersQuery state.held (subquery_text (sub_of query asked)) status body
-routed state query asked status body answer = answer
+routed state next query asked status body answer = answer.1
 
-same_ok : {A E : Type 0} {x y : A} → Path (Result A E) (Ok x) (Ok y) → x ≡ y
+pub same_ok : {A E : Type 0} {x y : A} → Path (Result A E) (Ok x) (Ok y) → x ≡ y
 same_ok e = cc
 
 -- where the status is 200, the body is the text of an answer to that subquery
@@ -145,12 +145,12 @@ pieces_told query held segments asked among =
 
 -- ---- the whole
 
-pub honest : (state : State) (query : Query) (asked : List Asked) (node status : ℕ) (body : List ℕ) (segments : List Segment)
-    → IsQuery query → IsAsked query.source asked → All HaveWords state.held → Responds state (request_for query asked) status body
+pub honest : (state next : State) (query : Query) (asked : List Asked) (node status : ℕ) (body : List ℕ) (segments : List Segment)
+    → IsQuery query → IsAsked query.source asked → All HaveWords state.held → Responds state next (request_for query asked) status body
     → AreAmong asked state.held segments
     → IsHonest query segments (record { node = node; asked = asked; came = Ok (wire.answer_text status body) })
-honest state query asked node status body segments is pieces words responds among missed groups told_so =
-    let answer = routed state query asked status body responds in
+honest state next query asked node status body segments is pieces words responds among missed groups told_so =
+    let answer = routed state next query asked status body responds in
     let fits = status_fits state.held (subquery_text (sub_of query asked)) status body answer in
     let bytes : wire.answer_text status body ≡ told_so.bytes = same_ok told_so.came in
     let sent = subst (λ (text : List ℕ). IsResponse text 200 told_so.body told_so.rest) (sym bytes) told_so.response in
@@ -173,11 +173,11 @@ other_status query asked node status body segments low high other missed groups 
     absurd (other (written_is status body told_so.body told_so.rest low high sent).0)
 
 -- and so is one that may tell out of memory in the place of the answer
-pub honest_in_turn : (state : State) (query : Query) (asked : List Asked) (node status : ℕ) (body : List ℕ) (segments : List Segment)
-    → IsQuery query → IsAsked query.source asked → All HaveWords state.held → RespondsInTurn state (request_for query asked) status body
+pub honest_in_turn : (state next : State) (query : Query) (asked : List Asked) (node status : ℕ) (body : List ℕ) (segments : List Segment)
+    → IsQuery query → IsAsked query.source asked → All HaveWords state.held → RespondsInTurn state next (request_for query asked) status body
     → AreAmong asked state.held segments
     → IsHonest query segments (record { node = node; asked = asked; came = Ok (wire.answer_text status body) })
-honest_in_turn state query asked node status body segments is pieces words (inl responds) among = honest state query asked node status body segments is pieces words responds among
-honest_in_turn state query asked node status body segments is pieces words (inr memory) among =
+honest_in_turn state next query asked node status body segments is pieces words (inl responds) among = honest state next query asked node status body segments is pieces words responds among
+honest_in_turn state next query asked node status body segments is pieces words (inr memory) among =
     let told_500 = memory.status_is in
     other_status query asked node status body segments (omega (arith, told_500)) (omega (arith, told_500)) (λ ok. omega (arith, told_500, ok))

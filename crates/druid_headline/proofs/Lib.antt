@@ -4,3 +4,4 @@ pub mod TextLemmas
 pub mod WordLemmas
 pub mod HonestLemmas
 pub mod AskLemmas
+pub mod FetchLemmas

@@ -1,9 +1,10 @@
 -- What a user of a broker relies on: what nodes serve in a world at the marks at which the broker stands, and the rows that are
 -- visible there.
 use Rattle.std.specs.Prelude.{◌≡◌, ◌<◌, ℕ, Bool, true, false, List, [], length, slice_get, Some, Ok, Contains, ◌↔◌, codes, bytes_eq}
-use Rattle.druid_changes.specs.Kept.{StandsFor}
+use Rattle.druid_changes.specs.Kept.{StandsFor, frozen_count}
 use Rattle.druid_shard.specs.Described.{Described, IsDescribed}
 use Rattle.druid_shard.specs.Mark.{Point}
+use Rattle.druid_shard.specs.declared.reply.Body.{Body}
 use Rattle.druid_timeline.specs.Holding.{Held, held_of}
 use Rattle.druid_rows.specs.Segment.{Segment}
 use Rattle.druid_rows.specs.Rows.{Row}
@@ -22,7 +23,9 @@ use Rattle.druid_node.specs.State.{State}
 use Rattle.druid_scatter.specs.Gathered.{Exchange, AreMade}
 use Rattle.druid_scatter.specs.Exact.{IsHonest, Sees, told_visible}
 use Rattle.druid_broker.specs.Routes.{query, route_of}
+use Rattle.druid_broker.specs.Turns.{IsTold}
 use Rattle.druid_world.specs.World.{Life, eras_of, set_at}
+use Rattle.druid_world.specs.World as replies
 
 -- at its mark of this list, the node serves the segment
 abbrev pub ServesAt : List Life → List Point → ℕ → Described → Type 0
@@ -54,11 +57,17 @@ AreAmong asked held segments =
 
 -- ---- what a data node of ours is in a world
 
--- the node's incarnation and its changes are the last of this life
+-- the node's incarnation and its changes are the last of this life, and the same set is frozen
 pub record IsLastOf (life : Life) (state : State) : Type 0 where
   pub incarnation : life.last.incarnation ≡ state.history.incarnation
   pub changes : StandsFor state.history life.last.changes
   pub kept : life.kept ≡ state.history.limit
+  pub frozen : life.frozen ≡ frozen_count state.history.frozen
+
+-- each reply that comes over the link is honest in this life of a node
+abbrev pub RepliesAreHonest : {L : Type 0} → (L → List ℕ → Came → L → Type 0) → Life → Type 0
+RepliesAreHonest {L} step life =
+    (request : RequestValue) (old new : L) (reply : Body) → IsTold step request old new (Ok reply) → replies.IsHonest (eras_of life) reply
 
 -- ---- what a broker answers
 

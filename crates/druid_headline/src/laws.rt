@@ -1,9 +1,10 @@
 //! The sentences that a user of a broker relies on.
 ghost use Rattle.std.specs.Prelude.{◌≡◌, ◌⊎◌, ℕ, List, Some, Ok, length, map};
 ghost use Rattle.druid_shard.specs.declared.change.Ask.{Ask};
+ghost use Rattle.druid_shard.specs.declared.change.Ask.TheVariants.{Whole};
 ghost use Rattle.druid_shard.specs.declared.reply.Body.{Body};
 ghost use Rattle.druid_sync.specs.Asks.{ask_at, parameters_of};
-ghost use Rattle.druid_inventory.specs.Entry.{fresh};
+ghost use Rattle.druid_inventory.specs.Entry.{Entry, fresh};
 ghost use Rattle.druid_rows.specs.Segment.{Segment};
 ghost use Rattle.druid_query.specs.Query.{Query};
 ghost use Rattle.druid_query.specs.Read.{IsQuery};
@@ -16,11 +17,12 @@ ghost use Rattle.druid_node.specs.Routes.{RespondsInTurn, IsReplyTo};
 ghost use Rattle.druid_published.specs.Fold.{Published, fold_of};
 ghost use Rattle.druid_scatter.specs.Gathered.{request_for};
 ghost use Rattle.druid_scatter.specs.Exact as pieces;
-ghost use Rattle.druid_broker.specs.Turns.{ask_request, IsAnswerTo};
+ghost use Rattle.druid_broker.specs.Turns.{ask_request, entry_request, IsAnswerTo, IsFetchedFrom};
+ghost use Rattle.druid_broker.specs.Turns as turns;
 ghost use Rattle.druid_broker.specs.Views.{RespondsBy, AnswersUnread};
 ghost use Rattle.druid_world.specs.World.{Life, IsLife, IsWorld, IsHonest, IsInventoryOf, eras_of, marks_of};
 ghost use Rattle.druid_world.specs.Run.{AreHonest};
-ghost use Rattle.druid_headline.specs.Headline.{AreAmong, IsLastOf, IsPosted, IsExactAt};
+ghost use Rattle.druid_headline.specs.Headline.{AreAmong, IsLastOf, RepliesAreHonest, IsPosted, IsExactAt};
 
 use druid_link::Link;
 
@@ -52,9 +54,9 @@ pub fn queries_are_exact<L: Link>()
 /// which each segment that it holds and is asked for stands under its identifier: so a node that went on since the broker learned
 /// of it, and holds more, is honest too.
 pub fn nodes_are_honest()
-    ensures { (state : State) (query : Query) (asked : List Asked) (node : ℕ) (status : ℕ) (body : List ℕ) (segments : List Segment)
+    ensures { (state next : State) (query : Query) (asked : List Asked) (node : ℕ) (status : ℕ) (body : List ℕ) (segments : List Segment)
         → IsState state → IsQuery query → IsAsked query.source asked
-        → RespondsInTurn state (request_for query asked) status body
+        → RespondsInTurn state next (request_for query asked) status body
         → AreAmong asked state.held segments
         → pieces.IsHonest query segments (record { node = node; asked = asked; came = Ok (answer_text status body) }) }
 {}
@@ -63,15 +65,24 @@ pub fn nodes_are_honest()
 /// in a world in which the node's changes are those of its last incarnation. Of the ask it takes what `ask_target` says: that it is read
 /// back as itself.
 pub fn asks_are_answered()
-    ensures answer { (state : State) (ask : Ask) (status : ℕ) (body : List ℕ) (reply : Body)
+    ensures answer { (state next : State) (ask : Ask) (status : ℕ) (body : List ℕ) (reply : Body)
         → ask_at (parameters_of ask) ≡ Some ask
-        → RespondsInTurn state (ask_request ask) status body
+        → RespondsInTurn state next (ask_request ask) status body
         → IsAnswerTo (Ok (answer_text status body)) (Ok reply)
-        → IsReplyTo state.history ask reply }
-    ensures honest { (life : Life) (state : State) (ask : Ask) (status : ℕ) (body : List ℕ) (reply : Body)
+        → IsReplyTo state.history next.history ask reply }
+    ensures honest { (life : Life) (state next : State) (ask : Ask) (status : ℕ) (body : List ℕ) (reply : Body)
         → IsLife life → IsLastOf life state
         → ask_at (parameters_of ask) ≡ Some ask
-        → RespondsInTurn state (ask_request ask) status body
+        → RespondsInTurn state next (ask_request ask) status body
         → IsAnswerTo (Ok (answer_text status body)) (Ok reply)
         → IsHonest (eras_of life) reply }
+{}
+
+/// What `fetch` and `fetch_entry` answer over a link whose replies are honest in a life of the node is honest there: so is a snapshot
+/// put together of pages, each of which was answered at its time, while the node went on.
+pub fn fetched_replies_are_honest<L: Link>()
+    ensures fetched { (life : Life) (inventory : List Entry) (node : ℕ) (old new : L) (reply : Body) → RepliesAreHonest L.exchanges life
+        → IsFetchedFrom L.exchanges inventory node old new (Ok reply) → IsHonest (eras_of life) reply }
+    ensures of_entry { (life : Life) (node : ℕ) (old new : L) (reply : Body) → RepliesAreHonest L.exchanges life
+        → turns.IsAsked L.exchanges (entry_request node) Whole old new (Ok reply) → IsHonest (eras_of life) reply }
 {}

@@ -4,4 +4,7 @@
 
 mod laws;
 
-pub use laws::{asks_are_answered, nodes_are_honest, queries_are_exact, readers_agree};
+pub use laws::{
+    asks_are_answered, fetched_replies_are_honest, nodes_are_honest, queries_are_exact,
+    readers_agree,
+};

@@ -25,7 +25,7 @@ no_text fault bytes e = cc
 -- the node's answers to a request for pieces are honest
 abbrev pub AnswersHonestly : State → Query → List Asked → ℕ → List Segment → Type 0
 AnswersHonestly state query asked node segments =
-    (status : ℕ) (body : List ℕ) → RespondsInTurn state (request_for query asked) status body
+    (status : ℕ) (body : List ℕ) → RespondsInTurn state state (request_for query asked) status body
     → IsHonest query segments (record { node = node; asked = asked; came = Ok (answer_text status body) })
 
 -- and so is what comes back over a link, where it asked for them
@@ -36,7 +36,7 @@ honest_came state query asked node segments (Err fault) is honest = λ missing g
 honest_came state query asked node segments (Ok text) is honest =
     let same : is.request ≡ request_for query asked = post_read (subquery_text (sub_of query asked)) is.request is.rest is.short is.read in
     subst (λ (bytes : List ℕ). IsHonest query segments (record { node = node; asked = asked; came = Ok bytes })) (sym is.written)
-    (honest is.status is.body (subst (λ (r : RequestValue). RespondsInTurn state r is.status is.body) same is.responds))
+    (honest is.status is.body (subst (λ (r : RequestValue). RespondsInTurn state state r is.status is.body) same is.responds))
 
 -- ---- the exchanges of a query
 

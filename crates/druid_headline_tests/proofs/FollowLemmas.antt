@@ -7,7 +7,8 @@ use Rattle.druid_published.specs.Fold.{PublisherValue}
 use Rattle.druid_broker.specs.Turns.{IsFetchedFrom, TakesTurn}
 use Rattle.druid_headline_tests.specs.Exchanges.{ExchangesWithNode}
 use Rattle.druid_headline_tests.specs.Following.{AreFollowed}
-use Rattle.druid_headline_tests.proofs.TurnLemmas.{fetched_first}
+use Rattle.druid_headline_tests.specs.Nodes.{IsNode}
+use Rattle.druid_headline_tests.proofs.TurnLemmas.{IsReadBack, fetched_first}
 
 abbrev pub Turns : PublisherValue → ℕ → State → State → Outcome → PublisherValue → Type 0
 Turns old node link after outcome new = TakesTurn (IsFetchedFrom ExchangesWithNode old.inventory node link after) old node outcome new
@@ -18,13 +19,13 @@ pub record BothFollowed (left right left_after right_after : State) (new : Publi
   pub followed : AreFollowed left right new.published
 
 of_two : (x y : List ℕ) (mid new : PublisherValue) (left right left_after right_after : State) (o p : Outcome)
-    → Turns (record { published = []; inventory = fresh x ∷ fresh y ∷ [] }) 0 left left_after o mid → Turns mid 1 right right_after p new
+    → IsReadBack → IsNode left → IsNode right → Turns (record { published = []; inventory = fresh x ∷ fresh y ∷ [] }) 0 left left_after o mid → Turns mid 1 right right_after p new
     → BothFollowed left right left_after right_after new
-of_two x y mid new left right left_after right_after o p first second =
-    let a = fetched_first (fresh x ∷ fresh y ∷ []) 0 (fresh x) left left_after first.0 refl refl first.1 in
+of_two x y mid new left right left_after right_after o p back is_left is_right first second =
+    let a = fetched_first back (fresh x ∷ fresh y ∷ []) 0 (fresh x) left left_after first.0 is_left refl refl first.1 in
     let before : mid ≡ record { published = (0, first.0) ∷ []; inventory = first.2.0 ∷ fresh y ∷ [] } = first.2.2 in
     let again = subst (λ (m : PublisherValue). Turns m 1 right right_after p new) before second in
-    let b = fetched_first (first.2.0 ∷ fresh y ∷ []) 1 (fresh y) right right_after again.0 refl refl again.1 in
+    let b = fetched_first back (first.2.0 ∷ fresh y ∷ []) 1 (fresh y) right right_after again.0 is_right refl refl again.1 in
     record {
       same_left = a.0;
       same_right = b.0;
@@ -38,11 +39,11 @@ of_two x y mid new left right left_after right_after o p first second =
     }
 
 pub both_followed : (names : List (List ℕ)) (old mid new : PublisherValue) (left right left_after right_after : State) (o p : Outcome)
-    → length names ≡ 2 → old.published ≡ [] → old.inventory ≡ map fresh names
+    → IsReadBack → IsNode left → IsNode right → length names ≡ 2 → old.published ≡ [] → old.inventory ≡ map fresh names
     → Turns old 0 left left_after o mid → Turns mid 1 right right_after p new → BothFollowed left right left_after right_after new
-both_followed [] old mid new left right left_after right_after o p two none opening first second = absurd (omega (arith, two))
-both_followed (x ∷ []) old mid new left right left_after right_after o p two none opening first second = absurd (omega (arith, two))
-both_followed (x ∷ y ∷ z ∷ names) old mid new left right left_after right_after o p two none opening first second = absurd (omega (arith, two))
-both_followed (x ∷ y ∷ []) old mid new left right left_after right_after o p two none opening first second =
+both_followed [] old mid new left right left_after right_after o p back is_left is_right two none opening first second = absurd (omega (arith, two))
+both_followed (x ∷ []) old mid new left right left_after right_after o p back is_left is_right two none opening first second = absurd (omega (arith, two))
+both_followed (x ∷ y ∷ z ∷ names) old mid new left right left_after right_after o p back is_left is_right two none opening first second = absurd (omega (arith, two))
+both_followed (x ∷ y ∷ []) old mid new left right left_after right_after o p back is_left is_right two none opening first second =
     let is : old ≡ record { published = []; inventory = fresh x ∷ fresh y ∷ [] } = λ i. record { published = none i; inventory = opening i } in
-    of_two x y mid new left right left_after right_after o p (subst (λ (v : PublisherValue). Turns v 0 left left_after o mid) is first) second
+    of_two x y mid new left right left_after right_after o p back is_left is_right (subst (λ (v : PublisherValue). Turns v 0 left left_after o mid) is first) second

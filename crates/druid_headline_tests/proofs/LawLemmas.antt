@@ -30,19 +30,19 @@ use Rattle.druid_headline_tests.proofs.WholeLemmas.{NodesAreHonest, both_honest,
 -- the laws, of an ask for all
 abbrev pub Told : Type 0
 Told =
-    (state : State) (status : ℕ) (body : List ℕ) (reply : Body) → RespondsInTurn state (ask_request Whole) status body
-    → IsAnswerTo (Ok (answer_text status body)) (Ok reply) → IsReplyTo state.history Whole reply
+    (state : State) (status : ℕ) (body : List ℕ) (reply : Body) → RespondsInTurn state state (ask_request Whole) status body
+    → IsAnswerTo (Ok (answer_text status body)) (Ok reply) → IsReplyTo state.history state.history Whole reply
 
 abbrev pub Honest : Type 0
 Honest =
-    (life : Life) (state : State) (status : ℕ) (body : List ℕ) (reply : Body) → IsLife life → IsLastOf life state → RespondsInTurn state (ask_request Whole) status body
+    (life : Life) (state : State) (status : ℕ) (body : List ℕ) (reply : Body) → IsLife life → IsLastOf life state → RespondsInTurn state state (ask_request Whole) status body
     → IsAnswerTo (Ok (answer_text status body)) (Ok reply) → IsHonest (eras_of life) reply
 
 -- of requests for pieces
 abbrev pub HonestPieces : Type 0
 HonestPieces =
     (state : State) (query : Query) (asked : List Asked) (node : ℕ) (status : ℕ) (body : List ℕ) (segments : List Segment)
-    → IsState state → IsQuery query → IsAsked query.source asked → RespondsInTurn state (request_for query asked) status body
+    → IsState state → IsQuery query → IsAsked query.source asked → RespondsInTurn state state (request_for query asked) status body
     → AreAmong asked state.held segments → pieces.IsHonest query segments (record { node = node; asked = asked; came = Ok (answer_text status body) })
 
 -- and of what a broker answers
@@ -62,7 +62,7 @@ nodes_honest law asked is state pieces node segments kept may among status body 
     law state asked pieces node status body segments kept.holds is may responds among
 
 first_is : (told : Told) (state : State) (reply : Body) → IsNode state → IsFirstReply state reply → reply ≡ snapshot_of state
-first_is told state reply is first = snapshot_told state reply is.kept (told state first.status first.body reply first.responds first.told)
+first_is told state reply is first = snapshot_told state state reply is.kept is.small (told state first.status first.body reply first.responds first.told)
 
 first_honest : (told : Told) (honest : Honest) (life : Life) (state : State) (reply : Body) → IsNode state → IsFirstReply state reply → IsLife life → IsLastOf life state
     → IsHonest (eras_of life) (snapshot_of state)

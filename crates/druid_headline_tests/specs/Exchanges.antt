@@ -16,7 +16,7 @@ pub record IsAnswered (state : State) (bytes text : List ℕ) : Type 0 where
   pub read : IsRequest bytes request rest
   pub status : ℕ
   pub body : List ℕ
-  pub responds : RespondsInTurn state request status body
+  pub responds : RespondsInTurn state state request status body
   pub written : text ≡ answer_text status body
 
 -- an exchange leaves the node as it is, and what comes back, if anything does, is its answer

@@ -12,7 +12,7 @@ use Rattle.druid_broker.specs.Turns.{ask_request, IsAnswerTo}
 pub record IsFirstReply (state : State) (reply : Body) : Type 0 where
   pub status : ℕ
   pub body : List ℕ
-  pub responds : RespondsInTurn state (ask_request Whole) status body
+  pub responds : RespondsInTurn state state (ask_request Whole) status body
   pub told : IsAnswerTo (Ok (answer_text status body)) (Ok reply)
 
 -- what was published is the first reply of each of the two

@@ -119,14 +119,15 @@ fn ask_nodes<J: Publication, R: Threads + Wait + Sync + Copy + Drop>(
 
 /// Opens a publisher of an inventory in which neither of two nodes was synced, follows each of them once, and gives what the broker
 /// writes for a request, over the links to them: where the request posts a query, the result over the rows that are visible in the
-/// world of any lives of theirs, at their marks. `None` where memory runs out, or a turn or a write failed.
+/// world of any lives of theirs, at their marks. `None` where memory runs out, or a turn or a write failed, or a node serves more than
+/// one message carries.
 pub fn ask_two<J: Publication, R: Threads + Wait + Sync + Copy + Drop>(
     rt: &R,
     alloc: Global,
     list: Opened,
     inventory: Inventory,
-    left: NodeState,
-    right: NodeState,
+    mut left: NodeState,
+    mut right: NodeState,
     request: &[u8],
 ) -> Option<Vec<u8>>
     requires book { list ≡ J.book }
@@ -134,7 +135,7 @@ pub fn ask_two<J: Publication, R: Threads + Wait + Sync + Copy + Drop>(
     requires fresh { (names : List (List ℕ)) × (length names ≡ 2) × (J.opening ≡ map fresh names) }
     ensures { IfSome result (λ written. AnswersExactly left right request.now written.items) }
 {
-    if !know(&left) || !know(&right) {
+    if !know(&mut left) || !know(&mut right) {
         return None;
     }
     ask_nodes::<J, R>(rt, alloc, list, inventory, left, right, request)

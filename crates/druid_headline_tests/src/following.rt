@@ -2,10 +2,12 @@
 ghost use Rattle.std.specs.Prelude.{◌≡◌, ℕ, List, [], map, length, IfSome, OnSome};
 ghost use Rattle.druid_inventory.specs.Entry.{fresh};
 ghost use Rattle.druid_headline_tests.specs.Following.{AreFollowed};
+ghost use Rattle.druid_headline_tests.specs.Nodes.{IsNode};
 
 use crate::node_link::NodeLink;
 use druid_broker::sync_turn;
 use druid_published::{Publication, Publisher, Receipt};
+use druid_sync::asks_are_read_back;
 use std::alloc::Global;
 use std::sync::Wait;
 
@@ -17,11 +19,14 @@ pub(crate) fn follow_two<J: Publication, R: Wait + Drop>(
     publisher: &mut Publisher<J, R>,
 ) -> Option<Receipt<J>>
     requires published { publisher.old.published ≡ [] }
+    requires left { IsNode left.old }
+    requires right { IsNode right.old }
     requires fresh { (names : List (List ℕ)) × (length names ≡ 2) × (publisher.old.inventory ≡ map fresh names) }
     ensures followed { IfSome result (λ receipt. AreFollowed left.old right.old receipt) }
     ensures left { OnSome result (left.new ≡ left.old) }
     ensures right { OnSome result (right.new ≡ right.old) }
 {
+    asks_are_read_back();
     let first = sync_turn(alloc, 0, left, publisher);
     let Ok(_) = first else {
         return None;

@@ -1,5 +1,6 @@
 //! Links to data nodes of this process.
-ghost use Rattle.std.specs.Prelude.{◌≡◌, ◌⊎◌, ℕ, List, IfOk, IfErr};
+ghost use Rattle.std.specs.Prelude.{◌≡◌, ◌≤◌, ◌⊎◌, ℕ, List, IfOk, IfErr, length};
+ghost use Rattle.druid_shard.specs.Reply.{max_page};
 ghost use Rattle.druid_link.specs.Limits.{max_exchange};
 ghost use Rattle.druid_wire.specs.Limits.{max_body};
 ghost use Rattle.druid_wire.specs.Messages.{IsRequest};
@@ -15,23 +16,28 @@ use http::StatusCode;
 use std::alloc::Global;
 use std::marker::Model;
 
-/// A link to a data node. A contract sees the node's state.
+/// A link to a data node that one message carries. A contract sees the node's state, which no exchange changes.
 #[derive(Drop)]
 pub struct NodeLink {
     state: NodeState,
 }
 
 impl Model for NodeLink {
+    ghost use Rattle.std.specs.Prelude.{◌≤◌, length};
+    ghost use Rattle.druid_shard.specs.Reply.{max_page};
     ghost use Rattle.druid_node.specs.State.{State};
 
     ghost Value = { State };
 
     ghost view = { λ a. a.state };
+
+    ghost invariant = { λ a. length a.state.history.set ≤ max_page };
 }
 
 impl NodeLink {
     /// A link to this node.
     pub fn new(state: NodeState) -> NodeLink
+        requires { length state.history.set ≤ max_page }
         ensures { result ≡ state }
     {
         NodeLink { state }
@@ -46,7 +52,7 @@ impl Link for NodeLink {
     ghost faults = { λ link. 0 };
 
     fn exchange(&mut self, alloc: Global, request: &[u8]) -> Result<Vec<u8>, WireFault> {
-        let text = answer_to(alloc, &self.state, request)?;
+        let text = answer_to(alloc, &mut self.state, request)?;
         if MAX_EXCHANGE < text.len() {
             return Err(WireFault::BodyTooLong);
         }
@@ -71,13 +77,19 @@ fn text_of(alloc: Global, status: StatusCode, body: &[u8]) -> Result<Vec<u8>, Wi
 }
 
 // What a node answers to a request, out of memory included.
-fn response_to(alloc: Global, state: &NodeState, request: &Request) -> Result<Vec<u8>, WireFault>
+fn response_to(
+    alloc: Global,
+    state: &mut NodeState,
+    request: &Request,
+) -> Result<Vec<u8>, WireFault>
+    requires { length state.old.history.set ≤ max_page }
     ensures ok { IfOk result (λ text. (status : ℕ) × (body : List ℕ)
-        × RespondsInTurn state.now request.now status body × (text.items ≡ answer_text status body)) }
+        × RespondsInTurn state.old state.old request.now status body × (text.items ≡ answer_text status body)) }
+    ensures same { state.new ≡ state.old }
     ensures fault { IfErr result (λ fault. fault ≡ WireFault.Memory) }
 {
     match state.respond(request) {
-        Ok((status, body)) => text_of(alloc, status, &body),
+        Ok(answer) => text_of(alloc, answer.0, &answer.1),
         Err(_) => text_of(
             alloc,
             StatusCode::INTERNAL_SERVER_ERROR,
@@ -88,8 +100,10 @@ fn response_to(alloc: Global, state: &NodeState, request: &Request) -> Result<Ve
 
 // What a node answers to the request that these bytes begin with. `BodyTooLong` where they are no request, which no counted fault
 // tells.
-fn answer_to(alloc: Global, state: &NodeState, bytes: &[u8]) -> Result<Vec<u8>, WireFault>
-    ensures ok { IfOk result (λ text. IsAnswered state.now bytes.now text.items) }
+fn answer_to(alloc: Global, state: &mut NodeState, bytes: &[u8]) -> Result<Vec<u8>, WireFault>
+    requires { length state.old.history.set ≤ max_page }
+    ensures ok { IfOk result (λ text. IsAnswered state.old bytes.now text.items) }
+    ensures same { state.new ≡ state.old }
     ensures fault { IfErr result (λ fault. (fault ≡ WireFault.BodyTooLong) ⊎ (fault ≡ WireFault.Memory)) }
 {
     if MAX_BODY < bytes.len() {

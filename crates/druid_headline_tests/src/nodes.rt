@@ -1,5 +1,6 @@
 //! What is known of a data node.
-ghost use Rattle.std.specs.Prelude.{◌≡◌, All, OnOk, IsTrue};
+ghost use Rattle.std.specs.Prelude.{◌≡◌, ◌≤◌, All, OnOk, IsTrue, length};
+ghost use Rattle.druid_shard.specs.Reply.{max_page};
 ghost use Rattle.druid_shard.specs.Described.{IsDescribed};
 ghost use Rattle.druid_headline_tests.specs.Nodes.{IsNode};
 
@@ -15,9 +16,11 @@ fn describe_all(segments: &[Descriptor])
     }
 }
 
-// What a node serves has identifiers, as each descriptor of its snapshot.
-fn describe(state: &NodeState) -> Result<(), NodeFault>
-    ensures { OnOk result (All IsDescribed state.now.history.set) }
+// What a node serves has identifiers, as each descriptor of its snapshot, if one message carries it; then nothing is frozen.
+fn describe(state: &mut NodeState) -> Result<(), NodeFault>
+    ensures described { OnOk result (All IsDescribed state.old.history.set) }
+    ensures small { OnOk result (length state.old.history.set ≤ max_page) }
+    ensures same { OnOk result (state.new ≡ state.old) }
 {
     let _mark = state.mark();
     let reply = match state.since(&Ask::Whole) {
@@ -29,13 +32,14 @@ fn describe(state: &NodeState) -> Result<(), NodeFault>
             describe_all(segments.as_slice());
             Ok(())
         }
-        Body::Delta { .. } | Body::Reset { .. } => Err(NodeFault::Memory),
+        Body::Delta { .. } | Body::Page { .. } | Body::Reset { .. } => Err(NodeFault::Memory),
     }
 }
 
-/// What is kept of a node, unless memory ran out.
-pub(crate) fn know(state: &NodeState) -> bool
-    ensures { IsTrue result → IsNode state.now }
+/// What is kept of a node, unless memory ran out or one message does not carry it.
+pub(crate) fn know(state: &mut NodeState) -> bool
+    ensures node { IsTrue result → IsNode state.old }
+    ensures same { IsTrue result → state.new ≡ state.old }
 {
     // For the proof: reading it exposes the invariant of its type.
     let _mark = state.mark();

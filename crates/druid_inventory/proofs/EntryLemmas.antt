@@ -10,7 +10,7 @@ use Rattle.druid_shard.specs.Mark.{Point}
 use Rattle.druid_shard.specs.Reply.{AreSorted}
 use Rattle.druid_shard.specs.ReplyBody.{IsSnapshotOf}
 use Rattle.druid_shard.specs.declared.reply.Body.{Body}
-use Rattle.druid_shard.specs.declared.reply.Body.TheVariants.{Delta, Snapshot, Reset}
+use Rattle.druid_shard.specs.declared.reply.Body.TheVariants.{Delta, Snapshot, Page, Reset}
 use Rattle.druid_shard.proofs.ReplayLemmas.{sorted-one_list}
 
 -- pointers copied one by one point to the same
@@ -36,6 +36,7 @@ snapshot_is at set (Snapshot mark segments) h k =
     let same : segments ≡ set = sorted-one_list segments set k.2.sorted h
     (λ x. (Contains-permutation segments set x (IsPermutation-sym set segments k.1), Contains-permutation set segments x k.1)) in
     (λ i. Snapshot (k.0 i) (same i))
+snapshot_is at set (Page mark page of segments) h k = absurd k
 snapshot_is at set (Reset cause mark) h k = absurd k
 
 -- what is reported of an error, where there is one

@@ -2,6 +2,7 @@ pub mod ChangeLemmas
 pub mod EditLemmas
 pub mod EntryLemmas
 pub mod JoinLemmas
+pub mod PageLemmas
 pub mod ReplayedLemmas
 pub mod StepLemmas
 pub mod TimelineLemmas

@@ -15,13 +15,13 @@ use Rattle.druid_shard.specs.Mark.{Point, mark_cmp}
 use Rattle.druid_shard.specs.Replay.{is_strict, has_room, after, changed, replay_from}
 use Rattle.druid_shard.specs.declared.change.Change.{Change}
 use Rattle.druid_shard.specs.declared.reply.Body.{Body}
-use Rattle.druid_shard.specs.declared.reply.Body.TheVariants.{Delta, Snapshot, Reset}
+use Rattle.druid_shard.specs.declared.reply.Body.TheVariants.{Delta, Snapshot, Page, Reset}
 use Rattle.druid_shard.proofs.DescribedLemmas.{same_described-decides}
 use Rattle.druid_shard.proofs.ReplayLemmas.{changed-made, changed-not_strict, changed-no_room, replay_from-front, and_then-some}
 use Rattle.druid_inventory.specs.Entry.{Entry}
 use Rattle.druid_inventory.specs.Step.{Steps, Refuses, GoesOn, IsAhead, DeltaMoves, DeltaRefused, DeltaIsKnown, SnapshotIsKnown, SnapshotConflicts, SnapshotRefused, NotStrictAt, NoRoomAt, known_of, tail_of, moved_to, StepsAt, RefusedAt, Tells}
 use Rattle.druid_inventory.specs.declared.fault.Outcome.{Outcome}
-use Rattle.druid_inventory.specs.declared.fault.Outcome.TheVariants.{Moved, AlreadyHave, AskWhole}
+use Rattle.druid_inventory.specs.declared.fault.Outcome.TheVariants.{Moved, AlreadyHave, AskWhole, AskPages}
 use Rattle.druid_inventory.specs.declared.fault.ApplyFault.{ApplyFault}
 use Rattle.druid_inventory.specs.declared.fault.ApplyFault.TheVariants as faults
 
@@ -102,22 +102,37 @@ Steps-one e (Delta from to changes) Moved Moved new other h k =
     (refl, h.3 ∙ ap (moved_to e to) same ∙ sym k.3)
 Steps-one e (Delta from to changes) Moved AlreadyHave new other h k = absurd (ahead_not_known e to other h.0.ahead k)
 Steps-one e (Delta from to changes) Moved AskWhole new other h k = absurd k
+Steps-one e (Delta from to changes) Moved AskPages new other h k = absurd k
 Steps-one e (Delta from to changes) AlreadyHave Moved new other h k = absurd (ahead_not_known e to new k.0.ahead h)
 Steps-one e (Delta from to changes) AlreadyHave AlreadyHave new other h k = (refl, h.2 ∙ sym k.2)
 Steps-one e (Delta from to changes) AlreadyHave AskWhole new other h k = absurd k
+Steps-one e (Delta from to changes) AlreadyHave AskPages new other h k = absurd k
 Steps-one e (Delta from to changes) AskWhole p new other h k = absurd h
+Steps-one e (Delta from to changes) AskPages p new other h k = absurd h
 Steps-one e (Snapshot at set) Moved Moved new other h k = (refl, h.1 ∙ sym k.1)
 Steps-one e (Snapshot at set) Moved AlreadyHave new other h k = absurd (apart_orders (mark_cmp e.mark at) h.0 (is_one e at set other k))
 Steps-one e (Snapshot at set) Moved AskWhole new other h k = absurd k
+Steps-one e (Snapshot at set) Moved AskPages new other h k = absurd k
 Steps-one e (Snapshot at set) AlreadyHave Moved new other h k = absurd (apart_orders (mark_cmp e.mark at) k.0 (is_one e at set new h))
 Steps-one e (Snapshot at set) AlreadyHave AlreadyHave new other h k = (refl, h.1 ∙ sym k.1)
 Steps-one e (Snapshot at set) AlreadyHave AskWhole new other h k = absurd k
+Steps-one e (Snapshot at set) AlreadyHave AskPages new other h k = absurd k
 Steps-one e (Snapshot at set) AskWhole p new other h k = absurd h
+Steps-one e (Snapshot at set) AskPages p new other h k = absurd h
+Steps-one e (Page at page of segments) Moved p new other h k = absurd h
+Steps-one e (Page at page of segments) AlreadyHave p new other h k = absurd h
+Steps-one e (Page at page of segments) AskWhole p new other h k = absurd h
+Steps-one e (Page at page of segments) AskPages Moved new other h k = absurd k
+Steps-one e (Page at page of segments) AskPages AlreadyHave new other h k = absurd k
+Steps-one e (Page at page of segments) AskPages AskWhole new other h k = absurd k
+Steps-one e (Page at page of segments) AskPages AskPages new other h k = (refl, h ∙ sym k)
 Steps-one e (Reset cause at) Moved p new other h k = absurd h
 Steps-one e (Reset cause at) AlreadyHave p new other h k = absurd h
 Steps-one e (Reset cause at) AskWhole Moved new other h k = absurd k
 Steps-one e (Reset cause at) AskWhole AlreadyHave new other h k = absurd k
 Steps-one e (Reset cause at) AskWhole AskWhole new other h k = (refl, h ∙ sym k)
+Steps-one e (Reset cause at) AskWhole AskPages new other h k = absurd k
+Steps-one e (Reset cause at) AskPages p new other h k = absurd h
 
 -- ---- one refusal
 
@@ -155,6 +170,7 @@ reason e from to changes (faults.NotStrict index) h =
     inr (inr (inl (record { goes_on = h.0; k = h.1; at = h.2; is = ap (λ (n : ℕ). faults.NotStrict n) h.3 })))
 reason e from to changes faults.TooMany h = inr (inr (inr (record { goes_on = h.0; k = h.1; at = h.2; is = refl })))
 reason e from to changes faults.Conflict h = absurd h
+reason e from to changes faults.PageConflict h = absurd h
 reason e from to changes faults.Memory h = absurd h
 
 one_reason : (e : Entry) (from to : Point) (changes : List Change) (f g : ApplyFault) → Reason e from to changes f → Reason e from to changes g → f ≡ g
@@ -185,11 +201,13 @@ only_conflict e at set faults.Gap h = absurd h
 only_conflict e at set (faults.NotStrict index) h = absurd h
 only_conflict e at set faults.TooMany h = absurd h
 only_conflict e at set faults.Conflict h = (h, refl)
+only_conflict e at set faults.PageConflict h = absurd h
 only_conflict e at set faults.Memory h = absurd h
 
 pub Refuses-one : (e : Entry) (b : Body) (f g : ApplyFault) → Refuses e b f → Refuses e b g → f ≡ g
 Refuses-one e (Delta from to changes) f g h k = one_reason e from to changes f g (reason e from to changes f h) (reason e from to changes g k)
 Refuses-one e (Snapshot at set) f g h k = (only_conflict e at set f h).1 ∙ sym (only_conflict e at set g k).1
+Refuses-one e (Page at page of segments) f g h k = absurd h
 Refuses-one e (Reset cause at) f g h k = absurd h
 
 -- ---- an outcome or a refusal
@@ -219,9 +237,12 @@ pub Steps-not_refused : (e : Entry) (b : Body) (o : Outcome) (new : Entry) (f : 
 Steps-not_refused e (Delta from to changes) Moved new f h k = moved_not_refused e from to changes new f h (reason e from to changes f k)
 Steps-not_refused e (Delta from to changes) AlreadyHave new f h k = known_not_refused e from to changes new f h (reason e from to changes f k)
 Steps-not_refused e (Delta from to changes) AskWhole new f h k = absurd h
+Steps-not_refused e (Delta from to changes) AskPages new f h k = absurd h
 Steps-not_refused e (Snapshot at set) Moved new f h k = apart_orders (mark_cmp e.mark at) h.0 (inr (only_conflict e at set f k).0.0)
 Steps-not_refused e (Snapshot at set) AlreadyHave new f h k = no_conflict e at set h.0 (only_conflict e at set f k).0
 Steps-not_refused e (Snapshot at set) AskWhole new f h k = absurd h
+Steps-not_refused e (Snapshot at set) AskPages new f h k = absurd h
+Steps-not_refused e (Page at page of segments) o new f h k = absurd k
 Steps-not_refused e (Reset cause at) o new f h k = absurd k
 
 -- ---- there is one or the other
@@ -287,6 +308,7 @@ Steps-some e (Snapshot at set) = by (mark_cmp e.mark at) refl (same_list set e.s
   by Greater is same = inl (AlreadyHave, e, (inl is, refl))
   by Equal is (inl same) = inl (AlreadyHave, e, (inr (is, same), refl))
   by Equal is (inr other) = inr (faults.Conflict, (is, other))
+Steps-some e (Page at page of segments) = inl (AskPages, e, refl)
 Steps-some e (Reset cause at) = inl (AskWhole, e, refl)
 
 -- ---- marks
@@ -303,6 +325,7 @@ pub Steps-moved : (e : Entry) (b : Body) (new : Entry) → Steps e b Moved new �
 Steps-moved e (Delta from to changes) new h =
     ap (λ (x : Entry). mark_cmp e.mark x.mark) h.3 ∙ mark_later e.mark to h.0.ahead.incarnation h.0.ahead.later
 Steps-moved e (Snapshot at set) new h = ap (λ (x : Entry). mark_cmp e.mark x.mark) h.1 ∙ h.0
+Steps-moved e (Page at page of segments) new h = absurd h
 Steps-moved e (Reset cause at) new h = absurd h
 
 left_so : (e new : Entry) → new ≡ e → mark_cmp e.mark new.mark ≢ Greater
@@ -313,12 +336,19 @@ pub Steps-left : (e : Entry) (b : Body) (o : Outcome) (new : Entry) → Steps e 
 Steps-left e (Delta from to changes) Moved new h = inl refl
 Steps-left e (Delta from to changes) AlreadyHave new h = inr h.2
 Steps-left e (Delta from to changes) AskWhole new h = absurd h
+Steps-left e (Delta from to changes) AskPages new h = absurd h
 Steps-left e (Snapshot at set) Moved new h = inl refl
 Steps-left e (Snapshot at set) AlreadyHave new h = inr h.1
 Steps-left e (Snapshot at set) AskWhole new h = absurd h
+Steps-left e (Snapshot at set) AskPages new h = absurd h
+Steps-left e (Page at page of segments) Moved new h = absurd h
+Steps-left e (Page at page of segments) AlreadyHave new h = absurd h
+Steps-left e (Page at page of segments) AskWhole new h = absurd h
+Steps-left e (Page at page of segments) AskPages new h = inr h
 Steps-left e (Reset cause at) Moved new h = absurd h
 Steps-left e (Reset cause at) AlreadyHave new h = absurd h
 Steps-left e (Reset cause at) AskWhole new h = inr h
+Steps-left e (Reset cause at) AskPages new h = absurd h
 
 pub Steps-mark : (e : Entry) (b : Body) (o : Outcome) (new : Entry) → Steps e b o new → mark_cmp e.mark new.mark ≢ Greater
 Steps-mark e b o new h above = elim (Steps-left e b o new h) [
@@ -338,6 +368,12 @@ pub Steps-asked : (e : Entry) (b : Body) (new : Entry) → Steps e b AskWhole ne
 Steps-asked e b new h = elim (Steps-left e b AskWhole new h) [
   | inl moved ↦ absurd (cc)
   | inr left ↦ (subst (λ (x : Entry). Steps e b AskWhole x) left h, left)
+]
+
+pub Steps-paged : (e : Entry) (b : Body) (new : Entry) → Steps e b AskPages new → Steps e b AskPages e × (new ≡ e)
+Steps-paged e b new h = elim (Steps-left e b AskPages new h) [
+  | inl moved ↦ absurd (cc)
+  | inr left ↦ (subst (λ (x : Entry). Steps e b AskPages x) left h, left)
 ]
 
 -- by the numbers that were read
@@ -371,6 +407,7 @@ found_unless inventory node body faults.Gap other h = (h.0, h.1)
 found_unless inventory node body (faults.NotStrict index) other h = (h.0, h.1)
 found_unless inventory node body faults.TooMany other h = (h.0, h.1)
 found_unless inventory node body faults.Conflict other h = (h.0, h.1)
+found_unless inventory node body faults.PageConflict other h = (h.0, h.1)
 found_unless inventory node body faults.Memory other h = (h.2.0, h.2.1)
 
 -- a refusal, or an outcome, or no such node
@@ -382,6 +419,7 @@ what_tells inventory node body faults.Gap h = inl h
 what_tells inventory node body (faults.NotStrict index) h = inl h
 what_tells inventory node body faults.TooMany h = inl h
 what_tells inventory node body faults.Conflict h = inl h
+what_tells inventory node body faults.PageConflict h = inl h
 what_tells inventory node body faults.Memory h = inr (inl h)
 
 refusal_told : (inventory : List Entry) (node : ℕ) (body : Body) (f : ApplyFault) → f ≢ faults.UnknownNode → f ≢ faults.Memory → Tells inventory node body f
@@ -392,6 +430,7 @@ refusal_told inventory node body faults.Gap a b h = h
 refusal_told inventory node body (faults.NotStrict index) a b h = h
 refusal_told inventory node body faults.TooMany a b h = h
 refusal_told inventory node body faults.Conflict a b h = h
+refusal_told inventory node body faults.PageConflict a b h = h
 refusal_told inventory node body faults.Memory a b h = absurd (b refl)
 
 is_unknown : (f : ApplyFault) → (f ≡ faults.UnknownNode) ⊎ (f ≡ faults.UnknownNode → ⊥)
@@ -401,6 +440,7 @@ is_unknown faults.Gap = inr (λ e. cc)
 is_unknown (faults.NotStrict index) = inr (λ e. cc)
 is_unknown faults.TooMany = inr (λ e. cc)
 is_unknown faults.Conflict = inr (λ e. cc)
+is_unknown faults.PageConflict = inr (λ e. cc)
 is_unknown faults.Memory = inr (λ e. cc)
 
 -- the node is unknown exactly where the answer says so

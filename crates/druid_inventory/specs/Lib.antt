@@ -3,6 +3,7 @@ pub mod Entry
 pub mod Join
 pub mod Equality
 pub mod Step
+pub mod Assembly
 pub mod Sources
 pub mod Timelines
 -- words of private contracts

@@ -6,10 +6,10 @@ use Rattle.druid_shard.specs.Mark.{Point, mark_cmp}
 use Rattle.druid_shard.specs.Replay.{is_strict, has_room, replay_from}
 use Rattle.druid_shard.specs.declared.change.Change.{Change}
 use Rattle.druid_shard.specs.declared.reply.Body.{Body}
-use Rattle.druid_shard.specs.declared.reply.Body.TheVariants.{Delta, Snapshot, Reset}
+use Rattle.druid_shard.specs.declared.reply.Body.TheVariants.{Delta, Snapshot, Page, Reset}
 use Rattle.druid_inventory.specs.Entry.{Entry}
 use Rattle.druid_inventory.specs.declared.fault.Outcome.{Outcome}
-use Rattle.druid_inventory.specs.declared.fault.Outcome.TheVariants.{Moved, AlreadyHave, AskWhole}
+use Rattle.druid_inventory.specs.declared.fault.Outcome.TheVariants.{Moved, AlreadyHave, AskWhole, AskPages}
 use Rattle.druid_inventory.specs.declared.fault.ApplyFault.{ApplyFault}
 use Rattle.druid_inventory.specs.declared.fault.ApplyFault.TheVariants as faults
 
@@ -79,12 +79,19 @@ abbrev pub Steps : Entry → Body → Outcome → Entry → Type 0
 Steps e (Delta from to changes) Moved new = DeltaMoves e from to changes new
 Steps e (Delta from to changes) AlreadyHave new = DeltaIsKnown e to new
 Steps e (Delta from to changes) AskWhole new = ⊥
+Steps e (Delta from to changes) AskPages new = ⊥
 Steps e (Snapshot at set) Moved new = SnapshotMoves e at set new
 Steps e (Snapshot at set) AlreadyHave new = SnapshotIsKnown e at set new
 Steps e (Snapshot at set) AskWhole new = ⊥
+Steps e (Snapshot at set) AskPages new = ⊥
+Steps e (Page at page of segments) Moved new = ⊥
+Steps e (Page at page of segments) AlreadyHave new = ⊥
+Steps e (Page at page of segments) AskWhole new = ⊥
+Steps e (Page at page of segments) AskPages new = new ≡ e
 Steps e (Reset cause at) Moved new = ⊥
 Steps e (Reset cause at) AlreadyHave new = ⊥
 Steps e (Reset cause at) AskWhole new = new ≡ e
+Steps e (Reset cause at) AskPages new = ⊥
 
 -- a delta is refused
 abbrev pub DeltaRefused : Entry → Point → Point → List Change → ApplyFault → Type 0
@@ -96,6 +103,7 @@ DeltaRefused e from to changes (faults.NotStrict index) =
     GoesOn e from to × (k : ℕ) × NotStrictAt e.set (tail_of e from changes) k × (index ≡ known_of e from + k)
 DeltaRefused e from to changes faults.TooMany = GoesOn e from to × (k : ℕ) × NoRoomAt e.set (tail_of e from changes) k
 DeltaRefused e from to changes faults.Conflict = ⊥
+DeltaRefused e from to changes faults.PageConflict = ⊥
 DeltaRefused e from to changes faults.Memory = ⊥
 
 -- a snapshot is refused
@@ -107,6 +115,7 @@ SnapshotRefused e at set _ = ⊥
 abbrev pub Refuses : Entry → Body → ApplyFault → Type 0
 Refuses e (Delta from to changes) fault = DeltaRefused e from to changes fault
 Refuses e (Snapshot at set) fault = SnapshotRefused e at set fault
+Refuses e (Page at page of segments) fault = ⊥
 Refuses e (Reset cause at) fault = ⊥
 
 -- ---- the entry of a node

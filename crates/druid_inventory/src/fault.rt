@@ -50,12 +50,15 @@ pub enum ApplyFault {
         /// The place of the change in the delta, from 0.
         index: usize,
     },
-    /// A6: a load onto 20,000 segments.
+    /// A6: a load onto 200,000 segments.
     #[error("A6: too many segments")]
     TooMany,
     /// A5: the mark is the one held, and the set is another.
     #[error("A5: a conflict")]
     Conflict,
+    /// A7: a page tells of another snapshot than the pages of its mark that have come. No reply that is applied gives it.
+    #[error("A7: the pages of a snapshot differ")]
+    PageConflict,
     /// A9: out of memory.
     #[error("A9: out of memory")]
     Memory,
@@ -100,4 +103,6 @@ pub enum Outcome {
     AlreadyHave,
     /// The node has to be asked for all that it serves.
     AskWhole,
+    /// The node has to be asked for the pages of a snapshot, of which this was one.
+    AskPages,
 }

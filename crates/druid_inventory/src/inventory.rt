@@ -7,7 +7,7 @@ ghost use Rattle.druid_shard.specs.Reply.{max_segments, AreSorted};
 ghost use Rattle.druid_shard.specs.Described.{Described};
 ghost use Rattle.druid_shard.specs.Replay.{replay_from};
 ghost use Rattle.druid_shard.specs.ReplyBody.{IsReply};
-ghost use Rattle.druid_inventory.specs.Entry.{Entry, max_nodes, fresh, ask_of, HaveOwnNames, IsEntryOf, IsUnsynced};
+ghost use Rattle.druid_inventory.specs.Entry.{Entry, max_nodes, fresh, ask_of, HaveOwnNames, IsEntryOf, IsAnswerOf, IsUnsynced};
 ghost use Rattle.druid_inventory.specs.Equality.{same_entries, same_entries-per, same_entries-equiv};
 ghost use Rattle.druid_inventory.specs.Join.{names_of, later_each, ConflictAt, IsJoin, RefusesJoin, TellsJoin};
 ghost use Rattle.druid_inventory.specs.Step.{Steps, StepsAt, RefusedAt, Tells, moved_to};
@@ -18,6 +18,7 @@ ghost use Rattle.druid_inventory.specs.Sources.{HasSource, IsHoldingOf};
 ghost use Rattle.druid_inventory.specs.Timelines.{AreTimelinesOf};
 
 use crate::advance::{advance_set, advance_shared};
+use crate::answer::answer_of;
 use crate::join::{are_of_same_nodes, catch_up, first_conflict, has_later};
 use crate::judge::judge;
 use crate::known::{Known, copy_of};
@@ -224,9 +225,9 @@ impl Inventory {
         names_of(self.alloc, &self.timelines)
     }
 
-    /// What a reply of a node makes of the inventory, and its outcome. A1 where the list has no such node; then for a
-    /// delta A3, A2, and A4 or A6 by the first change that offends; A5 where a snapshot is of the held mark and has
-    /// another set; and A9 last. The inventory itself stays.
+    /// What a reply of a node makes of the inventory, and its outcome. A reset and a page change nothing. A1 where the list
+    /// has no such node; then for a delta A3, A2, and A4 or A6 by the first change that offends; A5 where a snapshot is of
+    /// the held mark and has another set; and A9 last. The inventory itself stays.
     pub fn apply(&self, node: NodeNo, reply: &Reply) -> Result<(Inventory, Outcome), ApplyFault>
         ensures ok { IfOk result (λ r. (new : Entry) × StepsAt self.now node reply.now r.1 new
             × (r.0 ≡ slice_set self.now node new)) }
@@ -317,6 +318,7 @@ impl Inventory {
             Outcome::Moved => self.step_on(node, body),
             Outcome::AlreadyHave => Ok(()),
             Outcome::AskWhole => Ok(()),
+            Outcome::AskPages => Ok(()),
         }
     }
 
@@ -341,6 +343,7 @@ impl Inventory {
                 *self = moved;
                 Ok(())
             }
+            Body::Page { .. } => unreachable!(),
             Body::Reset { .. } => unreachable!(),
         }
     }
@@ -388,6 +391,7 @@ impl Inventory {
             Outcome::Moved => self.moved(node, known, body),
             Outcome::AlreadyHave => self.shared(),
             Outcome::AskWhole => self.shared(),
+            Outcome::AskPages => self.shared(),
         }
     }
 
@@ -408,6 +412,7 @@ impl Inventory {
                 let set = copy_of(self.alloc, segments.as_slice())?;
                 self.with_entry(node, known, known.with_set(*at, set)?)
             }
+            Body::Page { .. } => unreachable!(),
             Body::Reset { .. } => unreachable!(),
         }
     }
@@ -462,6 +467,29 @@ impl Inventory {
             return Err(InventoryFault::NotSynced);
         }
         match known.snapshot(self.alloc) {
+            Ok(reply) => Ok(reply),
+            Err(_) => Err(InventoryFault::Memory),
+        }
+    }
+
+    /// What is known of a node, as a reply for a broker that asks, and never more than one message carries. To an ask for all
+    /// that the node serves, or for changes, it is all that the node serves at its mark, up to 20,000 segments, and else the
+    /// first page of that. To an ask for a page it is that page, where the mark is the node's and there is such a page; else
+    /// a reset at the node's mark: of another incarnation where the mark is, and too old in all other cases. V2 where the
+    /// list has no such node, V3 where the node was never synced, and V9 last.
+    pub fn entry_page(&self, node: NodeNo, ask: &Ask) -> Result<Reply, InventoryFault>
+        ensures ok { IfOk result (IsAnswerOf self.now node ask.now) }
+        ensures unknown { IsErrOf result InventoryFault.UnknownNode ↔ (slice_get self.now node ≡ None) }
+        ensures not_synced { IsErrOf result InventoryFault.NotSynced ↔ IsUnsynced self.now node }
+        ensures doubled { result ≢ Err InventoryFault.DoubledNode }
+    {
+        let Some(known) = self.known(node) else {
+            return Err(InventoryFault::UnknownNode);
+        };
+        if !known.is_synced() {
+            return Err(InventoryFault::NotSynced);
+        }
+        match answer_of(known, self.alloc, ask) {
             Ok(reply) => Ok(reply),
             Err(_) => Err(InventoryFault::Memory),
         }

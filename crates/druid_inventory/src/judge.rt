@@ -151,6 +151,7 @@ pub(crate) fn judge(known: &Known, body: &Body) -> Result<Outcome, ApplyFault>
     match body {
         Body::Delta { from, to, changes } => judge_delta(known, *from, *to, changes.as_slice()),
         Body::Snapshot { at, segments } => judge_snapshot(known, *at, segments.as_slice()),
+        Body::Page { .. } => Ok(Outcome::AskPages),
         Body::Reset { .. } => Ok(Outcome::AskWhole),
     }
 }

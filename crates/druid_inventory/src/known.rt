@@ -11,9 +11,10 @@ ghost use Rattle.druid_inventory.specs.Step.{moved_to};
 ghost use Rattle.druid_inventory.specs.Timelines.{AreTimelines, ServesWith};
 
 use crate::advance::advance_set;
+use crate::replies::snapshot_of;
 use crate::timelines::Timelines;
 use druid_segid::Name;
-use druid_shard::{Change, Descriptor, Mark, NodeNo, Reply, ReplyFault};
+use druid_shard::{Change, Descriptor, Mark, NodeNo, Reply};
 use std::alloc::{AllocError, Global};
 use std::marker::Model;
 
@@ -97,6 +98,15 @@ impl Known {
         self.mark
     }
 
+    // How far the history of the node, which was synced, has been followed.
+    pub(crate) fn synced(&self) -> Mark
+        requires { self.now.mark ≢ never }
+        ensures value { result ≡ self.now.mark }
+        ensures valid { 1 ≤ result.incarnation }
+    {
+        self.mark
+    }
+
     // What the node serves at its mark.
     pub(crate) fn set(&self) -> &[Descriptor]
         ensures value { result.now ≡ self.now.set }
@@ -118,13 +128,7 @@ impl Known {
         ensures { IfOk result (λ reply. reply ≡ Snapshot self.now.mark self.now.set) }
     {
         let set = copy_of(alloc, &self.set)?;
-        match Reply::snapshot(self.mark, set) {
-            Ok(reply) => Ok(reply),
-            Err(ReplyFault::TooMany) => unreachable!(),
-            Err(ReplyFault::LengthOfDelta) => unreachable!(),
-            Err(ReplyFault::DoubledSegment) => unreachable!(),
-            Err(ReplyFault::Memory) => unreachable!(),
-        }
+        Ok(snapshot_of(self.mark, set))
     }
 }
 

@@ -2,16 +2,20 @@
 #![tactic(auto)]
 
 mod advance;
+mod answer;
+mod assembly;
 mod fault;
 mod inventory;
 mod join;
 mod judge;
 mod known;
 mod laws;
+mod replies;
 mod shared;
 mod timelines;
 mod transactions;
 
+pub use assembly::Assembly;
 pub use fault::{ApplyFault, InventoryFault, JoinFault, Outcome};
 pub use inventory::{Inventory, MAX_NODES};
 pub use laws::{marks_never_fall, one_join, one_step};

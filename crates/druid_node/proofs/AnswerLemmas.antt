@@ -1,14 +1,10 @@
 -- What pieces tell, halved and one by one, and which of them are missing.
-use Rattle.std.proofs.Common.{◌≡◌, ◌<◌, ◌≤◌, ℕ, zero, suc, List, [], ◌∷◌, ◌++◌, All, map, slice_get, Some, None, length, get_or, take, drop, refl, sym, ap, ◌∙◌, subst, arith, append-nil, append_assoc}
+use Rattle.std.proofs.Common.{◌≡◌, ◌<◌, ◌≤◌, ℕ, zero, suc, List, [], ◌∷◌, ◌++◌, All, map, slice_get, Some, None, length, get_or, drop, refl, sym, ap, ◌∙◌, arith, append-nil, append_assoc}
 use Rattle.std.proofs.lemmas.List.Elements.{All-head, All-tail}
 use Rattle.std.proofs.lemmas.List.Concat.{flat_map-append}
 use Rattle.druid_rows.specs.Segment.{Segment}
 use Rattle.druid_query.specs.Query.{Query}
 use Rattle.druid_query.specs.Asked.{Asked}
-use Rattle.druid_query.specs.declared.aggregator.AggregatorKind.{AggregatorKind}
-use Rattle.druid_partial.specs.Groups.{Group, IsResult, IsMerge}
-use Rattle.druid_partial.specs.Rows.{Partial, kinds_of, IsPartialFor}
-use Rattle.druid_partial.proofs.GroupLemmas.{merge_of_results}
 use Rattle.druid_node.specs.Answers.{missing}
 use Rattle.druid_partial.specs.Once.{segment_named, told_in, told_of, told}
 use Rattle.druid_partial.specs.Rows.{told_by}

@@ -24,8 +24,9 @@ use Rattle.druid_shard.specs.Orders.{mark_cmp-total}
 use Rattle.druid_shard.specs.declared.change.Change.{Change}
 use Rattle.druid_shard.specs.declared.change.Change.TheVariants.{Load, Drop}
 use Rattle.druid_changes.specs.Kept.{Kept, IsKept, last_count, refusal}
-use Rattle.druid_node.specs.State.{State, Records, tombstone_of, Refuses, RefusesToDrop, RefusesToCover}
-use Rattle.druid_node.specs.Seen.{mark_of, IsBehind, IsAtLeast, IsLoadRefusal, RefusesAsSeen, RefusesLoad, RefusesDrop, RefusesTombstone, AnswersFrom, AnswersSince, IsServedAsSeen, IsPassedBy, IsUnserved}
+use Rattle.druid_node.specs.State.{State, IsState, Freezes, Records, tombstone_of, Refuses, RefusesToDrop, RefusesToCover}
+use Rattle.druid_node.proofs.StateLemmas.{freezes-kept, freezes-count}
+use Rattle.druid_node.specs.Seen.{mark_of, AreAtMark, IsBehind, IsAtLeast, IsLoadRefusal, RefusesAsSeen, RefusesLoad, RefusesDrop, RefusesTombstone, AnswersFrom, AnswersSince, IsServedAsSeen, IsPassedBy, IsUnserved}
 
 -- a change more is a greater count
 counted : (old new : Kept) (c : Change) → IsKept old → Records old new c → new.count ≡ old.count + 1
@@ -58,6 +59,25 @@ turned : (r : Ordering) → r ≢ Less → ordering_reverse r ≢ Greater
 turned Less h e = h refl
 turned Equal h e = absurd (cc)
 turned Greater h e = absurd (cc)
+
+-- a state that is not older than what was seen, and what an answer makes of it
+pub at_mark : (incarnation : ℕ) (seen mark : Point) (state next : State) → IsState state → IsKept state.history → state.history.incarnation ≡ incarnation → mark ≡ mark_of state → IsAtLeast (mark_of state) seen
+    → Freezes state next → IsState next → AreAtMark incarnation seen mark state next
+at_mark incarnation seen mark state next valid kept own is at freezes next_valid =
+    let same : mark_of next ≡ mark_of state = λ i. record { incarnation = freezes.incarnation i; count = freezes-count state next freezes kept i } in
+    let antisymm = mark_cmp-total.antisymm seen (mark_of state) in
+    let risen : mark_cmp seen (mark_of state) ≢ Greater = λ e. turned (mark_cmp (mark_of state) seen) at (sym antisymm ∙ e) in
+    record {
+      valid = valid;
+      kept = kept;
+      incarnation_is = own;
+      mark_is = sym is;
+      risen = subst (λ (m : Point). mark_cmp seen m ≢ Greater) (sym is) risen;
+      freezes = freezes;
+      next_valid = next_valid;
+      next_kept = freezes-kept state next freezes kept;
+      next_mark = same ∙ sym is;
+    }
 
 -- ---- why a change is not made
 

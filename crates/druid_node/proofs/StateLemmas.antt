@@ -1,5 +1,5 @@
 -- What a load and a drop make of a node's state.
-use Rattle.std.proofs.Common.{◌≡◌, ◌++◌, true, false, List, [], ◌∷◌, Option, Some, None, Result, Err, refl, sym, ap, ◌∙◌, subst}
+use Rattle.std.proofs.Common.{inl, ◌≡◌, ◌≤◌, ◌++◌, ℕ, true, false, List, [], ◌∷◌, Option, Some, None, Result, Err, refl, sym, ap, ◌∙◌, subst}
 use Rattle.std.specs.Bool.{⊤}
 use Rattle.std.specs.List.{All}
 use Rattle.std.specs.Option.{is_some, option_map}
@@ -7,6 +7,7 @@ use Rattle.std.proofs.lemmas.Option.{same_Some}
 use Rattle.druid_segid.specs.Identifier.{Identifier}
 use Rattle.druid_shard.specs.Described.{Described}
 use Rattle.druid_shard.specs.Replay.{with_segment, without_segment, is_strict, has_room, after}
+use Rattle.druid_shard.specs.Reply.{max_changes}
 use Rattle.druid_shard.proofs.ReplayLemmas.{AreInOrder, in_order}
 use Rattle.druid_shard.specs.declared.change.Change.{Change}
 use Rattle.druid_shard.specs.declared.change.Change.TheVariants.{Load, Drop}
@@ -15,7 +16,7 @@ use Rattle.druid_changes.specs.declared.fault.HistoryFault.{HistoryFault}
 use Rattle.druid_changes.specs.declared.fault.HistoryFault.TheVariants.{Served, NotServed, Full, CountAtEnd, Memory}
 use Rattle.druid_changes.proofs.HistoryLemmas.{no_refusal, stands-more}
 use Rattle.druid_rows.specs.Segment.{Segment, IsSegment, HaveWords}
-use Rattle.druid_node.specs.State.{State, IsState, descriptor_of, descriptors_of, with_rows, HoldsMore, HoldsLess, Records, Takes, Leaves}
+use Rattle.druid_node.specs.State.{State, IsState, descriptor_of, descriptors_of, with_rows, HoldsMore, HoldsLess, Records, Takes, Leaves, Freezes}
 use Rattle.druid_partial.specs.Once.{segment_named}
 use Rattle.druid_node.specs.Held.{IsWhole, IsHeld, with_held, without_held}
 use Rattle.druid_node.proofs.HeldLemmas.{absent, with_held-descriptors, without_held-descriptors, All-with_held, All-without_held, not_there, holds_more, holds_less, undone, found_id, found_each, found_there}
@@ -98,6 +99,34 @@ pub state_stays : (state : State) (history : Kept) (held : List Segment) → IsS
 state_stays state history held valid e f =
     let same : state ≡ record { history = history; held = held } = λ i. record { history = sym e i; held = sym f i } in
     subst IsState same valid
+
+-- ---- an answer that may freeze a set
+
+abbrev pub StandsAs : Kept → Kept → Type 0
+StandsAs old new = (history : List Change) → StandsFor old history → StandsFor new history
+
+-- the history freezes a set that it serves, and goes on to serve it
+pub frozen-state : (state : State) (new : Kept) → IsState state → IsKept state.history → StandsAs state.history new → IsState (record { history = new; held = state.held })
+frozen-state state new valid kept stands =
+    let set : new.set ≡ state.history.set = same_Some new.set state.history.set (sym (stands kept.history kept.stands).set ∙ kept.stands.set) in
+    record { serves = valid.serves ∙ ap with_rows (sym set); each = valid.each; words = valid.words }
+
+pub freezes-same : (old new : State) → new ≡ old → Freezes old new
+freezes-same old new same =
+    let own : Freezes old old = record { incarnation = refl; limit = refl; stands = λ history h. h; only = inl refl; held = refl } in
+    subst (Freezes old) (sym same) own
+
+pub freezes-kept : (old new : State) → Freezes old new → IsKept old.history → IsKept new.history
+freezes-kept old new freezes kept = record {
+  incarnation = subst (λ (n : ℕ). 1 ≤ n) (sym freezes.incarnation) kept.incarnation;
+  some = subst (λ (n : ℕ). 1 ≤ n) (sym freezes.limit) kept.some;
+  few = subst (λ (n : ℕ). n ≤ max_changes) (sym freezes.limit) kept.few;
+  history = kept.history;
+  stands = freezes.stands kept.history kept.stands;
+}
+
+pub freezes-count : (old new : State) → Freezes old new → IsKept old.history → new.history.count ≡ old.history.count
+freezes-count old new freezes kept = (freezes.stands kept.history kept.stands).count ∙ sym kept.stands.count
 
 -- ---- tombstones
 

@@ -1,30 +1,28 @@
 -- What a request asks of a node's state, and what an answer is made of. Only proofs and private functions use this.
-use Rattle.std.specs.Prelude.{◌≡◌, ◌≢◌, ⊤, ℕ, List, Option, Some, None, Vec}
+use Rattle.std.specs.Prelude.{◌≡◌, ⊤, ℕ, List, Option, Some, None, Vec}
 use Rattle.std.specs.Arc.{arc_value}
 use Rattle.std.specs.Global.{Global}
-use Rattle.std.specs.declared.cmp.Ordering.TheVariants.{Greater}
-use Rattle.druid_shard.specs.Mark.{Point, mark_cmp}
-use Rattle.druid_changes.specs.Kept.{IsKept}
+use Rattle.druid_shard.specs.Mark.{Point}
 use Rattle.druid_sync.specs.Back.{IsReadBack}
 use Rattle.druid_sync.specs.Written.{reply_text}
 use Rattle.druid_wire.specs.Served.{Tells}
-use Rattle.druid_node.specs.State.{State, IsState}
+use Rattle.druid_node.specs.State.{State}
 use Rattle.druid_node.specs.Routes.{AnswersFound, AnswersSub}
-use Rattle.druid_node.specs.Seen.{mark_of}
+use Rattle.druid_node.specs.Seen.{AreAtMark}
 use Rattle.druid_node.specs.declared.question.Question.{Question}
 use Rattle.druid_node.specs.declared.question.Question.TheVariants as asks
 use Rattle.druid_node.specs.declared.basis.Basis.{Basis}
 use Rattle.druid_node.specs.declared.basis.Basis.TheVariants as rests
 
--- what a state answers to a question
-abbrev pub Gives : State → Question → ℕ → List ℕ → Type 0
-Gives state (asks.Settled code text) status body = Tells code text.items status body
-Gives state (asks.Reply ask) status body = AnswersFound state.history (Some ask) status body
-Gives state (asks.Answer sub) status body = AnswersSub state.held sub status body
+-- what a state answers to a question, and what state there is then
+abbrev pub Gives : State → State → Question → ℕ → List ℕ → Type 0
+Gives old new (asks.Settled code text) status body = (new ≡ old) × Tells code text.items status body
+Gives old new (asks.Reply ask) status body = AnswersFound old new (Some ask) status body
+Gives old new (asks.Answer sub) status body = (new ≡ old) × AnswersSub old.held sub status body
 
 -- what a state answers to the question is such an answer
-abbrev pub Asks : Question → (State → ℕ → List ℕ → Type 0) → Type 0
-Asks question Answers = (state : State) (status : ℕ) (body : List ℕ) → Gives state question status body → Answers state status body
+abbrev pub Asks : Question → (State → State → ℕ → List ℕ → Type 0) → Type 0
+Asks question Answers = (old new : State) (status : ℕ) (body : List ℕ) → Gives old new question status body → Answers old new status body
 
 -- the answer that is made of this
 abbrev pub IsMadeOf : Basis → ℕ → List ℕ → Type 0
@@ -33,20 +31,19 @@ IsMadeOf (rests.Reply reply) status body = IsReadBack reply × Tells 200 (reply_
 IsMadeOf (rests.Held held sub) status body = AnswersSub (arc_value held) sub status body
 
 -- what is made of this is what the state answers to the question
-abbrev pub IsBasisOf : State → Question → Basis → Type 0
-IsBasisOf state question basis = (status : ℕ) (body : List ℕ) → IsMadeOf basis status body → Gives state question status body
+abbrev pub IsBasisOf : State → State → Question → Basis → Type 0
+IsBasisOf old new question basis = (status : ℕ) (body : List ℕ) → IsMadeOf basis status body → Gives old new question status body
 
 -- the same where memory may run out for the question, or for what its answer is made of
-abbrev pub IsBasisInTurn : State → Option Question → Option Basis → Type 0
-IsBasisInTurn state question None = ⊤
-IsBasisInTurn state None (Some basis) = ⊥
-IsBasisInTurn state (Some question) (Some basis) = IsBasisOf state question basis
+abbrev pub IsBasisInTurn : State → State → Option Question → Option Basis → Type 0
+IsBasisInTurn old new question None = ⊤
+IsBasisInTurn old new None (Some basis) = ⊥
+IsBasisInTurn old new (Some question) (Some basis) = IsBasisOf old new question basis
 
 -- a state of that incarnation gave this, whose mark is the second and not below the first
 abbrev pub IsBasisFrom : ℕ → Point → Point → Option Question → Option Basis → Type 0
 IsBasisFrom incarnation before after question basis =
-    (state : State) × IsState state × IsKept state.history × (state.history.incarnation ≡ incarnation) × (mark_of state ≡ after) × (mark_cmp before after ≢ Greater)
-    × IsBasisInTurn state question basis
+    (state next : State) × AreAtMark incarnation before after state next × IsBasisInTurn state next question basis
 
 -- the answer that is made of this, where out of memory may stand in its place
 abbrev pub IsMadeInTurn : Option Basis → ℕ → Option (Vec ℕ Global) → Type 0

@@ -1,9 +1,9 @@
 -- What a node answers to a request.
-use Rattle.std.specs.Prelude.{◌≡◌, ◌≢◌, ◌⊎◌, ℕ, List, codes, bytes_eq, Option, Some, None, Ok, Err, if◌then◌else◌}
+use Rattle.std.specs.Prelude.{◌≡◌, ◌≢◌, ◌⊎◌, ℕ, Bool, true, false, List, codes, bytes_eq, Option, Some, None, Ok, Err, if◌then◌else◌}
 use Rattle.druid_shard.specs.declared.change.Ask.{Ask}
 use Rattle.druid_shard.specs.declared.change.Change.{Change}
 use Rattle.druid_shard.specs.declared.reply.Body.{Body}
-use Rattle.druid_changes.specs.Kept.{Kept, StandsFor}
+use Rattle.druid_changes.specs.Kept.{Kept, StandsFor, frozen_count}
 use Rattle.druid_changes.specs.Answer.{answer}
 use Rattle.druid_sync.specs.Asks.{ask_at}
 use Rattle.druid_sync.specs.Back.{IsReadBack}
@@ -29,22 +29,28 @@ route_of path =
     else (if bytes_eq path (codes "/druid/v2") then Query
     else (if bytes_eq path (codes "/druid/v2/") then Query else Nowhere)))
 
--- ---- what it serves
+-- ---- what it serves. An ask may freeze the set that is served, so there is a state before an answer and one after it
 
--- what the history answers to the ask
-abbrev pub IsReplyTo : Kept → Ask → Body → Type 0
-IsReplyTo kept ask reply =
-    (history : List Change) → StandsFor kept history → answer kept.incarnation history kept.limit ask ≡ Some reply
+-- what the history answers to the ask, and which set is frozen then
+abbrev pub IsReplyTo : Kept → Kept → Ask → Body → Type 0
+IsReplyTo old new ask reply =
+    (history : List Change) → StandsFor old history
+    → answer old.incarnation history old.limit (frozen_count old.frozen) ask ≡ Some (reply, frozen_count new.frozen)
 
 -- with a text that is read back as that
-abbrev pub AnswersFound : Kept → Option Ask → ℕ → List ℕ → Type 0
-AnswersFound kept None status body = Tells 400 (codes "{\"error\":\"Y6\"}") status body
-AnswersFound kept (Some ask) status body =
-    (reply : Body) × IsReplyTo kept ask reply × IsReadBack reply × Tells 200 (reply_text reply) status body
+abbrev pub AnswersFound : State → State → Option Ask → ℕ → List ℕ → Type 0
+AnswersFound old new None status body = (new ≡ old) × Tells 400 (codes "{\"error\":\"Y6\"}") status body
+AnswersFound old new (Some ask) status body =
+    (reply : Body) × IsReplyTo old.history new.history ask reply × IsReadBack reply × Tells 200 (reply_text reply) status body
 
 -- the parameters spell an ask
-abbrev pub AnswersAsk : Kept → List ℕ → ℕ → List ℕ → Type 0
-AnswersAsk kept parameters status body = AnswersFound kept (ask_at parameters) status body
+abbrev pub AnswersAsk : State → State → List ℕ → ℕ → List ℕ → Type 0
+AnswersAsk old new parameters status body = AnswersFound old new (ask_at parameters) status body
+
+-- an ask, where the method is GET
+abbrev pub AnswersGet : Bool → State → State → List ℕ → ℕ → List ℕ → Type 0
+AnswersGet true old new parameters status body = AnswersAsk old new parameters status body
+AnswersGet false old new parameters status body = (new ≡ old) × Tells 405 (codes "{\"error\":\"Method\"}") status body
 
 -- ---- queries
 
@@ -59,20 +65,21 @@ AnswersQuery held bytes status body =
 
 -- ---- the whole
 
-abbrev pub AnswersAt : Route → State → RequestValue → ℕ → List ℕ → Type 0
-AnswersAt Health state request status body =
-    Allows (bytes_eq request.method (codes "GET")) (Tells 200 (codes "true")) status body
-AnswersAt Segments state request status body =
-    Allows (bytes_eq request.method (codes "GET")) (AnswersAsk state.history (parameters_of request.target)) status body
-AnswersAt Query state request status body =
-    Allows (bytes_eq request.method (codes "POST")) (AnswersQuery state.held request.body) status body
-AnswersAt Nowhere state request status body = Tells 404 (codes "{\"error\":\"NoRoute\"}") status body
+-- an answer that is no ask's leaves the state as it was
+abbrev pub AnswersAt : Route → State → State → RequestValue → ℕ → List ℕ → Type 0
+AnswersAt Health old new request status body =
+    (new ≡ old) × Allows (bytes_eq request.method (codes "GET")) (Tells 200 (codes "true")) status body
+AnswersAt Segments old new request status body =
+    AnswersGet (bytes_eq request.method (codes "GET")) old new (parameters_of request.target) status body
+AnswersAt Query old new request status body =
+    (new ≡ old) × Allows (bytes_eq request.method (codes "POST")) (AnswersQuery old.held request.body) status body
+AnswersAt Nowhere old new request status body = (new ≡ old) × Tells 404 (codes "{\"error\":\"NoRoute\"}") status body
 
--- what a node in that state answers to the request
-abbrev pub Responds : State → RequestValue → ℕ → List ℕ → Type 0
-Responds state request status body = AnswersAt (route_of (path_of request.target)) state request status body
+-- what a node in the old state answers to the request; then it is in the new one
+abbrev pub Responds : State → State → RequestValue → ℕ → List ℕ → Type 0
+Responds old new request status body = AnswersAt (route_of (path_of request.target)) old new request status body
 
 -- out of memory in the place of the answer
-abbrev pub RespondsInTurn : State → RequestValue → ℕ → List ℕ → Type 0
-RespondsInTurn state request status body =
-    Responds state request status body ⊎ Tells 500 (codes "{\"error\":\"Memory\"}") status body
+abbrev pub RespondsInTurn : State → State → RequestValue → ℕ → List ℕ → Type 0
+RespondsInTurn old new request status body =
+    Responds old new request status body ⊎ Tells 500 (codes "{\"error\":\"Memory\"}") status body

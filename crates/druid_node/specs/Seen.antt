@@ -12,7 +12,7 @@ use Rattle.druid_message.specs.Requests.{RequestValue}
 use Rattle.druid_wire.specs.Messages.{IsRequest}
 use Rattle.druid_wire.specs.Served.{IsServed, FailsToServe}
 use Rattle.druid_message.specs.declared.fault.WireFault.{WireFault}
-use Rattle.druid_node.specs.State.{State, IsState}
+use Rattle.druid_node.specs.State.{State, IsState, Freezes}
 use Rattle.druid_node.specs.Routes.{RespondsInTurn}
 use Rattle.druid_node.specs.declared.fault.NodeFault.{NodeFault}
 use Rattle.druid_node.specs.declared.fault.NodeFault.TheVariants as faults
@@ -78,11 +78,22 @@ RefusesTombstone incarnation id seen (faults.Behind found) = (id.partition ≡ 0
 RefusesTombstone incarnation id seen faults.NotPartitionZero = id.partition ≢ 0
 RefusesTombstone incarnation id seen faults.Memory = id.partition ≡ 0
 
+-- a state of that incarnation and what an answer makes of it, both of that mark, which is not below what was seen
+pub record AreAtMark (incarnation : ℕ) (seen mark : Point) (state next : State) : Type 0 where
+  pub valid : IsState state
+  pub kept : IsKept state.history
+  pub incarnation_is : state.history.incarnation ≡ incarnation
+  pub mark_is : mark_of state ≡ mark
+  pub risen : mark_cmp seen mark ≢ Greater
+  pub freezes : Freezes state next
+  pub next_valid : IsState next
+  pub next_kept : IsKept next.history
+  pub next_mark : mark_of next ≡ mark
+
 -- a state of that incarnation, whose mark is the second and not below the first, answers so
 abbrev pub AnswersFrom : ℕ → Point → Point → RequestValue → ℕ → List ℕ → Type 0
 AnswersFrom incarnation before after request status body =
-    (state : State) × IsState state × IsKept state.history × (state.history.incarnation ≡ incarnation) × (mark_of state ≡ after) × (mark_cmp before after ≢ Greater)
-    × RespondsInTurn state request status body
+    (state next : State) × AreAtMark incarnation before after state next × RespondsInTurn state next request status body
 
 -- the body of an answer, where out of memory may stand in its place
 abbrev pub text_of : Option (Vec ℕ Global) → List ℕ

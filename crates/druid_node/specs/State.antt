@@ -6,7 +6,7 @@ use Rattle.druid_shard.specs.declared.change.Change.{Change}
 use Rattle.druid_shard.specs.declared.change.Change.TheVariants.{Load, Drop}
 use Rattle.druid_rows.specs.Segment.{Segment, IsSegment, HaveWords}
 use Rattle.druid_partial.specs.Once.{segment_named}
-use Rattle.druid_changes.specs.Kept.{Kept, StandsFor, refusal}
+use Rattle.druid_changes.specs.Kept.{Kept, StandsFor, KeepsOrFreezes, refusal}
 use Rattle.druid_changes.specs.declared.fault.HistoryFault.TheVariants.{NotServed}
 use Rattle.druid_node.specs.declared.fault.NodeFault.{NodeFault}
 use Rattle.druid_node.specs.declared.fault.NodeFault.TheVariants as faults
@@ -66,6 +66,14 @@ tombstone_of id = record { id = id; core = 1; size = 0; tombstone = true }
 -- the tombstone of that identifier was placed, and the same segments are held
 pub record Covers (old new : State) (id : Identifier) : Type 0 where
   pub records : Records old.history new.history (Load (tombstone_of id))
+  pub held : new.held ≡ old.held
+
+-- an answer may freeze the set that is served, where none is frozen and it is too large for one message; all else of the state stays
+pub record Freezes (old new : State) : Type 0 where
+  pub incarnation : new.history.incarnation ≡ old.history.incarnation
+  pub limit : new.history.limit ≡ old.history.limit
+  pub stands : (history : List Change) → StandsFor old.history history → StandsFor new.history history
+  pub only : KeepsOrFreezes old.history new.history
   pub held : new.held ≡ old.held
 
 -- why a change is not made: what the history refuses it for, and out of memory only where it refuses nothing

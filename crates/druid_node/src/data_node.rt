@@ -115,7 +115,8 @@ impl<I: Incarnation> DataNode<I> {
         self.alloc
     }
 
-    // What its state gives for the answer to a question, and the state's mark. The lock is held for this alone.
+    // What its state gives for the answer to a question, and the state's mark. The lock is held for this alone: for copies of
+    // what is replied, and, where an ask freezes what is served, for one of that.
     fn basis_of(
         &self,
         rt: &impl Wait,

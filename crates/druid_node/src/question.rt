@@ -27,7 +27,7 @@ pub(crate) enum Question {
 }
 
 fn settled(alloc: Global, status: StatusCode, text: &str) -> Result<Question, NodeFault>
-    ensures ok { IfOk result (λ q. Asks q (λ state. Tells status text.now)) }
+    ensures ok { IfOk result (λ q. Asks q (λ old new code body. (new ≡ old) × Tells status text.now code body)) }
     ensures err { IfErr result (λ fault. fault ≡ NodeFault.Memory) }
 {
     match text.as_bytes().to_vec(alloc) {
@@ -37,7 +37,7 @@ fn settled(alloc: Global, status: StatusCode, text: &str) -> Result<Question, No
 }
 
 fn other_method(alloc: Global) -> Result<Question, NodeFault>
-    ensures ok { IfOk result (λ q. Asks q (λ state. Tells 405 (codes "{\"error\":\"Method\"}"))) }
+    ensures ok { IfOk result (λ q. Asks q (λ old new status body. (new ≡ old) × Tells 405 (codes "{\"error\":\"Method\"}") status body)) }
     ensures err { IfErr result (λ fault. fault ≡ NodeFault.Memory) }
 {
     settled(
@@ -49,7 +49,7 @@ fn other_method(alloc: Global) -> Result<Question, NodeFault>
 
 // What is no subquery.
 fn refuse(alloc: Global, fault: QueryFault) -> Result<Question, NodeFault>
-    ensures ok { IfOk result (λ q. (fault ≢ QueryFault.Memory) × Asks q (λ state. Tells 400 (refusal_text fault))) }
+    ensures ok { IfOk result (λ q. (fault ≢ QueryFault.Memory) × Asks q (λ old new status body. (new ≡ old) × Tells 400 (refusal_text fault) status body)) }
     ensures err { IfErr result (λ fault. fault ≡ NodeFault.Memory) }
 {
     match fault {
@@ -62,7 +62,7 @@ fn refuse(alloc: Global, fault: QueryFault) -> Result<Question, NodeFault>
 }
 
 fn of_parameters(alloc: Global, parameters: &str) -> Result<Question, NodeFault>
-    ensures ok { IfOk result (λ q. Asks q (λ state. AnswersAsk state.history parameters.now)) }
+    ensures ok { IfOk result (λ q. Asks q (λ old new. AnswersAsk old new parameters.now)) }
     ensures err { IfErr result (λ fault. fault ≡ NodeFault.Memory) }
 {
     match read_ask(parameters) {
@@ -72,7 +72,7 @@ fn of_parameters(alloc: Global, parameters: &str) -> Result<Question, NodeFault>
 }
 
 fn of_body(alloc: Global, body: &[u8]) -> Result<Question, NodeFault>
-    ensures ok { IfOk result (λ q. Asks q (λ state. AnswersQuery state.held body.now)) }
+    ensures ok { IfOk result (λ q. Asks q (λ old new status text. (new ≡ old) × AnswersQuery old.held body.now status text)) }
     ensures err { IfErr result (λ fault. fault ≡ NodeFault.Memory) }
 {
     match read_subquery(alloc, body) {
@@ -82,7 +82,7 @@ fn of_body(alloc: Global, body: &[u8]) -> Result<Question, NodeFault>
 }
 
 fn health(alloc: Global, request: &Request) -> Result<Question, NodeFault>
-    ensures ok { IfOk result (λ q. Asks q (λ state. AnswersAt Route.Health state request.now)) }
+    ensures ok { IfOk result (λ q. Asks q (λ old new. AnswersAt Route.Health old new request.now)) }
     ensures err { IfErr result (λ fault. fault ≡ NodeFault.Memory) }
 {
     if !request.has_method("GET") {
@@ -92,7 +92,7 @@ fn health(alloc: Global, request: &Request) -> Result<Question, NodeFault>
 }
 
 fn segments(alloc: Global, request: &Request) -> Result<Question, NodeFault>
-    ensures ok { IfOk result (λ q. Asks q (λ state. AnswersAt Route.Segments state request.now)) }
+    ensures ok { IfOk result (λ q. Asks q (λ old new. AnswersAt Route.Segments old new request.now)) }
     ensures err { IfErr result (λ fault. fault ≡ NodeFault.Memory) }
 {
     if !request.has_method("GET") {
@@ -102,7 +102,7 @@ fn segments(alloc: Global, request: &Request) -> Result<Question, NodeFault>
 }
 
 fn query(alloc: Global, request: &Request) -> Result<Question, NodeFault>
-    ensures ok { IfOk result (λ q. Asks q (λ state. AnswersAt Route.Query state request.now)) }
+    ensures ok { IfOk result (λ q. Asks q (λ old new. AnswersAt Route.Query old new request.now)) }
     ensures err { IfErr result (λ fault. fault ≡ NodeFault.Memory) }
 {
     if !request.has_method("POST") {
@@ -112,7 +112,7 @@ fn query(alloc: Global, request: &Request) -> Result<Question, NodeFault>
 }
 
 fn question_at(alloc: Global, route: Route, request: &Request) -> Result<Question, NodeFault>
-    ensures ok { IfOk result (λ q. Asks q (λ state. AnswersAt route state request.now)) }
+    ensures ok { IfOk result (λ q. Asks q (λ old new. AnswersAt route old new request.now)) }
     ensures err { IfErr result (λ fault. fault ≡ NodeFault.Memory) }
 {
     match route {
@@ -125,7 +125,7 @@ fn question_at(alloc: Global, route: Route, request: &Request) -> Result<Questio
 
 // What the request asks of a state.
 pub(crate) fn question_of(alloc: Global, request: &Request) -> Result<Question, NodeFault>
-    ensures ok { IfOk result (λ q. Asks q (λ state. Responds state request.now)) }
+    ensures ok { IfOk result (λ q. Asks q (λ old new. Responds old new request.now)) }
     ensures err { IfErr result (λ fault. fault ≡ NodeFault.Memory) }
 {
     question_at(alloc, route_of(request.path()), request)

@@ -1,5 +1,6 @@
 //! What a node's state answers to requests.
-ghost use Rattle.std.specs.Prelude.{◌≡◌, IfOk, IfErr};
+ghost use Rattle.std.specs.Prelude.{◌≡◌, IfOk, IfErr, OnErr};
+ghost use Rattle.druid_node.specs.State.{Freezes};
 ghost use Rattle.druid_node.specs.Routes.{Responds};
 ghost use Rattle.druid_node.specs.Questions.{IsBasisOf};
 
@@ -10,10 +11,12 @@ use druid_message::Request;
 use http::StatusCode;
 
 impl NodeState {
-    // What its answer to a question is made of.
-    pub(crate) fn basis_of(&self, question: Question) -> Result<Basis, NodeFault>
-        ensures ok { IfOk result (IsBasisOf self.now question) }
+    // What its answer to a question is made of. Out of memory leaves all as it was.
+    pub(crate) fn basis_of(&mut self, question: Question) -> Result<Basis, NodeFault>
+        ensures ok { IfOk result (IsBasisOf self.old self.new question) }
+        ensures stays { Freezes self.old self.new }
         ensures err { IfErr result (λ fault. fault ≡ NodeFault.Memory) }
+        ensures unchanged { OnErr result (self.new ≡ self.old) }
     {
         match question {
             Question::Settled(status, body) => Ok(Basis::Settled(status, body)),
@@ -31,9 +34,12 @@ impl NodeState {
     /// The status and the body that it answers to a request. `GET /status/health` is answered `true`; `GET
     /// /druid-internal/v1/segments` with what `since` tells, where the parameters spell an ask; `POST /druid/v2` and `POST
     /// /druid/v2/` with what `answer` tells, where the body reads as a subquery. What is not read so is answered 400 with the
-    /// number of its fault, another method on these paths 405, and another path 404. N9 where memory runs out.
-    pub fn respond(&self, request: &Request) -> Result<(StatusCode, Vec<u8>), NodeFault>
-        ensures ok { IfOk result (λ r. Responds self.now request.now r.0 r.1.items) }
+    /// number of its fault, another method on these paths 405, and another path 404. Only an ask for all that is served may
+    /// freeze that, as `since` does; no other answer changes anything. N9 where memory runs out, which may come after a set was
+    /// frozen.
+    pub fn respond(&mut self, request: &Request) -> Result<(StatusCode, Vec<u8>), NodeFault>
+        ensures ok { IfOk result (λ r. Responds self.old self.new request.now r.0 r.1.items) }
+        ensures stays { Freezes self.old self.new }
         ensures err { IfErr result (λ fault. fault ≡ NodeFault.Memory) }
     {
         let question = match question_of(self.alloc(), request) {

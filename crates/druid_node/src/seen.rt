@@ -5,7 +5,7 @@ ghost use Rattle.druid_shard.specs.Mark.{mark_cmp};
 ghost use Rattle.druid_shard.specs.declared.change.Change.TheVariants.{Load};
 ghost use Rattle.druid_shard.specs.Described.{Described};
 ghost use Rattle.druid_changes.specs.Kept.{IsKept, described_named};
-ghost use Rattle.druid_node.specs.State.{IsState, Takes, Leaves, Covers, Refuses, RefusesToDrop, RefusesToCover};
+ghost use Rattle.druid_node.specs.State.{IsState, Freezes, Takes, Leaves, Covers, Refuses, RefusesToDrop, RefusesToCover};
 ghost use Rattle.druid_node.specs.Seen.{mark_of, IsBehind, IsAtLeast, RefusesAsSeen};
 ghost use Rattle.druid_node.specs.Questions.{IsBasisInTurn, IsBasisFrom, IsMadeInTurn};
 
@@ -152,8 +152,9 @@ impl<I: Incarnation> StateIn<I> {
         }
     }
 
-    fn basis_in_turn(&self, question: Option<Question>) -> Option<Basis>
-        ensures { IsBasisInTurn self.now question result }
+    fn basis_in_turn(&mut self, question: Option<Question>) -> Option<Basis>
+        ensures basis { IsBasisInTurn self.old self.new question result }
+        ensures stays { Freezes self.old self.new }
     {
         let question = question?;
         match self.state.basis_of(question) {
@@ -164,14 +165,16 @@ impl<I: Incarnation> StateIn<I> {
 
     // What its answer to a question is made of, where it is not older than what was seen, and its mark.
     pub(crate) fn basis_of(
-        &self,
+        &mut self,
         question: Option<Question>,
         seen: Mark,
     ) -> Result<Based, NodeFault>
-        ensures ok { IfOk result (λ b. IsAtLeast (mark_of self.now) seen × (b.mark ≡ mark_of self.now)
-            × IsBasisInTurn self.now question b.basis) }
+        ensures ok { IfOk result (λ b. IsAtLeast (mark_of self.old) seen × (b.mark ≡ mark_of self.old)
+            × IsBasisInTurn self.old self.new question b.basis) }
+        ensures stays { Freezes self.old self.new }
         ensures from { IfOk result (λ b. IsBasisFrom I.number seen b.mark question b.basis) }
-        ensures err { IfErr result (λ fault. IsBehind I.number (mark_of self.now) seen × (fault ≡ NodeFault.Behind (mark_of self.now))) }
+        ensures err { IfErr result (λ fault. IsBehind I.number (mark_of self.old) seen × (fault ≡ NodeFault.Behind (mark_of self.old))) }
+        ensures unchanged { OnErr result (self.new ≡ self.old) }
     {
         let mark = match self.mark_as_seen(seen) {
             Ok(mark) => mark,

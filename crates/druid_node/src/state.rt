@@ -5,9 +5,9 @@ ghost use Rattle.druid_shard.specs.declared.change.Change.{Change as Event};
 ghost use Rattle.druid_shard.specs.declared.change.Change.TheVariants.{Load, Drop as Dropped};
 ghost use Rattle.druid_rows.specs.Segment.{Segment};
 ghost use Rattle.druid_shard.specs.Described.{Described};
-ghost use Rattle.druid_changes.specs.Kept.{StandsFor, IsKept, described_named, refusal};
+ghost use Rattle.druid_changes.specs.Kept.{StandsFor, IsKept, frozen_count, described_named, refusal};
 ghost use Rattle.druid_changes.specs.Answer.{answer, HasCopies, mark_behind};
-ghost use Rattle.druid_node.specs.State.{State, IsState, Records, Takes, Leaves, Covers, Refuses, RefusesToDrop, RefusesToCover};
+ghost use Rattle.druid_node.specs.State.{State, IsState, Records, Takes, Leaves, Covers, Freezes, Refuses, RefusesToDrop, RefusesToCover};
 ghost use Rattle.druid_node.specs.Answers.{IsAnswerOf};
 ghost use Rattle.druid_node.specs.Held.{state_of};
 
@@ -173,7 +173,7 @@ impl NodeState {
     }
 
     /// Loads a segment, and records it. N4 where the history refuses that: H1 where a segment or a tombstone of that identifier
-    /// is served, then H3 where 20,000 segments and tombstones are, then H4 at a count of 2^64 - 1. Then N9 where memory runs
+    /// is served, then H3 where 200,000 segments and tombstones are, then H4 at a count of 2^64 - 1. Then N9 where memory runs
     /// out. A refused load leaves all as it was.
     pub fn load(&mut self, segment: Segment) -> Result<(), NodeFault>
         ensures ok { OnOk result (Takes self.old self.new segment) }
@@ -188,7 +188,7 @@ impl NodeState {
 
     /// Places the tombstone of that identifier among what it serves, and records that as a load. N7 where the identifier is not
     /// of partition 0. N4 where the history refuses that: H1 where a segment or a tombstone of that identifier is served, then
-    /// H3 where 20,000 segments and tombstones are, then H4 at a count of 2^64 - 1. Then N9 where memory runs out. Where it
+    /// H3 where 200,000 segments and tombstones are, then H4 at a count of 2^64 - 1. Then N9 where memory runs out. Where it
     /// fails all is as it was.
     pub fn place_tombstone(&mut self, id: SegmentId) -> Result<(), NodeFault>
         ensures ok { OnOk result (Covers self.old self.new id) }
@@ -251,14 +251,22 @@ impl NodeState {
         }
     }
 
-    /// What it answers to a broker that follows it: all that it serves, or the changes after the broker's mark, or why it has
-    /// not these. N9 where memory runs out for copies.
-    pub fn since(&self, ask: &Ask) -> Result<Reply, NodeFault>
-        ensures ok { IfOk result (λ reply. (history : List Event) → StandsFor self.now.history history
-            → answer self.now.history.incarnation history self.now.history.limit ask.now ≡ Some reply) }
+    /// What it answers to a broker that follows it: all that it serves, or the changes after the broker's mark, or a page of the
+    /// set that it froze, or why it has not these. `Ask::Whole` is answered the snapshot of up to 20,000 segments and tombstones.
+    /// Where there are more, it freezes that set, unless one is frozen, and answers page 0 of the frozen set, at the mark at which
+    /// that was frozen. `Ask::Page` is answered that page of the set that is frozen at that mark, and else a reset. A frozen set
+    /// is given up once more changes than are kept came after it. N9 where memory runs out for copies, which leaves all as it was.
+    pub fn since(&mut self, ask: &Ask) -> Result<Reply, NodeFault>
+        ensures ok { IfOk result (λ reply. (history : List Event) → StandsFor self.old.history history
+            → answer self.old.history.incarnation history self.old.history.limit (frozen_count self.old.history.frozen) ask.now
+            ≡ Some (reply, frozen_count self.new.history.frozen)) }
+        ensures stays { Freezes self.old self.new }
         ensures err { IfErr result (λ fault. fault ≡ NodeFault.Memory) }
-        ensures memory { OnErr result (HasCopies self.now.history.incarnation self.now.history.count self.now.history.limit ask.now) }
+        ensures memory { OnErr result (HasCopies self.old.history.incarnation self.old.history.count self.old.history.limit ask.now) }
+        ensures unchanged { OnErr result (self.new ≡ self.old) }
     {
+        // For the proof: reading it exposes the invariant of its type.
+        let _mark = self.history.mark();
         match self.history.since(ask) {
             Ok(reply) => Ok(reply),
             Err(_) => Err(NodeFault::Memory),

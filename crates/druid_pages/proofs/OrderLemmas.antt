@@ -82,7 +82,7 @@ next_in p pages i x is =
 
 sorted_rest : (s r set : List Described) (pages : Pages) → ArePages (Some s ∷ pages) → whole_of pages ≡ Some r → Rising (Some s ∷ pages) → AreSorted r → s ++ r ≡ set → AreSorted set
 sorted_rest s r set pages are whole seams sorted e =
-    subst AreSorted e (sorted_append s r (are 0 s refl).1 sorted (first_seam s r pages are whole seams))
+    subst AreSorted e (sorted_append s r (are 0 s refl).2 sorted (first_seam s r pages are whole seams))
 
 sorted_by : (s set : List Described) (pages : Pages) (rest : Option (List Described)) → whole_of pages ≡ rest → with_front s rest ≡ Some set → ArePages (Some s ∷ pages) → Rising (Some s ∷ pages)
     → ((r : List Described) → rest ≡ Some r → AreSorted r) → AreSorted set

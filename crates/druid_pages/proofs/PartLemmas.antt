@@ -3,7 +3,7 @@ use Rattle.std.proofs.Common.{◌≡◌, ◌⊎◌, ◌<◌, ◌≤◌, ℕ, zer
 use Rattle.std.specs.List.{slice_get}
 use Rattle.std.proofs.lemmas.Option.{same_Some, none-some}
 use Rattle.druid_shard.specs.Described.{Described}
-use Rattle.druid_shard.specs.Reply.{AreSorted}
+use Rattle.druid_shard.specs.Reply.{max_page, AreSorted}
 use Rattle.druid_pages.specs.Assembly.{ArePages}
 
 none_in : (n page : ℕ) (segments : List Described) → slice_get (replicate n None) page ≡ Some (Some segments) → ⊥
@@ -35,9 +35,9 @@ get_set_apart (x ∷ xs) zero (suc i) v apart = refl
 get_set_apart (x ∷ xs) (suc j) zero v apart = refl
 get_set_apart (x ∷ xs) (suc j) (suc i) v apart = get_set_apart xs j i v (λ e. apart (ap suc e))
 
--- a page more that has segments which rise
+-- a page more
 pub are_pages_with : (pages : List (Option (List Described))) (page : ℕ) (segments : List Described) → ArePages pages
-    → (1 ≤ length segments) × AreSorted segments → ArePages (set pages page (Some segments))
+    → (1 ≤ length segments) × (length segments ≤ max_page) × AreSorted segments → ArePages (set pages page (Some segments))
 are_pages_with pages page segments each new k found is =
-    ⊎_elim (λ before. each k found before) (λ here. subst (λ s. (1 ≤ length s) × AreSorted s) (same_Some segments found here.1) new)
+    ⊎_elim (λ before. each k found before) (λ here. subst (λ s. (1 ≤ length s) × (length s ≤ max_page) × AreSorted s) (same_Some segments found here.1) new)
     (set_get pages page (Some segments) k (Some found) is)

@@ -1,13 +1,15 @@
 -- Pages of one set.
-use Rattle.std.proofs.Common.{◌≡◌, ◌+◌, ◌*◌, ◌<◌, ◌≤◌, ℕ, suc, List, [], ◌∷◌, ◌++◌, length, get_or, take, drop, replicate, set, Option, Some, None, refl, sym, ap, ◌∙◌, subst, inl, inr, ⊎_elim, min, arith, suc-mul, zero-mul, zero-add, add-zero, add_comm}
+use Rattle.std.proofs.Common.{◌≡◌, ◌+◌, ◌-◌, ◌*◌, ◌<◌, ◌≤◌, ℕ, suc, List, [], ◌∷◌, ◌++◌, length, get_or, take, drop, replicate, set, Option, Some, None, refl, sym, ap, ◌∙◌, subst, inl, inr, ⊎_elim, min, arith, suc-mul, zero-mul, zero-add, add-zero, add_comm}
 use Rattle.std.specs.List.{slice_get}
 use Rattle.std.proofs.Math.Seq.{take-add}
+use Rattle.std.proofs.lemmas.Bool.{cases_eq}
 use Rattle.std.proofs.lemmas.Option.{same_Some, none-some}
 use Rattle.std.proofs.lemmas.List.{take_all, length-drop, length-take, length-set, length-replicate, drop-drop, get_or-drop, get_or-take}
 use Rattle.druid_shard.specs.Described.{Described}
 use Rattle.druid_shard.specs.Mark.{Point}
-use Rattle.druid_shard.specs.Reply.{AreSorted}
-use Rattle.druid_pages.specs.Pages.{max_page, page_at, IsCutInto}
+use Rattle.druid_shard.specs.Reply.{max_page, max_segments, AreSorted, IsFull}
+use Rattle.druid_shard.specs.Reply.{IsPageOf as IsReplyPage}
+use Rattle.druid_pages.specs.Pages.{page_at, IsCutInto}
 use Rattle.druid_pages.specs.Assembly.{Parts, Page, IsPage, Conflicts, Puts, AreOf, IsPageOf, no_pages, with_page, whole_of}
 use Rattle.druid_pages.proofs.PartLemmas.{set_get, none_there}
 use Rattle.druid_pages.proofs.OrderLemmas.{of_rest, before_in}
@@ -99,13 +101,36 @@ sorted_part m n ds sorted k d within =
     (at k (omega (arith, within))) (ap (λ i. get_or ds i d) next ∙ at (k + 1) within)
     (sorted (n + k) d (omega (arith, within, all, rest)))
 
-pub is_page : (ds : List Described) (p : Page) → AreSorted ds → IsPageOf ds p → 2 ≤ p.of → p.page < p.of → IsPage p
-is_page ds p sorted is several within =
+pub is_page : (ds : List Described) (p : Page) → AreSorted ds → length ds ≤ max_segments → IsPageOf ds p → 2 ≤ p.of → p.page < p.of → IsPage p
+is_page ds p sorted few is several within =
     let all : length p.segments ≡ min max_page (length (drop (p.page * max_page) ds)) = ap length is.segments ∙ length-take max_page (drop (p.page * max_page) ds) in
     let rest = length-drop (p.page * max_page) ds in
     record {
       several = several;
+      not_many = omega (arith, is.count.no_more, few);
       within = within;
       some = omega (arith, all, rest, is.count.no_more, within);
+      few = omega (arith, all);
       sorted = subst AreSorted (sym is.segments) (sorted_part max_page (p.page * max_page) ds sorted);
+    }
+
+full_page : (n page of count : ℕ) → count ≡ min max_page (n - page * max_page) → IsCutInto n of → page < of → IsFull page of count
+full_page n page of count is cut within = elim (cases_eq (page + 1) of) [
+  | inl last ↦ inr (omega (arith, is, cut.no_more, last), last)
+  | inr before ↦ inl (omega (arith, is, cut.no_more, within, before))
+]
+
+-- a page of a set that is too large for one message is one of a reply
+pub is_page_of : (ds : List Described) (page of : ℕ) → AreSorted ds → IsCutInto (length ds) of → max_page < length ds → length ds ≤ max_segments → page < of
+    → IsReplyPage page of (page_at ds page)
+is_page_of ds page of sorted cut many few within =
+    let all : length (page_at ds page) ≡ min max_page (length (drop (page * max_page) ds)) = length-take max_page (drop (page * max_page) ds) in
+    let rest = length-drop (page * max_page) ds in
+    record {
+      several = omega (arith, cut.enough, many);
+      not_many = omega (arith, cut.no_more, few);
+      within = within;
+      few = omega (arith, all);
+      full = full_page (length ds) page of (length (page_at ds page)) (omega (arith, all, rest)) cut within;
+      sorted = sorted_part max_page (page * max_page) ds sorted;
     }

@@ -34,7 +34,7 @@ tied p q e =
 turned : (p q : Point) (order : Ordering) → order ≡ mark_cmp p q → mark_cmp q p ≡ ordering_reverse order
 turned p q order e = mark_cmp-total.antisymm q p ∙ ap ordering_reverse (sym e)
 
--- ---- want of memory
+-- ---- out of memory
 
 pub lacking_memory : (old : Option Parts) (parts : Parts) (p : Page) → old ≡ Some parts → parts.at ≡ p.at → FitsAs parts p (Ok Lacking) → RefusesIn old p Memory
 lacking_memory old parts p is at fits = (None, Some (with_page parts p.page p.segments), (parts, is, at, inr (fits.0, fits.1, refl)))

@@ -1,11 +1,12 @@
 -- The segments of all pages.
-use Rattle.std.proofs.Common.{◌≡◌, ◌+◌, ℕ, zero, suc, List, [], ◌∷◌, ◌++◌, take, set, Option, Some, None, option_map, refl, sym, ap, ◌∙◌, inl, inr, ⊎_elim, arith, append_assoc, add-one}
+use Rattle.std.proofs.Common.{◌≡◌, ◌+◌, ◌*◌, ◌≤◌, ℕ, zero, suc, List, [], ◌∷◌, ◌++◌, length, length-append, take, set, Option, Some, None, option_map, refl, sym, ap, ◌∙◌, inl, inr, ⊎_elim, arith, append_assoc, add-one, suc-mul}
 use Rattle.std.specs.List.{slice_get}
 use Rattle.std.proofs.lemmas.Bool.{cases_eq}
 use Rattle.std.proofs.lemmas.Option.{same_Some, none-some}
 use Rattle.std.proofs.lemmas.List.{append-nil}
 use Rattle.druid_shard.specs.Described.{Described}
-use Rattle.druid_pages.specs.Assembly.{whole_of}
+use Rattle.druid_shard.specs.Reply.{max_page}
+use Rattle.druid_pages.specs.Assembly.{ArePages, whole_of}
 use Rattle.druid_pages.specs.Fitting.{AllThere, OthersThere}
 use Rattle.std.proofs.lemmas.List.{length-set}
 use Rattle.druid_pages.proofs.PartLemmas.{set_get, get_set, get_set_apart}
@@ -72,3 +73,20 @@ pub still_lacks : (pages : Pages) (page : ℕ) (segments : List Described) → (
 still_lacks pages page segments h =
     none_by (whole_of (set pages page (Some segments))) (λ xs whole. h (λ place within apart lacks.
     none-some xs (sym (whole_lacks (set pages page (Some segments)) place (get_set_apart pages page place (Some segments) apart ∙ lacks)) ∙ whole)))
+
+few_after : (s : List Described) (rest : Option (List Described)) (set : List Described) (n : ℕ) → length s ≤ max_page → with_front s rest ≡ Some set
+    → ((r : List Described) → rest ≡ Some r → length r ≤ n * max_page) → length set ≤ suc n * max_page
+few_after s None set n here whole next = absurd (none-some set whole)
+few_after s (Some r) set n here whole next =
+    let e = ap length (same_Some (s ++ r) set whole) in
+    omega (arith, here, next r refl, length-append s r, e, suc-mul n max_page)
+
+-- the first pages have no more segments than as many full ones
+pub whole_few : (pages : Pages) (n : ℕ) (set : List Described) → ArePages pages → whole_of (take n pages) ≡ Some set → length set ≤ length pages * max_page
+whole_few [] zero set are whole = let e = ap length (same_Some [] set whole) in omega (arith, e)
+whole_few [] (suc n) set are whole = let e = ap length (same_Some [] set whole) in omega (arith, e)
+whole_few (p ∷ pages) zero set are whole = let e = ap length (same_Some [] set whole) in omega (arith, e)
+whole_few (None ∷ pages) (suc n) set are whole = absurd (none-some set whole)
+whole_few (Some s ∷ pages) (suc n) set are whole =
+    few_after s (whole_of (take n pages)) set (length pages) (are 0 s refl).1 whole
+    (λ r e. whole_few pages n r (λ page segments is. are (suc page) segments is) e)

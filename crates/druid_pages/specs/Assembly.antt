@@ -4,7 +4,7 @@ use Rattle.std.specs.Ordering.{is_lt}
 use Rattle.std.specs.declared.cmp.Ordering.TheVariants.{Less}
 use Rattle.druid_shard.specs.Described.{Described}
 use Rattle.druid_shard.specs.Mark.{Point, mark_cmp}
-use Rattle.druid_shard.specs.Reply.{AreSorted}
+use Rattle.druid_shard.specs.Reply.{max_page, max_pages, AreSorted}
 use Rattle.druid_pages.specs.Pages.{page_at, IsCutInto}
 use Rattle.druid_pages.specs.declared.fault.PageFault.{PageFault}
 use Rattle.druid_pages.specs.declared.fault.PageFault.TheVariants.{Conflict, Memory}
@@ -14,10 +14,16 @@ pub record Parts : Type 0 where
   pub at : Point
   pub pages : List (Option (List Described))
 
--- each page that is there has segments, and they rise
+-- each page that is there has segments, no more than a page may have, and they rise
 abbrev pub ArePages : List (Option (List Described)) → Type 0
 ArePages pages =
-    (page : ℕ) (segments : List Described) → slice_get pages page ≡ Some (Some segments) → (1 ≤ length segments) × AreSorted segments
+    (page : ℕ) (segments : List Described) → slice_get pages page ≡ Some (Some segments)
+    → (1 ≤ length segments) × (length segments ≤ max_page) × AreSorted segments
+
+-- and there are no more of them than a snapshot has
+pub record AreParts (pages : List (Option (List Described))) : Type 0 where
+  pub not_many : length pages ≤ max_pages
+  pub each : ArePages pages
 
 -- no page of so many
 abbrev pub no_pages : Point → ℕ → Parts
@@ -40,11 +46,13 @@ pub record Page : Type 0 where
   pub of : ℕ
   pub segments : List Described
 
--- it is one of several, and its segments rise
+-- it is one of several, but not of too many, and its segments are no more than a page may have, and rise
 pub record IsPage (p : Page) : Type 0 where
   pub several : 2 ≤ p.of
+  pub not_many : p.of ≤ max_pages
   pub within : p.page < p.of
   pub some : 1 ≤ length p.segments
+  pub few : length p.segments ≤ max_page
   pub sorted : AreSorted p.segments
 
 -- there are pages of a later mark

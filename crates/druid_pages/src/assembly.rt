@@ -1,7 +1,8 @@
 //! A snapshot put together of its pages.
-ghost use Rattle.std.specs.Prelude.{◌≡◌, ◌≤◌, ◌<◌, None, Some, length, option_map, IfOk, IfErr, OnOk, OnErr};
+ghost use Rattle.std.specs.Prelude.{◌≡◌, ◌≤◌, ◌<◌, None, Some, length, option_map, IfOk, IfErr, IfSome, OnOk, OnErr};
 ghost use Rattle.std.specs.declared.cmp.Ordering.TheVariants.{Less, Equal, Greater};
 ghost use Rattle.druid_shard.specs.Mark.{mark_cmp};
+ghost use Rattle.druid_shard.specs.Reply.{max_segments};
 ghost use Rattle.druid_pages.specs.Assembly.{IsPage, Takes, Refuses, no_pages, with_page};
 ghost use Rattle.druid_pages.specs.Fitting.{Compares, PutsIn, RefusesIn};
 
@@ -37,7 +38,7 @@ impl Assembly {
     }
 
     // How the mark of the pages that have come stands to a mark. None have come of a mark before all.
-    fn compared(&self, at: Mark) -> Ordering
+    fn cmp_mark(&self, at: Mark) -> Ordering
         ensures { Compares self.now at result }
     {
         match &self.parts {
@@ -65,7 +66,7 @@ impl Assembly {
     }
 
     // Takes a page of the mark of those that have come.
-    fn go_on(
+    fn add(
         &mut self,
         at: Mark,
         page: u16,
@@ -75,6 +76,7 @@ impl Assembly {
         requires page { IsPage (record { at = at; page = page; of = of; segments = segments.now }) }
         requires same { Compares self.old at Equal }
         ensures ok { IfOk result (λ given. PutsIn self.old (record { at = at; page = page; of = of; segments = segments.now }) (option_map (λ v. v.items) given) self.new) }
+        ensures few { IfOk result (λ given. IfSome given (λ v. length v.items ≤ max_segments)) }
         ensures err { IfErr result (RefusesIn self.old (record { at = at; page = page; of = of; segments = segments.now })) }
         ensures unchanged { OnErr result (self.new ≡ self.old) }
     {
@@ -100,11 +102,11 @@ impl Assembly {
         }
     }
 
-    /// Takes a page, whatever its place, and gives the segments of all pages, by identifier, once all have come: then it keeps
-    /// none. A page of a later mark than those that have come begins anew, and one of an earlier mark is passed over, as is one
-    /// that has come before. `Conflict` where a page of their mark is one of another number of pages, has other segments than
-    /// when it came before, or completes pages that do not rise from one to the next; `Memory` where memory runs out. A page
-    /// that is refused leaves all as it was.
+    /// Takes a page, whatever its place, and gives the segments of all pages, by identifier and at most 200,000, once all have
+    /// come: then it keeps none. A page of a later mark than those that have come begins anew, and one of an earlier mark is
+    /// passed over, as is one that has come before. `Conflict` where a page of their mark is one of another number of pages, has
+    /// other segments than when it came before, or completes pages that do not rise from one to the next; `Memory` where memory
+    /// runs out. A page that is refused leaves all as it was.
     pub fn take(
         &mut self,
         at: Mark,
@@ -114,15 +116,16 @@ impl Assembly {
     ) -> Result<Option<Vec<Descriptor>>, PageFault>
         requires { IsPage (record { at = at; page = page; of = of; segments = segments.now }) }
         ensures ok { IfOk result (λ given. Takes self.old (record { at = at; page = page; of = of; segments = segments.now }) (option_map (λ v. v.items) given) self.new) }
+        ensures few { IfOk result (λ given. IfSome given (λ v. length v.items ≤ max_segments)) }
         ensures err { IfErr result (Refuses self.old (record { at = at; page = page; of = of; segments = segments.now })) }
         ensures unchanged { OnErr result (self.new ≡ self.old) }
     {
-        match self.compared(at) {
+        match self.cmp_mark(at) {
             Ordering::Less => match self.begin(at, page, of, segments) {
                 Ok(()) => Ok(None),
                 Err(_) => Err(PageFault::Memory),
             },
-            Ordering::Equal => self.go_on(at, page, of, segments),
+            Ordering::Equal => self.add(at, page, of, segments),
             Ordering::Greater => Ok(None),
         }
     }

@@ -1,7 +1,3 @@
-ghost use Rattle.std.specs.Prelude.{◌≡◌};
-ghost use Rattle.druid_pages.specs.declared.fault.PageFault.TheVariants.{Memory};
-
-use std::alloc::AllocError;
 use thiserror::Error;
 
 /// Why a page is not taken.
@@ -13,12 +9,4 @@ pub enum PageFault {
     /// Out of memory.
     #[error("out of memory")]
     Memory,
-}
-
-impl From<AllocError> for PageFault {
-    ghost from_gives = { λ _ fault. fault ≡ Memory };
-
-    fn from(_error: AllocError) -> PageFault {
-        PageFault::Memory
-    }
 }

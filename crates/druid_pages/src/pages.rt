@@ -1,15 +1,13 @@
 ghost use Rattle.std.specs.Prelude.{◌≡◌, IfOk};
-ghost use Rattle.druid_pages.specs.Pages.{page_at, IsCutInto};
+ghost use Rattle.druid_pages.specs.Pages.{page_at, pages_in, IsCutInto};
 
-use druid_shard::Descriptor;
+use druid_shard::{Descriptor, MAX_PAGE};
 use std::alloc::{AllocError, Global};
-
-/// The most segments of a page.
-pub const MAX_PAGE: usize = 20_000;
 
 /// How many pages a set of so many segments takes.
 pub fn pages_of(segments: usize) -> usize
-    ensures { IsCutInto segments result }
+    ensures value { result ≡ pages_in segments }
+    ensures cut { IsCutInto segments result }
 {
     segments.div_ceil(MAX_PAGE)
 }

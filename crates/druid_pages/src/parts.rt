@@ -1,7 +1,7 @@
 //! The pages of one snapshot that have come.
 ghost use Rattle.std.specs.Prelude.{◌≡◌, ◌↔◌, ◌++◌, ◌≤◌, ◌<◌, List, IsTrue, Some, length, option_map, slice_get, IfOk, OnOk, OnErr};
 ghost use Rattle.druid_shard.specs.Described.{Described};
-ghost use Rattle.druid_shard.specs.Reply.{AreSorted};
+ghost use Rattle.druid_shard.specs.Reply.{max_page, max_pages, max_segments, AreSorted};
 ghost use Rattle.druid_pages.specs.Assembly.{IsPage, no_pages, with_page, whole_of};
 ghost use Rattle.druid_pages.specs.Fitting.{AllThere, OthersThere, EndsBefore, FitsAs};
 
@@ -31,13 +31,13 @@ pub(crate) struct Parts {
 }
 
 impl Model for Parts {
-    ghost use Rattle.druid_pages.specs.Assembly.{Parts, ArePages};
+    ghost use Rattle.druid_pages.specs.Assembly.{Parts, AreParts};
 
     ghost Value = { Parts };
 
     ghost view = { λ a. record { at = a.at; pages = a.pages.items } };
 
-    ghost invariant = { λ a. ArePages a.pages.items };
+    ghost invariant = { λ a. AreParts a.pages.items };
 }
 
 // Whether the segments of one page end before those of the next begin.
@@ -70,6 +70,7 @@ fn append_copies(set: &mut Vec<Descriptor>, segments: &[Descriptor]) -> Result<(
 impl Parts {
     // None of so many pages.
     pub(crate) fn new(alloc: Global, at: Mark, of: u16) -> Result<Parts, AllocError>
+        requires { of ≤ max_pages }
         ensures { IfOk result (λ parts. parts ≡ no_pages at of) }
     {
         let mut pages = Vec::with_capacity(alloc, of as usize)?;
@@ -95,6 +96,7 @@ impl Parts {
     ) -> Result<(), AllocError>
         requires within { page < length self.old.pages }
         requires some { 1 ≤ length segments.now }
+        requires few { length segments.now ≤ max_page }
         requires sorted { AreSorted segments.now }
         ensures ok { OnOk result (self.new ≡ with_page self.old page segments.now) }
         ensures err { OnErr result (self.new ≡ self.old) }
@@ -112,7 +114,7 @@ impl Parts {
     }
 
     // The segments of a page, if it has come.
-    fn found(&self, place: usize) -> Option<&[Descriptor]>
+    fn get(&self, place: usize) -> Option<&[Descriptor]>
         requires { place < length self.now.pages }
         ensures { slice_get self.now.pages place ≡ Some (option_map (λ s. s.now) result) }
     {
@@ -135,7 +137,7 @@ impl Parts {
         if place == page as usize {
             return Some(segments);
         }
-        self.found(place)
+        self.get(place)
     }
 
     // Whether all other pages have come.
@@ -154,6 +156,7 @@ impl Parts {
     #[tactic(auto, using(crate::proofs::OrderLemmas::rising_whole))]
     fn rises_with(&self, page: u16, segments: &[Descriptor]) -> bool
         requires some { 1 ≤ length segments.now }
+        requires few { length segments.now ≤ max_page }
         requires sorted { AreSorted segments.now }
         requires there { AllThere (with_page self.now page segments.now).pages }
         ensures { (set : List Described) → whole_of (with_page self.now page segments.now).pages ≡ Some set → IsTrue result ↔ AreSorted set }
@@ -180,7 +183,7 @@ impl Parts {
         if self.count() != of as usize {
             return Err(PageFault::Conflict);
         }
-        if let Some(found) = self.found(page as usize) {
+        if let Some(found) = self.get(page as usize) {
             return if are_same(found, segments) {
                 Ok(Fit::There)
             } else {
@@ -204,8 +207,12 @@ impl Parts {
         page: u16,
         segments: &[Descriptor],
     ) -> Result<Vec<Descriptor>, AllocError>
-        requires { AllThere (with_page self.now page segments.now).pages }
-        ensures { IfOk result (λ set. whole_of (with_page self.now page segments.now).pages ≡ Some set.items) }
+        requires some { 1 ≤ length segments.now }
+        requires few { length segments.now ≤ max_page }
+        requires sorted { AreSorted segments.now }
+        requires there { AllThere (with_page self.now page segments.now).pages }
+        ensures whole { IfOk result (λ set. whole_of (with_page self.now page segments.now).pages ≡ Some set.items) }
+        ensures few { IfOk result (λ set. length set.items ≤ max_segments) }
     {
         let mut set = Vec::new(alloc);
         for place in 0..self.pages.len() {

@@ -21,6 +21,7 @@ not_memory apply.Gap h = refl
 not_memory (apply.NotStrict index) h = refl
 not_memory apply.TooMany h = refl
 not_memory apply.Conflict h = refl
+not_memory apply.PageConflict h = refl
 not_memory apply.Memory h = absurd (h refl)
 
 -- the node is unknown exactly where the fault says so

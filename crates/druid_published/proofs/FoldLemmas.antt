@@ -10,12 +10,12 @@ use Rattle.druid_shard.specs.Described.{Described}
 use Rattle.druid_shard.specs.Mark.{Point, mark_cmp}
 use Rattle.druid_shard.specs.Replay.{replay_from}
 use Rattle.druid_shard.specs.declared.reply.Body.{Body}
-use Rattle.druid_shard.specs.declared.reply.Body.TheVariants.{Delta, Snapshot, Reset}
+use Rattle.druid_shard.specs.declared.reply.Body.TheVariants.{Delta, Snapshot, Page, Reset}
 use Rattle.druid_inventory.specs.Entry.{Entry}
 use Rattle.druid_inventory.specs.Join.{names_of}
 use Rattle.druid_inventory.specs.Step.{Steps, StepsAt, GoesOn, moved_to, tail_of}
 use Rattle.druid_inventory.specs.declared.fault.Outcome.{Outcome}
-use Rattle.druid_inventory.specs.declared.fault.Outcome.TheVariants.{Moved, AlreadyHave, AskWhole}
+use Rattle.druid_inventory.specs.declared.fault.Outcome.TheVariants.{Moved, AlreadyHave, AskWhole, AskPages}
 use Rattle.druid_published.specs.Fold.{Published, goes_on, moved_if, stepped, stepped_if, step_by, fold_of}
 
 -- ---- one entry
@@ -39,13 +39,20 @@ steps_are_stepped e (Delta from to changes) AlreadyHave new (same, early, is) =
     is ∙ sym (ap (λ (b : Bool). if b then moved_if e to (replay_from e.set (tail_of e from changes)) else e)
     (not_later to.incarnation e.mark.incarnation e.mark.count to.count from.count early))
 steps_are_stepped e (Delta from to changes) AskWhole new h = absurd h
+steps_are_stepped e (Delta from to changes) AskPages new h = absurd h
 steps_are_stepped e (Snapshot at held) Moved new (less, is) = is ∙ sym (ap (λ (o : Ordering). if is_lt o then moved_to e at held else e) less)
 steps_are_stepped e (Snapshot at held) AlreadyHave new (inl greater, is) = is ∙ sym (ap (λ (o : Ordering). if is_lt o then moved_to e at held else e) greater)
 steps_are_stepped e (Snapshot at held) AlreadyHave new (inr (equal, _), is) = is ∙ sym (ap (λ (o : Ordering). if is_lt o then moved_to e at held else e) equal)
 steps_are_stepped e (Snapshot at held) AskWhole new h = absurd h
+steps_are_stepped e (Snapshot at held) AskPages new h = absurd h
+steps_are_stepped e (Page at page of segments) Moved new h = absurd h
+steps_are_stepped e (Page at page of segments) AlreadyHave new h = absurd h
+steps_are_stepped e (Page at page of segments) AskWhole new h = absurd h
+steps_are_stepped e (Page at page of segments) AskPages new h = h
 steps_are_stepped e (Reset cause at) Moved new h = absurd h
 steps_are_stepped e (Reset cause at) AlreadyHave new h = absurd h
 steps_are_stepped e (Reset cause at) AskWhole new h = h
+steps_are_stepped e (Reset cause at) AskPages new h = absurd h
 
 -- a reply moves an entry by Step, or leaves it
 pub stepping : (e : Entry) (b : Body) → Steps e b Moved (stepped e b) ⊎ (stepped e b ≡ e)
@@ -65,6 +72,7 @@ stepping e (Snapshot at held) = by (mark_cmp e.mark at) refl
     by Less is = inl (is, refl)
     by Equal is = inr refl
     by Greater is = inr refl
+stepping e (Page at page of segments) = inr refl
 stepping e (Reset cause at) = inr refl
 
 stepped_name : (e : Entry) (b : Body) → (stepped e b).name ≡ e.name
@@ -79,6 +87,7 @@ stepped_name e (Snapshot at held) = by (is_lt (mark_cmp e.mark at))
     by : (b : Bool) → (if b then moved_to e at held else e).name ≡ e.name
     by false = refl
     by true = refl
+stepped_name e (Page at page of segments) = refl
 stepped_name e (Reset cause at) = refl
 
 -- ---- one reply

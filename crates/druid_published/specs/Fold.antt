@@ -5,7 +5,7 @@ use Rattle.druid_shard.specs.Described.{Described}
 use Rattle.druid_shard.specs.Mark.{Point, mark_cmp}
 use Rattle.druid_shard.specs.Replay.{replay_from}
 use Rattle.druid_shard.specs.declared.reply.Body.{Body}
-use Rattle.druid_shard.specs.declared.reply.Body.TheVariants.{Delta, Snapshot, Reset}
+use Rattle.druid_shard.specs.declared.reply.Body.TheVariants.{Delta, Snapshot, Page, Reset}
 use Rattle.druid_inventory.specs.Entry.{Entry}
 use Rattle.druid_inventory.specs.Step.{moved_to, tail_of}
 
@@ -28,6 +28,7 @@ abbrev pub stepped : Entry → Body → Entry
 stepped e (Delta from to changes) =
     if goes_on e from to then moved_if e to (replay_from e.set (tail_of e from changes)) else e
 stepped e (Snapshot at set) = if is_lt (mark_cmp e.mark at) then moved_to e at set else e
+stepped e (Page at page of segments) = e
 stepped e (Reset cause at) = e
 
 abbrev pub stepped_if : List Entry → ℕ × Body → Option Entry → List Entry

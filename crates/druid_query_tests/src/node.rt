@@ -433,7 +433,11 @@ const AFTER_LOAD: &str =
 ?hash=1&counter=0 = 200 {\"counter\":{\"counter\":1,\"hash\":1},\"from\":{\"counter\":0,\"hash\":1},\"requests\":[@],\"resetCause\":null,\"resetCounter\":false}
 ?counter=1&hash=1 = 200 {\"counter\":{\"counter\":1,\"hash\":1},\"from\":{\"counter\":1,\"hash\":1},\"requests\":[],\"resetCause\":null,\"resetCounter\":false}
 ?counter=2&hash=1 = 200 {\"counter\":{\"counter\":1,\"hash\":1},\"from\":null,\"requests\":[],\"resetCause\":\"Ahead\",\"resetCounter\":true}
-?counter=0&hash=2 = 200 {\"counter\":{\"counter\":1,\"hash\":1},\"from\":null,\"requests\":[],\"resetCause\":\"OtherIncarnation\",\"resetCounter\":true}";
+?counter=0&hash=2 = 200 {\"counter\":{\"counter\":1,\"hash\":1},\"from\":null,\"requests\":[],\"resetCause\":\"OtherIncarnation\",\"resetCounter\":true}
+?counter=1&hash=1&page=0 = 200 {\"counter\":{\"counter\":1,\"hash\":1},\"from\":null,\"requests\":[],\"resetCause\":\"TooOld\",\"resetCounter\":true}
+?counter=1&hash=2&page=0 = 200 {\"counter\":{\"counter\":1,\"hash\":1},\"from\":null,\"requests\":[],\"resetCause\":\"OtherIncarnation\",\"resetCounter\":true}
+?counter=1&hash=1&page=65536 = 400 {\"error\":\"Y6\"}
+?page=0 = 400 {\"error\":\"Y6\"}";
 
 const AFTER_DROP: &str =
     " = 200 {\"counter\":{\"counter\":2,\"hash\":1},\"from\":null,\"requests\":[],\"resetCause\":null,\"resetCounter\":false}

@@ -67,7 +67,7 @@ fn make_state(rt: &impl Abort, alloc: Global) {
     );
 }
 
-fn answers(rt: &impl Abort, alloc: Global, state: &NodeState) {
+fn answers(rt: &impl Abort, alloc: Global, state: &mut NodeState) {
     let sub = subquery(rt, alloc);
     begin(rt, alloc);
     let answer = end(rt, alloc, state.answer(&sub));
@@ -161,7 +161,7 @@ fn serves<R: Abort + Wait>(rt: &R, alloc: Global, node: &DataNode<First>) {
 fn of_state(rt: &impl Abort, alloc: Global, id: &SegmentId) {
     let mut state = NodeState::new(alloc, 1, 5).expect(rt, "a node");
     edits(rt, alloc, &mut state, id);
-    answers(rt, alloc, &state);
+    answers(rt, alloc, &mut state);
     let mut state = NodeState::new(alloc, 1, 5).expect(rt, "a node");
     places(rt, alloc, &mut state, id);
 }

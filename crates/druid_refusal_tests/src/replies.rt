@@ -2,10 +2,13 @@
 use crate::marks::{assert_call, begin, copy_of, end};
 use crate::values::{descriptor, name};
 use druid_changes::{History, HistoryFault};
-use druid_inventory::{ApplyFault, Inventory, InventoryFault, JoinFault, Outcome};
-use druid_shard::{Ask, Change, Mark, Reply};
-use druid_sync::{SyncFault, ask_target, mark_value, read_reply, reply_of, reply_text};
-use druid_world::{Event, Sim, SimFault};
+use druid_inventory::{ApplyFault, Assembly, Inventory, InventoryFault, JoinFault, Outcome};
+use druid_pages::page_of;
+use druid_shard::{Ask, Body, Change, Mark, Reply};
+use druid_sync::{
+    SyncFault, ask_target, ask_target_at, mark_value, read_reply, reply_of, reply_text,
+};
+use druid_world::{AskKind, Event, Sim, SimFault};
 use serde_json::Value;
 use std::alloc::Global;
 use std::process::Abort;
@@ -42,7 +45,7 @@ fn histories(rt: &impl Abort, alloc: Global) {
             Err(fault) => *fault == HistoryFault::Memory,
         },
     );
-    let history = load_once(rt, alloc);
+    let mut history = load_once(rt, alloc);
     let mark = history.mark();
     begin(rt, alloc);
     let set = end(rt, alloc, history.set());
@@ -120,6 +123,55 @@ fn sync_texts(rt: &impl Abort, alloc: Global) {
             Err(_) => true,
         },
     );
+    let ask = Ask::Page(Mark::new(1, 5), 2);
+    begin(rt, alloc);
+    let target = end(rt, alloc, ask_target_at(alloc, "/inventory/3", &ask));
+    assert_call(
+        rt,
+        "ask_target_at",
+        match &target {
+            Ok(target) => target.as_str() == "/inventory/3?counter=5&hash=1&page=2",
+            Err(_) => true,
+        },
+    );
+}
+
+fn cut_page(rt: &impl Abort, alloc: Global) {
+    let set = vec![in alloc; descriptor(rt, alloc, "v1", 0)].expect(rt, "memory");
+    begin(rt, alloc);
+    let page = end(rt, alloc, page_of(alloc, &set, 0));
+    assert_call(
+        rt,
+        "page_of",
+        match &page {
+            Ok(page) => page.len() == 1,
+            Err(_) => set.len() == 1,
+        },
+    );
+}
+
+// Puts a page to none that came.
+fn take_page(rt: &impl Abort, alloc: Global, page: &Reply) {
+    let mut assembly = Assembly::new(alloc);
+    if let Body::Page { .. } = page.body() {
+        begin(rt, alloc);
+        let given = end(rt, alloc, assembly.take(page));
+        assert_call(
+            rt,
+            "Assembly::take",
+            match &given {
+                Ok(given) => given.is_none(),
+                Err(fault) => *fault == ApplyFault::Memory,
+            },
+        );
+    }
+}
+
+fn pages(rt: &impl Abort, alloc: Global) {
+    cut_page(rt, alloc);
+    let last = vec![in alloc; descriptor(rt, alloc, "v1", 0)].expect(rt, "memory");
+    let page = Reply::page(Mark::new(1, 5), 1, 2, last).expect(rt, "a page");
+    take_page(rt, alloc, &page);
 }
 
 /// An inventory of one node, of which nothing is known.
@@ -216,6 +268,16 @@ fn reads(rt: &impl Abort, alloc: Global, inventory: &Inventory) {
             Err(fault) => *fault == InventoryFault::Memory,
         },
     );
+    begin(rt, alloc);
+    let entry = end(rt, alloc, inventory.entry_page(0, &Ask::Whole));
+    assert_call(
+        rt,
+        "Inventory::entry_page",
+        match &entry {
+            Ok(_) => true,
+            Err(fault) => *fault == InventoryFault::Memory,
+        },
+    );
     let copy = copy_of(rt, alloc, inventory);
     assert_call(
         rt,
@@ -276,7 +338,7 @@ fn ask() -> Event {
     Event::Ask {
         broker: 0,
         node: 0,
-        whole: true,
+        kind: AskKind::Whole,
     }
 }
 
@@ -285,6 +347,7 @@ fn seed() -> Event {
         peer: 0,
         broker: 1,
         node: 0,
+        page: 0,
     }
 }
 
@@ -317,6 +380,7 @@ fn of_histories(rt: HostRuntime) {
     let value = value(&rt, rt.alloc());
     replies(&rt, rt.alloc(), &value);
     sync_texts(&rt, rt.alloc());
+    pages(&rt, rt.alloc());
 }
 
 #[test]

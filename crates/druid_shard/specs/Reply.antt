@@ -1,5 +1,5 @@
 -- What a node answers to a broker that follows it.
-use Rattle.std.specs.Prelude.{◌≡◌, ℕ, ◌+◌, ◌<◌, ◌≤◌, List, length, slice_index_or}
+use Rattle.std.specs.Prelude.{◌≡◌, ℕ, ◌+◌, ◌<◌, ◌≤◌, ◌⊎◌, List, length, slice_index_or}
 use Rattle.std.specs.List.{AllAdjacentBelow}
 use Rattle.std.specs.declared.cmp.Ordering.TheVariants.{Less}
 use Rattle.std.specs.Ordering.{nat_cmp}
@@ -11,7 +11,15 @@ use Rattle.druid_shard.specs.declared.change.Change.{Change}
 
 -- the most segments that a node serves
 abbrev pub max_segments : ℕ
-max_segments = 20000
+max_segments = 200000
+
+-- the most segments of a page: a snapshot that has more is sent in pages
+abbrev pub max_page : ℕ
+max_page = 20000
+
+-- the most pages of a snapshot
+abbrev pub max_pages : ℕ
+max_pages = 10
 
 -- the most changes that a delta has, and that a node keeps
 abbrev pub max_changes : ℕ
@@ -35,6 +43,19 @@ HaveOwnIdentifiers ds =
 pub record IsSnapshot (at : Point) (segments : List Described) : Type 0 where
   pub incarnation : 1 ≤ at.incarnation
   pub few : length segments ≤ max_segments
+  pub sorted : AreSorted segments
+
+-- a page has as many segments as any, and the last one at least
+abbrev pub IsFull : ℕ → ℕ → ℕ → Type 0
+IsFull page of count = (count ≡ max_page) ⊎ ((1 ≤ count) × (page + 1 ≡ of))
+
+-- what a type of replies keeps of the segments of a page of so many
+pub record IsPageOf (page of : ℕ) (segments : List Described) : Type 0 where
+  pub several : 2 ≤ of
+  pub not_many : of ≤ max_pages
+  pub within : page < of
+  pub few : length segments ≤ max_page
+  pub full : IsFull page of (length segments)
   pub sorted : AreSorted segments
 
 -- the mark to is that many changes after from, in its incarnation

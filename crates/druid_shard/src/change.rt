@@ -30,6 +30,8 @@ pub enum Ask {
     Whole,
     /// The changes after a mark, whose incarnation is at least 1.
     Since(Mark),
+    /// A page, counted from 0, of all that the node served at a mark, whose incarnation is at least 1.
+    Page(Mark, u16),
 }
 
 /// Why a node has no changes after the mark that it was asked about.

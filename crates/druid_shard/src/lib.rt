@@ -21,7 +21,9 @@ pub use fault::ShardFault;
 pub use items::Items;
 pub use laws::{changes_change_one_segment, descriptors_are_read_back, replays_go_on};
 pub use mark::Mark;
-pub use reply::{Body, Changes, Descriptors, MAX_CHANGES, MAX_SEGMENTS, Reply, ReplyFault};
+pub use reply::{
+    Body, Changes, Descriptors, MAX_CHANGES, MAX_PAGE, MAX_PAGES, MAX_SEGMENTS, Reply, ReplyFault,
+};
 pub use sets::{apply_change, find_segment};
 
 /// The place of a data node in the list of nodes, from 0.

@@ -1,5 +1,5 @@
 ghost use Rattle.std.specs.Prelude.{◌≡◌, ◌≢◌, ◌↔◌, ◌<◌, ◌≤◌, ◌⊎◌, IfOk, IsErrOf, IsTrue, length};
-ghost use Rattle.druid_shard.specs.Reply.{max_segments, max_changes, HaveOwnIdentifiers, AreSorted, IsAsFar};
+ghost use Rattle.druid_shard.specs.Reply.{max_segments, max_page, max_changes, HaveOwnIdentifiers, AreSorted, IsAsFar, IsFull, IsPageOf};
 
 use crate::{Cause, Change, Descriptor, Items, Mark};
 use std::cmp::Ordering;
@@ -7,7 +7,13 @@ use std::marker::Model;
 use thiserror::Error;
 
 /// The most segments that a node serves.
-pub const MAX_SEGMENTS: usize = 20_000;
+pub const MAX_SEGMENTS: usize = 200_000;
+
+/// The most segments of a page: a snapshot that has more is sent in pages.
+pub const MAX_PAGE: usize = 20_000;
+
+/// The most pages of a snapshot.
+pub const MAX_PAGES: u16 = 10;
 
 /// The most changes that a delta has, and that a node keeps of its history.
 pub const MAX_CHANGES: usize = 1_000;
@@ -15,7 +21,7 @@ pub const MAX_CHANGES: usize = 1_000;
 /// Why values make no reply.
 #[derive(Clone, Copy, Debug, PartialEq, Eq, Drop, Error)]
 pub enum ReplyFault {
-    /// Y5: a snapshot of more than 20,000 segments, or a delta of more than 1,000 changes.
+    /// Y5: a snapshot of more than 200,000 segments, a page of more than 20,000, or a delta of more than 1,000 changes.
     #[error("Y5: too many segments or changes")]
     TooMany,
     /// Y3: the marks of a delta are of two incarnations, or are not as far apart as it has changes.
@@ -24,6 +30,9 @@ pub enum ReplyFault {
     /// Y4: an identifier stands twice in a snapshot.
     #[error("Y4: a doubled segment")]
     DoubledSegment,
+    /// Y7: no page of 2 to 10, whose segments rise, and of which all but the last are full.
+    #[error("Y7: a bad page")]
+    BadPage,
     /// Y9: out of memory.
     #[error("Y9: out of memory")]
     Memory,
@@ -52,6 +61,17 @@ pub enum Body {
         /// The mark.
         at: Mark,
         /// The segments.
+        segments: Descriptors,
+    },
+    /// A page of all that the node served at a mark.
+    Page {
+        /// The mark.
+        at: Mark,
+        /// The page, counted from 0.
+        page: u16,
+        /// How many pages there are.
+        of: u16,
+        /// The segments of the page, by identifier.
         segments: Descriptors,
     },
     /// The changes asked for are not to be had: the broker has to ask for all that the node serves.
@@ -99,9 +119,28 @@ fn is_as_far(from: Mark, to: Mark, changes: u64) -> bool
     from.incarnation() == to.incarnation() && from.count().checked_add(changes) == Some(to.count())
 }
 
+// Whether a page may have as many segments: all but the last are full.
+fn is_full(page: u16, of: u16, count: usize) -> bool
+    requires { page < of }
+    ensures { IsTrue result ↔ IsFull page of count }
+{
+    count == MAX_PAGE || (1 <= count && page + 1 == of)
+}
+
+// Whether these are the segments of a page of so many.
+fn is_page_of(page: u16, of: u16, segments: &[Descriptor]) -> bool
+    requires { length segments.now ≤ max_page }
+    ensures { IsTrue result ↔ IsPageOf page of segments.now }
+{
+    if of < 2 || MAX_PAGES < of || of <= page {
+        return false;
+    }
+    is_full(page, of, segments.len()) && are_sorted(segments)
+}
+
 impl Reply {
     ghost use Rattle.druid_shard.specs.ReplyBody.{IsReply, IsSnapshotOf};
-    ghost use Rattle.druid_shard.specs.declared.reply.Body.TheVariants.{Delta, Reset};
+    ghost use Rattle.druid_shard.specs.declared.reply.Body.TheVariants.{Delta, Page, Reset};
 
     /// The changes of one incarnation of a node between two marks, in order. Y5 where there are more than 1,000, and
     /// then Y3 where the marks are of two incarnations or are not as far apart as there are changes. Does not allocate.
@@ -113,6 +152,7 @@ impl Reply {
         ensures length { IsErrOf result ReplyFault.LengthOfDelta
             ↔ ((length changes.items ≤ max_changes) × (IsAsFar from to (length changes.items) → ⊥)) }
         ensures doubled { result ≢ Err ReplyFault.DoubledSegment }
+        ensures page { result ≢ Err ReplyFault.BadPage }
         ensures memory { result ≢ Err ReplyFault.Memory }
     {
         if changes.len() > MAX_CHANGES {
@@ -138,7 +178,7 @@ impl Reply {
     }
 
     /// All that a node serves at a mark; the segments may stand in any order, and the reply has them by identifier.
-    /// Y5 where there are more than 20,000, and then Y4 where an identifier stands twice. Does not allocate.
+    /// Y5 where there are more than 200,000, and then Y4 where an identifier stands twice. Does not allocate.
     pub fn snapshot(at: Mark, mut segments: Vec<Descriptor>) -> Result<Reply, ReplyFault>
         requires { 1 ≤ at.incarnation }
         ensures ok { IfOk result (IsSnapshotOf at segments.items) }
@@ -146,6 +186,7 @@ impl Reply {
         ensures doubled { IsErrOf result ReplyFault.DoubledSegment
             ↔ ((length segments.items ≤ max_segments) × (HaveOwnIdentifiers segments.items → ⊥)) }
         ensures length { result ≢ Err ReplyFault.LengthOfDelta }
+        ensures page { result ≢ Err ReplyFault.BadPage }
         ensures memory { result ≢ Err ReplyFault.Memory }
     {
         if segments.len() > MAX_SEGMENTS {
@@ -158,6 +199,40 @@ impl Reply {
         let segments = Items::new(segments);
         Ok(Reply {
             body: Body::Snapshot { at, segments },
+        })
+    }
+
+    /// A page of all that a node served at a mark. Y5 where it has more than 20,000 segments, and then Y7 unless there are 2 to
+    /// 10 pages, it is one of them, its segments rise, and it is full or the last, which has one at least. Does not allocate.
+    pub fn page(
+        at: Mark,
+        page: u16,
+        of: u16,
+        segments: Vec<Descriptor>,
+    ) -> Result<Reply, ReplyFault>
+        requires { 1 ≤ at.incarnation }
+        ensures ok { IfOk result (λ reply. reply ≡ Page at page of segments.items) }
+        ensures too_many { IsErrOf result ReplyFault.TooMany ↔ (max_page < length segments.items) }
+        ensures bad { IsErrOf result ReplyFault.BadPage
+            ↔ ((length segments.items ≤ max_page) × (IsPageOf page of segments.items → ⊥)) }
+        ensures length { result ≢ Err ReplyFault.LengthOfDelta }
+        ensures doubled { result ≢ Err ReplyFault.DoubledSegment }
+        ensures memory { result ≢ Err ReplyFault.Memory }
+    {
+        if segments.len() > MAX_PAGE {
+            return Err(ReplyFault::TooMany);
+        }
+        if !is_page_of(page, of, &segments) {
+            return Err(ReplyFault::BadPage);
+        }
+        let segments = Items::new(segments);
+        Ok(Reply {
+            body: Body::Page {
+                at,
+                page,
+                of,
+                segments,
+            },
         })
     }
 

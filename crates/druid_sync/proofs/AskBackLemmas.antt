@@ -8,12 +8,11 @@ use Rattle.std.proofs.lemmas.Str.Parse.{digit_from_value}
 use Rattle.std.proofs.lemmas.List.Elements.{All-nil, All-cons, All-append}
 use Rattle.form_urlencoded.specs.Form.{split_once, split_pair, raw_pairs}
 use Rattle.form_urlencoded.proofs.FormLemmas.{raw_pairs-nil, raw_pairs_first, split_once_before_at, split_once_after_at, split_once_before_none, split_once_after_none}
-use Rattle.druid_segid.specs.Numbers.{number_at}
 use Rattle.druid_segid.proofs.NumberLemmas.{number_at-found}
 use Rattle.druid_shard.specs.Mark.{Point}
 use Rattle.druid_shard.specs.declared.change.Ask.{Ask}
-use Rattle.druid_shard.specs.declared.change.Ask.TheVariants.{Whole, Since}
-use Rattle.druid_sync.specs.Asks.{query_text, parameters_of, IsOfIncarnation, since_at, ask_at, ask_of}
+use Rattle.druid_shard.specs.declared.change.Ask.TheVariants.{Whole, Since, Page}
+use Rattle.druid_sync.specs.Asks.{query_text, parameters_of, IsOfIncarnation, mark_of, page_of, page_at, page_query, ask_at, ask_of}
 use Rattle.druid_sync.specs.Written.{IsWord}
 
 -- ---- bytes that separate nothing
@@ -65,9 +64,9 @@ asked_pairs m word =
     (All-append (λ b. b ≢ 38) (codes "counter=") one (free_of 38 (codes "counter=") refl) (digits_free 38 one (inl (omega arith)) ones))
     (All-append (λ b. b ≢ 38) (codes "hash=") two (free_of 38 (codes "hash=") refl) (digits_free 38 two (inl (omega arith)) twos))
 
-since_back : (m : Point) → IsWord m → 1 ≤ m.incarnation → since_at (decimal m.count) (decimal m.incarnation) ≡ Some (Since m)
-unfolding since_at
-since_back m word some =
+mark_back : (m : Point) → IsWord m → 1 ≤ m.incarnation → mark_of (decimal m.count) (decimal m.incarnation) ≡ Some m
+unfolding mark_of
+mark_back m word some =
     let count = number_at-found (decimal m.count) m.count word.count refl in
     let incarnation = number_at-found (decimal m.incarnation) m.incarnation word.incarnation refl in
     let first = le-leb 1 m.incarnation some in
@@ -76,7 +75,56 @@ since_back m word some =
 -- an ask after a mark is read as that
 pub ask_back : (m : Point) → IsWord m → 1 ≤ m.incarnation → ask_at (query_text m) ≡ Some (Since m)
 unfolding ask_of
-ask_back m word some = rw (asked_pairs m word) (since_back m word some)
+ask_back m word some = rw (asked_pairs m word) (rw (mark_back m word some) refl)
+
+-- ---- the three parameters of a page
+
+small_word : (page : ℕ) → page ≤ 65_535 → page < 2 ^ 64
+small_word page low = omega (arith, low)
+
+three_pairs : (first next last one two three : List ℕ) → All (λ b. b ≢ 61) first → All (λ b. b ≢ 61) next → All (λ b. b ≢ 61) last
+    → All (λ b. b ≢ 38) (first ++ 61 ∷ one) → All (λ b. b ≢ 38) (next ++ 61 ∷ two) → All (λ b. b ≢ 38) (last ++ 61 ∷ three)
+    → raw_pairs ((first ++ 61 ∷ one) ++ 38 ∷ ((next ++ 61 ∷ two) ++ 38 ∷ (last ++ 61 ∷ three))) ≡ (first, one) ∷ (next, two) ∷ (last, three) ∷ []
+three_pairs first next last one two three a b c d e f =
+    let others = (next ++ 61 ∷ two) ++ 38 ∷ (last ++ 61 ∷ three) in
+    let before = split_once_before_at 38 (first ++ 61 ∷ one) others d in
+    let after = split_once_after_at 38 (first ++ 61 ∷ one) others d in
+    let some : 0 < length ((split_once 38 ((first ++ 61 ∷ one) ++ 38 ∷ others)).0) = rw before (omega (arith, length-append first (61 ∷ one))) in
+    raw_pairs_first ((first ++ 61 ∷ one) ++ 38 ∷ others) some
+    ∙ rw (before, after) (ap (λ p. p ∷ raw_pairs others) (named first one a))
+    ∙ ap (λ ps. (first, one) ∷ ps) (two_pairs next last two three b c e f)
+
+paged_pairs : (m : Point) (page : ℕ) → IsWord m → page < 2 ^ 64
+    → raw_pairs (page_query m page) ≡ (codes "counter", decimal m.count) ∷ (codes "hash", decimal m.incarnation) ∷ (codes "page", decimal page) ∷ []
+paged_pairs m page word small =
+    let one = decimal m.count in
+    let two = decimal m.incarnation in
+    let three = decimal page in
+    let ones = (decimal_is_IsNumeral m.count word.count).0.1 in
+    let twos = (decimal_is_IsNumeral m.incarnation word.incarnation).0.1 in
+    let threes = (decimal_is_IsNumeral page small).0.1 in
+    ap raw_pairs (sym (append_assoc (codes "counter=") one (codes "&hash=" ++ (two ++ (codes "&page=" ++ three)))))
+    ∙ ap (λ (rest : List ℕ). raw_pairs ((codes "counter=" ++ one) ++ 38 ∷ rest)) (sym (append_assoc (codes "hash=") two (codes "&page=" ++ three)))
+    ∙ three_pairs (codes "counter") (codes "hash") (codes "page") one two three (free_of 61 (codes "counter") refl) (free_of 61 (codes "hash") refl) (free_of 61 (codes "page") refl)
+    (All-append (λ b. b ≢ 38) (codes "counter=") one (free_of 38 (codes "counter=") refl) (digits_free 38 one (inl (omega arith)) ones))
+    (All-append (λ b. b ≢ 38) (codes "hash=") two (free_of 38 (codes "hash=") refl) (digits_free 38 two (inl (omega arith)) twos))
+    (All-append (λ b. b ≢ 38) (codes "page=") three (free_of 38 (codes "page=") refl) (digits_free 38 three (inl (omega arith)) threes))
+
+number_back : (page : ℕ) → page ≤ 65_535 → page_of (decimal page) ≡ Some page
+unfolding page_of
+number_back page low =
+    let read = number_at-found (decimal page) page (small_word page low) refl in
+    let few = le-leb page 65_535 low in
+    rw read (rw few refl)
+
+page_at-decimal : (m : Point) (page : ℕ) → IsWord m → 1 ≤ m.incarnation → page ≤ 65_535 → page_at (decimal m.count) (decimal m.incarnation) (decimal page) ≡ Some (Page m page)
+unfolding page_at
+page_at-decimal m page word some low = rw (mark_back m word some, number_back page low) refl
+
+-- an ask for a page is read as that
+pub page_back : (m : Point) (page : ℕ) → IsWord m → 1 ≤ m.incarnation → page ≤ 65_535 → ask_at (page_query m page) ≡ Some (Page m page)
+unfolding ask_of
+page_back m page word some low = rw (paged_pairs m page word (small_word page low)) (page_at-decimal m page word some low)
 
 -- no parameters ask for the whole
 pub whole_back : ask_at [] ≡ Some Whole
@@ -95,3 +143,9 @@ whole_target r ask is =
 pub since_target : {A E : Type 0} (r : Result A E) (ask : Ask) (m : Point) → ask ≡ Since m → IsWord m → IfOk r (λ _. IsOfIncarnation ask → ask_at (parameters_of ask) ≡ Some ask)
 since_target r ask m is word =
     any_ok r (IsOfIncarnation ask → ask_at (parameters_of ask) ≡ Some ask) (subst (λ a. IsOfIncarnation a → ask_at (parameters_of a) ≡ Some a) (sym is) (ask_back m word))
+
+pub page_target : {A E : Type 0} (r : Result A E) (ask : Ask) (m : Point) (page : ℕ) → ask ≡ Page m page → IsWord m → page ≤ 65_535
+    → IfOk r (λ _. IsOfIncarnation ask → ask_at (parameters_of ask) ≡ Some ask)
+page_target r ask m page is word low =
+    any_ok r (IsOfIncarnation ask → ask_at (parameters_of ask) ≡ Some ask)
+    (subst (λ a. IsOfIncarnation a → ask_at (parameters_of a) ≡ Some a) (sym is) (λ some. page_back m page word some low))

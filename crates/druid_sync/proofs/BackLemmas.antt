@@ -13,9 +13,9 @@ use Rattle.druid_shard.specs.declared.change.Change.TheVariants.{Load, Drop}
 use Rattle.druid_shard.specs.declared.change.Cause.{Cause}
 use Rattle.druid_shard.specs.declared.change.Cause.TheVariants.{OtherIncarnation, Ahead, TooOld}
 use Rattle.serde_json.specs.Find.{as_null}
-use Rattle.druid_shard.specs.declared.reply.Body.TheVariants.{Delta, Snapshot, Reset}
+use Rattle.druid_shard.specs.declared.reply.Body.TheVariants.{Delta, Snapshot, Page, Reset}
 use Rattle.druid_sync.specs.Written.{mark_data, from_data, flagged_request, request_data, change_data, load_data, segment_of, cause_data, five_fields, reply_data}
-use Rattle.druid_sync.specs.Read.{mark_at, change_at, load_at, cause_at, five_at, followed, whole, begun_again, reset_at, snapshot_at, delta_at, changes_at, form_at}
+use Rattle.druid_sync.specs.Read.{mark_at, change_at, load_at, cause_at, five_at, followed, whole, paged, begun_again, reset_at, snapshot_at, delta_at, changes_at, page_at, paged_at, form_at}
 
 -- ---- marks
 
@@ -99,11 +99,12 @@ cause_at-data TooOld = refl
 
 -- ---- replies
 
-five_at-data : (counter : Point) (from : Option Point) (requests : List Data) (cause : Option Cause) → 1 ≤ counter.incarnation
-    → five_at (five_fields counter from requests cause)
+five_at-data : (counter : Point) (from : Option Point) (numbers : Option (ℕ × ℕ)) (requests : List Data) (cause : Option Cause) → 1 ≤ counter.incarnation
+    → five_at (five_fields counter from numbers requests cause)
     ≡ Some (record { at = counter; from = from_data from; requests = items_of requests; cause = cause_data cause; reset = is_some cause })
 unfolding five_at
-five_at-data counter from requests cause h = let read = mark_at-data counter h in rw read refl
+five_at-data counter from None requests cause h = let read = mark_at-data counter h in rw read refl
+five_at-data counter from (Some (page, of)) requests cause h = let read = mark_at-data counter h in rw read refl
 
 mark_is_no_null : (m : Point) → as_null (mark_data m) ≡ None
 unfolding mark_data
@@ -113,7 +114,7 @@ pub delta_back : (from to : Point) (changes : List Change) → 1 ≤ from.incarn
     → form_at (reply_data (Delta from to changes)) ≡ Some (followed from to changes)
 unfolding reply_data form_at changes_at delta_at
 delta_back from to changes h k valid =
-    let five = five_at-data to (Some from) (map change_data changes) None k in
+    let five = five_at-data to (Some from) None (map change_data changes) None k in
     let mark = mark_at-data from h in
     let each = each_back change_data change_at changes (λ c in_it. change_at-data c (valid c in_it)) in
     rw five (rw (mark_is_no_null from) (rw mark (rw each refl)))
@@ -122,13 +123,23 @@ pub snapshot_back : (at : Point) (segments : List Described) → 1 ≤ at.incarn
     → form_at (reply_data (Snapshot at segments)) ≡ Some (whole at segments)
 unfolding reply_data form_at changes_at snapshot_at
 snapshot_back at segments h valid =
-    let five = five_at-data at None (map load_data segments) None h in
+    let five = five_at-data at None None (map load_data segments) None h in
     let each = each_back load_data load_at segments (λ d in_it. load_at-data d (valid d in_it)) in
     rw five (rw each refl)
+
+pub page_back : (at : Point) (page of : ℕ) (segments : List Described) → 1 ≤ at.incarnation → page ≤ 65_535 → of ≤ 65_535 → ((d : Described) → Contains segments d → IsDescribed d)
+    → form_at (reply_data (Page at page of segments)) ≡ Some (paged at page of segments)
+unfolding reply_data form_at paged_at page_at
+page_back at page of segments h low few valid =
+    let five = five_at-data at None (Some (page, of)) (map load_data segments) None h in
+    let which = le-leb page 65_535 low in
+    let many = le-leb of 65_535 few in
+    let each = each_back load_data load_at segments (λ d in_it. load_at-data d (valid d in_it)) in
+    rw five (rw (which, many) (rw each refl))
 
 pub reset_back : (cause : Cause) (at : Point) → 1 ≤ at.incarnation → form_at (reply_data (Reset cause at)) ≡ Some (begun_again cause at)
 unfolding reply_data form_at reset_at
 reset_back cause at h =
-    let five = five_at-data at None [] (Some cause) h in
+    let five = five_at-data at None None [] (Some cause) h in
     let told = cause_at-data cause in
     rw five (rw told refl)

@@ -1,5 +1,5 @@
 -- The form of a list of changes, where each is one, and where one is none.
-use Rattle.std.proofs.Common.{◌≡◌, ◌==◌, arith, List, [], ◌∷◌, length, Some, None, IsSome, is_some, true, false, refl, sym, subst, ap, ◌∙◌}
+use Rattle.std.proofs.Common.{◌≡◌, ◌==◌, ℕ, arith, List, [], ◌∷◌, length, Some, None, IsSome, is_some, true, false, refl, sym, subst, ap, ◌∙◌}
 use Rattle.std.proofs.lemmas.Bool.Decides.{nat_tests}
 use Rattle.serde_json.specs.Data.{Data}
 use Rattle.serde_json.specs.View.{items_view}
@@ -9,7 +9,8 @@ use Rattle.druid_shard.specs.Described.{Described}
 use Rattle.druid_shard.specs.Mark.{Point}
 use Rattle.druid_shard.specs.declared.change.Change.{Change}
 use Rattle.druid_shard.specs.Each.{each_of}
-use Rattle.druid_sync.specs.Read.{followed, whole, mark_at, change_at, load_at, none_in, snapshot_at, delta_at}
+use Rattle.druid_shard.specs.Reply.{IsPageOf}
+use Rattle.druid_sync.specs.Read.{followed, whole, paged, mark_at, change_at, load_at, none_in, snapshot_at, delta_at, page_at, MayBePage}
 use Rattle.druid_shard.proofs.EachLemmas.{Reads, all_read, not_all_read}
 
 -- ---- snapshots
@@ -24,6 +25,25 @@ snapshot_none at vs not = ap (λ o. o >>= λ segments. Some (whole at segments))
 
 pub loads_read : (vs : List Value) → Reads load_at vs ≡ true → IsSome (each_of load_at (items_view vs))
 loads_read vs all = let read = all_read load_at vs all in subst (λ o. IsSome o) (sym read.1) refl
+
+-- ---- pages
+
+pub page_some : (at : Point) (page of : ℕ) (vs : List Value) (xs : List Described) → each_of load_at (items_view vs) ≡ Some xs → page_at at page of (items_view vs) ≡ Some (paged at page of xs)
+unfolding page_at
+page_some at page of vs xs read = ap (λ o. o >>= λ segments. Some (paged at page of segments)) read
+
+pub page_none : (at : Point) (page of : ℕ) (vs : List Value) → Reads load_at vs ≡ false → page_at at page of (items_view vs) ≡ None
+unfolding page_at
+page_none at page of vs not = ap (λ o. o >>= λ segments. Some (paged at page of segments)) (not_all_read load_at vs not)
+
+pub may_be_page : (page of count : ℕ) (xs : List Described) → length xs ≡ count → MayBePage page of count → MayBePage page of (length xs)
+may_be_page page of count xs many may = subst (λ n. MayBePage page of n) (sym many) may
+
+-- by its numbers and its count it is no page
+pub no_page : (page of count : ℕ) (xs : List Described) → length xs ≡ count → (MayBePage page of count → ⊥) → IsPageOf page of xs → ⊥
+no_page page of count xs many bad is =
+    let may : MayBePage page of (length xs) = record { several = is.several; not_many = is.not_many; within = is.within; full = is.full } in
+    bad (subst (λ n. MayBePage page of n) many may)
 
 -- ---- deltas
 

@@ -1,5 +1,5 @@
 -- The text of a reply, part by part.
-use Rattle.std.proofs.Common.{◌≡◌, ℕ, ◌+◌, ◌<◌, ◌≤◌, Bool, true, false, nat_lt, List, [], ◌++◌, length, get_or, drop, map, codes, append_assoc, drop_of_length-le, Option, Some, None, arith, refl, sym, subst, ap, ◌∙◌}
+use Rattle.std.proofs.Common.{◌≡◌, ℕ, ◌+◌, ◌<◌, ◌≤◌, Bool, true, false, nat_lt, List, [], ◌++◌, length, get_or, drop, map, codes, decimal, append_assoc, drop_of_length-le, Option, Some, None, arith, refl, sym, subst, ap, ◌∙◌}
 use Rattle.std.specs.List.{AllWithin}
 use Rattle.std.proofs.lemmas.List.{drop_more, get_or_default}
 use Rattle.std.proofs.lemmas.List.Elements.{AllWithin-more}
@@ -13,8 +13,8 @@ use Rattle.druid_shard.specs.Described.{Described}
 use Rattle.druid_shard.specs.declared.change.Change.{Change}
 use Rattle.druid_shard.specs.declared.change.Cause.{Cause}
 use Rattle.druid_shard.specs.declared.change.Cause.TheVariants.{OtherIncarnation, Ahead, TooOld}
-use Rattle.druid_shard.specs.declared.reply.Body.TheVariants.{Delta, Snapshot, Reset}
-use Rattle.druid_sync.specs.Written.{mark_data, from_data, flagged_request, request_data, change_data, load_data, five_fields, reply_data, front_text, back_text, reply_text}
+use Rattle.druid_shard.specs.declared.reply.Body.TheVariants.{Delta, Snapshot, Page, Reset}
+use Rattle.druid_sync.specs.Written.{mark_data, from_data, flagged_request, request_data, change_data, load_data, five_fields, reply_data, numbers_text, front_text, back_text, reply_text}
 
 -- no reply has a float
 flagged_plain : (flag : Bool) (action : List ℕ) (d : Described) → has_float (flagged_request flag action d) ≡ false
@@ -66,11 +66,16 @@ regrouped a m b f c i t =
     ∙ sym (append_assoc a (m ++ (b ++ (f ++ c))) (i ++ t))
     ∙ sym (append_assoc (a ++ (m ++ (b ++ (f ++ c)))) i t)
 
-whole_text : (counter : Point) (from : Option Point) (requests : List Data) (cause : Option Cause)
-    → compact_text (five_fields counter from requests cause)
-    ≡ ((front_text counter from ++ codes "[") ++ items_text false (items_of requests)) ++ back_text cause
+page_regrouped : (a m b f p k q n c d i t : List ℕ)
+    → a ++ (m ++ (b ++ (f ++ (p ++ (k ++ (q ++ (n ++ (c ++ (d ++ (i ++ t))))))))))
+    ≡ (((a ++ (m ++ (b ++ (f ++ ((p ++ (k ++ (q ++ n))) ++ c))))) ++ d) ++ i) ++ t
+page_regrouped a m b f p k q n c d i t = simp (append_assoc)
+
+whole_text : (counter : Point) (from : Option Point) (numbers : Option (ℕ × ℕ)) (requests : List Data) (cause : Option Cause)
+    → compact_text (five_fields counter from numbers requests cause)
+    ≡ ((front_text counter from numbers ++ codes "[") ++ items_text false (items_of requests)) ++ back_text cause
 unfolding front_text back_text serde_json_on_literals
-whole_text counter from requests cause =
+whole_text counter from None requests cause =
     regrouped (codes "{\"counter\":") (compact_text (mark_data counter)) (codes ",\"from\":") (compact_text (from_data from)) (codes ",\"requests\":[")
     (items_text false (items_of requests)) (back_text cause)
     ∙ ap (λ (l : List ℕ). (l ++ items_text false (items_of requests)) ++ back_text cause)
@@ -82,21 +87,47 @@ whole_text counter from requests cause =
         ∙ ap (λ (l : List ℕ). a ++ (m ++ l)) (sym (append_assoc b (f ++ c) d))
         ∙ ap (λ (l : List ℕ). a ++ l) (sym (append_assoc m (b ++ (f ++ c)) d))
         ∙ sym (append_assoc a (m ++ (b ++ (f ++ c))) d)
+whole_text counter from (Some (page, of)) requests cause =
+    page_regrouped (codes "{\"counter\":") (compact_text (mark_data counter)) (codes ",\"from\":") (compact_text (from_data from)) (codes ",\"page\":") (decimal page)
+    (codes ",\"pages\":") (decimal of) (codes ",\"requests\":") (codes "[") (items_text false (items_of requests)) (back_text cause)
+
+front_joined : (a m b f n c d : List ℕ) → ((((a ++ m) ++ b) ++ f) ++ n) ++ (c ++ d) ≡ (a ++ (m ++ (b ++ (f ++ (n ++ c))))) ++ d
+front_joined a m b f n c d = simp (append_assoc)
+
+-- the text of a reply up to the bracket, pushed part by part
+pub front_pushed : (counter : Point) (from : Option Point) (numbers : Option (ℕ × ℕ)) (marked named begun told whole : List ℕ)
+    → marked ≡ codes "{\"counter\":" ++ compact_text (mark_data counter)
+    → named ≡ marked ++ codes ",\"from\":"
+    → begun ≡ named ++ compact_text (from_data from)
+    → told ≡ begun ++ numbers_text numbers
+    → whole ≡ told ++ codes ",\"requests\":["
+    → whole ≡ front_text counter from numbers ++ codes "["
+unfolding front_text
+front_pushed counter from numbers marked named begun told whole a b c d e =
+    e
+    ∙ ap (λ (l : List ℕ). l ++ codes ",\"requests\":[")
+    (d ∙ ap (λ (l : List ℕ). l ++ numbers_text numbers) (c ∙ ap (λ (l : List ℕ). l ++ compact_text (from_data from)) (b ∙ ap (λ (l : List ℕ). l ++ codes ",\"from\":") a)))
+    ∙ front_joined (codes "{\"counter\":") (compact_text (mark_data counter)) (codes ",\"from\":") (compact_text (from_data from)) (numbers_text numbers) (codes ",\"requests\":") (codes "[")
 
 pub delta_text : (from to : Point) (changes : List Change)
-    → reply_text (Delta from to changes) ≡ ((front_text to (Some from) ++ codes "[") ++ items_text false (items_of (map change_data changes))) ++ back_text None
+    → reply_text (Delta from to changes) ≡ ((front_text to (Some from) None ++ codes "[") ++ items_text false (items_of (map change_data changes))) ++ back_text None
 unfolding reply_data
-delta_text from to changes = whole_text to (Some from) (map change_data changes) None
+delta_text from to changes = whole_text to (Some from) None (map change_data changes) None
 
 pub snapshot_text : (at : Point) (segments : List Described)
-    → reply_text (Snapshot at segments) ≡ ((front_text at None ++ codes "[") ++ items_text false (items_of (map load_data segments))) ++ back_text None
+    → reply_text (Snapshot at segments) ≡ ((front_text at None None ++ codes "[") ++ items_text false (items_of (map load_data segments))) ++ back_text None
 unfolding reply_data
-snapshot_text at segments = whole_text at None (map load_data segments) None
+snapshot_text at segments = whole_text at None None (map load_data segments) None
+
+pub page_text : (at : Point) (page of : ℕ) (segments : List Described)
+    → reply_text (Page at page of segments) ≡ ((front_text at None (Some (page, of)) ++ codes "[") ++ items_text false (items_of (map load_data segments))) ++ back_text None
+unfolding reply_data
+page_text at page of segments = whole_text at None (Some (page, of)) (map load_data segments) None
 
 pub reset_text : (cause : Cause) (at : Point)
-    → reply_text (Reset cause at) ≡ ((front_text at None ++ codes "[") ++ codes "]") ++ back_text (Some cause)
+    → reply_text (Reset cause at) ≡ ((front_text at None None ++ codes "[") ++ codes "]") ++ back_text (Some cause)
 unfolding reply_data
-reset_text cause at = whole_text at None [] (Some cause)
+reset_text cause at = whole_text at None None [] (Some cause)
 
 pub back_of_none : back_text None ≡ codes ",\"resetCause\":null,\"resetCounter\":false}"
 unfolding back_text serde_json_on_literals

@@ -12,11 +12,12 @@ use Rattle.druid_shard.specs.declared.change.Change.{Change}
 use Rattle.druid_shard.specs.declared.change.Change.TheVariants.{Load, Drop}
 use Rattle.druid_shard.specs.declared.change.Cause.{Cause}
 use Rattle.druid_shard.specs.declared.reply.Body.{Body}
-use Rattle.druid_shard.specs.declared.reply.Body.TheVariants.{Delta, Snapshot, Reset}
+use Rattle.druid_shard.specs.declared.reply.Body.TheVariants.{Delta, Snapshot, Page, Reset}
 use Rattle.druid_shard.proofs.WrittenLemmas.{IsBack, AreBack, items_back, items_shallow, compact_read}
 use Rattle.druid_shard.specs.ReplyBody.{IsReply}
 use Rattle.druid_sync.specs.Back.{IsReadBack}
-use Rattle.druid_sync.proofs.BackLemmas.{delta_back, snapshot_back, reset_back}
+use Rattle.druid_sync.proofs.BackLemmas.{delta_back, snapshot_back, page_back, reset_back}
+use Rattle.druid_sync.specs.Read.{form_at, form_of}
 use Rattle.druid_sync.specs.Written.{mark_data, from_data, flagged_request, request_data, change_data, load_data, segment_of, cause_data, five_fields, reply_data, reply_text, IsOfDescriptors, IsWord, IsOfWords}
 
 mark_back : (m : Point) → IsWord m → IsBack (mark_data m)
@@ -62,21 +63,35 @@ cause_back : (cause : Option Cause) → IsBack (cause_data cause)
 cause_back None = (tt, refl)
 cause_back (Some cause) = (tt, refl)
 
-five_back : (counter : Point) (from : Option Point) (requests : List Data) (cause : Option Cause) → IsWord counter → IfSome from IsWord → AreBack (items_of requests)
-    → IsBack (five_fields counter from requests cause)
-five_back counter from requests cause word words each =
+-- the numbers of a page, if it is one, fit 64 bits
+abbrev AreWords : Option (ℕ × ℕ) → Type 0
+AreWords None = Unit {0}
+AreWords (Some (page, of)) = (page < 2 ^ 64) × (of < 2 ^ 64)
+
+five_back : (counter : Point) (from : Option Point) (numbers : Option (ℕ × ℕ)) (requests : List Data) (cause : Option Cause) → IsWord counter → IfSome from IsWord → AreWords numbers
+    → AreBack (items_of requests) → IsBack (five_fields counter from numbers requests cause)
+five_back counter from None requests cause word words small each =
     let at = mark_back counter word in
     let start = from_back from words in
     let why = cause_back cause in
     ((at.0, (start.0, (each.0, (why.0, (tt, tt))))), rw (at.1, start.1, each.1, why.1) refl)
+five_back counter from (Some (page, of)) requests cause word words small each =
+    let at = mark_back counter word in
+    let start = from_back from words in
+    let why = cause_back cause in
+    let which = number_of-decimal page small.0 in
+    let many = number_of-decimal of small.1 in
+    ((at.0, (start.0, (IsNumber-decimal page small.0, (IsNumber-decimal of small.1, (each.0, (why.0, (tt, tt))))))), rw (at.1, start.1, which, many, each.1, why.1) refl)
 
 reply_back : (body : Body) → IsOfDescriptors body → IsOfWords body → IsBack (reply_data body)
 unfolding reply_data
 reply_back (Delta from to changes) valid words =
-    five_back to (Some from) (map change_data changes) None words.1 words.0 (items_back change_data (λ c. IsDescribed (segment_of c)) change_back changes valid)
+    five_back to (Some from) None (map change_data changes) None words.1 words.0 tt (items_back change_data (λ c. IsDescribed (segment_of c)) change_back changes valid)
 reply_back (Snapshot at segments) valid word =
-    five_back at None (map load_data segments) None word tt (items_back load_data IsDescribed (λ d. change_back (Load d)) segments valid)
-reply_back (Reset cause at) valid word = five_back at None [] (Some cause) word tt (tt, refl)
+    five_back at None None (map load_data segments) None word tt tt (items_back load_data IsDescribed (λ d. change_back (Load d)) segments valid)
+reply_back (Page at page of segments) valid words =
+    five_back at None (Some (page, of)) (map load_data segments) None words.0 tt (words.1, words.2) (items_back load_data IsDescribed (λ d. change_back (Load d)) segments valid)
+reply_back (Reset cause at) valid word = five_back at None None [] (Some cause) word tt tt (tt, refl)
 
 -- ---- how deep
 
@@ -101,15 +116,17 @@ cause_shallow : (cause : Option Cause) → depth (cause_data cause) ≤ 0
 cause_shallow None = omega arith
 cause_shallow (Some cause) = omega arith
 
-five_shallow : (counter : Point) (from : Option Point) (requests : List Data) (cause : Option Cause) → items_depth (items_of requests) ≤ 2
-    → depth (five_fields counter from requests cause) ≤ 4
-five_shallow counter from requests cause each = omega (arith, each, mark_shallow counter, from_shallow from, cause_shallow cause)
+five_shallow : (counter : Point) (from : Option Point) (numbers : Option (ℕ × ℕ)) (requests : List Data) (cause : Option Cause) → items_depth (items_of requests) ≤ 2
+    → depth (five_fields counter from numbers requests cause) ≤ 4
+five_shallow counter from None requests cause each = omega (arith, each, mark_shallow counter, from_shallow from, cause_shallow cause)
+five_shallow counter from (Some (page, of)) requests cause each = omega (arith, each, mark_shallow counter, from_shallow from, cause_shallow cause)
 
 reply_shallow : (body : Body) → depth (reply_data body) ≤ 4
 unfolding reply_data
-reply_shallow (Delta from to changes) = five_shallow to (Some from) (map change_data changes) None (items_shallow change_data 2 change_shallow changes)
-reply_shallow (Snapshot at segments) = five_shallow at None (map load_data segments) None (items_shallow load_data 2 (λ d. change_shallow (Load d)) segments)
-reply_shallow (Reset cause at) = five_shallow at None [] (Some cause) (omega arith)
+reply_shallow (Delta from to changes) = five_shallow to (Some from) None (map change_data changes) None (items_shallow change_data 2 change_shallow changes)
+reply_shallow (Snapshot at segments) = five_shallow at None None (map load_data segments) None (items_shallow load_data 2 (λ d. change_shallow (Load d)) segments)
+reply_shallow (Page at page of segments) = five_shallow at None (Some (page, of)) (map load_data segments) None (items_shallow load_data 2 (λ d. change_shallow (Load d)) segments)
+reply_shallow (Reset cause at) = five_shallow at None None [] (Some cause) (omega arith)
 
 -- what is written of a reply reads as its JSON
 pub reply_read : (body : Body) → IsOfDescriptors body → IsOfWords body → read (reply_text body) ≡ Some (reply_data body)
@@ -127,6 +144,25 @@ pub snapshot_read : (body : Body) (text : List ℕ) (at : Point) (segments : Lis
     → read text ≡ Some (reply_data body)
 snapshot_read body text at segments is written word each =
     let back = reply_read (Snapshot at segments) (λ d in_it. All-contains IsDescribed segments d each in_it) word in
+    ap read written ∙ subst (λ b. read (reply_text b) ≡ Some (reply_data b)) (sym is) back
+
+-- the numbers of a page are small
+page_small : (at : Point) (page of : ℕ) (segments : List Described) → IsReply (Page at page of segments) → (page ≤ 65_535) × (of ≤ 65_535)
+page_small at page of segments is = (omega (arith, is.1.within, is.1.not_many), omega (arith, is.1.not_many))
+
+page_words : (at : Point) (page of : ℕ) (segments : List Described) → IsReply (Page at page of segments) → IsWord at → IsOfWords (Page at page of segments)
+page_words at page of segments is word = let small = page_small at page of segments is in (word, omega (arith, small.0), omega (arith, small.1))
+
+pub page_form : (at : Point) (page of : ℕ) (segments : List Described) → IsReply (Page at page of segments) → IsOfDescriptors (Page at page of segments)
+    → form_at (reply_data (Page at page of segments)) ≡ Some (form_of (Page at page of segments))
+page_form at page of segments is described =
+    let small = page_small at page of segments is in page_back at page of segments is.0 small.0 small.1 described
+
+pub page_read : (body : Body) (text : List ℕ) (at : Point) (page of : ℕ) (segments : List Described) → body ≡ Page at page of segments → IsReply body → text ≡ reply_text body → IsWord at
+    → All IsDescribed segments → read text ≡ Some (reply_data body)
+page_read body text at page of segments is valid written word each =
+    let now : IsReply (Page at page of segments) = subst IsReply is valid in
+    let back = reply_read (Page at page of segments) (λ d in_it. All-contains IsDescribed segments d each in_it) (page_words at page of segments now word) in
     ap read written ∙ subst (λ b. read (reply_text b) ≡ Some (reply_data b)) (sym is) back
 
 pub reset_read : (body : Body) (text : List ℕ) (cause : Cause) (at : Point) → body ≡ Reset cause at → text ≡ reply_text body → IsWord at → read text ≡ Some (reply_data body)
@@ -152,6 +188,17 @@ snapshot_again body at segments is valid word each =
     let now : IsReply (Snapshot at segments) = subst IsReply is valid in
     subst IsReadBack (sym is)
     (record { valid = now; text = reply_read (Snapshot at segments) described word; form = snapshot_back at segments now.incarnation described })
+
+pub page_again : (body : Body) (at : Point) (page of : ℕ) (segments : List Described) → body ≡ Page at page of segments → IsReply body → IsWord at → All IsDescribed segments → IsReadBack body
+page_again body at page of segments is valid word each =
+    let described : IsOfDescriptors (Page at page of segments) = λ d in_it. All-contains IsDescribed segments d each in_it in
+    let now : IsReply (Page at page of segments) = subst IsReply is valid in
+    subst IsReadBack (sym is)
+    (record {
+      valid = now;
+      text = reply_read (Page at page of segments) described (page_words at page of segments now word);
+      form = page_form at page of segments now described;
+    })
 
 pub reset_again : (body : Body) (cause : Cause) (at : Point) → body ≡ Reset cause at → IsReply body → IsWord at → IsReadBack body
 reset_again body cause at is valid word =

@@ -1,5 +1,5 @@
 -- Replies, read out of JSON.
-use Rattle.std.specs.Prelude.{◌≡◌, ℕ, ◌<◌, ◌≤◌, List, codes, length, nat_le, ⊤, IsUtf8, Bool, Option, Some, None, is_some, Result, Ok, Err, option_and_then, if◌then◌else◌}
+use Rattle.std.specs.Prelude.{◌≡◌, ℕ, ◌<◌, ◌≤◌, ◌||◌, List, codes, length, nat_le, ⊤, IsUtf8, Bool, Option, Some, None, is_some, Result, Ok, Err, option_and_then, if◌then◌else◌}
 use Rattle.std.specs.Str.{bytes_eq}
 use Rattle.serde_json.specs.Data.{Data, Items, no_items, item}
 use Rattle.serde_json.specs.Read.{read}
@@ -7,15 +7,15 @@ use Rattle.serde_json.specs.Find.{get, as_null, as_bool, as_array, as_str}
 use Rattle.druid_time.specs.Options.{◌>>=◌}
 use Rattle.druid_shard.specs.Described.{Described}
 use Rattle.druid_shard.specs.Mark.{Point}
-use Rattle.druid_shard.specs.Json.{text_at, number_at, descriptor_at, result_ok}
-use Rattle.druid_shard.specs.Reply.{max_segments, max_changes, HaveOwnIdentifiers, IsAsFar}
+use Rattle.druid_shard.specs.Json.{text_at, number_at, limited_at, descriptor_at, result_ok}
+use Rattle.druid_shard.specs.Reply.{max_segments, max_page, max_pages, max_changes, HaveOwnIdentifiers, IsAsFar, IsFull, IsPageOf}
 use Rattle.druid_shard.specs.ReplyBody.{IsSnapshotOf}
 use Rattle.druid_shard.specs.declared.change.Change.{Change}
 use Rattle.druid_shard.specs.declared.change.Change.TheVariants.{Load, Drop}
 use Rattle.druid_shard.specs.declared.change.Cause.{Cause}
 use Rattle.druid_shard.specs.declared.change.Cause.TheVariants.{OtherIncarnation, Ahead, TooOld}
 use Rattle.druid_shard.specs.declared.reply.Body.{Body}
-use Rattle.druid_shard.specs.declared.reply.Body.TheVariants.{Delta, Snapshot, Reset}
+use Rattle.druid_shard.specs.declared.reply.Body.TheVariants.{Delta, Snapshot, Page, Reset}
 use Rattle.druid_shard.specs.Each.{each_of}
 use Rattle.druid_sync.specs.declared.fault.SyncFault.{SyncFault}
 use Rattle.druid_sync.specs.declared.fault.SyncFault.TheVariants as faults
@@ -64,16 +64,18 @@ cause_at d = do
   text ← as_str d
   cause_of text
 
--- what a value of one of the three forms says. Its changes and segments are as they stand there
+-- what a value of one of the four forms says. Its changes and segments are as they stand there
 pub data Form : Type 0 where
   followed : (from to : Point) (changes : List Change) → Form
   whole : (at : Point) (segments : List Described) → Form
+  paged : (at : Point) (page of : ℕ) (segments : List Described) → Form
   begun_again : (cause : Cause) (at : Point) → Form
 
 -- the form that a reply has
 abbrev pub form_of : Body → Form
 form_of (Delta from to changes) = followed from to changes
 form_of (Snapshot at segments) = whole at segments
+form_of (Page at page of segments) = paged at page of segments
 form_of (Reset cause at) = begun_again cause at
 
 -- the five fields of each reply
@@ -125,11 +127,34 @@ changes_at five = do
   _ ← as_null five.cause
   if is_some (as_null five.from) then snapshot_at five.at five.requests else delta_at five.at five.from five.requests
 
+-- a page has loads alone
+unfoldable pub page_at : Point → ℕ → ℕ → Items → Option Form
+page_at at page of requests = do
+  segments ← each_of load_at requests
+  Some (paged at page of segments)
+
+-- what tells one of the two numbers of a page tells both; it starts from nothing, and is no reset
+unfoldable pub paged_at : Data → Five → Option Form
+paged_at d five = do
+  page ← limited_at 65_535 (codes "page") d
+  of ← limited_at 65_535 (codes "pages") d
+  _ ← as_null five.from
+  _ ← as_null five.cause
+  if five.reset then None else page_at five.at page of five.requests
+
+-- whether one of the two numbers of a page is there
+abbrev pub tells_page : Data → Bool
+tells_page d = is_some (get (codes "page") d) || is_some (get (codes "pages") d)
+
+-- the form of a value that tells no page
+abbrev pub unpaged_at : Five → Option Form
+unpaged_at five = if five.reset then reset_at five else changes_at five
+
 -- the form of a value, if it has one
 unfoldable pub form_at : Data → Option Form
 form_at d = do
   five ← five_at d
-  if five.reset then reset_at five else changes_at five
+  if tells_page d then paged_at d five else unpaged_at five
 
 -- the answer to a delta: too long, then of another length than its marks say; memory is wanted where it is neither
 abbrev pub IsDeltaRead : Point → Point → List Change → Result Body SyncFault → Type 0
@@ -147,11 +172,28 @@ IsSnapshotRead at segments (Err faults.DoubledSegment) = (length segments ≤ ma
 IsSnapshotRead at segments (Err faults.Memory) = length segments ≤ max_segments
 IsSnapshotRead at segments (Err other) = ⊥
 
+-- a page of so many may have that many segments
+pub record MayBePage (page of count : ℕ) : Type 0 where
+  pub several : 2 ≤ of
+  pub not_many : of ≤ max_pages
+  pub within : page < of
+  pub full : IsFull page of count
+
+-- the answer to a page: too long; then a bad page. That its identifiers rise is seen once memory was found for them, its
+-- numbers and its count before
+abbrev pub IsPageRead : Point → ℕ → ℕ → List Described → Result Body SyncFault → Type 0
+IsPageRead at page of segments (Ok body) = (body ≡ Page at page of segments) × IsPageOf page of segments
+IsPageRead at page of segments (Err faults.TooMany) = max_page < length segments
+IsPageRead at page of segments (Err faults.BadPage) = (length segments ≤ max_page) × (IsPageOf page of segments → ⊥)
+IsPageRead at page of segments (Err faults.Memory) = (length segments ≤ max_page) × MayBePage page of (length segments)
+IsPageRead at page of segments (Err other) = ⊥
+
 -- the answer to a value of that form, or of none
 abbrev pub Answers : Option Form → Result Body SyncFault → Type 0
 Answers None answer = answer ≡ Err faults.Shape
 Answers (Some (followed from to changes)) answer = IsDeltaRead from to changes answer
 Answers (Some (whole at segments)) answer = IsSnapshotRead at segments answer
+Answers (Some (paged at page of segments)) answer = IsPageRead at page of segments answer
 Answers (Some (begun_again cause at)) answer = answer ≡ Ok (Reset cause at)
 
 -- reading a reply out of JSON answers so: the reply, or the first fault

@@ -1,6 +1,6 @@
 -- The text of a reply.
-use Rattle.std.specs.Prelude.{◌<◌, ◌^◌, ℕ, Bool, List, [], ◌++◌, codes, map, Option, Some, None, is_some, Contains, ⊤}
-use Rattle.serde_json.specs.Data.{Data, null, boolean, object, member, no_members, array, number, unsigned, string}
+use Rattle.std.specs.Prelude.{◌<◌, ◌^◌, ℕ, Bool, List, [], ◌++◌, codes, map, decimal, Option, Some, None, is_some, Contains, ⊤}
+use Rattle.serde_json.specs.Data.{Data, Members, null, boolean, object, member, no_members, array, number, unsigned, string}
 use Rattle.serde_json.specs.View.{items_of}
 use Rattle.serde_json.specs.Written.{compact_text}
 use Rattle.druid_time.specs.Texts.{extent_text}
@@ -12,7 +12,7 @@ use Rattle.druid_shard.specs.declared.change.Change.TheVariants.{Load, Drop}
 use Rattle.druid_shard.specs.declared.change.Cause.{Cause}
 use Rattle.druid_shard.specs.declared.change.Cause.TheVariants.{OtherIncarnation, Ahead, TooOld}
 use Rattle.druid_shard.specs.declared.reply.Body.{Body}
-use Rattle.druid_shard.specs.declared.reply.Body.TheVariants.{Delta, Snapshot, Reset}
+use Rattle.druid_shard.specs.declared.reply.Body.TheVariants.{Delta, Snapshot, Page, Reset}
 
 -- a mark: `counter` is the count, and `hash` the incarnation
 unfoldable pub mark_data : Point → Data
@@ -64,30 +64,43 @@ abbrev pub cause_data : Option Cause → Data
 cause_data None = null
 cause_data (Some cause) = string (cause_text cause)
 
--- the five fields of each reply
-abbrev pub five_fields : Point → Option Point → List Data → Option Cause → Data
-five_fields counter from requests cause =
+-- which page it is and how many there are, before the other members; what is no page has no such keys
+abbrev pub numbered : Option (ℕ × ℕ) → Members → Members
+numbered None others = others
+numbered (Some (page, of)) others =
+    member (codes "page") (number (unsigned page))
+    (member (codes "pages") (number (unsigned of)) others)
+
+-- the five fields of each reply, and the numbers of a page
+abbrev pub five_fields : Point → Option Point → Option (ℕ × ℕ) → List Data → Option Cause → Data
+five_fields counter from numbers requests cause =
     object (member (codes "counter") (mark_data counter)
     (member (codes "from") (from_data from)
-    (member (codes "requests") (array (items_of requests))
+    (numbered numbers (member (codes "requests") (array (items_of requests))
     (member (codes "resetCause") (cause_data cause)
-    (member (codes "resetCounter") (boolean (is_some cause)) no_members)))))
+    (member (codes "resetCounter") (boolean (is_some cause)) no_members))))))
 
--- a reply: a delta has its changes, a snapshot a load for each segment, and a reset its cause
+-- a reply: a delta has its changes, a snapshot and a page a load for each segment, and a reset its cause
 unfoldable pub reply_data : Body → Data
-reply_data (Delta from to changes) = five_fields to (Some from) (map change_data changes) None
-reply_data (Snapshot at segments) = five_fields at None (map load_data segments) None
-reply_data (Reset cause at) = five_fields at None [] (Some cause)
+reply_data (Delta from to changes) = five_fields to (Some from) None (map change_data changes) None
+reply_data (Snapshot at segments) = five_fields at None None (map load_data segments) None
+reply_data (Page at page of segments) = five_fields at None (Some (page, of)) (map load_data segments) None
+reply_data (Reset cause at) = five_fields at None None [] (Some cause)
 
 -- the text of a reply: its JSON, compact, with the keys in the order of their bytes
 abbrev pub reply_text : Body → List ℕ
 reply_text body = compact_text (reply_data body)
 
+-- the text of the numbers of a page
+abbrev pub numbers_text : Option (ℕ × ℕ) → List ℕ
+numbers_text None = []
+numbers_text (Some (page, of)) = codes ",\"page\":" ++ (decimal page ++ (codes ",\"pages\":" ++ decimal of))
+
 -- the text of a reply up to its changes, and from after them on
-unfoldable pub front_text : Point → Option Point → List ℕ
-front_text counter from =
+unfoldable pub front_text : Point → Option Point → Option (ℕ × ℕ) → List ℕ
+front_text counter from numbers =
     codes "{\"counter\":" ++ (compact_text (mark_data counter)
-    ++ (codes ",\"from\":" ++ (compact_text (from_data from) ++ codes ",\"requests\":")))
+    ++ (codes ",\"from\":" ++ (compact_text (from_data from) ++ (numbers_text numbers ++ codes ",\"requests\":"))))
 
 unfoldable pub back_text : Option Cause → List ℕ
 back_text cause =
@@ -98,6 +111,7 @@ back_text cause =
 abbrev pub IsOfDescriptors : Body → Type 0
 IsOfDescriptors (Delta from to changes) = (c : Change) → Contains changes c → IsDescribed (segment_of c)
 IsOfDescriptors (Snapshot at segments) = (d : Described) → Contains segments d → IsDescribed d
+IsOfDescriptors (Page at page of segments) = (d : Described) → Contains segments d → IsDescribed d
 IsOfDescriptors (Reset cause at) = ⊤
 
 -- both numbers of a mark fit 64 bits
@@ -105,8 +119,9 @@ pub record IsWord (m : Point) : Type 0 where
   pub incarnation : m.incarnation < 2 ^ 64
   pub count : m.count < 2 ^ 64
 
--- so do those of each mark of a reply
+-- so do those of each mark of a reply, and those of a page
 abbrev pub IsOfWords : Body → Type 0
 IsOfWords (Delta from to changes) = IsWord from × IsWord to
 IsOfWords (Snapshot at segments) = IsWord at
+IsOfWords (Page at page of segments) = IsWord at × (page < 2 ^ 64) × (of < 2 ^ 64)
 IsOfWords (Reset cause at) = IsWord at

@@ -9,7 +9,7 @@ pub enum SyncFault {
     /// Y2: JSON that has not the form of a reply.
     #[error("Y2: not a reply")]
     Shape,
-    /// Y5: a snapshot of more than 20,000 segments, or a delta of more than 1,000 changes.
+    /// Y5: a snapshot of more than 200,000 segments, a page of more than 20,000, or a delta of more than 1,000 changes.
     #[error("Y5: too many segments or changes")]
     TooMany,
     /// Y3: a delta whose marks are not as far apart as it has changes.
@@ -18,6 +18,9 @@ pub enum SyncFault {
     /// Y4: an identifier stands twice in a snapshot.
     #[error("Y4: a doubled segment")]
     DoubledSegment,
+    /// Y7: no page of 2 to 10, whose segments rise, and of which all but the last are full.
+    #[error("Y7: a bad page")]
+    BadPage,
     /// Y9: out of memory.
     #[error("Y9: out of memory")]
     Memory,
@@ -26,7 +29,7 @@ pub enum SyncFault {
 /// Why a query string is no ask.
 #[derive(Clone, Copy, Debug, PartialEq, Eq, Drop, Error)]
 pub enum AskFault {
-    /// Y6: `counter` and `hash` tell no mark.
+    /// Y6: `counter` and `hash` tell no mark, or `page` no page.
     #[error("Y6: not a mark")]
     BadCounter,
 }

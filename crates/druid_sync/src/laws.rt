@@ -1,11 +1,11 @@
 //! Facts that hold of all replies.
-ghost use Rattle.std.specs.Prelude.{◌≡◌, ◌≤◌, [], Some};
+ghost use Rattle.std.specs.Prelude.{◌≡◌, ◌≤◌, ℕ, [], Some};
 ghost use Rattle.serde_json.specs.Read.{read};
 ghost use Rattle.druid_shard.specs.ReplyBody.{IsReply};
 ghost use Rattle.druid_shard.specs.declared.reply.Body.{Body};
 ghost use Rattle.druid_shard.specs.Mark.{Point};
-ghost use Rattle.druid_shard.specs.declared.change.Ask.TheVariants.{Whole, Since};
-ghost use Rattle.druid_sync.specs.Asks.{query_text, ask_at};
+ghost use Rattle.druid_shard.specs.declared.change.Ask.TheVariants.{Whole, Since, Page};
+ghost use Rattle.druid_sync.specs.Asks.{query_text, page_query, ask_at};
 ghost use Rattle.druid_sync.specs.Written.{reply_data, reply_text, IsOfDescriptors, IsWord, IsOfWords};
 ghost use Rattle.druid_sync.specs.Read.{form_at, form_of};
 
@@ -19,4 +19,5 @@ pub fn replies_are_read_back()
 pub fn asks_are_read_back()
     ensures whole { ask_at [] ≡ Some Whole }
     ensures since { (m : Point) → IsWord m → 1 ≤ m.incarnation → ask_at (query_text m) ≡ Some (Since m) }
+    ensures page { (m : Point) (page : ℕ) → IsWord m → 1 ≤ m.incarnation → page ≤ 65_535 → ask_at (page_query m page) ≡ Some (Page m page) }
 {}

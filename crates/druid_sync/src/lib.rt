@@ -7,7 +7,7 @@ mod laws;
 mod reading;
 mod writing;
 
-pub use ask::{ask_target, read_ask};
+pub use ask::{ask_target, ask_target_at, read_ask};
 pub use fault::{AskFault, SyncFault};
 pub use laws::{asks_are_read_back, replies_are_read_back};
 pub use reading::{read_reply, reply_of};

@@ -5,12 +5,12 @@ ghost use Rattle.serde_json.specs.View.{view, items_view};
 ghost use Rattle.druid_shard.specs.Reply.{IsAsFar};
 ghost use Rattle.druid_shard.specs.Each.{each_of};
 ghost use Rattle.druid_sync.specs.Lent.{five_lent};
-ghost use Rattle.druid_sync.specs.Read.{mark_at, change_at, load_at, cause_at, five_at, begun_again, none_in, reset_at, snapshot_at, delta_at, changes_at, form_at, Answers, IsRead, IsReadOf};
+ghost use Rattle.druid_sync.specs.Read.{mark_at, change_at, load_at, cause_at, five_at, begun_again, none_in, reset_at, snapshot_at, delta_at, changes_at, page_at, paged_at, tells_page, unpaged_at, form_at, MayBePage, Answers, IsRead, IsReadOf};
 
 use crate::SyncFault;
 use druid_shard::{
-    Cause, Change, Descriptor, MAX_CHANGES, MAX_SEGMENTS, Mark, Reply, ReplyFault,
-    check_descriptor, number_field, read_descriptor, text_field,
+    Cause, Change, Descriptor, MAX_CHANGES, MAX_PAGE, MAX_PAGES, MAX_SEGMENTS, Mark, Reply,
+    ReplyFault, check_descriptor, limited_field, number_field, read_descriptor, text_field,
 };
 use serde_json::Value;
 use std::alloc::{AllocError, Global};
@@ -199,6 +199,7 @@ fn snapshot_of(alloc: Global, at: Mark, loads: &[Value]) -> Result<Reply, SyncFa
         Err(ReplyFault::TooMany) => Err(SyncFault::TooMany),
         Err(ReplyFault::LengthOfDelta) => Err(SyncFault::LengthOfDelta),
         Err(ReplyFault::DoubledSegment) => Err(SyncFault::DoubledSegment),
+        Err(ReplyFault::BadPage) => Err(SyncFault::BadPage),
         Err(ReplyFault::Memory) => Err(SyncFault::Memory),
     }
 }
@@ -237,6 +238,7 @@ fn delta_of(alloc: Global, at: Mark, from: &Value, values: &[Value]) -> Result<R
         Err(ReplyFault::TooMany) => Err(SyncFault::TooMany),
         Err(ReplyFault::LengthOfDelta) => Err(SyncFault::LengthOfDelta),
         Err(ReplyFault::DoubledSegment) => Err(SyncFault::DoubledSegment),
+        Err(ReplyFault::BadPage) => Err(SyncFault::BadPage),
         Err(ReplyFault::Memory) => Err(SyncFault::Memory),
     }
 }
@@ -257,10 +259,94 @@ fn follow(alloc: Global, five: &Lent) -> Result<Reply, SyncFault>
     }
 }
 
-/// Reads a reply: Y2 where the value has none of the three forms, then Y5 where a snapshot has more than 20,000 segments or
-/// a delta more than 1,000 changes, then Y3 where the marks of a delta are not as far apart as it has changes, then Y9
-/// where memory runs out, and Y4 where an identifier stands twice in a snapshot. The segments of a snapshot may stand in
-/// any order, and other keys are passed over.
+// Whether a page of so many may have that many segments.
+fn may_be_page(page: u16, of: u16, count: usize) -> bool
+    ensures { IsTrue result ↔ MayBePage page of count }
+{
+    if of < 2 || MAX_PAGES < of || of <= page {
+        return false;
+    }
+    count == MAX_PAGE || (1 <= count && page + 1 == of)
+}
+
+// The page of these loads.
+#[tactic(auto, unfolding(crate::specs::Read::page_at))]
+fn page_of(alloc: Global, at: Mark, page: u16, of: u16, loads: &[Value]) -> Result<Reply, SyncFault>
+    requires { 1 ≤ at.incarnation }
+    ensures { Answers (page_at at page of (items_view loads.now)) result }
+{
+    if !are_loads(loads) {
+        return Err(SyncFault::Shape);
+    }
+    if loads.len() > MAX_PAGE {
+        return Err(SyncFault::TooMany);
+    }
+    if !may_be_page(page, of, loads.len()) {
+        return Err(SyncFault::BadPage);
+    }
+    let Ok(segments) = loads_of(alloc, loads) else {
+        return Err(SyncFault::Memory);
+    };
+    match Reply::page(at, page, of, segments) {
+        Ok(reply) => Ok(reply),
+        Err(ReplyFault::TooMany) => Err(SyncFault::TooMany),
+        Err(ReplyFault::LengthOfDelta) => Err(SyncFault::LengthOfDelta),
+        Err(ReplyFault::DoubledSegment) => Err(SyncFault::DoubledSegment),
+        Err(ReplyFault::BadPage) => Err(SyncFault::BadPage),
+        Err(ReplyFault::Memory) => Err(SyncFault::Memory),
+    }
+}
+
+// The page that a value is.
+#[tactic(auto, unfolding(crate::specs::Read::paged_at))]
+fn page_in(alloc: Global, value: &Value, five: &Lent) -> Result<Reply, SyncFault>
+    requires { 1 ≤ five.now.at.incarnation }
+    ensures { Answers (paged_at (view value.now) (five_lent five.now)) result }
+{
+    let Some(page) = limited_field(value, "page", u16::MAX) else {
+        return Err(SyncFault::Shape);
+    };
+    let Some(of) = limited_field(value, "pages", u16::MAX) else {
+        return Err(SyncFault::Shape);
+    };
+    if !five.from.is_null() {
+        return Err(SyncFault::Shape);
+    }
+    if !five.cause.is_null() {
+        return Err(SyncFault::Shape);
+    }
+    if five.reset {
+        return Err(SyncFault::Shape);
+    }
+    page_of(alloc, five.at, page, of, five.requests)
+}
+
+// Whether a value tells one of the two numbers of a page.
+fn tells_page(value: &Value) -> bool
+    ensures { result ≡ tells_page (view value.now) }
+{
+    value.get("page").is_some() || value.get("pages").is_some()
+}
+
+// The reply that the five fields of a value are, which tells no page.
+fn unpaged_of(alloc: Global, five: &Lent) -> Result<Reply, SyncFault>
+    requires { 1 ≤ five.now.at.incarnation }
+    ensures { Answers (unpaged_at (five_lent five.now)) result }
+{
+    if !five.reset {
+        return follow(alloc, five);
+    }
+    match reset_of(five) {
+        Some(cause) => Ok(Reply::reset(cause, five.at)),
+        None => Err(SyncFault::Shape),
+    }
+}
+
+/// Reads a reply: Y2 where the value has none of the four forms, then Y5 where a snapshot has more than 200,000 segments, a
+/// page more than 20,000 or a delta more than 1,000 changes, then Y3 where the marks of a delta are not as far apart as it
+/// has changes, then Y9 where memory runs out, Y4 where an identifier stands twice in a snapshot, and Y7 where a page is
+/// not one of 2 to 10, is neither full nor the last with a segment at least, or has segments that do not rise; all of Y7
+/// but the rising comes before Y9. The segments of a snapshot may stand in any order, and other keys are passed over.
 #[tactic(auto, unfolding(crate::specs::Read::form_at))]
 pub fn reply_of(alloc: Global, value: &Value) -> Result<Reply, SyncFault>
     ensures { IsRead (view value.now) result }
@@ -268,12 +354,10 @@ pub fn reply_of(alloc: Global, value: &Value) -> Result<Reply, SyncFault>
     let Some(five) = five_of(value) else {
         return Err(SyncFault::Shape);
     };
-    if !five.reset {
-        return follow(alloc, &five);
-    }
-    match reset_of(&five) {
-        Some(cause) => Ok(Reply::reset(cause, five.at)),
-        None => Err(SyncFault::Shape),
+    if tells_page(value) {
+        page_in(alloc, value, &five)
+    } else {
+        unpaged_of(alloc, &five)
     }
 }
 

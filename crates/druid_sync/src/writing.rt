@@ -5,7 +5,7 @@ ghost use Rattle.serde_json.specs.View.{view, items_of};
 ghost use Rattle.serde_json.specs.Written.{compact_text, comma_if, items_text};
 ghost use Rattle.druid_shard.specs.Described.{IsDescribed};
 ghost use Rattle.druid_sync.specs.Back.{IsReadBack};
-ghost use Rattle.druid_sync.specs.Written.{mark_data, from_data, flagged_request, request_data, change_data, load_data, segment_of, IsWord, front_text, back_text, reply_data, reply_text};
+ghost use Rattle.druid_sync.specs.Written.{mark_data, from_data, flagged_request, request_data, change_data, load_data, segment_of, IsWord, numbers_text, front_text, back_text, reply_data, reply_text};
 
 use druid_shard::{Body, Cause, Change, Descriptor, Mark, Reply, shard_value};
 use serde_json::{Value, json};
@@ -171,16 +171,32 @@ fn from_text(alloc: Global, from: Option<Mark>) -> Result<String, AllocError>
     }
 }
 
+// The text of the numbers of a page, if it is one.
+fn numbers_text(alloc: Global, numbers: Option<(u16, u16)>) -> Result<String, AllocError>
+    ensures { IfOk result (λ text. string_bytes text ≡ numbers_text numbers) }
+{
+    match numbers {
+        Some((page, of)) => format!(in alloc; ",\"page\":{page},\"pages\":{of}"),
+        None => String::from_str(alloc, ""),
+    }
+}
+
 // The text of a reply up to the bracket before its changes.
 #[tactic(auto, unfolding(crate::specs::Written::front_text))]
-fn front_of(alloc: Global, counter: Mark, from: Option<Mark>) -> Result<String, AllocError>
-    ensures text { IfOk result (λ text. string_bytes text ≡ front_text counter from ++ codes "[") }
+fn front_of(
+    alloc: Global,
+    counter: Mark,
+    from: Option<Mark>,
+    numbers: Option<(u16, u16)>,
+) -> Result<String, AllocError>
+    ensures text { IfOk result (λ text. string_bytes text ≡ front_text counter from numbers ++ codes "[") }
     ensures words { IfOk result (λ _. IsWord counter × IfSome from IsWord) }
 {
     let mut text = String::from_str(alloc, "{\"counter\":")?;
     text.push_str(from_text(alloc, Some(counter))?.as_str())?;
     text.push_str(",\"from\":")?;
     text.push_str(from_text(alloc, from)?.as_str())?;
+    text.push_str(numbers_text(alloc, numbers)?.as_str())?;
     text.push_str(",\"requests\":[")?;
     Ok(text)
 }
@@ -200,7 +216,7 @@ fn back_of(cause: Option<Cause>) -> &'static str
 }
 
 /// The text of a reply: its JSON, compact, with the keys in the order of their bytes. A reader of JSON gets back the reply's.
-#[tactic(auto, using(crate::proofs::TextLemmas::delta_text, crate::proofs::TextLemmas::snapshot_text, crate::proofs::TextLemmas::reset_text))]
+#[tactic(auto, using(crate::proofs::TextLemmas::delta_text, crate::proofs::TextLemmas::snapshot_text, crate::proofs::TextLemmas::page_text, crate::proofs::TextLemmas::reset_text))]
 pub fn reply_text(alloc: Global, reply: &Reply) -> Result<String, AllocError>
     ensures text { IfOk result (λ text. string_bytes text ≡ reply_text reply.now) }
     ensures read_back { IfOk result (λ text. read (string_bytes text) ≡ Some (reply_data reply.now)) }
@@ -208,19 +224,30 @@ pub fn reply_text(alloc: Global, reply: &Reply) -> Result<String, AllocError>
 {
     match reply.body() {
         Body::Delta { from, to, changes } => {
-            let mut text = front_of(alloc, *to, Some(*from))?;
+            let mut text = front_of(alloc, *to, Some(*from), None)?;
             push_changes(alloc, &mut text, changes.as_slice())?;
             text.push_str(back_of(None))?;
             Ok(text)
         }
         Body::Snapshot { at, segments } => {
-            let mut text = front_of(alloc, *at, None)?;
+            let mut text = front_of(alloc, *at, None, None)?;
+            push_loads(alloc, &mut text, segments.as_slice())?;
+            text.push_str(back_of(None))?;
+            Ok(text)
+        }
+        Body::Page {
+            at,
+            page,
+            of,
+            segments,
+        } => {
+            let mut text = front_of(alloc, *at, None, Some((*page, *of)))?;
             push_loads(alloc, &mut text, segments.as_slice())?;
             text.push_str(back_of(None))?;
             Ok(text)
         }
         Body::Reset { cause, at } => {
-            let mut text = front_of(alloc, *at, None)?;
+            let mut text = front_of(alloc, *at, None, None)?;
             text.push_str("]")?;
             text.push_str(back_of(Some(*cause)))?;
             Ok(text)

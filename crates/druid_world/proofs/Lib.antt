@@ -1,5 +1,6 @@
 pub mod ListLemmas
 pub mod WorldLemmas
+pub mod PageLemmas
 pub mod RunLemmas
 pub mod NextLemmas
 pub mod JoinLemmas

@@ -108,3 +108,7 @@ pairs_join R [] (y ∷ ys) zs h all more = absurd all
 pairs_join R (x ∷ xs) [] zs h all more = absurd all
 pairs_join R (x ∷ xs) (y ∷ ys) [] h all more = absurd more
 pairs_join R (x ∷ xs) (y ∷ ys) (z ∷ zs) h all more = (h x y z all.0 more.0, pairs_join R xs ys zs h all.1 more.1)
+
+pub pairs_replicate : {A B : Type 0} (R : A → B → Type 0) (n : ℕ) (x : A) (y : B) → R x y → AllZip R (replicate n x) (replicate n y)
+pairs_replicate R zero x y h = tt
+pairs_replicate R (suc n) x y h = (h, pairs_replicate R n x y h)

@@ -3,18 +3,21 @@ use Rattle.std.proofs.Common.{◌≡◌, ◌↔◌, ℕ, Bool, true, false, List
 use Rattle.std.specs.Option.{option_and_then}
 use Rattle.std.proofs.lemmas.Bool.{lt-ltb, ltb-true, lt-leb}
 use Rattle.druid_shard.specs.Replay.{replay_from, changed}
+use Rattle.druid_shard.specs.declared.change.Ask.{Ask}
 use Rattle.druid_shard.specs.declared.change.Change.{Change}
+use Rattle.druid_shard.specs.declared.reply.Body.{Body}
 use Rattle.druid_shard.proofs.ReplayLemmas.{replay_from-append, and_then-some, changed-is}
-use Rattle.druid_changes.specs.Kept.{Kept, last_count, refusal}
+use Rattle.druid_changes.specs.Answer.{answer}
+use Rattle.druid_changes.specs.Kept.{Kept, StandsFor, frozen_count, last_count, refusal}
 use Rattle.druid_changes.proofs.HistoryLemmas.{no_refusal, stands-more}
 use Rattle.druid_world.specs.World.{Era, Life}
-use Rattle.druid_world.specs.Node.{IsFollowed}
+use Rattle.druid_world.specs.Node.{Answers, IsFollowed}
 use Rattle.druid_world.specs.Run.{takes, last_incarnation}
 use Rattle.druid_world.proofs.RunLemmas.{takes-is}
 
 -- the node with this history
 abbrev pub life_with : List Era → Kept → List Change → ℕ → Life
-life_with ended history changes kept = record { ended = ended; last = record { incarnation = history.incarnation; changes = changes }; kept = kept }
+life_with ended history changes kept = record { ended = ended; last = record { incarnation = history.incarnation; changes = changes }; kept = kept; frozen = frozen_count history.frozen }
 
 taken : (ended : List Era) (history : Kept) (changes : List Change) (kept : ℕ) (c : Change) → IsFollowed history changes kept → refusal history c ≡ None
     → takes (life_with ended history changes kept) c ≡ true
@@ -26,7 +29,7 @@ taken ended history changes kept c h none =
     let count = h.stands.count in
     rw (more, lt-ltb (length changes) last_incarnation (omega arith)) refl
 
-accepted : (ended : List Era) (history : Kept) (changes : List Change) (kept : ℕ) (c : Change) → IsFollowed history changes kept
+pub accepted : (ended : List Era) (history : Kept) (changes : List Change) (kept : ℕ) (c : Change) → IsFollowed history changes kept
     → takes (life_with ended history changes kept) c ≡ true → refusal history c ≡ None
 unfolding refusal
 accepted ended history changes kept c h t =
@@ -48,3 +51,14 @@ takes_told ended history changes kept c r h told = by r (takes (life_with ended 
   by true false e t = sym (sym e ∙ taken ended history changes kept c h (t.0 refl))
   by false true e t = t.1 (accepted ended history changes kept c h e)
   by false false e t = refl
+
+pub answers_so : (ended : List Era) (old new : Kept) (changes : List Change) (kept : ℕ) (ask : Ask) (reply : Body) → IsFollowed old changes kept
+    → (new.incarnation ≡ old.incarnation) × (new.limit ≡ old.limit)
+    → ((history : List Change) → StandsFor old history
+    → answer old.incarnation history old.limit (frozen_count old.frozen) ask ≡ Some (reply, frozen_count new.frozen))
+    → Answers (life_with ended old changes kept) ask reply (life_with ended new changes kept)
+answers_so ended old new changes kept ask reply h place e = (
+  frozen_count new.frozen,
+  ap (λ n. answer old.incarnation changes n (frozen_count old.frozen) ask) (sym h.limit) ∙ e changes h.stands,
+  λ i. record { ended = ended; last = record { incarnation = place.0 i; changes = changes }; kept = kept; frozen = frozen_count new.frozen },
+)

@@ -1,8 +1,9 @@
 -- What a mark stands for while the world grows, and what true replies make of what is known.
-use Rattle.std.proofs.Common.{◌≡◌, ◌+◌, ◌-◌, ◌<◌, ◌≤◌, ℕ, Bool, true, false, cond, ◌&&◌, List, [], ◌∷◌, ◌++◌, length, take, drop, Option, Some, None, refl, sym, ap, ◌∙◌, subst, arith, length-append, nat_eq, nat_le, inl, inr}
+use Rattle.std.proofs.Common.{◌≡◌, ◌+◌, ◌-◌, ◌<◌, ◌≤◌, ℕ, Bool, true, false, cond, ◌&&◌, List, [], ◌∷◌, ◌++◌, length, take, drop, Option, Some, None, refl, sym, ap, ◌∙◌, subst, arith, length-append, nat_eq, nat_le, nat_lt, not, inl, inr}
 use Rattle.std.specs.List.{AllByRecursion, slice_range}
-use Rattle.std.specs.Option.{option_and_then, option_map}
-use Rattle.std.proofs.lemmas.Bool.{false≢true, eq-eqb, eqb-true, ne_eqb, leb-true, le-leb}
+use Rattle.std.specs.Bool.{⊤}
+use Rattle.std.specs.Option.{option_and_then, option_map, unwrap_or}
+use Rattle.std.proofs.lemmas.Bool.{false≢true, eq-eqb, eqb-true, ne_eqb, leb-true, leb-false, le-leb, ltb-true}
 use Rattle.std.proofs.lemmas.List.{append-nil, drop-drop, drop-take, take-append-le, take-append-drop, take_all, take-take}
 use Rattle.std.proofs.lemmas.Option.{same_Some, none-some}
 use Rattle.druid_shard.specs.Described.{Described}
@@ -10,17 +11,21 @@ use Rattle.druid_shard.specs.Mark.{Point, never, same_mark}
 use Rattle.druid_shard.specs.Replay.{replay, replay_from}
 use Rattle.druid_shard.specs.declared.change.Ask.{Ask}
 use Rattle.druid_shard.specs.declared.change.Ask.TheVariants.{Whole, Since}
+use Rattle.druid_shard.specs.declared.change.Ask.TheVariants as asks
+use Rattle.druid_shard.specs.Reply.{max_page}
 use Rattle.druid_shard.specs.declared.change.Cause.{Cause}
+use Rattle.druid_shard.specs.declared.change.Cause.TheVariants.{OtherIncarnation, TooOld}
 use Rattle.druid_shard.specs.declared.change.Change.{Change}
 use Rattle.druid_shard.specs.declared.reply.Body.{Body}
-use Rattle.druid_shard.specs.declared.reply.Body.TheVariants.{Delta, Snapshot, Reset}
+use Rattle.druid_shard.specs.declared.reply.Body.TheVariants.{Delta, Snapshot, Page, Reset}
 use Rattle.druid_shard.proofs.ReplayLemmas.{replay_from-append, replay_from-front, and_then-some}
-use Rattle.druid_changes.specs.Answer.{answer, cause_of, mark_behind, reset_or_delta}
+use Rattle.druid_changes.specs.Answer.{answer, asked_page, cause_of, first_page, is_frozen, mark_behind, page_answer, page_of, reset_or_delta, whole_answer}
+use Rattle.druid_pages.specs.Pages.{pages_in}
 use Rattle.druid_changes.proofs.HistoryLemmas.{no_cause}
 use Rattle.druid_inventory.specs.Entry.{Entry}
 use Rattle.druid_inventory.specs.Step.{Steps}
 use Rattle.druid_inventory.specs.declared.fault.Outcome.{Outcome}
-use Rattle.druid_inventory.specs.declared.fault.Outcome.TheVariants.{Moved, AlreadyHave, AskWhole}
+use Rattle.druid_inventory.specs.declared.fault.Outcome.TheVariants.{Moved, AlreadyHave, AskWhole, AskPages}
 use Rattle.druid_world.specs.World.{Era, Life, IsEra, IsLife, AreRising, CameTo, IsTrueEntry, IsStretch, IsHonest, Grows, eras_of, changes_of, set_after, set_at, with_more}
 use Rattle.druid_world.proofs.ListLemmas.{each_last}
 
@@ -157,6 +162,14 @@ honest-grows old new (Delta from to changes) g h =
       are = h.are ∙ kept;
     }
 honest-grows old new (Snapshot at set) g h = set_at-grows old new at set g h
+honest-grows old new (Page at page of segments) g h = record {
+  set = h.set;
+  there = set_at-grows old new at h.set g h.there;
+  several = h.several;
+  count = h.count;
+  within = h.within;
+  segments_are = h.segments_are;
+}
 honest-grows old new (Reset cause at) g h = tt
 
 -- what is known stays true
@@ -228,12 +241,19 @@ pub step_true : (life : Life) (e new : Entry) (reply : Body) (outcome : Outcome)
 step_true life e new (Delta from to changes) Moved valid known h step = delta_true life e new from to changes valid known h step
 step_true life e new (Delta from to changes) AlreadyHave valid known h step = subst (IsTrueEntry life) (sym step.2) known
 step_true life e new (Delta from to changes) AskWhole valid known h step = absurd step
+step_true life e new (Delta from to changes) AskPages valid known h step = absurd step
 step_true life e new (Snapshot at set) Moved valid known h step = subst (IsTrueEntry life) (sym step.1) h
 step_true life e new (Snapshot at set) AlreadyHave valid known h step = subst (IsTrueEntry life) (sym step.1) known
 step_true life e new (Snapshot at set) AskWhole valid known h step = absurd step
+step_true life e new (Snapshot at set) AskPages valid known h step = absurd step
+step_true life e new (Page at page of segments) Moved valid known h step = absurd step
+step_true life e new (Page at page of segments) AlreadyHave valid known h step = absurd step
+step_true life e new (Page at page of segments) AskWhole valid known h step = absurd step
+step_true life e new (Page at page of segments) AskPages valid known h step = subst (IsTrueEntry life) (sym step) known
 step_true life e new (Reset cause at) Moved valid known h step = absurd step
 step_true life e new (Reset cause at) AlreadyHave valid known h step = absurd step
 step_true life e new (Reset cause at) AskWhole valid known h step = subst (IsTrueEntry life) (sym step) known
+step_true life e new (Reset cause at) AskPages valid known h step = absurd step
 
 -- ---- what a node answers
 
@@ -256,29 +276,163 @@ answer_since life mark None reply valid is e =
     } in
     subst (IsHonest (eras_of life)) e stretch
 
-map-some : {A B : Type 0} (f : A → B) (o : Option A) (y : B) → option_map f o ≡ Some y → (x : A) × (o ≡ Some x) × (f x ≡ y)
-map-some f None y e = absurd (none-some y e)
-map-some f (Some x) y e = (x, refl, same_Some (f x) y e)
+-- what a node froze is the set after so many changes, and too large for one message
+pub record IsFrozenAt (changes : List Change) (count : ℕ) : Type 0 where
+  pub within : count ≤ length changes
+  pub set : List Described
+  pub there : replay (take count changes) ≡ Some set
+  pub many : max_page < length set
 
-pub answer_true : (life : Life) (ask : Ask) (reply : Body) → IsLife life → answer life.last.incarnation life.last.changes life.kept ask ≡ Some reply
-    → IsHonest (eras_of life) reply
-answer_true life Whole reply valid e =
-    let found = map-some (λ set. Snapshot (mark_behind life.last.incarnation life.last.changes) set) (replay life.last.changes) reply e in
+abbrev pub HasFrozen : List Change → Option ℕ → Type 0
+HasFrozen changes None = ⊤
+HasFrozen changes (Some count) = IsFrozenAt changes count
+
+-- the set after some changes of the last incarnation is what the node served at that mark
+last_set : (life : Life) (count : ℕ) (set : List Described) → IsLife life → count ≤ length life.last.changes → replay (take count life.last.changes) ≡ Some set
+    → set_at (eras_of life) (record { incarnation = life.last.incarnation; count = count }) ≡ Some set
+last_set life count set valid l e =
     let last = last_changes_of life.ended life.last valid.rising in
     let low = from_one (eras_of life) life.last.incarnation life.last.changes valid.eras last in
-    let all : take (length life.last.changes) life.last.changes ≡ life.last.changes = take_all (length life.last.changes) life.last.changes (omega arith) in
-    let at = set_at-made (eras_of life) (mark_behind life.last.incarnation life.last.changes) life.last.changes found.0 low last (omega arith) (ap replay all ∙ found.1) in
-    subst (IsHonest (eras_of life)) found.2 at
-answer_true life (Since mark) reply valid e =
-    answer_since life mark (cause_of life.last.incarnation (length life.last.changes) life.kept mark) reply valid refl (same_Some _ reply e)
+    set_at-made (eras_of life) (record { incarnation = life.last.incarnation; count = count }) life.last.changes set low last l e
 
--- what it answers is there
-pub answered : (life : Life) (ask : Ask) → IsLife life → (reply : Body) × (answer life.last.incarnation life.last.changes life.kept ask ≡ Some reply)
-answered life Whole valid =
+-- and its pages are true
+page_true : (life : Life) (count page : ℕ) (set : List Described) → IsLife life → count ≤ length life.last.changes → replay (take count life.last.changes) ≡ Some set
+    → max_page < length set → page < pages_in (length set) → IsHonest (eras_of life) (page_of life.last.incarnation count page set)
+page_true life count page set valid l e many within = record {
+  set = set;
+  there = last_set life count set valid l e;
+  several = many;
+  count = refl;
+  within = within;
+  segments_are = refl;
+}
+
+-- of the whole history
+all_of : (cs : List Change) → take (length cs) cs ≡ cs
+all_of cs = take_all (length cs) cs (omega arith)
+
+-- ---- an answer is there, is true, and what is frozen after it is so
+
+-- an answer, and what is frozen then
+pub record AnswersTruly (life : Life) (answered : Option (Body × Option ℕ)) : Type 0 where
+  pub reply : Body
+  pub frozen : Option ℕ
+  pub is : answered ≡ Some (reply, frozen)
+  pub honest : IsHonest (eras_of life) reply
+  pub stands : HasFrozen life.last.changes frozen
+
+first_true : (life : Life) (count : ℕ) → IsLife life → IsFrozenAt life.last.changes count → AnswersTruly life (first_page life.last.incarnation life.last.changes count)
+first_true life count valid h =
+    let many = h.many in
+    record {
+      reply = page_of life.last.incarnation count 0 h.set;
+      frozen = Some count;
+      is = ap (option_map (λ set. (page_of life.last.incarnation count 0 set, Some count))) h.there;
+      honest = page_true life count 0 h.set valid h.within h.there many (omega arith);
+      stands = h;
+    }
+
+whole_true : (life : Life) (set : List Described) → IsLife life → HasFrozen life.last.changes life.frozen → replay life.last.changes ≡ Some set
+    → AnswersTruly life (whole_answer life.last.incarnation life.last.changes life.frozen set)
+whole_true life set valid stands e = by (nat_le (length set) max_page) refl where
+  all : replay (take (length life.last.changes) life.last.changes) ≡ Some set
+  all = ap replay (all_of life.last.changes) ∙ e
+
+  now : max_page < length set → IsFrozenAt life.last.changes (length life.last.changes)
+  now many = record { within = omega arith; set = set; there = all; many = many }
+
+  frozen_or_now : (frozen : Option ℕ) → HasFrozen life.last.changes frozen → max_page < length set → IsFrozenAt life.last.changes (unwrap_or frozen (length life.last.changes))
+  frozen_or_now None h many = now many
+  frozen_or_now (Some count) h many = h
+
+  by : (b : Bool) → nat_le (length set) max_page ≡ b
+      → AnswersTruly life (cond b (Some (Snapshot (mark_behind life.last.incarnation life.last.changes) set, life.frozen))
+      (first_page life.last.incarnation life.last.changes (unwrap_or life.frozen (length life.last.changes))))
+  by true few = record {
+    reply = Snapshot (mark_behind life.last.incarnation life.last.changes) set;
+    frozen = life.frozen;
+    is = refl;
+    honest = last_set life (length life.last.changes) set valid (omega arith) all;
+    stands = stands;
+  }
+  by false many = first_true life (unwrap_or life.frozen (length life.last.changes)) valid (frozen_or_now life.frozen stands (leb-false (length set) max_page many))
+
+-- a reply that leaves what is frozen
+stays : (life : Life) (o : Option Body) (reply : Body) → o ≡ Some reply → HasFrozen life.last.changes life.frozen → IsHonest (eras_of life) reply
+    → AnswersTruly life (option_map (λ body. (body, life.frozen)) o)
+stays life o reply e stands honest = record {
+  reply = reply;
+  frozen = life.frozen;
+  is = ap (option_map (λ body. (body, life.frozen))) e;
+  honest = honest;
+  stands = stands;
+}
+
+asked_true : (life : Life) (mark : Point) (page : ℕ) → IsLife life → HasFrozen life.last.changes life.frozen
+    → (reply : Body) × (asked_page life.last.incarnation life.last.changes life.frozen mark page ≡ Some reply) × IsHonest (eras_of life) reply
+asked_true life mark page valid stands = by (nat_eq mark.incarnation life.last.incarnation) where
+  reset : (cause : Cause) → Body
+  reset cause = Reset cause (mark_behind life.last.incarnation life.last.changes)
+
+  of_set : (set : List Described) → max_page < length set → replay (take mark.count life.last.changes) ≡ Some set → mark.count ≤ length life.last.changes
+      → (b : Bool) → nat_lt page (pages_in (length set)) ≡ b
+      → IsHonest (eras_of life) (cond b (page_of life.last.incarnation mark.count page set) (reset TooOld))
+  of_set set many e l true within = page_true life mark.count page set valid l e many (ltb-true page (pages_in (length set)) within)
+  of_set set many e l false within = tt
+
+  at_frozen : (count : ℕ) → IsFrozenAt life.last.changes count → (b : Bool) → nat_eq count mark.count ≡ b
+      → (reply : Body) × (cond b (option_map (page_answer life.last.incarnation life.last.changes mark.count page) (replay (take mark.count life.last.changes)))
+      (Some (reset TooOld)) ≡ Some reply) × IsHonest (eras_of life) reply
+  at_frozen count h false e = (reset TooOld, refl, tt)
+  at_frozen count h true e =
+      let same = eqb-true count mark.count e in
+      let there : replay (take mark.count life.last.changes) ≡ Some h.set = ap (λ n. replay (take n life.last.changes)) (sym same) ∙ h.there in
+      let l = h.within in (
+        page_answer life.last.incarnation life.last.changes mark.count page h.set,
+        ap (option_map (page_answer life.last.incarnation life.last.changes mark.count page)) there,
+        of_set h.set h.many there (omega (arith, same, l)) (nat_lt page (pages_in (length h.set))) refl,
+      )
+
+  by_frozen : (frozen : Option ℕ) → HasFrozen life.last.changes frozen
+      → (reply : Body) × (cond (is_frozen frozen mark.count) (option_map (page_answer life.last.incarnation life.last.changes mark.count page) (replay (take mark.count life.last.changes)))
+      (Some (reset TooOld)) ≡ Some reply) × IsHonest (eras_of life) reply
+  by_frozen None h = (reset TooOld, refl, tt)
+  by_frozen (Some count) h = at_frozen count h (nat_eq count mark.count) refl
+
+  by : (b : Bool) → (reply : Body) × (cond (not b) (Some (reset OtherIncarnation))
+      (cond (is_frozen life.frozen mark.count) (option_map (page_answer life.last.incarnation life.last.changes mark.count page) (replay (take mark.count life.last.changes)))
+      (Some (reset TooOld))) ≡ Some reply) × IsHonest (eras_of life) reply
+  by false = (reset OtherIncarnation, refl, tt)
+  by true = by_frozen life.frozen stands
+
+-- what a node answers
+pub answers_truly : (life : Life) (ask : Ask) → IsLife life → HasFrozen life.last.changes life.frozen
+    → AnswersTruly life (answer life.last.incarnation life.last.changes life.kept life.frozen ask)
+answers_truly life Whole valid stands =
     let last = each_last IsEra life.ended life.last valid.eras in
-    (Snapshot (mark_behind life.last.incarnation life.last.changes) last.set, ap (option_map (λ set. Snapshot (mark_behind life.last.incarnation life.last.changes) set)) last.replayed)
-answered life (Since mark) valid =
-    (reset_or_delta life.last.incarnation life.last.changes mark (cause_of life.last.incarnation (length life.last.changes) life.kept mark), refl)
+    let made = whole_true life last.set valid stands last.replayed in
+    record {
+      reply = made.reply;
+      frozen = made.frozen;
+      is = ap (option_and_then (whole_answer life.last.incarnation life.last.changes life.frozen)) last.replayed ∙ made.is;
+      honest = made.honest;
+      stands = made.stands;
+    }
+answers_truly life (Since mark) valid stands =
+    let cause = cause_of life.last.incarnation (length life.last.changes) life.kept mark in
+    let reply = reset_or_delta life.last.incarnation life.last.changes mark cause in
+    record { reply = reply; frozen = life.frozen; is = refl; honest = answer_since life mark cause reply valid refl refl; stands = stands }
+answers_truly life (asks.Page mark page) valid stands =
+    let made = asked_true life mark page valid stands in
+    stays life (asked_page life.last.incarnation life.last.changes life.frozen mark page) made.0 made.1 stands made.2
+
+-- so is each answer, since there is one
+pub answer_true : (life : Life) (ask : Ask) (reply : Body) (frozen : Option ℕ) → IsLife life → HasFrozen life.last.changes life.frozen
+    → answer life.last.incarnation life.last.changes life.kept life.frozen ask ≡ Some (reply, frozen) → IsHonest (eras_of life) reply × HasFrozen life.last.changes frozen
+answer_true life ask reply frozen valid stands e =
+    let made = answers_truly life ask valid stands in
+    let same = same_Some (made.reply, made.frozen) (reply, frozen) (sym made.is ∙ e) in
+    subst (λ (p : Body × Option ℕ). IsHonest (eras_of life) p.0 × HasFrozen life.last.changes p.1) same (made.honest, made.stands)
 
 -- ---- the marks of a node
 

@@ -4,10 +4,12 @@ use Rattle.std.specs.Prelude.{◌≡◌, ℕ, ◌<◌, ◌≤◌, ◌⊎◌, ◌
 use Rattle.std.specs.List.{AllByRecursion, AllZip}
 use Rattle.druid_shard.specs.Described.{Described}
 use Rattle.druid_shard.specs.Mark.{Point, never, same_mark}
+use Rattle.druid_shard.specs.Reply.{max_page}
 use Rattle.druid_shard.specs.Replay.{replay}
 use Rattle.druid_shard.specs.declared.change.Change.{Change}
 use Rattle.druid_shard.specs.declared.reply.Body.{Body}
-use Rattle.druid_shard.specs.declared.reply.Body.TheVariants.{Delta, Snapshot, Reset}
+use Rattle.druid_shard.specs.declared.reply.Body.TheVariants.{Delta, Snapshot, Page, Reset}
+use Rattle.druid_pages.specs.Pages.{page_at, pages_in}
 use Rattle.druid_inventory.specs.Entry.{Entry}
 
 -- ---- the nodes
@@ -17,11 +19,13 @@ pub record Era : Type 0 where
   pub incarnation : ℕ
   pub changes : List Change
 
--- a node: its incarnations that ended, in their order, and the one that goes on; and how many changes it keeps to answer with
+-- a node: its incarnations that ended, in their order, and the one that goes on; how many changes it keeps to answer with; and
+-- after how many of the last incarnation's it froze a set for its pages, if one is frozen
 pub record Life : Type 0 where
   pub ended : List Era
   pub last : Era
   pub kept : ℕ
+  pub frozen : Option ℕ
 
 -- all its incarnations, in their order
 abbrev pub eras_of : Life → List Era
@@ -39,10 +43,16 @@ AreRising [] = ⊤
 AreRising (era ∷ []) = ⊤
 AreRising (era ∷ next ∷ eras) = (era.incarnation < next.incarnation) × AreRising (next ∷ eras)
 
+-- what is frozen was there
+abbrev pub IsThere : Option ℕ → ℕ → Type 0
+IsThere None count = ⊤
+IsThere (Some frozen) count = frozen ≤ count
+
 -- a node has one history for each incarnation, and its incarnations rise
 pub record IsLife (life : Life) : Type 0 where
   pub eras : AllByRecursion IsEra (eras_of life)
   pub rising : AreRising (eras_of life)
+  pub frozen : IsThere life.frozen (length life.last.changes)
 
 -- a world is a list of nodes
 abbrev pub IsWorld : List Life → Type 0
@@ -94,11 +104,21 @@ pub record IsStretch (eras : List Era) (from to : Point) (changes : List Change)
   pub there : to.count ≤ length all
   pub are : changes ≡ slice_range all from.count to.count
 
--- a reply of the node that is true: the changes between its marks, the set at its mark, or that the node is to be asked
+-- a page of the set at its mark, which has more than one
+pub record IsTruePage (eras : List Era) (at : Point) (page of : ℕ) (segments : List Described) : Type 0 where
+  pub set : List Described
+  pub there : set_at eras at ≡ Some set
+  pub several : max_page < length set
+  pub count : of ≡ pages_in (length set)
+  pub within : page < of
+  pub segments_are : segments ≡ page_at set page
+
+-- a reply of the node that is true: the changes between its marks, the set at its mark, a page of it, or that the node is to be asked
 -- for the whole
 abbrev pub IsHonest : List Era → Body → Type 0
 IsHonest eras (Delta from to changes) = IsStretch eras from to changes
 IsHonest eras (Snapshot at set) = set_at eras at ≡ Some set
+IsHonest eras (Page at page of segments) = IsTruePage eras at page of segments
 IsHonest eras (Reset cause at) = ⊤
 
 -- a reply of that node of the world is true

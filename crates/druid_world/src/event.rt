@@ -6,6 +6,17 @@ use druid_shard::{Ask, Change, NodeNo, Reply};
 use std::alloc::{AllocError, AllocFailed};
 use thiserror::Error;
 
+/// What a broker asks a node for.
+#[derive(Clone, Copy, Debug, PartialEq, Eq)]
+pub enum AskKind {
+    /// What it would ask next: the whole, where it was never synced, and else what comes after its mark.
+    Next,
+    /// The whole.
+    Whole,
+    /// A page, counted from 0, at the mark of the pages that came.
+    Page(u16),
+}
+
 /// An event. Nodes and brokers are named by their places, and packets by their numbers, from 0 in the order in which
 /// they were put.
 #[derive(Debug, Drop)]
@@ -22,14 +33,14 @@ pub enum Event {
         /// The node.
         node: NodeNo,
     },
-    /// The broker puts a request to the node: for the whole, or what it would ask next.
+    /// The broker puts a request to the node.
     Ask {
         /// The broker that asks.
         broker: usize,
         /// The node.
         node: NodeNo,
-        /// Whether it asks for the whole in any case.
-        whole: bool,
+        /// What it asks for.
+        kind: AskKind,
     },
     /// The node puts its reply to the request, by its history now.
     Answer {
@@ -44,8 +55,11 @@ pub enum Event {
         broker: usize,
         /// The node.
         node: NodeNo,
+        /// The page of it, counted from 0, where it is too large for one message; of 0 the whole is sent where it is not.
+        page: u16,
     },
-    /// The broker that asked applies the reply. Where it refuses it, it stays as it was.
+    /// The broker that asked applies the reply, or puts a page to those that came, and applies what they give once all have. Where it
+    /// refuses it, all stays as it was.
     Deliver {
         /// The reply.
         packet: usize,
@@ -103,6 +117,9 @@ pub enum SimFault {
     /// with the node.
     #[error("E4: refused")]
     Refused,
+    /// E5: no page of the node came to the broker.
+    #[error("E5: no pages came")]
+    NoAssembly,
     /// E9: out of memory.
     #[error("E9: out of memory")]
     Memory,

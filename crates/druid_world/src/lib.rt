@@ -2,12 +2,13 @@
 //! late, again or never. What holds of all its runs.
 #![tactic(auto)]
 
+mod arrivals;
 mod event;
 mod laws;
 mod node;
 mod sim;
 
-pub use event::{Event, Packet, SimFault};
+pub use event::{AskKind, Event, Packet, SimFault};
 pub use laws::{
     each_mark_has_a_set, join_is_a_join, marks_never_fall, one_next, same_marks_same_inventory,
     worlds_grow,

@@ -1,8 +1,10 @@
 //! A node and all that ever happened to it.
-ghost use Rattle.std.specs.Prelude.{◌≡◌, ◌≤◌, ◌<◌, ◌+◌, true, Some, IfOk, OnOk, OnErr, IfErr};
+ghost use Rattle.std.specs.Prelude.{◌≡◌, ◌≤◌, ◌<◌, ◌+◌, true, ◌++◌, [], ◌∷◌, List, None, Some, IfOk, OnOk, OnErr, IfErr};
 ghost use Rattle.druid_shard.specs.Reply.{max_changes};
-ghost use Rattle.druid_changes.specs.Answer.{answer};
+ghost use Rattle.druid_shard.specs.declared.change.Change.{Change as Event};
+ghost use Rattle.druid_changes.specs.Kept.{StandsFor, frozen_after, refusal};
 ghost use Rattle.druid_world.specs.Run.{newborn, takes, recorded, restarted, last_incarnation};
+ghost use Rattle.druid_world.specs.Node.{Answers};
 
 use crate::SimFault;
 use druid_changes::History;
@@ -42,9 +44,28 @@ impl Model for Node {
 
     ghost Value = { Life };
 
-    ghost view = { λ a. record { ended = a.ended.items; last = record { incarnation = a.history.incarnation; changes = a.changes.items }; kept = a.kept } };
+    ghost use Rattle.druid_changes.specs.Kept.{frozen_count};
+
+    ghost view = { λ a. record { ended = a.ended.items; last = record { incarnation = a.history.incarnation; changes = a.changes.items }; kept = a.kept; frozen = frozen_count a.history.frozen } };
 
     ghost invariant = { λ a. IsFollowed a.history a.changes.items a.kept };
+}
+
+// Records a change that the history takes.
+fn record_in(history: &mut History, change: Change) -> Result<(), SimFault>
+    requires { refusal history.old change ≡ None }
+    ensures place { OnOk result ((history.new.incarnation ≡ history.old.incarnation) × (history.new.limit ≡ history.old.limit)) }
+    ensures stands { OnOk result ((changes : List Event) → StandsFor history.old changes
+        → StandsFor history.new (changes ++ change ∷ [])) }
+    ensures frozen { OnOk result
+        (history.new.frozen ≡ frozen_after history.old.limit (history.old.count + 1) history.old.frozen) }
+    ensures unchanged { OnErr result (history.new ≡ history.old) }
+    ensures memory { IfErr result (λ fault. fault ≡ SimFault.Memory) }
+{
+    match history.record(change) {
+        Ok(()) => Ok(()),
+        Err(_) => Err(SimFault::Memory),
+    }
 }
 
 impl Node {
@@ -83,10 +104,7 @@ impl Node {
     {
         self.changes.reserve(1)?;
         let copy = change.clone()?;
-        match self.history.record(change) {
-            Ok(()) => {}
-            Err(_) => return Err(SimFault::Memory),
-        }
+        record_in(&mut self.history, change)?;
         match self.changes.push(copy) {
             Ok(()) => Ok(()),
             Err(_) => unreachable!(),
@@ -126,9 +144,10 @@ impl Node {
         Ok(())
     }
 
-    // Its reply to what is asked, by its history now.
-    pub(crate) fn since(&self, ask: &Ask) -> Result<Reply, AllocError>
-        ensures { IfOk result (λ reply. answer self.now.last.incarnation self.now.last.changes self.now.kept ask.now ≡ Some reply) }
+    // Its reply to what is asked, by its history now. It may freeze a set for it.
+    pub(crate) fn since(&mut self, ask: &Ask) -> Result<Reply, AllocError>
+        ensures ok { IfOk result (λ reply. Answers self.old ask.now reply self.new) }
+        ensures unchanged { OnErr result (self.new ≡ self.old) }
     {
         self.history.since(ask)
     }

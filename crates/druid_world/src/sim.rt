@@ -1,18 +1,20 @@
 //! A run of events, one after another.
-ghost use Rattle.std.specs.Prelude.{◌≡◌, ◌↔◌, ◌≤◌, ◌<◌, length, unwrap_or, Some, None, IfOk, IfErr, IfSome, OnOk, OnErr, IsErrOf, MatchOption, option_map, replicate, slice_get, vec_len, map};
+ghost use Rattle.std.specs.Prelude.{◌≡◌, ◌↔◌, ◌≤◌, ◌<◌, length, unwrap_or, Some, None, IfOk, IfErr, IfSome, OnOk, OnErr, IsErrOf, MatchOption, option_map, replicate, slice_get, vec_len, map, List, Option};
 ghost use Rattle.druid_shard.specs.Reply.{max_changes};
-ghost use Rattle.druid_inventory.specs.Entry.{IsEntryOf, max_nodes, fresh};
+ghost use Rattle.druid_pages.specs.Assembly.{Parts};
+ghost use Rattle.druid_inventory.specs.Entry.{Entry, IsAnswerOf, max_nodes, fresh};
 ghost use Rattle.druid_world.specs.World.{IsInventoryOf};
-ghost use Rattle.druid_world.specs.Node.{TellsEntry};
-ghost use Rattle.druid_world.specs.Run.{State, IsReached, Next, Tells, Applies, refusal, with_packet, with_broker, opening, newborn, node_name, node_names};
+ghost use Rattle.druid_world.specs.Node.{AnswersIn, DeliversIn, TellsEntry, ask_at, seed_mark, mark_of};
+ghost use Rattle.druid_world.specs.Run.{State, IsReached, Next, Tells, refusal, parts_at, with_packet, opening, newborn, node_name, node_names};
 ghost use Rattle.druid_world.specs.declared.event.Event.{Event as Happening};
 ghost use Rattle.druid_world.specs.declared.event.Event.TheVariants as events;
 
+use crate::arrivals::Arrivals;
 use crate::node::Node;
-use crate::{Event, Packet, SimFault};
-use druid_inventory::{ApplyFault, Inventory, InventoryFault};
+use crate::{AskKind, Event, Packet, SimFault};
+use druid_inventory::{Inventory, InventoryFault};
 use druid_segid::{IdFault, Name};
-use druid_shard::{Ask, Change, NodeNo, Reply};
+use druid_shard::{Ask, Change, Mark, NodeNo, Reply};
 use std::alloc::Global;
 use std::marker::Model;
 
@@ -22,13 +24,14 @@ pub const MAX_BROKERS: usize = 64;
 /// Nodes, brokers, and the packets between them, after some events.
 ///
 /// A contract sees the state of a run: all incarnations of the nodes with all their changes, every packet that was ever
-/// put, and the inventory of each broker. It is always a state that a run from the opening comes to, so that the laws of
+/// put, the inventory of each broker, and the pages of each node that came to it. It is always a state that a run from the opening comes to, so that the laws of
 /// all runs hold of it.
 #[derive(Debug, Drop)]
 pub struct Sim {
     nodes: Vec<Node>,
     packets: Vec<Packet>,
     brokers: Vec<Inventory>,
+    assemblies: Vec<Arrivals>,
 }
 
 impl Model for Sim {
@@ -36,9 +39,9 @@ impl Model for Sim {
 
     ghost Value = { State };
 
-    ghost view = { λ a. record { world = a.nodes.items; packets = a.packets.items; brokers = a.brokers.items } };
+    ghost view = { λ a. record { world = a.nodes.items; packets = a.packets.items; brokers = a.brokers.items; assemblies = a.assemblies.items } };
 
-    ghost invariant = { λ a. IsReached (record { world = a.nodes.items; packets = a.packets.items; brokers = a.brokers.items }) };
+    ghost invariant = { λ a. IsReached (record { world = a.nodes.items; packets = a.packets.items; brokers = a.brokers.items; assemblies = a.assemblies.items }) };
 }
 
 fn node_name(alloc: Global, node: usize) -> Result<Name, SimFault>
@@ -114,12 +117,24 @@ fn fresh_inventories(
     Ok(made)
 }
 
-fn entry_of(inventory: &Inventory, node: NodeNo) -> Result<Reply, SimFault>
-    requires { node < length inventory.now }
-    ensures ok { IfOk result (IsEntryOf inventory.now node) }
-    ensures told { IfErr result (TellsEntry inventory.now node) }
+// No pages, of that many nodes at each of that many brokers.
+fn no_arrivals(alloc: Global, nodes: usize, brokers: usize) -> Result<Vec<Arrivals>, SimFault>
+    ensures ok { IfOk result (λ made. made.items ≡ replicate brokers (replicate nodes None)) }
+    ensures memory { IfErr result (λ fault. fault ≡ SimFault.Memory) }
 {
-    match inventory.entry(node) {
+    let mut made = Vec::with_capacity(alloc, brokers)?;
+    for _broker in 0..brokers {
+        made.push(Arrivals::new(alloc, nodes)?)?;
+    }
+    Ok(made)
+}
+
+fn entry_of(inventory: &Inventory, node: NodeNo, ask: &Ask) -> Result<Reply, SimFault>
+    requires { node < length inventory.now }
+    ensures ok { IfOk result (IsAnswerOf inventory.now node ask.now) }
+    ensures told { IfErr result (TellsEntry inventory.now node ask.now) }
+{
+    match inventory.entry_page(node, ask) {
         Ok(reply) => Ok(reply),
         Err(InventoryFault::NotSynced) => Err(SimFault::Refused),
         Err(InventoryFault::Memory) => Err(SimFault::Memory),
@@ -127,21 +142,83 @@ fn entry_of(inventory: &Inventory, node: NodeNo) -> Result<Reply, SimFault>
     }
 }
 
-// What a reply of a node makes of an inventory; None where it is refused.
-fn applied(
-    inventory: &Inventory,
+// What a peer asks for to get a page of what another knows up to a mark.
+fn seed_ask(mark: Mark, page: u16) -> Ask
+    ensures { result ≡ seed_mark mark page }
+{
+    if page == 0 {
+        Ask::Whole
+    } else {
+        Ask::Page(mark, page)
+    }
+}
+
+// What a broker asks that would ask this next, and to which pages of this mark came.
+fn ask_of_kind(kind: AskKind, next: Ask, at: Option<Mark>) -> Option<Ask>
+    ensures { result ≡ ask_at kind next at }
+{
+    match kind {
+        AskKind::Next => Some(next),
+        AskKind::Whole => Some(Ask::Whole),
+        AskKind::Page(page) => match at {
+            Some(at) => Some(Ask::Page(at, page)),
+            None => None,
+        },
+    }
+}
+
+fn packet_at(packets: &Vec<Packet>, packet: usize) -> Option<&Packet>
+    ensures { option_map (λ sent. sent.now) result ≡ slice_get packets.now.items packet }
+{
+    packets.get(packet)
+}
+
+// A node's reply to what is asked is put.
+fn answer_in(
+    nodes: &mut Vec<Node>,
+    packets: &mut Vec<Packet>,
+    broker: usize,
     node: NodeNo,
-    reply: &Reply,
-) -> Result<Option<Inventory>, SimFault>
-    requires { node < length inventory.now }
-    ensures ok { IfOk result (λ after. Applies inventory.now node reply.now (unwrap_or after inventory.now)) }
+    ask: Ask,
+) -> Result<(), SimFault>
+    requires { node < length nodes.old.items }
+    ensures ok { OnOk result
+        (AnswersIn nodes.old.items packets.old.items broker node ask nodes.new.items packets.new.items) }
+    ensures nodes { OnErr result (nodes.new.items ≡ nodes.old.items) }
+    ensures packets { OnErr result (packets.new.items ≡ packets.old.items) }
     ensures memory { IfErr result (λ fault. fault ≡ SimFault.Memory) }
 {
-    match inventory.apply(node, reply) {
-        Ok((after, _)) => Ok(Some(after)),
-        Err(ApplyFault::Memory) => Err(SimFault::Memory),
-        Err(_) => Ok(None),
+    packets.reserve(1)?;
+    let reply = nodes[node as usize].since(&ask)?;
+    match packets.push(Packet::Reply {
+        broker,
+        node,
+        reply,
+    }) {
+        Ok(()) => Ok(()),
+        Err(_) => unreachable!(),
     }
+}
+
+// A broker takes a reply of a node.
+fn deliver_in(
+    brokers: &mut Vec<Inventory>,
+    assemblies: &mut Vec<Arrivals>,
+    broker: usize,
+    node: NodeNo,
+    reply: &Reply,
+) -> Result<(), SimFault>
+    requires broker { broker < length brokers.old.items }
+    requires assembly { broker < length assemblies.old.items }
+    requires inventory { (inventory : List Entry) → slice_get brokers.old.items broker ≡ Some inventory → node < length inventory }
+    requires pages { (pages : List (Option Parts)) → slice_get assemblies.old.items broker ≡ Some pages → node < length pages }
+    ensures ok { OnOk result
+        (DeliversIn brokers.old.items assemblies.old.items broker node reply.now brokers.new.items assemblies.new.items) }
+    ensures brokers { OnErr result (brokers.new.items ≡ brokers.old.items) }
+    ensures assemblies { OnErr result (assemblies.new.items ≡ assemblies.old.items) }
+    ensures memory { IfErr result (λ fault. fault ≡ SimFault.Memory) }
+{
+    assemblies[broker].take(&mut brokers[broker], node, reply)
 }
 
 impl Sim {
@@ -159,23 +236,28 @@ impl Sim {
     {
         let made = newborn_nodes(alloc, nodes, kept)?;
         let inventories = fresh_inventories(alloc, nodes, brokers)?;
+        let assemblies = no_arrivals(alloc, nodes, brokers)?;
         Ok(Sim {
             nodes: made,
             packets: Vec::new(alloc),
             brokers: inventories,
+            assemblies,
         })
     }
 
     /// Makes the event happen. E1 where there is no such node, then E2 where there is no such broker, then E3 where there
     /// is no such packet of the kind, then E4 where the node's history does not take the change, the node is at its last
-    /// incarnation, or the peer was never synced with the node; and E9 last. Where it cannot happen all stays as it was.
-    /// It takes no time in the number of events before it.
+    /// incarnation, or the peer was never synced with the node; E5 where a page is asked for and none of the node came to
+    /// the broker; and E9 last. Where it cannot happen all stays as it was. Where memory ran out while a broker took a
+    /// page, or what pages gave, it takes no other page of that node before that one: E9. It takes no time in the number of
+    /// events before it.
     pub fn step(&mut self, event: Event) -> Result<(), SimFault>
         ensures ok { OnOk result (Next self.old event self.new) }
         ensures no_node { IsErrOf result SimFault.NoSuchNode ↔ (refusal self.old event ≡ Some SimFault.NoSuchNode) }
         ensures no_broker { IsErrOf result SimFault.NoSuchBroker ↔ (refusal self.old event ≡ Some SimFault.NoSuchBroker) }
         ensures no_packet { IsErrOf result SimFault.NoSuchPacket ↔ (refusal self.old event ≡ Some SimFault.NoSuchPacket) }
         ensures refused { IsErrOf result SimFault.Refused ↔ (refusal self.old event ≡ Some SimFault.Refused) }
+        ensures no_assembly { IsErrOf result SimFault.NoAssembly ↔ (refusal self.old event ≡ Some SimFault.NoAssembly) }
         ensures memory { IsErrOf result SimFault.Memory → (new : State) × Next self.old event new }
         ensures unchanged { OnErr result (self.new ≡ self.old) }
     {
@@ -191,13 +273,14 @@ impl Sim {
         match event {
             Event::Record { node, change } => self.record(node, change),
             Event::Restart { node } => self.restart(node),
-            Event::Ask {
+            Event::Ask { broker, node, kind } => self.ask(broker, node, kind),
+            Event::Answer { packet } => self.answer(packet),
+            Event::Seed {
+                peer,
                 broker,
                 node,
-                whole,
-            } => self.ask(broker, node, whole),
-            Event::Answer { packet } => self.answer(packet),
-            Event::Seed { peer, broker, node } => self.seed(peer, broker, node),
+                page,
+            } => self.seed(peer, broker, node, page),
             Event::Deliver { packet } => self.deliver(packet),
             Event::Cut { packet } => self.cut(packet),
             Event::Fail { broker, node } => self.fail(broker, node),
@@ -224,6 +307,19 @@ impl Sim {
         ensures reached { IsReached self.now }
     {
         self.brokers.get(broker)
+    }
+
+    // The mark of the pages of a node that came to a broker.
+    fn mark_of_pages(&self, broker: usize, node: NodeNo) -> Option<Mark>
+        ensures { (pages : Option Parts) → parts_at self.now broker node ≡ Some pages → result ≡ mark_of pages }
+    {
+        match self.assemblies.get(broker) {
+            Some(arrivals) => match arrivals.of(node) {
+                Some(arrived) => arrived.at(),
+                None => None,
+            },
+            None => None,
+        }
     }
 
     // Records a change of a node.
@@ -272,12 +368,12 @@ impl Sim {
     }
 
     // Puts what a broker asks a node.
-    fn ask(&mut self, broker: usize, node: NodeNo, whole: bool) -> Result<(), SimFault>
-        ensures ok { OnOk result (Next self.old (events.Ask broker node whole) self.new) }
-        ensures told { IfErr result (Tells self.old (events.Ask broker node whole)) }
+    fn ask(&mut self, broker: usize, node: NodeNo, kind: AskKind) -> Result<(), SimFault>
+        ensures ok { OnOk result (Next self.old (events.Ask broker node kind) self.new) }
+        ensures told { IfErr result (Tells self.old (events.Ask broker node kind)) }
         ensures unchanged { OnErr result (self.new ≡ self.old) }
     {
-        match self.request(broker, node, whole) {
+        match self.request(broker, node, kind) {
             Ok(packet) => self.put(packet),
             Err(fault) => Err(fault),
         }
@@ -285,9 +381,9 @@ impl Sim {
 
     // What a broker asks a node.
     #[tactic(auto, unfolding(crate::specs::Run::refusal))]
-    fn request(&self, broker: usize, node: NodeNo, whole: bool) -> Result<Packet, SimFault>
-        ensures ok { IfOk result (λ packet. Next self.now (events.Ask broker node whole) (with_packet self.now packet)) }
-        ensures told { IfErr result (Tells self.now (events.Ask broker node whole)) }
+    fn request(&self, broker: usize, node: NodeNo, kind: AskKind) -> Result<Packet, SimFault>
+        ensures ok { IfOk result (λ packet. Next self.now (events.Ask broker node kind) (with_packet self.now packet)) }
+        ensures told { IfErr result (Tells self.now (events.Ask broker node kind)) }
     {
         let Some(_) = self.node(node) else {
             return Err(SimFault::NoSuchNode);
@@ -298,51 +394,35 @@ impl Sim {
         let Some(next) = inventory.next_ask(node) else {
             unreachable!();
         };
-        let ask = if whole { Ask::Whole } else { next };
-        Ok(Packet::Request { broker, node, ask })
+        match ask_of_kind(kind, next, self.mark_of_pages(broker, node)) {
+            Some(ask) => Ok(Packet::Request { broker, node, ask }),
+            None => Err(SimFault::NoAssembly),
+        }
     }
 
     // Puts a node's reply to a request.
+    #[tactic(auto, unfolding(crate::specs::Run::refusal))]
     fn answer(&mut self, packet: usize) -> Result<(), SimFault>
         ensures ok { OnOk result (Next self.old (events.Answer packet) self.new) }
         ensures told { IfErr result (Tells self.old (events.Answer packet)) }
         ensures unchanged { OnErr result (self.new ≡ self.old) }
     {
-        match self.reply_to(packet) {
-            Ok(reply) => self.put(reply),
-            Err(fault) => Err(fault),
-        }
-    }
-
-    // A node's reply to a request.
-    #[tactic(auto, unfolding(crate::specs::Run::refusal))]
-    fn reply_to(&self, packet: usize) -> Result<Packet, SimFault>
-        ensures ok { IfOk result (λ reply. Next self.now (events.Answer packet) (with_packet self.now reply)) }
-        ensures told { IfErr result (Tells self.now (events.Answer packet)) }
-    {
-        let Some(Packet::Request { broker, node, ask }) = self.packet(packet) else {
+        let Some(Packet::Request { broker, node, ask }) = packet_at(&self.packets, packet) else {
             return Err(SimFault::NoSuchPacket);
         };
-        let Some(at) = self.node(*node) else {
-            unreachable!();
-        };
-        match at.since(ask) {
-            Ok(reply) => Ok(Packet::Reply {
-                broker: *broker,
-                node: *node,
-                reply,
-            }),
-            Err(_) => Err(SimFault::Memory),
-        }
+        let broker = *broker;
+        let node = *node;
+        let ask = *ask;
+        answer_in(&mut self.nodes, &mut self.packets, broker, node, ask)
     }
 
     // Puts what a broker has of a node as a reply for another broker.
-    fn seed(&mut self, peer: usize, broker: usize, node: NodeNo) -> Result<(), SimFault>
-        ensures ok { OnOk result (Next self.old (events.Seed peer broker node) self.new) }
-        ensures told { IfErr result (Tells self.old (events.Seed peer broker node)) }
+    fn seed(&mut self, peer: usize, broker: usize, node: NodeNo, page: u16) -> Result<(), SimFault>
+        ensures ok { OnOk result (Next self.old (events.Seed peer broker node page) self.new) }
+        ensures told { IfErr result (Tells self.old (events.Seed peer broker node page)) }
         ensures unchanged { OnErr result (self.new ≡ self.old) }
     {
-        match self.entry(peer, broker, node) {
+        match self.entry(peer, broker, node, page) {
             Ok(entry) => self.put(entry),
             Err(fault) => Err(fault),
         }
@@ -350,9 +430,9 @@ impl Sim {
 
     // What a broker has of a node, as a reply for another broker.
     #[tactic(auto, unfolding(crate::specs::Run::refusal))]
-    fn entry(&self, peer: usize, broker: usize, node: NodeNo) -> Result<Packet, SimFault>
-        ensures ok { IfOk result (λ packet. Next self.now (events.Seed peer broker node) (with_packet self.now packet)) }
-        ensures told { IfErr result (Tells self.now (events.Seed peer broker node)) }
+    fn entry(&self, peer: usize, broker: usize, node: NodeNo, page: u16) -> Result<Packet, SimFault>
+        ensures ok { IfOk result (λ packet. Next self.now (events.Seed peer broker node page) (with_packet self.now packet)) }
+        ensures told { IfErr result (Tells self.now (events.Seed peer broker node page)) }
     {
         let Some(_) = self.node(node) else {
             return Err(SimFault::NoSuchNode);
@@ -363,7 +443,10 @@ impl Sim {
         let Some(_) = self.inventory(broker) else {
             return Err(SimFault::NoSuchBroker);
         };
-        match entry_of(inventory, node) {
+        let Some(mark) = inventory.mark(node) else {
+            unreachable!();
+        };
+        match entry_of(inventory, node, &seed_ask(mark, page)) {
             Ok(reply) => Ok(Packet::Reply {
                 broker,
                 node,
@@ -373,29 +456,12 @@ impl Sim {
         }
     }
 
-    // The broker applies a reply.
+    // The broker takes a reply.
+    #[tactic(auto, unfolding(crate::specs::Run::refusal))]
     fn deliver(&mut self, packet: usize) -> Result<(), SimFault>
         ensures ok { OnOk result (Next self.old (events.Deliver packet) self.new) }
         ensures told { IfErr result (Tells self.old (events.Deliver packet)) }
         ensures unchanged { OnErr result (self.new ≡ self.old) }
-    {
-        match self.delivered(packet) {
-            Ok(Some((broker, inventory))) => {
-                self.brokers[broker] = inventory;
-                Ok(())
-            }
-            Ok(None) => Ok(()),
-            Err(fault) => Err(fault),
-        }
-    }
-
-    // The broker of a reply, and what it knows with it; None where it refuses the reply.
-    #[tactic(auto, unfolding(crate::specs::Run::refusal))]
-    fn delivered(&self, packet: usize) -> Result<Option<(usize, Inventory)>, SimFault>
-        ensures ok { IfOk result (λ taken. MatchOption taken (Next self.now (events.Deliver packet) self.now)
-            (λ after. (after.0 < length self.now.brokers)
-            × Next self.now (events.Deliver packet) (with_broker self.now after.0 after.1))) }
-        ensures told { IfErr result (Tells self.now (events.Deliver packet)) }
     {
         let Some(
             Packet::Reply {
@@ -403,18 +469,17 @@ impl Sim {
                 node,
                 reply,
             },
-        ) = self.packet(packet)
+        ) = packet_at(&self.packets, packet)
         else {
             return Err(SimFault::NoSuchPacket);
         };
-        let Some(inventory) = self.inventory(*broker) else {
-            unreachable!();
-        };
-        match applied(inventory, *node, reply) {
-            Ok(Some(after)) => Ok(Some((*broker, after))),
-            Ok(None) => Ok(None),
-            Err(fault) => Err(fault),
-        }
+        deliver_in(
+            &mut self.brokers,
+            &mut self.assemblies,
+            *broker,
+            *node,
+            reply,
+        )
     }
 
     // A packet is cut off on its way.

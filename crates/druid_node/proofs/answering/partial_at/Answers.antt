@@ -3,7 +3,7 @@ use Rattle.std.specs.List.{flat_map}
 use Rattle.std.proofs.lemmas.Result.{IfOk-weaker}
 use Rattle.druid_partial.specs.Groups.{Group, IsResult}
 use Rattle.druid_partial.specs.Rows.{kinds_of, told_by}
-use Rattle.druid_node.specs.Placed.{Placed, told_at}
+use Rattle.druid_node.specs.Placed.{Placed}
 use Rattle.druid_node.proofs.AnswerLemmas.{one_place}
 use Rattle.druid_node.proofs.answering.partial_at.Goals as goal
 

@@ -1,4 +1,4 @@
-use Rattle.std.proofs.Common.{◌*◌, All}
+use Rattle.std.proofs.Common.{All}
 use Rattle.druid_node.specs.Placed.{IsWithin}
 use Rattle.druid_node.proofs.AnswerLemmas.{PlacedSoFar}
 use Rattle.druid_node.proofs.answering.placed_in.Given as goal

@@ -1,6 +1,6 @@
 use Rattle.std.proofs.Common.{rules, string_bytes}
-use Rattle.druid_sync.proofs.TextLemmas.{delta_text, snapshot_text, reset_text}
-use Rattle.druid_sync.proofs.WrittenLemmas.{delta_read, snapshot_read, reset_read, delta_again, snapshot_again, reset_again}
+use Rattle.druid_sync.proofs.TextLemmas.{delta_text, snapshot_text, page_text, reset_text}
+use Rattle.druid_sync.proofs.WrittenLemmas.{delta_read, snapshot_read, page_read, reset_read, delta_again, snapshot_again, page_again, reset_again}
 use Rattle.druid_sync.proofs.writing.reply_text.Goals as goal
 
 pub returns-in_ok-push_str-in-Delta-clause-read_back : goal.returns-in_ok-push_str-in-Delta-clause-read_back
@@ -10,6 +10,10 @@ returns-in_ok-push_str-in-Delta-clause-read_back c =
 pub returns-in_ok-push_str-in-Snapshot-clause-read_back : goal.returns-in_ok-push_str-in-Snapshot-clause-read_back
 returns-in_ok-push_str-in-Snapshot-clause-read_back c =
     snapshot_read c.args.reply.now (string_bytes c.push_str-in-Snapshot.new.self) c.in-Snapshot.at c.in-Snapshot.segments (search rules) (search (rules, snapshot_text)) (search rules) (search rules)
+
+pub returns-in_ok-push_str-in-Page-clause-read_back : goal.returns-in_ok-push_str-in-Page-clause-read_back
+returns-in_ok-push_str-in-Page-clause-read_back c =
+    page_read c.args.reply.now (string_bytes c.push_str-in-Page.new.self) c.in-Page.at c.in-Page.page c.in-Page.of c.in-Page.segments (search rules) (search rules) (search (rules, page_text)) (search rules) (search rules)
 
 pub returns-in_ok-push_str-in-Reset-2-clause-read_back : goal.returns-in_ok-push_str-in-Reset-2-clause-read_back
 returns-in_ok-push_str-in-Reset-2-clause-read_back c =
@@ -22,6 +26,10 @@ returns-in_ok-push_str-in-Delta-clause-again c =
 pub returns-in_ok-push_str-in-Snapshot-clause-again : goal.returns-in_ok-push_str-in-Snapshot-clause-again
 returns-in_ok-push_str-in-Snapshot-clause-again c =
     snapshot_again c.args.reply.now c.in-Snapshot.at c.in-Snapshot.segments (search rules) (search rules) (search rules) (search rules)
+
+pub returns-in_ok-push_str-in-Page-clause-again : goal.returns-in_ok-push_str-in-Page-clause-again
+returns-in_ok-push_str-in-Page-clause-again c =
+    page_again c.args.reply.now c.in-Page.at c.in-Page.page c.in-Page.of c.in-Page.segments (search rules) (search rules) (search rules) (search rules)
 
 pub returns-in_ok-push_str-in-Reset-2-clause-again : goal.returns-in_ok-push_str-in-Reset-2-clause-again
 returns-in_ok-push_str-in-Reset-2-clause-again c =

@@ -35,6 +35,7 @@ unreachable-requires c =
     (λ e. let many = c.in_default.ensures.too_many.0 e in absurd (omega (arith, all.long, all.within.near, kept.few)))
     (λ e. (c.in_default.ensures.length.0 e).1 (subst (λ (p : Point). IsAsFar c.args.mark p (length c.in_ok-changes.changes.items)) (sym c.mark.ensures.value) far))
     c.in_default.ensures.doubled
+    c.in_default.ensures.page
     c.in_default.ensures.memory
 
 pub returns : goal.returns

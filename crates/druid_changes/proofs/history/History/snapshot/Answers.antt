@@ -14,6 +14,7 @@ unreachable-requires c =
     (λ e. let many = c.in_default.ensures.too_many.0 e in absurd (omega (arith, set.few)))
     c.in_default.ensures.length
     (λ e. (c.in_default.ensures.doubled.0 e).1 (subst HaveOwnIdentifiers (sym items) (AreSorted-own c.self.inside.segments set.sorted)))
+    c.in_default.ensures.page
     c.in_default.ensures.memory
 
 pub returns : goal.returns

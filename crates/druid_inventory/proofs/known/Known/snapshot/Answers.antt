@@ -1,20 +1,14 @@
-use Rattle.std.proofs.Common.{◌≡◌, Err, sym, subst, ap, ◌∙◌}
-use Rattle.druid_shard.specs.Reply.{AreSorted}
+use Rattle.std.proofs.Common.{◌≡◌, sym, subst, ◌∙◌}
+use Rattle.druid_shard.specs.Replay.{IsSegmentSet}
 use Rattle.druid_shard.specs.declared.reply.Body.TheVariants.{Snapshot}
-use Rattle.druid_shard.proofs.SortedLemmas.{AreSorted-own}
-use Rattle.druid_inventory.proofs.EntryLemmas.{snapshot_is}
 use Rattle.druid_inventory.proofs.known.Known.snapshot.Goals as goal
 
-pub unreachable-requires-in-Err-DoubledSegment :
-    goal.unreachable-requires-in-Err-DoubledSegment
-unreachable-requires-in-Err-DoubledSegment c =
+pub snapshot_of-requires-clause-set : goal.snapshot_of-requires-clause-set
+snapshot_of-requires-clause-set c =
     let is : c.in_ok-set.set.items ≡ c.self.inside.set.items = c.in_ok-set.ensures ∙ c.deref.ensures.value in
-    let sorted : AreSorted c.in_ok-set.set.items = subst AreSorted (sym is) c.self.invariant.set.sorted in
-    (c.snapshot.ensures.doubled.0 (c.in-Err-DoubledSegment.is ∙ ap Err c.in-Err-DoubledSegment.field-0-is)).1 (AreSorted-own c.in_ok-set.set.items sorted)
+    subst IsSegmentSet (sym is) c.self.invariant.set
 
 pub returns : goal.returns
 returns c =
     let is : c.in_ok-set.set.items ≡ c.self.inside.set.items = c.in_ok-set.ensures ∙ c.deref.ensures.value in
-    let sorted : AreSorted c.in_ok-set.set.items = subst AreSorted (sym is) c.self.invariant.set.sorted in
-    snapshot_is c.self.inside.mark c.in_ok-set.set.items c.in-Ok.reply sorted c.in-Ok.ensures.ok
-    ∙ (λ i. Snapshot (c.self.view_is i).mark (is i)) ∙ (λ i. Snapshot c.args.self.now.mark (c.self.view_is i).set)
+    c.snapshot_of.ensures ∙ (λ i. Snapshot (c.self.view_is i).mark (is i)) ∙ (λ i. Snapshot c.args.self.now.mark (c.self.view_is i).set)

@@ -5,7 +5,7 @@ use Rattle.druid_world.proofs.SimLemmas.{ChangesNode, node_reached, node_ok, mem
 use Rattle.druid_world.proofs.sim.Sim.restart.Goals as goal
 
 -- what becomes of the node
-changes : (c : goal.After-self-1) → ChangesNode (record { world = c.self.inside.nodes.items; packets = c.self.inside.packets.items; brokers = c.self.inside.brokers.items }) c.args.self.now (events.Restart c.args.node) c.args.node c.in-Some.at.now c.restart.new.self restarted c.restart.result
+changes : (c : goal.After-self-1) → ChangesNode (record { world = c.self.inside.nodes.items; packets = c.self.inside.packets.items; brokers = c.self.inside.brokers.items; assemblies = c.self.inside.assemblies.items }) c.args.self.now (events.Restart c.args.node) c.args.node c.in-Some.at.now c.restart.new.self restarted c.restart.result
 changes c = record {
   is = c.self.view_is;
   there = c.in-Some.ensures.value;

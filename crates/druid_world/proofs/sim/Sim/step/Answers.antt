@@ -13,3 +13,6 @@ returns-clause-no_packet c = exactly _ _ _ _ faults.NoSuchPacket (λ e. cc) c.ha
 
 pub returns-clause-refused : goal.returns-clause-refused
 returns-clause-refused c = exactly _ _ _ _ faults.Refused (λ e. cc) c.happen.ensures.ok c.happen.ensures.told
+
+pub returns-clause-no_assembly : goal.returns-clause-no_assembly
+returns-clause-no_assembly c = exactly _ _ _ _ faults.NoAssembly (λ e. cc) c.happen.ensures.ok c.happen.ensures.told

@@ -4,7 +4,7 @@ use Rattle.druid_pages.specs.Assembly.{Parts}
 use Rattle.druid_pages.specs.Fitting.{Compares, FitsAs}
 use Rattle.druid_pages.specs.declared.parts.Fit.{Fit}
 use Rattle.druid_pages.proofs.TakeLemmas.{tied, lacking_memory, last_memory}
-use Rattle.druid_pages.proofs.assembly.Assembly.go_on.Goals as goal
+use Rattle.druid_pages.proofs.assembly.Assembly.add.Goals as goal
 
 pub returns-then-is_err-clause-err : goal.returns-then-is_err-clause-err
 returns-then-is_err-clause-err c =
