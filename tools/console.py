@@ -112,21 +112,29 @@ class NodeWatch:
     def __init__(self, node):
         self.node, self.mark, self.segments = node, None, None
 
-    def ask(self):
-        target = '/druid-internal/v1/segments'
-        if self.mark:
-            target += '?counter=%d&hash=%d' % self.mark
-        status, body = exchange(self.node['address'], 'GET', target)
+    def get(self, asked):
+        status, body = exchange(self.node['address'], 'GET', '/druid-internal/v1/segments' + asked)
         if status != 200:
             raise OSError(f'status {status}')
         return json.loads(body)
+
+    def ask(self):
+        return self.get('?counter=%d&hash=%d' % self.mark if self.mark else '')
+
+    def count_pages(self, first):
+        """How many segments a snapshot has that is sent in pages: all but the last have as many as the first."""
+        mark = int(first['counter']['counter']), int(first['counter']['hash'])
+        last = self.get('?counter=%d&hash=%d&page=%d' % (*mark, first['pages'] - 1))
+        if last['resetCounter']:
+            raise OSError('the pages were given up')
+        return len(first['requests']) * (first['pages'] - 1) + len(last['requests'])
 
     def refresh(self):
         reply = self.ask()
         if reply['resetCounter']:
             self.mark = None
             reply = self.ask()
-        loads = sum(1 if it['action'] == 'load' else -1 for it in reply['requests'])
+        loads = self.count_pages(reply) if 'pages' in reply else sum(1 if it['action'] == 'load' else -1 for it in reply['requests'])
         self.segments = loads if reply['from'] is None else self.segments + loads
         self.mark = (int(reply['counter']['counter']), int(reply['counter']['hash']))
 

@@ -77,7 +77,8 @@ PARAMETERS = ['counter', 'hash', 'timeout=60000', '', 'Counter=1', 'counter=-1',
 class Cluster:
     """Three nodes over folders, and a broker that follows them."""
 
-    def __init__(self, draw, number, folder, environment=None, turns=3):
+    def __init__(self, draw, number, folder, environment=None, turns=3, beside=0):
+        """`beside` are more segments of node 0, of a source that no query asks for."""
         self.draw, self.port = draw, 21_000 + number * 10
         self.segments = self.draw_segments()
         self.held = [[it for it in self.segments if draw.random() < .6] for _ in range(3)]
@@ -90,6 +91,10 @@ class Cluster:
                     continue
                 with open(f'{folder}/{node}/{rules.identifier(it)}.seg', 'wb') as file:
                     file.write(rules.segment_file(it, draw.random() < .5))
+        for part in range(beside):
+            it = {'source': 'beside', 'start': START, 'end': START + HOUR, 'version': 'v1', 'part': part, 'core': 0, 'dims': [], 'mets': [], 'rows': []}
+            with open(f'{folder}/0/{rules.identifier(it)}.seg', 'wb') as file:
+                file.write(rules.segment_file(it, False))
         nodes = [{'address': f'127.0.0.1:{self.port + 1 + i}', 'folder': f'{folder}/{i}', 'loads': [], 'name': f'n{i}', 'workers': 2,
                   'tombstones': [rules.chunk_of(it) for it in self.held[i] if 'tombstone' in it]} for i in range(3)]
         query = {'queryType': 'timeseries', 'dataSource': 'w', 'granularity': 'all', 'intervals': '2024-01-01/2024-01-02'}

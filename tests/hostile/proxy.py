@@ -1,7 +1,9 @@
 #!/usr/bin/env python3
 """Sends queries to a broker whose every exchange with a data node goes through a proxy that spoils answers, and checks each answer.
 
-proxy.py [QUERIES] [CLUSTERS]     10,000 queries to each of two drawn clusters, unless said otherwise
+proxy.py [QUERIES] [CLUSTERS] [BESIDE]     10,000 queries to each of two drawn clusters, unless said otherwise; of node 0
+                                           so many segments more, of a source that is not asked for: above 20,000 the
+                                           broker follows it in pages
 
 The proxy stands between the broker and three data nodes (`redirect.c` is preloaded and leads the broker's connections to it). At
 drawn points it hands an answer on whole; cuts it after a drawn byte; closes without asking the node; holds it until another
@@ -174,13 +176,13 @@ def follows(cluster):
     raise SystemExit('the broker does not hear of its nodes')
 
 
-def run(number, many, library):
+def run(number, many, beside, library):
     folder, did, proxies = tempfile.mkdtemp(prefix='druid_cluster_hostile_'), collections.Counter(), []
     port = 21_000 + number * 10
     try:
         proxies = [Proxy(port + 1 + node, f'{number} {node}', did) for node in range(3)]
         # Many turns: some of them fail, and the last that comes through makes the broker know all that the node serves.
-        cluster = drawn.Cluster(random.Random(number), number, folder, {'LD_PRELOAD': library, 'REDIRECT_BY': str(BY)}, turns=60)
+        cluster = drawn.Cluster(random.Random(number), number, folder, {'LD_PRELOAD': library, 'REDIRECT_BY': str(BY)}, turns=60, beside=beside)
         try:
             follows(cluster)
             judge, count, wrong = Rules(cluster), collections.Counter(), []
@@ -216,11 +218,11 @@ def is_lawful(body):
 
 
 def main(words):
-    many, clusters = ([int(word) for word in words] + [10_000, 2][len(words):])[:2]
+    many, clusters, beside = ([int(word) for word in words] + [10_000, 2, 0][len(words):])[:3]
     with tempfile.TemporaryDirectory() as room:
         library = f'{room}/redirect.so'
         subprocess.run(['cc', '-shared', '-fPIC', '-O1', '-o', library, f'{HERE}/redirect.c', '-ldl'], check=True)
-        return max(run(number, many, library) for number in range(clusters))
+        return max(run(number, many, beside, library) for number in range(clusters))
 
 
 sys.exit(main(sys.argv[1:]))

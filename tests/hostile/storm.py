@@ -53,10 +53,11 @@ def lawful():
     found = [(0, request('POST', QUERY, json.dumps(it).encode())) for it in
              (query, {**query, 'queryType': 'timeseries', 'granularity': 'all'}, {**query, 'dataSource': 'nowhere'})]
     found += [(0, request('GET', it)) for it in ('/status/health', '/druid/v2/datasources', '/druid/broker/v1/loadstatus',
-                                                 '/druid-internal/v1/inventory/0', '/druid-internal/v1/inventory/7', '/nowhere')]
+                                                 '/druid-internal/v1/inventory/0', '/druid-internal/v1/inventory/7', '/nowhere',
+                                                 '/druid-internal/v1/inventory/0?counter=2&hash=1&page=0', '/druid-internal/v1/inventory/7?page=0')]
     found += [(node, it) for node in (1, 2) for it in (
         request('POST', QUERY, json.dumps(asked).encode()), request('GET', ASK), request('GET', ASK + '?counter=1&hash=1'),
-        request('GET', ASK + '?counter=-1'), request('PUT', ASK), request('GET', '/status/health'))]
+        request('GET', ASK + '?counter=-1'), request('GET', ASK + '?counter=2&hash=1&page=0'), request('PUT', ASK), request('GET', '/status/health'))]
     return found
 
 

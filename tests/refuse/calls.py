@@ -16,7 +16,6 @@ NO_ALLOCATOR = 'takes no allocator and owns none'
 BY_CALLER = 'its condition holds only within the call that makes it: '
 NEVER = 'allocates nothing, and its contract gives no fault of memory'
 WITHIN = 'all that it allocates is allocated within: '
-UNUSED = 'no node and no broker calls it yet'
 DEVICE = 'reaches the system, whose own faults come first; by tests with a device that fails'
 LEFT_OUT = {
     'druid_asked_text::are_apart': BY_CALLER + 'read_subquery',
@@ -24,9 +23,8 @@ LEFT_OUT = {
     'druid_changes::History::refusal_of_drop': NEVER,
     'druid_changes::History::refusal_of_load': NEVER,
     'druid_config::config_of': BY_CALLER + 'read_config',
-    'druid_pages::Assembly::take': UNUSED,
-    'druid_pages::page_of': UNUSED,
     'druid_query::Query::new': BY_CALLER + 'read_query',
+    'druid_shard::Reply::page': NEVER,
     'druid_shard::apply_change': BY_CALLER + 'History::record, Inventory::advance',
     'druid_shard::check_descriptor': NO_ALLOCATOR,
     'druid_shard::shard_value': WITHIN + 'descriptor_value',
