@@ -1,3 +1,4 @@
 pub mod CountLemmas
+mod OneLemmas
 mod PairLemmas
 pub mod SlotLemmas

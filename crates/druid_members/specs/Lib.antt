@@ -1,3 +1,4 @@
 -- what public contracts rest on
+pub mod Holders
 pub mod Members
 pub mod Slots

@@ -27,6 +27,10 @@ member_at p r = record { node = r.0; partition = p; core = r.1.core; serves = r.
 abbrev pub Serves : List Replica → ℕ → Type 0
 Serves rs node = (r : Replica) × Contains rs r × (r.0 ≡ node) × (r.1.serves ≡ true)
 
+-- a node is there once
+abbrev pub EachOnce : List Replica → Type 0
+EachOnce rs = (x y : Replica) → Contains rs x → Contains rs y → x.0 ≡ y.0 → x ≡ y
+
 -- the members of each partition
 abbrev pub members_in : List (ℕ × List Replica) → List Member
 members_in slots = flat_map (λ e. map (member_at e.0) e.1) slots

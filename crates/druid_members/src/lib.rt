@@ -3,6 +3,7 @@
 
 mod members;
 mod replicas;
+mod roster;
 mod slot;
 
 pub use members::Members;

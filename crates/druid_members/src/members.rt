@@ -65,16 +65,15 @@ fn add_member(
     // For the proof: reading it exposes the invariant of its type.
     let _ = slots.len();
     if let Some(slot) = slots.get_mut(&partition) {
-        return slot.add(node, stated);
+        return slot.add(alloc, node, stated);
     }
-    let mut slot = Slot::new(alloc);
-    slot.add(node, stated)?;
-    slots.insert(partition, slot)?;
+    slots.insert(partition, Slot::of(node, stated))?;
     Ok(true)
 }
 
 // Takes a node out of a partition. False where it is not there. No partition stays without a node.
 fn remove_member(slots: &mut BTreeMap<u16, Slot>, partition: u16, node: NodeNo) -> bool
+    requires { NoneEmpty slots.old }
     ensures held { IsTrue result
         ↔ Contains (map (λ r. r.0) (unwrap_or (tree.get nat_cmp slots.old partition) [])) node }
     ensures removed { (r : Replica) → Contains (unwrap_or (tree.get nat_cmp slots.new partition) []) r
@@ -85,20 +84,18 @@ fn remove_member(slots: &mut BTreeMap<u16, Slot>, partition: u16, node: NodeNo) 
     ensures others { (q : ℕ) → (q ≡ partition → ⊥) → tree.get nat_cmp slots.new q ≡ tree.get nat_cmp slots.old q }
     ensures ordered { tree.IsOrdered nat_cmp slots.new }
     ensures was_ordered { tree.IsOrdered nat_cmp slots.old }
-    ensures none_empty { NoneEmpty slots.old → NoneEmpty slots.new }
+    ensures none_empty { NoneEmpty slots.new }
 {
     // For the proof: reading it exposes the invariant of its type.
     let _ = slots.len();
     let Some(slot) = slots.get_mut(&partition) else {
         return false;
     };
-    if !slot.remove(node) {
-        return false;
-    }
-    if slot.is_empty() {
+    if slot.is_only(node) {
         slots.remove(&partition);
+        return true;
     }
-    true
+    slot.remove(node)
 }
 
 // The greatest number of core partitions that a member names. It is at most `bound`, so nothing is looked at after

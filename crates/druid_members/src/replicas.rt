@@ -3,7 +3,7 @@ ghost use Rattle.std.specs.List.{zip};
 ghost use Rattle.std.specs.List.Sorted.{IsStrictlyIncreasing};
 ghost use Rattle.druid_members.specs.Members.{core_count};
 ghost use Rattle.druid_members.specs.Slots as slots;
-ghost use Rattle.druid_members.specs.Slots.{Replica, stated_of, member_at};
+ghost use Rattle.druid_members.specs.Slots.{Replica, EachOnce, stated_of, member_at};
 
 use druid_shard::{Descriptor, NodeNo};
 use std::alloc::{AllocError, Global};
@@ -92,7 +92,7 @@ impl Replicas {
     // The nodes.
     pub(crate) fn nodes(&self) -> &[NodeNo]
         ensures value { result.now ≡ map (λ r. r.0) self.now }
-        ensures once { (x y : Replica) → Contains self.now x → Contains self.now y → x.0 ≡ y.0 → x ≡ y }
+        ensures once { EachOnce self.now }
         ensures rising { IsStrictlyIncreasing result.now }
     {
         self.nodes.as_slice()
@@ -145,7 +145,8 @@ impl Replicas {
 
     // Whether there is no other node than this.
     pub(crate) fn is_only(&self, node: NodeNo) -> bool
-        ensures { IsTrue result ↔ ((x : Replica) → Contains self.now x → x.0 ≡ node) }
+        ensures value { IsTrue result ↔ ((x : Replica) → Contains self.now x → x.0 ≡ node) }
+        ensures once { EachOnce self.now }
     {
         for other in &self.nodes {
             if *other != node {
@@ -153,13 +154,6 @@ impl Replicas {
             }
         }
         true
-    }
-
-    // Whether there is no node.
-    pub(crate) fn is_empty(&self) -> bool
-        ensures { IsTrue result ↔ (self.now ≡ []) }
-    {
-        self.nodes().is_empty()
     }
 
     // The greatest number of core partitions that a node names.

@@ -1,87 +1,74 @@
-ghost use Rattle.std.specs.Prelude.{◌≡◌, ℕ, ◌↔◌, ◌⊎◌, [], IsTrue, IfOk, IsOkAnd, OnOk, OnErr, Contains, map};
+ghost use Rattle.std.specs.Prelude.{◌≡◌, ℕ, ◌↔◌, ◌⊎◌, [], ◌∷◌, IsTrue, IfOk, IsOkAnd, OnErr, Contains, map};
 ghost use Rattle.std.specs.List.Sorted.{IsStrictlyIncreasing};
 ghost use Rattle.druid_members.specs.Members.{core_count};
 ghost use Rattle.druid_members.specs.Slots as specs;
-ghost use Rattle.druid_members.specs.Slots.{Replica, Serves, member_at};
+ghost use Rattle.druid_members.specs.Slots.{Replica, Serves, EachOnce, member_at};
 
-use crate::replicas::{Replicas, Statement, place_of};
+use crate::replicas::Statement;
+use crate::roster::Roster;
 use druid_shard::NodeNo;
 use std::alloc::{AllocError, Global};
 use std::marker::Model;
+use std::slice;
 
-// The nodes that hold one partition, and a list of those that hold it as no tombstone.
+// The nodes that hold one partition: nearly always one, which needs no memory of its own.
 #[derive(Debug, Drop)]
 pub(crate) struct Slot {
-    replicas: Replicas,
-    serving: Vec<NodeNo>,
+    holders: Holders,
+}
+
+#[derive(Debug, Drop)]
+enum Holders {
+    One(NodeNo, Statement),
+    Several(Box<Roster>),
 }
 
 impl Model for Slot {
-    ghost use Rattle.std.specs.Prelude.{List, ℕ, ◌↔◌, Contains};
-    ghost use Rattle.std.specs.List.Sorted.{IsStrictlyIncreasing};
-    ghost use Rattle.druid_members.specs.Slots.{Replica, Serves};
+    ghost use Rattle.std.specs.Prelude.{List};
+    ghost use Rattle.druid_members.specs.Slots.{Replica};
 
     ghost Value = { List Replica };
 
-    ghost view = { λ a. a.replicas };
+    ghost use Rattle.druid_members.specs.Holders.{replicas_of};
 
-    ghost invariant = { λ a. IsStrictlyIncreasing a.serving.items
-        × ((n : ℕ) → Contains a.serving.items n ↔ Serves a.replicas n) };
+    ghost view = { λ a. replicas_of a.holders };
 }
 
-// Puts a node among rising ones, at its place, where it serves and is not there.
-fn insert_node(nodes: &mut Vec<NodeNo>, node: NodeNo, serves: bool) -> Result<(), AllocError>
-    requires { IsStrictlyIncreasing nodes.old.items }
-    ensures rising { IsStrictlyIncreasing nodes.new.items }
-    ensures all { OnOk result ((n : ℕ) → Contains nodes.new.items n
-        ↔ (((n ≡ node) × IsTrue serves) ⊎ Contains nodes.old.items n)) }
-    ensures err { OnErr result (nodes.new.items ≡ nodes.old.items) }
+// A roster of two nodes.
+fn roster_of(
+    alloc: Global,
+    first: (NodeNo, Statement),
+    second: (NodeNo, Statement),
+) -> Result<Box<Roster>, AllocError>
+    requires { first.0 ≡ second.0 → ⊥ }
+    ensures { IfOk result (λ roster. (x : Replica) → Contains roster.value x ↔ ((x ≡ second) ⊎ Contains (first ∷ []) x)) }
 {
-    if !serves {
-        return Ok(());
-    }
-    if let Err(at) = place_of(nodes, node) {
-        nodes.insert(at, node)?;
-    }
-    Ok(())
-}
-
-// A copy of the nodes.
-fn copy_of(nodes: &Vec<NodeNo>) -> Result<Vec<NodeNo>, AllocError>
-    ensures { IfOk result (λ v. v.items ≡ nodes.now.items) }
-{
-    nodes.clone()
-}
-
-// Takes a node out of rising ones.
-fn remove_node(nodes: &mut Vec<NodeNo>, node: NodeNo)
-    requires { IsStrictlyIncreasing nodes.old.items }
-    ensures rising { IsStrictlyIncreasing nodes.new.items }
-    ensures all { (n : ℕ) → Contains nodes.new.items n ↔ (Contains nodes.old.items n × (n ≡ node → ⊥)) }
-{
-    if let Ok(at) = place_of(nodes, node) {
-        nodes.remove(at);
-    }
+    let mut roster = Roster::new(alloc);
+    roster.add(first.0, first.1)?;
+    roster.add(second.0, second.1)?;
+    Ok(Box::new(alloc, roster)?)
 }
 
 impl Slot {
-    // No node.
-    pub(crate) fn new(alloc: Global) -> Slot
-        ensures { result ≡ [] }
+    // One node.
+    pub(crate) fn of(node: NodeNo, stated: Statement) -> Slot
+        ensures { result ≡ (node, stated) ∷ [] }
     {
         Slot {
-            replicas: Replicas::new(alloc),
-            serving: Vec::new(alloc),
+            holders: Holders::One(node, stated),
         }
     }
 
     // The nodes.
     pub(crate) fn nodes(&self) -> &[NodeNo]
         ensures value { result.now ≡ map (λ r. r.0) self.now }
-        ensures once { (x y : Replica) → Contains self.now x → Contains self.now y → x.0 ≡ y.0 → x ≡ y }
+        ensures once { EachOnce self.now }
         ensures rising { IsStrictlyIncreasing result.now }
     {
-        self.replicas.nodes()
+        match &self.holders {
+            Holders::One(node, _) => slice::from_ref(node),
+            Holders::Several(roster) => roster.nodes(),
+        }
     }
 
     // The nodes that hold the partition as no tombstone.
@@ -89,59 +76,76 @@ impl Slot {
         ensures nodes { (n : ℕ) → Contains result.now n ↔ Serves self.now n }
         ensures rising { IsStrictlyIncreasing result.now }
     {
-        self.serving.as_slice()
+        match &self.holders {
+            Holders::One(node, stated) => {
+                if stated.serves {
+                    slice::from_ref(node)
+                } else {
+                    &[]
+                }
+            }
+            Holders::Several(roster) => roster.serving(),
+        }
     }
 
     // Adds a node with what it states. False where it is there already.
-    pub(crate) fn add(&mut self, node: NodeNo, stated: Statement) -> Result<bool, AllocError>
+    pub(crate) fn add(
+        &mut self,
+        alloc: Global,
+        node: NodeNo,
+        stated: Statement,
+    ) -> Result<bool, AllocError>
         ensures held { IfOk result (λ added. IsTrue added ↔ (Contains (map (λ r. r.0) self.old) node → ⊥)) }
         ensures added { IsOkAnd result IsTrue → (x : Replica) → Contains self.new x ↔ ((x ≡ (node, stated)) ⊎ Contains self.old x) }
         ensures same { IfOk result (λ added. IsTrue added ⊎ (self.new ≡ self.old)) }
         ensures err { OnErr result (self.new ≡ self.old) }
     {
-        if self.replicas.holds(node) {
-            return Ok(false);
-        }
-        insert_node(&mut self.serving, node, stated.serves)?;
-        match self.replicas.add(node, stated) {
-            Ok(added) => Ok(added),
-            Err(refused) => {
-                remove_node(&mut self.serving, node);
-                Err(refused)
+        match &mut self.holders {
+            Holders::One(other, theirs) => {
+                if *other == node {
+                    return Ok(false);
+                }
+                let roster = roster_of(alloc, (*other, *theirs), (node, stated))?;
+                self.holders = Holders::Several(roster);
+                Ok(true)
             }
+            Holders::Several(roster) => roster.add(node, stated),
         }
     }
 
-    // Takes a node out. False where it is not there.
+    // Takes a node out that is not the only one. False where it is not there.
     pub(crate) fn remove(&mut self, node: NodeNo) -> bool
+        requires { ((x : Replica) → Contains self.old x → x.0 ≡ node) → ⊥ }
         ensures held { IsTrue result ↔ Contains (map (λ r. r.0) self.old) node }
         ensures removed { (x : Replica) → Contains self.new x ↔ (Contains self.old x × (x.0 ≡ node → ⊥)) }
         ensures one { IsTrue result → (stated : specs.Statement)
             × ((x : Replica) → Contains self.old x ↔ ((x ≡ (node, stated)) ⊎ Contains self.new x)) }
     {
-        remove_node(&mut self.serving, node);
-        self.replicas.remove(node)
+        let Holders::Several(roster) = &mut self.holders else {
+            return false;
+        };
+        roster.remove(node)
     }
 
     // Whether there is no other node than this.
     pub(crate) fn is_only(&self, node: NodeNo) -> bool
-        ensures { IsTrue result ↔ ((x : Replica) → Contains self.now x → x.0 ≡ node) }
+        ensures value { IsTrue result ↔ ((x : Replica) → Contains self.now x → x.0 ≡ node) }
+        ensures once { EachOnce self.now }
     {
-        self.replicas.is_only(node)
-    }
-
-    // Whether there is no node.
-    pub(crate) fn is_empty(&self) -> bool
-        ensures { IsTrue result ↔ (self.now ≡ []) }
-    {
-        self.replicas.is_empty()
+        match &self.holders {
+            Holders::One(other, _) => *other == node,
+            Holders::Several(roster) => roster.is_only(node),
+        }
     }
 
     // The greatest number of core partitions that a node names.
     pub(crate) fn core(&self) -> u16
         ensures { (p : ℕ) → result ≡ core_count (map (member_at p) self.now) }
     {
-        self.replicas.core()
+        match &self.holders {
+            Holders::One(_, stated) => stated.core,
+            Holders::Several(roster) => roster.core(),
+        }
     }
 }
 
@@ -149,9 +153,10 @@ impl Clone for Slot {
     ghost is_clone = { λ slot copy. copy ≡ slot };
 
     fn clone(&self) -> Result<Slot, AllocError> {
-        Ok(Slot {
-            replicas: self.replicas.clone()?,
-            serving: copy_of(&self.serving)?,
-        })
+        let holders = match &self.holders {
+            Holders::One(node, stated) => Holders::One(*node, *stated),
+            Holders::Several(roster) => Holders::Several(roster.clone()?),
+        };
+        Ok(Slot { holders })
     }
 }

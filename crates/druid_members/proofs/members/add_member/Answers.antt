@@ -1,9 +1,11 @@
-use Rattle.std.proofs.Common.{◌≡◌, ◌↔◌, ◌⊎◌, ◌<◌, ℕ, List, [], sym, ap, refl, subst, map, Some, Option, unwrap_or, IsSome, inl, arith}
+use Rattle.std.proofs.Common.{◌≡◌, ◌↔◌, ◌⊎◌, ℕ, List, [], ◌∷◌, sym, ap, refl, subst, map, Some, Option, unwrap_or, IsSome, inl, inr}
 use Rattle.std.specs.Ordering.{nat_cmp}
 use Rattle.std.specs.BTreeMap as tree
 use Rattle.std.specs.List.{Contains}
 use Rattle.std.specs.Result.{IfOk}
 use Rattle.std.specs.Bool.{IsTrue}
+use Rattle.druid_shard.proofs.MemberLemmas.{Contains-nil}
+use Rattle.druid_members.proofs.OneLemmas.{Contains-one, one-Contains}
 use Rattle.druid_members.specs.Slots.{Statement, Replica, NoneEmpty}
 use Rattle.druid_members.proofs.SlotLemmas.{NoneEmpty-update, HasOne, HasOne-added}
 use Rattle.druid_members.proofs.members.add_member.Goals as goal
@@ -24,19 +26,18 @@ returns-in-Some-clause-added c h r =
     let written = (c.get_mut.follows.holds c.add.new.self).3 (subst IsSome was refl) in
     at_slots c.args.node c.args.stated r (tree.get nat_cmp (c.get_mut.follows.lender c.add.new.self) c.args.partition) (tree.get nat_cmp c.args.slots.now c.args.partition) c.add.new.self c.in-Some.slot.now written.1 (ap (λ (o : Option (List Replica)). unwrap_or o []) was) (c.add.ensures.added h r)
 
-nothing_there : (node : ℕ) (xs : List Replica) → xs ≡ [] → Contains (map (λ (r : Replica). r.0) xs) node → ⊥
-nothing_there node xs e there =
-    let none = subst (λ (ys : List Replica). Contains (map (λ (r : Replica). r.0) ys) node) e there in
-    let below : none.0 < 0 = none.1 in
-    omega arith
+-- the only one there is the one that is added
+alone : (x r : Replica) → Contains (x ∷ []) r ↔ ((r ≡ x) ⊎ Contains [] r)
+alone x r = (λ there. inl (sym (Contains-one x r there)), back) where
+  back : (r ≡ x) ⊎ Contains [] r → Contains (x ∷ []) r
+  back (inl same) = one-Contains x r (sym same)
+  back (inr none) = absurd (Contains-nil r none)
 
 pub returns-clause-added : goal.returns-clause-added
 returns-clause-added c h r =
     let was = c.in_default.ensures.value in
-    let empty = c.new-slot.ensures in
-    let yes = c.in_ok-add.ensures.held.1 (nothing_there c.args.node c.new-slot.result empty) in
-    let all = subst (λ (xs : List Replica). Contains c.add-2.new.self r ↔ ((r ≡ (c.args.node, c.args.stated)) ⊎ Contains xs r)) empty (c.in_ok-add.ensures.added yes r) in
-    at_slots c.args.node c.args.stated r (tree.get nat_cmp c.insert.new.self c.args.partition) (tree.get nat_cmp c.args.slots.now c.args.partition) c.add-2.new.self [] c.in_ok-insert.ensures.updates.1 (ap (λ (o : Option (List Replica)). unwrap_or o []) was) all
+    let all = subst (λ (xs : List Replica). Contains xs r ↔ ((r ≡ (c.args.node, c.args.stated)) ⊎ Contains [] r)) (sym c.of.ensures) (alone (c.args.node, c.args.stated) r) in
+    at_slots c.args.node c.args.stated r (tree.get nat_cmp c.insert.new.self c.args.partition) (tree.get nat_cmp c.args.slots.now c.args.partition) c.of.result [] c.in_ok-insert.ensures.updates.1 (ap (λ (o : Option (List Replica)). unwrap_or o []) was) all
 
 pub returns-in-Some-clause-none_empty : goal.returns-in-Some-clause-none_empty
 returns-in-Some-clause-none_empty c none =
@@ -47,7 +48,5 @@ returns-in-Some-clause-none_empty c none =
 
 pub returns-clause-none_empty : goal.returns-clause-none_empty
 returns-clause-none_empty c none =
-    let empty = c.new-slot.ensures in
-    let told = c.in_ok-add.ensures.held.1 (nothing_there c.args.node c.new-slot.result empty) in
-    let one : HasOne c.add-2.new.self = ((c.args.node, c.args.stated), (c.in_ok-add.ensures.added told (c.args.node, c.args.stated)).1 (inl refl)) in
-    NoneEmpty-update c.get_mut.follows.lender-at-none c.insert.new.self c.add-2.new.self (tree.is_at (nat_cmp c.args.partition)) c.in_ok-insert.ensures.updates.0 one (subst NoneEmpty (sym c.get_mut.follows.holds-at-none) none)
+    let one : HasOne c.of.result = ((c.args.node, c.args.stated), subst (λ (xs : List Replica). Contains xs (c.args.node, c.args.stated)) (sym c.of.ensures) (one-Contains _ _ refl)) in
+    NoneEmpty-update c.get_mut.follows.lender-at-none c.insert.new.self c.of.result (tree.is_at (nat_cmp c.args.partition)) c.in_ok-insert.ensures.updates.0 one (subst NoneEmpty (sym c.get_mut.follows.holds-at-none) none)

@@ -32,7 +32,7 @@ returns-then-other-partition c =
           let at = AllAt-slot inv.0 (c.in-Some.other.now, c.in-Some.slot.now) c.args.partition c.args.node inv.2 inv.3 here (subst (λ (ms : List Member). AllAt ms c.args.partition c.args.node) (sym inv.1) all) in
           elim c.then-other-partition.branch [
             | then-other-partition-via-then-other-partition w ↦ absurd (w.if-other-partition.true at.0)
-            | then-other-partition-via-else-other-partition+then-not-is_only w ↦ absurd (false≢true (sym w.if-not-is_only.true ∙ w.is_only.ensures.1 at.1))
+            | then-other-partition-via-else-other-partition+then-not-is_only w ↦ absurd (false≢true (sym w.if-not-is_only.true ∙ w.is_only.ensures.value.1 at.1))
           ],
     )
 
@@ -41,7 +41,7 @@ loop-other-preserved c =
     let e = rest_more deref_pair c.loop-other.other-iterator c.next.new.self c.next.result (c.in-Some.other, c.in-Some.slot) c.in-Some.is c.next.ensures.steps in
     let inv = c.loop-other.invariant in
     let left = subst (λ (rest : Entries). AreAtOrLeft inv.0.entries rest c.args.partition c.args.node) e inv.4 in
-    (inv.0, inv.1, inv.2, inv.3, AreAtOrLeft-next inv.0.entries c.next.new.self (c.in-Some.other.now, c.in-Some.slot.now) c.args.partition c.args.node left c.if-other-partition.false (c.is_only.ensures.0 c.if-not-is_only.false))
+    (inv.0, inv.1, inv.2, inv.3, AreAtOrLeft-next inv.0.entries c.next.new.self (c.in-Some.other.now, c.in-Some.slot.now) c.args.partition c.args.node left c.if-other-partition.false (c.is_only.ensures.value.0 c.if-not-is_only.false))
 
 pub returns : goal.returns
 returns c =

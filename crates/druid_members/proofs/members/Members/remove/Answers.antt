@@ -22,7 +22,7 @@ some_left false n P e h = (λ _. h.0 (λ none. false≢true (e.1 none)), λ _. r
 pub invariant_of-self : goal.invariant_of-self
 invariant_of-self c =
     let e = c.remove_member-removed.ensures in
-    let none = e.none_empty c.self.invariant.2 in
+    let none = e.none_empty in
     (c.core_of-self-inside.ensures, some_left c.is_empty.result _ _ c.is_empty.ensures (HasMember-kept c.remove_member-removed.new.slots e.ordered none), none, c.within_after-self-inside.ensures c.self.inside.slots e.others c.contains_key-was.ensures c.self.invariant.3)
 
 pub invariant_of-self-else-removed : goal.invariant_of-self-else-removed
@@ -31,7 +31,7 @@ invariant_of-self-else-removed c =
     let removes = RemovesPlace-slot c.self.inside.slots c.remove_member-removed.new.slots c.args.partition c.args.node e.was_ordered e.ordered e.others e.removed in
     let held = HoldsPlace-slot c.self.inside.slots c.args.partition c.args.node e.was_ordered in
     let same = RemovesPlace-none _ _ c.args.partition c.args.node removes (λ there. false≢true (sym c.if-removed.false ∙ e.held.1 (held.0 there))) in
-    (c.self.invariant.0 ∙ sym (core_count-same _ _ same), HasMember-same _ _ _ same c.self.invariant.1, e.none_empty c.self.invariant.2, c.self.invariant.3 ∙ sym (kept_below-same c.self.inside.slots c.remove_member-removed.new.slots c.self.inside.core e.was_ordered e.ordered c.self.invariant.2 (e.none_empty c.self.invariant.2) same))
+    (c.self.invariant.0 ∙ sym (core_count-same _ _ same), HasMember-same _ _ _ same c.self.invariant.1, e.none_empty, c.self.invariant.3 ∙ sym (kept_below-same c.self.inside.slots c.remove_member-removed.new.slots c.self.inside.core e.was_ordered e.ordered c.self.invariant.2 e.none_empty same))
 
 -- what holds of the members in the slots holds of the value
 of_value : (told : Bool) (members value : List Member) (slot : List ℕ) (p n : ℕ) → members ≡ value → HoldsPlace members p n ↔ Contains slot n → IsTrue told ↔ Contains slot n → IsTrue told ↔ HoldsPlace value p n

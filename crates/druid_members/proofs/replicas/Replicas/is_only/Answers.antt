@@ -1,10 +1,11 @@
 use Rattle.std.proofs.Common.{◌∙◌, ◌≡◌, ◌<◌, ◌≤◌, ◌↔◌, ℕ, List, length, get_or, map, sym, ap, refl, subst, arith}
 use Rattle.std.specs.List.{Contains}
+use Rattle.std.specs.List.Sorted.{IsStrictlyIncreasing}
 use Rattle.std.proofs.lemmas.Bool.{false≢true}
 use Rattle.std.proofs.lemmas.List.{get_or_default}
 use Rattle.std.proofs.lemmas.List.Elements.{Contains-get_or}
 use Rattle.druid_shard.proofs.MemberLemmas.{Contains-map, Contains-map_back}
-use Rattle.druid_members.proofs.PairLemmas.{map-zip}
+use Rattle.druid_members.proofs.PairLemmas.{map-zip, rising-once}
 use Rattle.druid_members.specs.Slots.{Replica}
 use Rattle.druid_members.proofs.replicas.Replicas.is_only.Goals as goal
 
@@ -18,12 +19,22 @@ all_of nodes ps n e = (
 each_at : (nodes : List ℕ) (i n : ℕ) → length nodes ≤ i → ((k : ℕ) → k < i → get_or nodes k 0 ≡ n) → (k : ℕ) → Contains nodes k → k ≡ n
 each_at nodes i n done h k (j, l, e) = sym e ∙ get_or_default nodes j k 0 l ∙ h j (omega arith)
 
-pub returns-then-other-node : goal.returns-then-other-node
-returns-then-other-node c =
+pub returns-then-other-node-clause-value : goal.returns-then-other-node-clause-value
+returns-then-other-node-clause-value c =
     let e = c.deref-other-items.ensures.value ∙ (sym (map-zip _ _ c.self.invariant.0) ∙ ap (map (λ (r : Replica). r.0)) c.self.view_is) in
     (λ f. absurd (false≢true f), λ all. absurd (c.if-other-node.true ((all_of c.deref-other-items.result.now c.args.self.now c.args.node e).1 all _ (Contains-get_or c.deref-other-items.result.now c.loop-other.other-index 0 c.loop-other-test.true))))
 
-pub returns : goal.returns
-returns c =
+pub returns-clause-value : goal.returns-clause-value
+returns-clause-value c =
     let e = c.deref-other-items.ensures.value ∙ (sym (map-zip _ _ c.self.invariant.0) ∙ ap (map (λ (r : Replica). r.0)) c.self.view_is) in
     (λ _. (all_of c.deref-other-items.result.now c.args.self.now c.args.node e).0 (each_at c.deref-other-items.result.now c.loop-other.other-index c.args.node c.loop-other-test.false c.loop-other.invariant), λ _. refl)
+
+pub returns-then-other-node-clause-once : goal.returns-then-other-node-clause-once
+returns-then-other-node-clause-once c =
+    rising-once c.args.self.now
+    (subst IsStrictlyIncreasing (sym (map-zip _ _ c.self.invariant.0) ∙ ap (map (λ (r : Replica). r.0)) c.self.view_is) c.self.invariant.1)
+
+pub returns-clause-once : goal.returns-clause-once
+returns-clause-once c =
+    rising-once c.args.self.now
+    (subst IsStrictlyIncreasing (sym (map-zip _ _ c.self.invariant.0) ∙ ap (map (λ (r : Replica). r.0)) c.self.view_is) c.self.invariant.1)

@@ -1,4 +1,4 @@
-use Rattle.std.proofs.Common.{◌∙◌, sym, ap, subst, map, ℕ}
+use Rattle.std.proofs.Common.{◌∙◌, sym, ap, subst, map}
 use Rattle.std.specs.List.Sorted.{IsStrictlyIncreasing}
 use Rattle.druid_members.proofs.PairLemmas.{map-zip, rising-once}
 use Rattle.druid_members.specs.Slots.{Replica}

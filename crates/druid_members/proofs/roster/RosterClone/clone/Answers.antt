@@ -2,7 +2,7 @@ use Rattle.std.proofs.Common.{◌↔◌, ℕ, List, sym, subst}
 use Rattle.std.specs.List.{Contains}
 use Rattle.std.specs.List.Sorted.{IsStrictlyIncreasing}
 use Rattle.druid_members.specs.Slots.{Replica, Serves}
-use Rattle.druid_members.proofs.slot.SlotClone.clone.Goals as goal
+use Rattle.druid_members.proofs.roster.RosterClone.clone.Goals as goal
 
 pub invariant_of-result : goal.invariant_of-result
 invariant_of-result c =

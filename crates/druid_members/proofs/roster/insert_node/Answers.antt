@@ -2,7 +2,7 @@ use Rattle.std.proofs.Common.{◌≡◌, ◌↔◌, ◌⊎◌, ℕ, List, sym, s
 use Rattle.std.specs.Bool.{IsTrue}
 use Rattle.std.specs.List.{Contains, insert}
 use Rattle.druid_shard.proofs.MemberLemmas.{Contains-insert}
-use Rattle.druid_members.proofs.slot.insert_node.Goals as goal
+use Rattle.druid_members.proofs.roster.insert_node.Goals as goal
 
 -- of a node that serves
 serving : (now old : List ℕ) (i n k : ℕ) (serves : Type 0) → serves → now ≡ insert old i n → Contains now k ↔ (((k ≡ n) × serves) ⊎ Contains old k)

@@ -1,7 +1,7 @@
 use Rattle.std.proofs.Common.{◌≡◌, ◌↔◌, ◌<◌, ℕ, List, length, get_or, sym, subst}
-use Rattle.std.specs.List.{Contains, remove}
+use Rattle.std.specs.List.{Contains}
 use Rattle.druid_members.proofs.PairLemmas.{Contains-removed}
-use Rattle.druid_members.proofs.slot.remove_node.Goals as goal
+use Rattle.druid_members.proofs.roster.remove_node.Goals as goal
 
 pub returns-in-Ok-clause-all : goal.returns-in-Ok-clause-all
 returns-in-Ok-clause-all c n =
