@@ -92,15 +92,16 @@ fn long_line(rt: HostRuntime) {
     );
 }
 
-// A reader that fails, a writer that takes nothing, and one that takes all and does not flush.
+// A reader that fails in this way, a writer that takes nothing, and one that takes all and does not flush.
 #[derive(Drop)]
 struct Failing {
+    kind: ErrorKind,
     takes: bool,
 }
 
 impl Read for Failing {
     fn read(&mut self, _buf: &mut [u8]) -> io::Result<usize> {
-        Err(ErrorKind::Other.into())
+        Err(self.kind.into())
     }
 }
 
@@ -109,19 +110,19 @@ impl Write for Failing {
         if self.takes {
             Ok(buf.len())
         } else {
-            Err(ErrorKind::Other.into())
+            Err(self.kind.into())
         }
     }
 
     fn flush(&mut self) -> io::Result<()> {
-        Err(ErrorKind::Other.into())
+        Err(self.kind.into())
     }
 }
 
 // What the program reports of a script, where the output is so.
-fn reported_over(rt: &impl Abort, alloc: Global, takes: bool) -> String {
+fn reported_over(rt: &impl Abort, alloc: Global, kind: ErrorKind, takes: bool) -> String {
     let mut input = b"{\"count\":1,\"do\":\"brokers\",\"nodes\":[\"n\"]}\n".as_slice();
-    let (mut out, mut errors) = (Failing { takes }, Vec::new(alloc));
+    let (mut out, mut errors) = (Failing { kind, takes }, Vec::new(alloc));
     let words = Ok(words(rt, alloc));
     let end = run_program(alloc, words, &mut input, &mut out, &mut errors, true);
     assert!(rt; end.status == 3 && end.reported.is_ok());
@@ -129,8 +130,8 @@ fn reported_over(rt: &impl Abort, alloc: Global, takes: bool) -> String {
 }
 
 // What the program reports where nothing can be read.
-fn reported_unread(rt: &impl Abort, alloc: Global) -> String {
-    let input = Failing { takes: false };
+fn reported_unread(rt: &impl Abort, alloc: Global, kind: ErrorKind) -> String {
+    let input = Failing { kind, takes: false };
     let mut input = BufReader::with_capacity(alloc, 16, input).expect(rt, "memory");
     let (mut written, mut errors) = (Vec::new(alloc), Vec::new(alloc));
     let words = Ok(words(rt, alloc));
@@ -139,24 +140,42 @@ fn reported_unread(rt: &impl Abort, alloc: Global) -> String {
     owned(rt, alloc, str::from_utf8(&errors).expect(rt, "a text"))
 }
 
+// Fails where another text is reported than this.
+fn assert_reported(rt: &impl Abort, reported: &str, wanted: &str) {
+    assert!(rt; reported == wanted, "{reported}");
+}
+
 #[test]
 fn failing_devices(rt: HostRuntime) {
-    let alloc = rt.alloc();
-    let text = reported_over(&rt, alloc, false);
-    assert!(&rt;
-        text.as_str() == "line 1: device\n  standard output: a write failed\n",
-        "{text}"
+    let (alloc, kind) = (rt.alloc(), ErrorKind::Other);
+    let text = reported_over(&rt, alloc, kind, false);
+    assert_reported(
+        &rt,
+        &text,
+        "line 1: device\n  standard output: a write failed\n",
     );
-    let text = reported_over(&rt, alloc, true);
-    assert!(&rt;
-        text.as_str() == "line 2: device\n  standard output: a write failed\n",
-        "{text}"
+    let text = reported_over(&rt, alloc, kind, true);
+    assert_reported(
+        &rt,
+        &text,
+        "line 2: device\n  standard output: a write failed\n",
     );
-    let text = reported_unread(&rt, alloc);
-    assert!(&rt;
-        text.as_str() == "line 1: device\n  standard input: a read failed\n",
-        "{text}"
+    let text = reported_unread(&rt, alloc, kind);
+    assert_reported(
+        &rt,
+        &text,
+        "line 1: device\n  standard input: a read failed\n",
     );
+}
+
+// A device that is out of memory is reported as that.
+#[test]
+fn devices_out_of_memory(rt: HostRuntime) {
+    let (alloc, kind) = (rt.alloc(), ErrorKind::OutOfMemory);
+    let text = reported_over(&rt, alloc, kind, false);
+    assert_reported(&rt, &text, "line 1: device\n  out of memory\n");
+    let text = reported_unread(&rt, alloc, kind);
+    assert_reported(&rt, &text, "line 1: device\n  out of memory\n");
 }
 
 // Where the error writer takes the first line alone, that is no report.

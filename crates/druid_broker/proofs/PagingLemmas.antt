@@ -1,5 +1,5 @@
 -- Pages that are asked for one after another.
-use Rattle.std.proofs.Common.{◌≡◌, ◌≢◌, ◌⊎◌, ◌+◌, ◌-◌, ◌<◌, ◌≤◌, ℕ, zero, suc, List, [], ◌∷◌, ◌++◌, length, map, replicate, Option, Some, None, Result, Ok, Err, option_map, refl, sym, ap, ◌∙◌, subst, inl, inr, arith, if◌then◌else◌}
+use Rattle.std.proofs.Common.{◌≡◌, ◌≢◌, ◌⊎◌, ◌+◌, ◌-◌, ◌<◌, ◌≤◌, ℕ, zero, suc, List, [], ◌∷◌, ◌++◌, length, map, replicate, Option, Some, None, Result, Ok, Err, option_map, refl, sym, ap, ◌∙◌, subst, inl, inr, ⊎_elim, arith, if◌then◌else◌}
 use Rattle.std.specs.List.{slice_get}
 use Rattle.std.specs.Prelude.{slice_set}
 use Rattle.std.specs.Ordering.{is_lt, ordering_then, nat_cmp}
@@ -366,6 +366,24 @@ module _ {L : Type 0} (step : L → List ℕ → Came → L → Type 0) (request
           let l = have.lacking in let c = have.count in
           (other, s, same_page other s, inr (omega (arith, l, c, none), set, whole, falls))
 
+      same_body : (other m : ℕ) (s t : List Described) → Page at page other s ≡ Page at (1 + length have.come) m t → (other ≡ m) × (s ≡ t)
+      same_body other m s t e = ((page_says at at page (1 + length have.come) other m (ap place_of e)).2, ap segments_of e)
+
+      -- a page that is taken is of the snapshot
+      fits_with : (other : ℕ) (s : List Described) (given : Option (List Described)) (after : Option Parts) → Takes parts (as_page at page other s) given after
+          → DiffersFrom at of first have.come (Page at page other s) → ⊥
+      fits_with other s None after takes (m, t, body, why) =
+          let (less, left_is, long, _) = kept_next at (first ∷ have.come) have.left page other s next after (of_mark other s None after takes) in
+          let same = same_body other m s t body in
+          let l = have.lacking in let c = have.count in
+          ⊎_elim (λ apart. apart (sym same.0 ∙ same_count other long)) (λ last. let n = last.0 in omega (arith, l, c, left_is, n)) why
+      fits_with other s (Some set) after takes (m, t, body, why) =
+          let (none, long, whole, sorted) = given_last at (first ∷ have.come) have.left page other s next set after (of_mark other s (Some set) after takes) in
+          let same = same_body other m s t body in
+          ⊎_elim (λ apart. apart (sym same.0 ∙ same_count other long))
+          (λ last. last.3 (subst AreSorted (same_Some set last.1
+          (sym whole ∙ ap (λ (u : List Described). whole_of (map Some (first ∷ have.come ++ u ∷ []))) same.1 ∙ last.2)) sorted)) why
+
       refused_as : (new : L) (other : ℕ) (s : List Described) (refusal : ApplyFault) → IsTold step (request (asks.Page at page)) between new (Ok (Page at page other s))
           → PageRefused parts (as_page at page other s) refusal → Completes step request at of first old new (Err (turn_fault refusal))
       refused_as new other s apply.UnknownNode exchange h = absurd h
@@ -379,7 +397,7 @@ module _ {L : Type 0} (step : L → List ℕ → Came → L → Type 0) (request
           (differs other s (conflicts_next at (first ∷ have.come) have.left page other s next
           (refused_next at (first ∷ have.come) have.left page other s next
           (subst (λ (q : Option Parts). Conflicts (parts_for q (as_page at page other s)) (as_page at page other s)) have.parts h.1))))
-      refused_as new other s apply.Memory exchange h = by_reply new other s turn.Memory exchange (other, s, same_page other s)
+      refused_as new other s apply.Memory exchange h = by_reply new other s turn.Memory exchange ((other, s, same_page other s), fits_with other s h.0 h.1 h.2)
 
       -- or is refused
       pub refuses : (new : L) (fault : TurnFault) → RefusesPut step request at page parts between new fault → Completes step request at of first old new (Err fault)

@@ -108,11 +108,11 @@ DiffersFrom at of first come reply =
     ⊎ ((2 + length come ≡ of) × (set : List Described) × (whole_of (map Some (first ∷ come ++ segments ∷ [])) ≡ Some set) × (AreSorted set → ⊥)))
 
 -- why a reply to the ask for the page after these is not taken: it is not that page, or tells of another snapshot; memory is wanted
--- only to take that page
+-- only to take that page where it does not
 abbrev pub RefusesPage : Point → ℕ → List Described → List (List Described) → Body → TurnFault → Type 0
 RefusesPage at of first come reply PageLost = IsPageAt at (1 + length come) reply → ⊥
 RefusesPage at of first come reply (Apply PageConflict) = DiffersFrom at of first come reply
-RefusesPage at of first come reply Memory = IsPageAt at (1 + length come) reply
+RefusesPage at of first come reply Memory = IsPageAt at (1 + length come) reply × (DiffersFrom at of first come reply → ⊥)
 RefusesPage at of first come reply fault = ⊥
 
 -- what is answered once page 0 came: the snapshot that the others complete; or some of them came, and the next does not come or is not

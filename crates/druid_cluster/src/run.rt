@@ -1,6 +1,7 @@
 //! Whole runs.
-ghost use Rattle.std.specs.Prelude.{◌≡◌, ◌≤◌, length, take, ◌+◌, IfOk, IfErr, OnOk, OnErr};
+ghost use Rattle.std.specs.Prelude.{◌≡◌, ◌≢◌, ◌≤◌, length, take, ◌+◌, IfOk, IfErr, OnOk, OnErr};
 ghost use Rattle.std.specs.Io.KnownBytes.{Appends, Keeps};
+ghost use Rattle.std.specs.IoError.{error_kind};
 ghost use Rattle.druid_cluster.specs.Answers.{line_text};
 ghost use Rattle.druid_cluster.specs.Serving.{IsAnswered, max_line};
 ghost use Rattle.druid_cluster.specs.Runs.{done, broken_at, Writes, EndsBy, TellsLine};
@@ -19,21 +20,14 @@ use std::io::{BufRead, ErrorKind, Write};
 // The most bytes of a line, its line feed left out.
 const MAX_LINE: usize = 16_777_216;
 
-// What failed where a line was not read.
-fn of_read(error: &io::Error) -> Reason {
-    if error.kind() == ErrorKind::OutOfMemory {
-        Reason::Memory
-    } else {
-        Reason::Input
-    }
-}
-
-// What failed where an answer was not written.
-fn of_write(error: &io::Error) -> Reason {
-    if error.kind() == ErrorKind::OutOfMemory {
-        Reason::Memory
-    } else {
-        Reason::Output
+// What failed where a device gave this error: memory, or the device.
+fn reason_of(error: &io::Error, device: Reason) -> Reason
+    ensures memory { error_kind error.now ≡ ErrorKind.OutOfMemory → result ≡ Reason.Memory }
+    ensures device { error_kind error.now ≢ ErrorKind.OutOfMemory → result ≡ device }
+{
+    match error.kind() {
+        ErrorKind::OutOfMemory => Reason::Memory,
+        _ => device,
     }
 }
 
@@ -61,7 +55,7 @@ fn answer_to<W: Write>(
     };
     match write_answer(alloc, &answer, writer) {
         Ok(()) => Ok(next),
-        Err(error) => Err(Stop::device(number, of_write(&error))),
+        Err(error) => Err(Stop::device(number, reason_of(&error, Reason::Output))),
     }
 }
 
@@ -86,7 +80,7 @@ fn answer_lines<R: BufRead, W: Write>(
             Ok(Next::Line) => {}
             Ok(Next::TooLong) => return Err(Stop::bad(count + 1, BadLine::TooLong)),
             Ok(Next::End) => return Ok(count),
-            Err(error) => return Err(Stop::device(count + 1, of_read(&error))),
+            Err(error) => return Err(Stop::device(count + 1, reason_of(&error, Reason::Input))),
         }
         match answer_to(alloc, state, &line, count + 1, writer) {
             Ok(next) => state = next,

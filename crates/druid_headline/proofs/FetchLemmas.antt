@@ -11,14 +11,13 @@ use Rattle.druid_shard.specs.declared.reply.Body.{Body}
 use Rattle.druid_shard.specs.declared.reply.Body.TheVariants as bodies
 use Rattle.druid_pages.specs.Pages.{page_at, IsCutInto}
 use Rattle.druid_pages.specs.Assembly.{Parts, AreOf}
-use Rattle.druid_pages.proofs.SetLemmas.{set_is_whole}
+use Rattle.druid_pages.proofs.SetLemmas.{cut_into, set_is_whole}
 use Rattle.druid_inventory.specs.Entry.{Entry}
 use Rattle.druid_link.specs.Links.{Came}
 use Rattle.druid_message.specs.Requests.{RequestValue}
 use Rattle.druid_broker.specs.Turns.{Exchanges, pages_from, Completes, FollowsPages, IsAsked, IsFetched, IsFetchedFrom, ask_request}
 use Rattle.druid_broker.specs.declared.fault.TurnFault.{TurnFault}
 use Rattle.druid_world.specs.World.{Life, IsHonest, eras_of, set_at}
-use Rattle.druid_world.proofs.PageLemmas.{cut_into}
 use Rattle.druid_headline.specs.Headline.{RepliesAreHonest}
 use Rattle.druid_headline.proofs.HonestLemmas.{same_ok}
 

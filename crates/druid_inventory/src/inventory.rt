@@ -1,10 +1,11 @@
-ghost use Rattle.std.specs.Prelude.{◌≡◌, ◌≢◌, ◌↔◌, ◌≤◌, ◌<◌, ℕ, List, IsTrue, IfOk, IfErr, IfSome, OnOk, OnErr, IsErrOf, IsSome, Err, None, Some, Contains, length, map, option_copied, option_map, slice_get, slice_index_or, slice_set, vec_len};
+ghost use Rattle.std.specs.Prelude.{◌≡◌, ◌≢◌, ◌↔◌, ◌⊎◌, ◌≤◌, ◌<◌, ℕ, List, IsTrue, IfOk, IfErr, IfSome, OnOk, OnErr, IsErrOf, IsSome, Err, None, Some, Contains, length, map, option_copied, option_map, slice_get, slice_index_or, slice_set, vec_len};
 ghost use Rattle.std.specs.Arc.{arc_value};
 ghost use Rattle.std.specs.Ordering.{nat_cmp};
 ghost use Rattle.std.specs.Cmp.Lexicographic.{slice_cmp};
 ghost use Rattle.std.specs.List.Sorted.{IsStrictlySortedBy};
 ghost use Rattle.druid_shard.specs.Reply.{max_segments, AreSorted};
 ghost use Rattle.druid_shard.specs.Described.{Described};
+ghost use Rattle.druid_shard.specs.Mark.{never};
 ghost use Rattle.druid_shard.specs.Replay.{replay_from};
 ghost use Rattle.druid_shard.specs.ReplyBody.{IsReply};
 ghost use Rattle.druid_inventory.specs.Entry.{Entry, max_nodes, fresh, ask_of, HaveOwnNames, IsEntryOf, IsAnswerOf, IsUnsynced};
@@ -452,6 +453,22 @@ impl Inventory {
         }
     }
 
+    // What is known of a node that was synced. V2 where the list has no such node, and V3 where it was never synced.
+    fn synced(&self, node: NodeNo) -> Result<&Known, InventoryFault>
+        ensures ok { IfOk result (λ known. (slice_get self.now node ≡ Some known.now) × (known.now.mark ≢ never)) }
+        ensures unknown { IsErrOf result InventoryFault.UnknownNode ↔ (slice_get self.now node ≡ None) }
+        ensures not_synced { IsErrOf result InventoryFault.NotSynced ↔ IsUnsynced self.now node }
+        ensures no_more { IfErr result (λ fault. (fault ≡ InventoryFault.UnknownNode) ⊎ (fault ≡ InventoryFault.NotSynced)) }
+    {
+        let Some(known) = self.known(node) else {
+            return Err(InventoryFault::UnknownNode);
+        };
+        if !known.is_synced() {
+            return Err(InventoryFault::NotSynced);
+        }
+        Ok(known)
+    }
+
     /// What is known of a node, as a reply for a broker that knows less: all that the node serves at its mark. V2 where
     /// the list has no such node, V3 where the node was never synced, and V9 last.
     pub fn entry(&self, node: NodeNo) -> Result<Reply, InventoryFault>
@@ -460,12 +477,7 @@ impl Inventory {
         ensures not_synced { IsErrOf result InventoryFault.NotSynced ↔ IsUnsynced self.now node }
         ensures doubled { result ≢ Err InventoryFault.DoubledNode }
     {
-        let Some(known) = self.known(node) else {
-            return Err(InventoryFault::UnknownNode);
-        };
-        if !known.is_synced() {
-            return Err(InventoryFault::NotSynced);
-        }
+        let known = self.synced(node)?;
         match known.snapshot(self.alloc) {
             Ok(reply) => Ok(reply),
             Err(_) => Err(InventoryFault::Memory),
@@ -483,12 +495,7 @@ impl Inventory {
         ensures not_synced { IsErrOf result InventoryFault.NotSynced ↔ IsUnsynced self.now node }
         ensures doubled { result ≢ Err InventoryFault.DoubledNode }
     {
-        let Some(known) = self.known(node) else {
-            return Err(InventoryFault::UnknownNode);
-        };
-        if !known.is_synced() {
-            return Err(InventoryFault::NotSynced);
-        }
+        let known = self.synced(node)?;
         match answer_of(known, self.alloc, ask) {
             Ok(reply) => Ok(reply),
             Err(_) => Err(InventoryFault::Memory),

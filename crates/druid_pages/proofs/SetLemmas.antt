@@ -9,7 +9,7 @@ use Rattle.druid_shard.specs.Described.{Described}
 use Rattle.druid_shard.specs.Mark.{Point}
 use Rattle.druid_shard.specs.Reply.{max_page, max_segments, AreSorted, IsFull}
 use Rattle.druid_shard.specs.Reply.{IsPageOf as IsReplyPage}
-use Rattle.druid_pages.specs.Pages.{page_at, IsCutInto}
+use Rattle.druid_pages.specs.Pages.{page_at, pages_in, IsCutInto}
 use Rattle.druid_pages.specs.Assembly.{Parts, Page, IsPage, Conflicts, Puts, AreOf, IsPageOf, no_pages, with_page, whole_of}
 use Rattle.druid_pages.proofs.PartLemmas.{set_get, none_there}
 use Rattle.druid_pages.proofs.OrderLemmas.{of_rest, before_in}
@@ -54,10 +54,13 @@ set_is_whole ds whole parts are is =
 
 -- ---- a page more of the set
 
-cut_once : (n a b : ℕ) → IsCutInto n a → IsCutInto n b → a ≡ b
+pub cut_into : (n : ℕ) → IsCutInto n (pages_in n)
+cut_into n = record { enough = omega arith; no_more = omega arith }
+
+pub cut_once : (n a b : ℕ) → IsCutInto n a → IsCutInto n b → a ≡ b
 cut_once n a b x y = omega (arith, x.enough, x.no_more, y.enough, y.no_more)
 
-of_with : (ds : List Described) (parts : Parts) (p : Page) → AreOf ds parts → IsPageOf ds p → AreOf ds (with_page parts p.page p.segments)
+pub of_with : (ds : List Described) (parts : Parts) (p : Page) → AreOf ds parts → IsPageOf ds p → AreOf ds (with_page parts p.page p.segments)
 of_with ds parts p are is = record {
   count = subst (IsCutInto (length ds)) (sym (length-set parts.pages p.page (Some p.segments))) are.count;
   each = λ page segments found. ⊎_elim (λ before. are.each page segments before)

@@ -9,8 +9,9 @@ use Rattle.std.proofs.lemmas.Option.{same_Some, none-some, slice_get-get_or}
 use Rattle.std.proofs.lemmas.List.{length-replicate, get_or-replicate}
 use Rattle.druid_shard.specs.Described.{Described}
 use Rattle.druid_shard.specs.Mark.{Point, mark_cmp}
+use Rattle.druid_shard.specs.Reply.{AreSorted}
 use Rattle.druid_shard.specs.Orders.{mark_cmp-total, mark_cmp-ties}
-use Rattle.druid_pages.specs.Assembly.{Parts, Page, IsPage, Puts, Takes, Refuses, Conflicts, IsOutdated, no_pages, with_page, parts_for}
+use Rattle.druid_pages.specs.Assembly.{Parts, Page, IsPage, IsLacking, Puts, Takes, Refuses, Conflicts, IsOutdated, no_pages, with_page, parts_for}
 use Rattle.druid_pages.specs.Fitting.{FitsAs, Compares, PutsIn, RefusesIn}
 use Rattle.druid_pages.specs.declared.fault.PageFault.{PageFault}
 use Rattle.druid_pages.specs.declared.fault.PageFault.TheVariants.{Conflict, Memory}
@@ -97,3 +98,42 @@ put_refuses old p Memory order refuses = (refuses.0, refuses.1, put_takes old p 
 pub passes : (old : Option Parts) (p : Page) → Compares old p.at Greater → Takes old p None old
 passes None p order = absurd cc
 passes (Some parts) p order = inl ((parts, refl, turned parts.at p.at Greater order), refl, refl)
+
+-- ---- in one way
+
+there_not_lacking : (parts : Parts) (p : Page) (segments : List Described) → slice_get parts.pages p.page ≡ Some (Some segments) → IsLacking parts p → ⊥
+there_not_lacking parts p segments e h = none-some segments (sym (same_Some (Some segments) None (sym e ∙ h.1)))
+
+puts_one : (parts : Parts) (p : Page) (a b : Option (List Described)) (new other : Option Parts) → Puts parts p a new → Puts parts p b other → (a ≡ b) × (new ≡ other)
+puts_one parts p None None new other (inl h) (inl k) = (refl, h.1 ∙ sym k.1)
+puts_one parts p None None new other (inl h) (inr k) = absurd (there_not_lacking parts p p.segments h.0.1 k.0)
+puts_one parts p None None new other (inr h) (inl k) = absurd (there_not_lacking parts p p.segments k.0.1 h.0)
+puts_one parts p None None new other (inr h) (inr k) = (refl, h.2 ∙ sym k.2)
+puts_one parts p None (Some ds) new other (inl h) k = absurd (there_not_lacking parts p p.segments h.0.1 k.0)
+puts_one parts p None (Some ds) new other (inr h) k = absurd (none-some ds (sym h.1 ∙ k.1))
+puts_one parts p (Some ds) None new other h (inl k) = absurd (there_not_lacking parts p p.segments k.0.1 h.0)
+puts_one parts p (Some ds) None new other h (inr k) = absurd (none-some ds (sym k.1 ∙ h.1))
+puts_one parts p (Some ds) (Some es) new other h k = (ap (λ s. Some s) (same_Some ds es (sym h.1 ∙ k.1)), h.3 ∙ sym k.3)
+
+-- what is given, and what is left, is one
+pub takes_one : (old : Option Parts) (p : Page) (a b : Option (List Described)) (new other : Option Parts) → Takes old p a new → Takes old p b other → (a ≡ b) × (new ≡ other)
+takes_one old p a b new other (inl h) (inl k) = (h.1 ∙ sym k.1, h.2 ∙ sym k.2)
+takes_one old p a b new other (inl h) (inr k) = absurd (k.0 h.0)
+takes_one old p a b new other (inr h) (inl k) = absurd (h.0 k.0)
+takes_one old p a b new other (inr h) (inr k) = puts_one (parts_for old p) p a b new other h.1 k.1
+
+puts_fit : (parts : Parts) (p : Page) (given : Option (List Described)) (new : Option Parts) → Puts parts p given new → Conflicts parts p → ⊥
+puts_fit parts p None new (inl h) (inl k) = k h.0.0
+puts_fit parts p None new (inl h) (inr (inl k)) = k.2 (same_Some k.0 p.segments (same_Some (Some k.0) (Some p.segments) (sym k.1 ∙ h.0.1)))
+puts_fit parts p None new (inl h) (inr (inr k)) = there_not_lacking parts p p.segments h.0.1 k.1
+puts_fit parts p None new (inr h) (inl k) = k h.0.0
+puts_fit parts p None new (inr h) (inr (inl k)) = there_not_lacking parts p k.0 k.1 h.0
+puts_fit parts p None new (inr h) (inr (inr k)) = none-some k.0 (sym h.1 ∙ k.2)
+puts_fit parts p (Some ds) new h (inl k) = k h.0.0
+puts_fit parts p (Some ds) new h (inr (inl k)) = there_not_lacking parts p k.0 k.1 h.0
+puts_fit parts p (Some ds) new h (inr (inr k)) = k.3 (subst AreSorted (same_Some ds k.0 (sym h.1 ∙ k.2)) h.2)
+
+-- and what is taken does not conflict
+pub takes_fit : (old : Option Parts) (p : Page) (given : Option (List Described)) (new : Option Parts) → Takes old p given new → Refuses old p Conflict → ⊥
+takes_fit old p given new (inl h) k = k.0 h.0
+takes_fit old p given new (inr h) k = puts_fit (parts_for old p) p given new h.1 k.1

@@ -4,7 +4,8 @@ ghost use Rattle.druid_shard.specs.Mark.{Point};
 ghost use Rattle.druid_shard.specs.Reply.{max_page, max_segments, AreSorted};
 ghost use Rattle.druid_shard.specs.Reply.{IsPageOf as IsReplyPage};
 ghost use Rattle.druid_pages.specs.Pages.{page_at, IsCutInto};
-ghost use Rattle.druid_pages.specs.Assembly.{Parts, Page, IsPage, AreOf, IsPageOf, Conflicts, Puts, no_pages, whole_of};
+ghost use Rattle.druid_pages.specs.Assembly.{Parts, Page, IsPage, AreOf, IsPageOf, Conflicts, Puts, Takes, Refuses, no_pages, whole_of};
+ghost use Rattle.druid_pages.specs.declared.fault.PageFault.TheVariants.{Conflict};
 
 /// Of the pages of one set none conflicts with the others, in whatever order they come, and once all have come they are
 /// that set.
@@ -25,4 +26,14 @@ pub fn pages_give_their_set()
 pub fn pages_fit_replies()
     ensures { (set : List Described) (page of : ℕ) → AreSorted set → IsCutInto (length set) of → max_page < length set
         → length set ≤ max_segments → page < of → IsReplyPage page of (page_at set page) }
+{}
+
+/// What becomes of a page is decided by what has come before it: a page is taken in one way, and one that is taken does not
+/// conflict. So memory is reported only of a page that fits.
+#[tactic(auto, using(crate::proofs::TakeLemmas::takes_one, crate::proofs::TakeLemmas::takes_fit))]
+pub fn pages_are_taken_in_one_way()
+    ensures one { (old : Option Parts) (p : Page) (a b : Option (List Described)) (new other : Option Parts)
+        → Takes old p a new → Takes old p b other → (a ≡ b) × (new ≡ other) }
+    ensures fits { (old : Option Parts) (p : Page) (given : Option (List Described)) (new : Option Parts)
+        → Takes old p given new → Refuses old p Conflict → ⊥ }
 {}

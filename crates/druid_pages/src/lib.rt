@@ -9,5 +9,5 @@ mod parts;
 
 pub use assembly::Assembly;
 pub use fault::PageFault;
-pub use laws::{pages_fit_replies, pages_give_their_set};
+pub use laws::{pages_are_taken_in_one_way, pages_fit_replies, pages_give_their_set};
 pub use pages::{page_of, pages_of};

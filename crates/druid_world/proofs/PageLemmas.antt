@@ -22,9 +22,8 @@ use Rattle.druid_shard.proofs.ReplayLemmas.{replay_from-set, and_then-some}
 use Rattle.druid_pages.specs.Pages.{page_at, pages_in, IsCutInto}
 use Rattle.druid_pages.specs.Assembly.{Parts, Page, IsPage, AreOf, IsPageOf, IsOutdated, IsLacking, Conflicts, Puts, Takes, Refuses, no_pages, with_page, parts_for, whole_of}
 use Rattle.druid_pages.specs.declared.fault.PageFault.TheVariants.{Conflict}
-use Rattle.druid_pages.proofs.PartLemmas.{set_get}
-use Rattle.druid_pages.proofs.SetLemmas.{set_is_whole, of_none, is_page}
-use Rattle.druid_pages.proofs.TakeLemmas.{tied, begins, passes, put_takes}
+use Rattle.druid_pages.proofs.SetLemmas.{cut_into, cut_once, set_is_whole, of_none, of_with, is_page}
+use Rattle.druid_pages.proofs.TakeLemmas.{tied, begins, passes, put_takes, takes_one, takes_fit}
 use Rattle.druid_inventory.specs.Assembly.{IsPageReply, TakesReply, RefusesReply}
 use Rattle.druid_inventory.specs.declared.fault.ApplyFault.TheVariants.{PageConflict}
 use Rattle.druid_world.specs.World.{Era, Life, IsHonest, IsTruePage, Grows, eras_of, changes_of, set_after, set_at}
@@ -46,26 +45,12 @@ set_at-valid eras mark ds e = by (same_mark mark never) e where
       let found = and_then-some (λ cs. set_after cs mark.count) (changes_of eras mark.incarnation) ds f in
       replay_from-set [] ds (take mark.count found.0) nothing_served (set_after-is found.0 mark.count ds found.2).1
 
-pub cut_into : (n : ℕ) → IsCutInto n (pages_in n)
-cut_into n = record { enough = omega arith; no_more = omega arith }
-
-cut_once : (n a b : ℕ) → IsCutInto n a → IsCutInto n b → a ≡ b
-cut_once n a b x y = omega (arith, x.enough, x.no_more, y.enough, y.no_more)
-
 -- a true page is one of the set at its mark
 pub page_is_of : (eras : List Era) (at : Point) (page of : ℕ) (segments : List Described) → (h : IsTruePage eras at page of segments)
     → IsPageOf h.set (record { at = at; page = page; of = of; segments = segments })
 page_is_of eras at page of segments h = record { count = subst (IsCutInto (length h.set)) (sym h.count) (cut_into (length h.set)); segments = h.segments_are }
 
 -- ---- pages of one set
-
-of_with : (ds : List Described) (parts : Parts) (p : Page) → AreOf ds parts → IsPageOf ds p → AreOf ds (with_page parts p.page p.segments)
-of_with ds parts p are is = record {
-  count = subst (IsCutInto (length ds)) (sym (length-set parts.pages p.page (Some p.segments))) are.count;
-  each = λ page segments found. ⊎_elim (λ before. are.each page segments before)
-      (λ here. sym (same_Some p.segments segments here.1) ∙ is.segments ∙ ap (page_at ds) (sym here.0))
-      (set_get parts.pages p.page (Some p.segments) page (Some segments) found);
-}
 
 -- the pages that came are those of a set that the node served
 pub record AreTrueParts (eras : List Era) (parts : Parts) : Type 0 where
@@ -139,26 +124,6 @@ take_true life old (bodies.Page at page of segments) given new true_old honest h
 
 -- ---- in one way
 
-there_not_lacking : (parts : Parts) (p : Page) (segments : List Described) → slice_get parts.pages p.page ≡ Some (Some segments) → IsLacking parts p → ⊥
-there_not_lacking parts p segments e h = none-some segments (sym (same_Some (Some segments) None (sym e ∙ h.1)))
-
-puts_one : (parts : Parts) (p : Page) (a b : Option (List Described)) (new other : Option Parts) → Puts parts p a new → Puts parts p b other → (a ≡ b) × (new ≡ other)
-puts_one parts p None None new other (inl h) (inl k) = (refl, h.1 ∙ sym k.1)
-puts_one parts p None None new other (inl h) (inr k) = absurd (there_not_lacking parts p p.segments h.0.1 k.0)
-puts_one parts p None None new other (inr h) (inl k) = absurd (there_not_lacking parts p p.segments k.0.1 h.0)
-puts_one parts p None None new other (inr h) (inr k) = (refl, h.2 ∙ sym k.2)
-puts_one parts p None (Some ds) new other (inl h) k = absurd (there_not_lacking parts p p.segments h.0.1 k.0)
-puts_one parts p None (Some ds) new other (inr h) k = absurd (none-some ds (sym h.1 ∙ k.1))
-puts_one parts p (Some ds) None new other h (inl k) = absurd (there_not_lacking parts p p.segments k.0.1 h.0)
-puts_one parts p (Some ds) None new other h (inr k) = absurd (none-some ds (sym k.1 ∙ h.1))
-puts_one parts p (Some ds) (Some es) new other h k = (ap (λ s. Some s) (same_Some ds es (sym h.1 ∙ k.1)), h.3 ∙ sym k.3)
-
-takes_one : (old : Option Parts) (p : Page) (a b : Option (List Described)) (new other : Option Parts) → Takes old p a new → Takes old p b other → (a ≡ b) × (new ≡ other)
-takes_one old p a b new other (inl h) (inl k) = (h.1 ∙ sym k.1, h.2 ∙ sym k.2)
-takes_one old p a b new other (inl h) (inr k) = absurd (k.0 h.0)
-takes_one old p a b new other (inr h) (inl k) = absurd (h.0 k.0)
-takes_one old p a b new other (inr h) (inr k) = puts_one (parts_for old p) p a b new other h.1 k.1
-
 pub take_one : (old : Option Parts) (reply : Body) (a b : Option Body) (new other : Option Parts) → TakesReply old reply a new → TakesReply old reply b other → (a ≡ b) × (new ≡ other)
 take_one old (bodies.Delta from to changes) a b new other h k = absurd h
 take_one old (bodies.Snapshot at ds) a b new other h k = absurd h
@@ -166,21 +131,6 @@ take_one old (bodies.Reset cause at) a b new other h k = absurd h
 take_one old (bodies.Page at page of segments) a b new other h k =
     let one = takes_one old (record { at = at; page = page; of = of; segments = segments }) h.0 k.0 new other h.1 k.1 in
     (h.2 ∙ ap (option_map (bodies.Snapshot at)) one.0 ∙ sym k.2, one.1)
-
-puts_fit : (parts : Parts) (p : Page) (given : Option (List Described)) (new : Option Parts) → Puts parts p given new → Conflicts parts p → ⊥
-puts_fit parts p None new (inl h) (inl k) = k h.0.0
-puts_fit parts p None new (inl h) (inr (inl k)) = k.2 (same_Some k.0 p.segments (same_Some (Some k.0) (Some p.segments) (sym k.1 ∙ h.0.1)))
-puts_fit parts p None new (inl h) (inr (inr k)) = there_not_lacking parts p p.segments h.0.1 k.1
-puts_fit parts p None new (inr h) (inl k) = k h.0.0
-puts_fit parts p None new (inr h) (inr (inl k)) = there_not_lacking parts p k.0 k.1 h.0
-puts_fit parts p None new (inr h) (inr (inr k)) = none-some k.0 (sym h.1 ∙ k.2)
-puts_fit parts p (Some ds) new h (inl k) = k h.0.0
-puts_fit parts p (Some ds) new h (inr (inl k)) = there_not_lacking parts p k.0 k.1 h.0
-puts_fit parts p (Some ds) new h (inr (inr k)) = k.3 (subst AreSorted (same_Some ds k.0 (sym h.1 ∙ k.2)) h.2)
-
-takes_fit : (old : Option Parts) (p : Page) (given : Option (List Described)) (new : Option Parts) → Takes old p given new → Refuses old p Conflict → ⊥
-takes_fit old p given new (inl h) k = k.0 h.0
-takes_fit old p given new (inr h) k = puts_fit (parts_for old p) p given new h.1 k.1
 
 pub take_not_refused : (old : Option Parts) (reply : Body) (given : Option Body) (new : Option Parts) → TakesReply old reply given new → RefusesReply old reply PageConflict → ⊥
 take_not_refused old (bodies.Delta from to changes) given new h k = absurd h
