@@ -16,8 +16,8 @@ use Rattle.druid_filter.specs.declared.filter.Filter.{Filter}
 use Rattle.std.proofs.lemmas.List.{map-append}
 use Rattle.druid_shard.specs.Each.{each_of}
 use Rattle.druid_query.specs.Filters.{value_at, selector_in, among_in, filter_of_type, filter_at, filter_in, filters_in, filters_at, each_filter}
-use Rattle.druid_query_text.specs.Levels.{Layer, selector, among, all, any, negation, selector_layer, among_layer, fields_at, layer_named, layer_at, layer_says, layer_lent, IsWithin}
-use Rattle.druid_query_text.specs.declared.filters.Level.{Level}
+use Rattle.druid_query_text.specs.Levels.{Layer, selector, among, all, any, negation, selector_layer, among_layer, fields_at, layer_named, layer_at, layer_says, layer_of, IsWithin}
+use Rattle.druid_query_text.specs.declared.filter.Level.{Level}
 
 -- ---- what stands at a key
 
@@ -251,8 +251,8 @@ map_some f None = refl
 map_some f (Some x) = refl
 
 -- the layer of a level, by the level's case
-pub told : (l m : Level) (d : Data) → l ≡ m → Some (layer_lent l) ≡ layer_at d → Some (layer_lent m) ≡ layer_at d
-told l m d e h = sym (ap (λ (k : Level). Some (layer_lent k)) e) ∙ h
+pub told : (l m : Level) (d : Data) → l ≡ m → Some (layer_of l) ≡ layer_at d → Some (layer_of m) ≡ layer_at d
+told l m d e h = sym (ap (λ (k : Level). Some (layer_of k)) e) ∙ h
 
 -- ---- filters built one by one
 

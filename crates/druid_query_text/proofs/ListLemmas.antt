@@ -1,75 +1,123 @@
 -- Lists and filters judged without being built.
-use Rattle.std.proofs.Common.{◌≡◌, ℕ, nat_le, List, length, Option, Some, None, Result, Ok, Err, IsOk, IsSome, codes, is_some, true, false, Bool, refl, sym, ap, ◌∙◌, subst}
-use Rattle.std.specs.List.{list_all}
+use Rattle.std.proofs.Common.{◌≡◌, ℕ, nat_le, List, [], ◌∷◌, length, Option, Some, None, Result, Ok, Err, IsSome, option_map, is_some, true, false, Bool, ◌&&◌, refl, sym, ap, ◌∙◌}
+use Rattle.std.specs.List.{list_all, cons_option}
 use Rattle.std.proofs.lemmas.Option.{same_Some}
-use Rattle.std.specs.Result.{IfOk}
-use Rattle.std.specs.declared.alloc.AllocError.{AllocError}
 use Rattle.serde_json.specs.Data.{Data, Items}
 use Rattle.serde_json.specs.View.{view, items_view}
 use Rattle.serde_json.specs.declared.value.Value.{Value}
+use Rattle.druid_time.specs.Extent.{Extent}
+use Rattle.druid_time.specs.Options as options
 use Rattle.druid_time.specs.Results.{◌>>=◌}
 use Rattle.druid_filter.specs.Filters.{Condition}
-use Rattle.druid_query.specs.Query.{fits_filter}
-use Rattle.druid_query.specs.Refusal.{Refusal, bad_field, bad_interval, limit_passed, or_refuse, when}
+use Rattle.druid_query.specs.Query.{fits_filter, fits_dimension, fit_dimensions, fits_aggregator, fit_aggregators}
+use Rattle.druid_query.specs.Refusal.{Refusal, bad_interval, limit_passed, or_refuse, when}
 use Rattle.druid_shard.specs.Each.{each_of}
-use Rattle.druid_query_text.specs.Levels.{holds_in}
+use Rattle.druid_query_text.specs.Found.{EachReads, holds_in, those}
 use Rattle.druid_query.specs.Read.{list_of, fit_intervals}
-use Rattle.druid_query.specs.Fields.{interval_of}
-use Rattle.druid_query.specs.Limits.{max_intervals}
-use Rattle.druid_shard.proofs.EachLemmas.{not_all_read, all_read, each_of_length}
+use Rattle.druid_query.specs.Fields.{interval_of, dimension_at, aggregator_at}
+use Rattle.druid_query.specs.Limits.{max_intervals, max_dimensions, max_aggregators}
+use Rattle.druid_shard.proofs.EachLemmas.{all_reads, each_of_length}
+
+-- ---- what reads
+
+pub all_read : {A : Type 0} (f : Data → Option A) (vs : List Value) → true ≡ list_all (λ v. is_some (f (view v))) vs → EachReads f vs
+all_read f vs h = sym (all_reads f vs) ∙ sym h
+
+next_those : {A : Type 0} (o : Option A) (rest : Option (List A)) (xs : List A) → IsSome (options.◌>>=◌ o (λ y. options.◌>>=◌ rest (λ ys. Some (y ∷ ys)))) → (IsSome rest → rest ≡ Some xs)
+    → options.◌>>=◌ o (λ y. options.◌>>=◌ rest (λ ys. Some (y ∷ ys))) ≡ Some (cons_option o xs)
+next_those None rest xs h more = absurd (cc)
+next_those (Some y) None xs h more = absurd (cc)
+next_those (Some y) (Some ys) xs h more = ap (λ r. options.◌>>=◌ r (λ zs. Some (y ∷ zs))) (more refl)
+
+-- where each reads, those that read are all
+pub each_those : {A : Type 0} (f : Data → Option A) (vs : List Value) → EachReads f vs → each_of f (items_view vs) ≡ Some (those f vs)
+each_those f [] h = refl
+each_those f (v ∷ vs) h = next_those (f (view v)) (each_of f (items_view vs)) (those f vs) h (each_those f vs)
+
+pub those_all : {A : Type 0} (f : Data → Option A) (vs : List Value) (xs : List A) → EachReads f vs → each_of f (items_view vs) ≡ Some xs → xs ≡ those f vs
+those_all f vs xs h read = same_Some xs (those f vs) (sym read ∙ each_those f vs h)
 
 -- ---- the answer to a list
+
+-- what was judged of the items, and whether they are as many as this test says
+abbrev found : {A : Type 0} → Bool → (A → Bool) → Option (List A) → Option Bool
+found few p read = option_map (λ xs. few && list_all p xs) read
+
+some_found : {A : Type 0} (few : Bool) (p : A → Bool) (read : Option (List A)) (b : Bool) → Some b ≡ found few p read → IsSome read
+some_found few p None b h = absurd (cc)
+some_found few p (Some xs) b h = refl
+
+pub each_reads : {A : Type 0} (f : Data → Option A) (p : A → Bool) (most : ℕ) (vs : List Value) (b : Bool) → Some b ≡ option_map (λ xs. nat_le (length vs) most && list_all p xs) (each_of f (items_view vs)) → EachReads f vs
+each_reads f p most vs b h = some_found (nat_le (length vs) most) p (each_of f (items_view vs)) b h
 
 pub no_list : {A : Type 0} (o : Option Items) (shape each : Refusal) (f : Data → Option A) (fits : List A → Bool) → None ≡ o → list_of o shape f each fits ≡ Err shape
 no_list o shape each f fits h = ap (λ p. list_of p shape f each fits) (sym h)
 
-pub bad_item : {A : Type 0} (o : Option Items) (vs : List Value) (shape each : Refusal) (f : Data → Option A) (fits : List A → Bool)
-    → Some (items_view vs) ≡ o → false ≡ list_all (λ v. is_some (f (view v))) vs → list_of o shape f each fits ≡ Err each
-bad_item o vs shape each f fits h bad =
+none_found : {A : Type 0} (few : Bool) (p : A → Bool) (read : Option (List A)) → None ≡ found few p read → read ≡ None
+none_found few p None h = refl
+none_found few p (Some xs) h = absurd (cc)
+
+pub bad_item : {A : Type 0} (o : Option Items) (vs : List Value) (shape each : Refusal) (f : Data → Option A) (fits : List A → Bool) (p : A → Bool) (most : ℕ)
+    → Some (items_view vs) ≡ o → None ≡ option_map (λ xs. nat_le (length vs) most && list_all p xs) (each_of f (items_view vs)) → list_of o shape f each fits ≡ Err each
+bad_item o vs shape each f fits p most h bad =
     ap (λ p. list_of p shape f each fits) (sym h)
-    ∙ ap (λ p. or_refuse p each >>= λ xs. when (fits xs) xs limit_passed) (not_all_read f vs (sym bad))
+    ∙ ap (λ r. or_refuse r each >>= λ xs. when (fits xs) xs limit_passed) (none_found (nat_le (length vs) most) p (each_of f (items_view vs)) bad)
 
-pub unfit : {A : Type 0} (o : Option Items) (vs : List Value) (shape each : Refusal) (f : Data → Option A) (fits : List A → Bool)
-    → Some (items_view vs) ≡ o → true ≡ list_all (λ v. is_some (f (view v))) vs → false ≡ holds_in fits (each_of f (items_view vs)) → list_of o shape f each fits ≡ Err limit_passed
-unfit {A} o vs shape each f fits h good bad = ap (λ p. list_of p shape f each fits) (sym h) ∙ through (each_of f (items_view vs)) (all_read f vs (sym good)) bad
+-- each item reads, and it is as the limits say
+judged : {A : Type 0} (o : Option Items) (vs : List Value) (shape each : Refusal) (f : Data → Option A) (p : A → Bool) (most : ℕ) (b : Bool)
+    → Some (items_view vs) ≡ o → Some b ≡ option_map (λ xs. nat_le (length vs) most && list_all p xs) (each_of f (items_view vs))
+    → list_of o shape f each (λ xs. nat_le (length xs) most && list_all p xs) ≡ when b (those f vs) limit_passed
+judged {A} o vs shape each f p most b h good =
+    let all = those f vs in
+    let read : each_of f (items_view vs) ≡ Some all = each_those f vs (each_reads f p most vs b good) in
+    let few = ap (λ n. nat_le n most) (each_of_length f vs all read) in
+    let fit : (nat_le (length vs) most && list_all p all) ≡ b = same_Some (nat_le (length vs) most && list_all p all) b (sym (good ∙ ap (λ r. found (nat_le (length vs) most) p r) read)) in
+    ap (λ q. list_of q shape f each (λ xs. nat_le (length xs) most && list_all p xs)) (sym h)
+    ∙ ap (λ r. or_refuse r each >>= λ xs. when (nat_le (length xs) most && list_all p xs) xs limit_passed) read
+    ∙ ap (λ c. when (c && list_all p all) all limit_passed) few
+    ∙ ap (λ c. when c all limit_passed) fit
+
+pub dimensions_unfit : (o : Option Items) (vs : List Value) (shape each : Refusal) → Some (items_view vs) ≡ o → Some false ≡ option_map (λ xs. nat_le (length vs) max_dimensions && list_all fits_dimension xs) (each_of dimension_at (items_view vs))
+    → list_of o shape dimension_at each fit_dimensions ≡ Err limit_passed
+dimensions_unfit o vs shape each h bad = judged o vs shape each dimension_at fits_dimension max_dimensions false h bad
+
+pub dimensions_fit : (o : Option Items) (vs : List Value) (shape each : Refusal) → Some (items_view vs) ≡ o → Some true ≡ option_map (λ xs. nat_le (length vs) max_dimensions && list_all fits_dimension xs) (each_of dimension_at (items_view vs))
+    → list_of o shape dimension_at each fit_dimensions ≡ Ok (those dimension_at vs)
+dimensions_fit o vs shape each h good = judged o vs shape each dimension_at fits_dimension max_dimensions true h good
+
+pub aggregators_unfit : (o : Option Items) (vs : List Value) (shape each : Refusal) → Some (items_view vs) ≡ o → Some false ≡ option_map (λ xs. nat_le (length vs) max_aggregators && list_all fits_aggregator xs) (each_of aggregator_at (items_view vs))
+    → list_of o shape aggregator_at each fit_aggregators ≡ Err limit_passed
+aggregators_unfit o vs shape each h bad = judged o vs shape each aggregator_at fits_aggregator max_aggregators false h bad
+
+pub aggregators_fit : (o : Option Items) (vs : List Value) (shape each : Refusal) → Some (items_view vs) ≡ o → Some true ≡ option_map (λ xs. nat_le (length vs) max_aggregators && list_all fits_aggregator xs) (each_of aggregator_at (items_view vs))
+    → list_of o shape aggregator_at each fit_aggregators ≡ Ok (those aggregator_at vs)
+aggregators_fit o vs shape each h good = judged o vs shape each aggregator_at fits_aggregator max_aggregators true h good
+
+-- a list of intervals has no limit but their number
+few_alone : {A : Type 0} (n : Bool) (xs : List A) → (n && list_all (λ _. true) xs) ≡ n
+few_alone true [] = refl
+few_alone false [] = refl
+few_alone n (x ∷ xs) = few_alone n xs
+
+limits_alone : (o : Option Items) (shape : Refusal) → list_of o shape interval_of bad_interval (λ xs. nat_le (length xs) max_intervals && list_all (λ _. true) xs) ≡ list_of o shape interval_of bad_interval fit_intervals
+limits_alone None shape = refl
+limits_alone (Some ds) shape = through (each_of interval_of ds)
   where
-    through : (all : Option (List A)) → ((xs : List A) × (all ≡ Some xs)) → false ≡ holds_in fits all → (or_refuse all each >>= λ xs. when (fits xs) xs limit_passed) ≡ Err limit_passed
-    through None some bad = let no = some.1 in absurd (cc)
-    through (Some xs) some bad = rw (← bad) refl
+    through : (read : Option (List Extent)) → (or_refuse read bad_interval >>= λ xs. when (nat_le (length xs) max_intervals && list_all (λ _. true) xs) xs limit_passed) ≡ (or_refuse read bad_interval >>= λ xs. when (fit_intervals xs) xs limit_passed)
+    through None = refl
+    through (Some xs) = ap (λ (b : Bool). when b xs limit_passed) (few_alone (fit_intervals xs) xs)
 
-pub fit : {A : Type 0} (o : Option Items) (vs : List Value) (shape each : Refusal) (f : Data → Option A) (fits : List A → Bool)
-    → Some (items_view vs) ≡ o → true ≡ holds_in fits (each_of f (items_view vs)) → IsOk (list_of o shape f each fits)
-fit {A} o vs shape each f fits h good = subst (λ p. IsOk (list_of p shape f each fits)) h (through (each_of f (items_view vs)) good)
-  where
-    through : (all : Option (List A)) → true ≡ holds_in fits all → IsOk (or_refuse all each >>= λ xs. when (fits xs) xs limit_passed)
-    through None good = absurd (cc)
-    through (Some xs) good = rw (← good) refl
+pub intervals_unfit : (o : Option Items) (vs : List Value) (shape : Refusal) → Some (items_view vs) ≡ o → Some false ≡ option_map (λ xs. nat_le (length vs) max_intervals && list_all (λ _. true) xs) (each_of interval_of (items_view vs))
+    → list_of o shape interval_of bad_interval fit_intervals ≡ Err limit_passed
+intervals_unfit o vs shape h bad = sym (limits_alone o shape) ∙ judged o vs shape bad_interval interval_of (λ _. true) max_intervals false h bad
 
--- the items of a list count as many as those that are read
-counted : {A : Type 0} (f : Data → Option A) (most : ℕ) (vs : List Value) → true ≡ list_all (λ v. is_some (f (view v))) vs → nat_le (length vs) most ≡ holds_in (λ xs. nat_le (length xs) most) (each_of f (items_view vs))
-counted f most vs good =
-    let read = all_read f vs (sym good) in
-    ap (λ n. nat_le n most) (sym (each_of_length f vs read.0 read.1)) ∙ ap (holds_in (λ xs. nat_le (length xs) most)) (sym read.1)
-
-pub intervals_long : (o : Option Items) (vs : List Value) → Some (items_view vs) ≡ o → true ≡ list_all (λ v. is_some (interval_of (view v))) vs → false ≡ nat_le (length vs) max_intervals
-    → list_of o (bad_field (codes "intervals")) interval_of bad_interval fit_intervals ≡ Err limit_passed
-intervals_long o vs h good long = unfit o vs (bad_field (codes "intervals")) bad_interval interval_of fit_intervals h good (long ∙ counted interval_of max_intervals vs good)
-
-pub query_intervals_long : (o : Option Items) (vs : List Value) → Some (items_view vs) ≡ o → true ≡ list_all (λ v. is_some (interval_of (view v))) vs → false ≡ nat_le (length vs) max_intervals
-    → list_of o (bad_field (codes "queryIntervals")) interval_of bad_interval fit_intervals ≡ Err limit_passed
-query_intervals_long o vs h good long = unfit o vs (bad_field (codes "queryIntervals")) bad_interval interval_of fit_intervals h good (long ∙ counted interval_of max_intervals vs good)
-
-pub query_intervals_fit : (o : Option Items) (vs : List Value) → Some (items_view vs) ≡ o → true ≡ list_all (λ v. is_some (interval_of (view v))) vs → true ≡ nat_le (length vs) max_intervals
-    → IsOk (list_of o (bad_field (codes "queryIntervals")) interval_of bad_interval fit_intervals)
-query_intervals_fit o vs h good few = fit o vs (bad_field (codes "queryIntervals")) bad_interval interval_of fit_intervals h (few ∙ counted interval_of max_intervals vs good)
-
-pub intervals_fit : (o : Option Items) (vs : List Value) → Some (items_view vs) ≡ o → true ≡ list_all (λ v. is_some (interval_of (view v))) vs → true ≡ nat_le (length vs) max_intervals
-    → IsOk (list_of o (bad_field (codes "intervals")) interval_of bad_interval fit_intervals)
-intervals_fit o vs h good few = fit o vs (bad_field (codes "intervals")) bad_interval interval_of fit_intervals h (few ∙ counted interval_of max_intervals vs good)
+pub intervals_fit : (o : Option Items) (vs : List Value) (shape : Refusal) → Some (items_view vs) ≡ o → Some true ≡ option_map (λ xs. nat_le (length vs) max_intervals && list_all (λ _. true) xs) (each_of interval_of (items_view vs))
+    → list_of o shape interval_of bad_interval fit_intervals ≡ Ok (those interval_of vs)
+intervals_fit o vs shape h good = sym (limits_alone o shape) ∙ judged o vs shape bad_interval interval_of (λ _. true) max_intervals true h good
 
 -- ---- the answer to a filter
 
-abbrev pub judged_filter : Option Condition → Refusal → Result (Option Condition) Refusal
+abbrev judged_filter : Option Condition → Refusal → Result (Option Condition) Refusal
 judged_filter o e = or_refuse o e >>= λ c. when (fits_filter c) (Some c) limit_passed
 
 pub no_filter : (o : Option Condition) (e : Refusal) → false ≡ is_some o → judged_filter o e ≡ Err e
@@ -80,61 +128,6 @@ pub filter_passes : (o : Option Condition) (e : Refusal) → true ≡ is_some o 
 filter_passes None e h bad = absurd (cc)
 filter_passes (Some c) e h bad = rw (← bad) refl
 
-pub filter_fits : (o : Option Condition) (e : Refusal) → true ≡ holds_in fits_filter o → IsOk (judged_filter o e)
+pub filter_fits : (o : Option Condition) (e : Refusal) → true ≡ holds_in fits_filter o → judged_filter o e ≡ Ok o
 filter_fits None e good = absurd (cc)
 filter_fits (Some c) e good = rw (← good) refl
-
--- ---- what is built of a list that reads
-
-pub list_none : {A : Type 0} (o : Option Items) (shape each : Refusal) (f : Data → Option A) (fits : List A → Bool) → None ≡ o → IsOk (list_of o shape f each fits) → ⊥
-list_none o shape each f fits h ok = let no = subst (λ p. IsOk (list_of p shape f each fits)) (sym h) ok in absurd (cc)
-
-judged_list : {A : Type 0} (read : Option (List A)) (each : Refusal) (fits : List A → Bool) → IsOk (or_refuse read each >>= λ xs. when (fits xs) xs limit_passed)
-    → (all : List A) × (read ≡ Some all) × (fits all ≡ true)
-judged_list None each fits ok = absurd (cc)
-judged_list (Some xs) each fits ok = (xs, refl, judged (fits xs) ok)
-  where
-    judged : (b : Bool) → IsOk (when b xs limit_passed) → b ≡ true
-    judged true ok = refl
-    judged false ok = absurd (cc)
-
-list_judged : {A : Type 0} (o : Option Items) (vs : List Value) (shape each : Refusal) (f : Data → Option A) (fits : List A → Bool) → Some (items_view vs) ≡ o → IsOk (list_of o shape f each fits)
-    → (all : List A) × (each_of f (items_view vs) ≡ Some all) × (fits all ≡ true)
-list_judged o vs shape each f fits h ok = judged_list (each_of f (items_view vs)) each fits (subst (λ p. IsOk (list_of p shape f each fits)) (sym h) ok)
-
-pub list_some : {A : Type 0} (o : Option Items) (vs : List Value) (shape each : Refusal) (f : Data → Option A) (fits : List A → Bool) → Some (items_view vs) ≡ o → IsOk (list_of o shape f each fits)
-    → IsSome (each_of f (items_view vs))
-list_some o vs shape each f fits h ok = subst (λ r. IsSome r) (sym (list_judged o vs shape each f fits h ok).1) refl
-
-built : {A : Type 0} (o : Option Items) (vs : List Value) (shape each : Refusal) (f : Data → Option A) (fits : List A → Bool) (all : List A)
-    → Some (items_view vs) ≡ o → IsOk (list_of o shape f each fits) → each_of f (items_view vs) ≡ Some all → list_of o shape f each fits ≡ Ok all
-built o vs shape each f fits all h ok read =
-    let judged = list_judged o vs shape each f fits h ok in
-    let same = same_Some judged.0 all (sym judged.1 ∙ read) in
-    ap (λ p. list_of p shape f each fits) (sym h)
-    ∙ ap (λ p. or_refuse p each >>= λ xs. when (fits xs) xs limit_passed) read
-    ∙ ap (λ (b : Bool). when b all limit_passed) (sym (ap fits same) ∙ judged.2)
-
-pub list_built : {A B : Type 0} (g : B → List A) (o : Option Items) (vs : List Value) (shape each : Refusal) (f : Data → Option A) (fits : List A → Bool) (r : Result B AllocError)
-    → Some (items_view vs) ≡ o → IsOk (list_of o shape f each fits) → IfOk r (λ b. each_of f (items_view vs) ≡ Some (g b)) → IfOk r (λ b. list_of o shape f each fits ≡ Ok (g b))
-list_built g o vs shape each f fits (Ok b) h ok read = built o vs shape each f fits (g b) h ok read
-list_built g o vs shape each f fits (Err e) h ok read = read
-
--- ---- what is built of a filter that reads
-
-filter_judged : (o : Option Condition) (e : Refusal) → IsOk (judged_filter o e) → (c : Condition) × (o ≡ Some c) × (fits_filter c ≡ true)
-filter_judged None e ok = absurd (cc)
-filter_judged (Some c) e ok = (c, refl, judged (fits_filter c) ok)
-  where
-    judged : (b : Bool) → IsOk (when b (Some c) limit_passed) → b ≡ true
-    judged true ok = refl
-    judged false ok = absurd (cc)
-
-pub filter_some : (o : Option Condition) (e : Refusal) → IsOk (judged_filter o e) → IsSome o
-filter_some o e ok = subst (λ r. IsSome r) (sym (filter_judged o e ok).1) refl
-
-pub filter_built : (o : Option Condition) (c : Condition) (e : Refusal) → IsOk (judged_filter o e) → o ≡ Some c → judged_filter o e ≡ Ok (Some c)
-filter_built o c e ok read =
-    let judged = filter_judged o e ok in
-    let same = same_Some judged.0 c (sym judged.1 ∙ read) in
-    ap (λ p. judged_filter p e) read ∙ ap (λ (b : Bool). when b (Some c) limit_passed) (sym (ap fits_filter same) ∙ judged.2)

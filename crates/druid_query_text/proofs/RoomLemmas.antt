@@ -18,7 +18,8 @@ use Rattle.druid_filter.specs.Filters.{says, each_says}
 use Rattle.druid_filter.specs.declared.filter.Filter.{Filter, All, Any, Not, the_lemmas}
 use Rattle.std.specs.Box.{box_value}
 use Rattle.std.specs.Global.{Box}
-use Rattle.druid_query_text.specs.Levels.{Layer, selector, among, layer_at, layer_says, is_full, leaf, left_after, all_left, holds_in, fits_among}
+use Rattle.druid_query_text.specs.Levels.{Layer, selector, among, layer_at, layer_says, is_full, leaf, left_after, all_left, fits_among}
+use Rattle.druid_query_text.specs.Found.{holds_in}
 use Rattle.druid_query.specs.Limits.{max_members, max_levels, max_values}
 use Rattle.druid_shard.proofs.EachLemmas.{each_of_length}
 use Rattle.druid_query_text.proofs.FilterLemmas.{of_layer}

@@ -12,8 +12,9 @@ use Rattle.druid_query.specs.Query.{is_label, is_short}
 use Rattle.druid_query.specs.Limits.{max_values}
 use Rattle.druid_shard.specs.Each.{each_of}
 use Rattle.druid_query.specs.Filters.{value_at, filter_at, each_filter}
-use Rattle.druid_query_text.specs.declared.filters.Level.{Level}
-use Rattle.druid_query_text.specs.declared.filters.Level.TheVariants as lent
+use Rattle.druid_query_text.specs.Found.{holds_in}
+use Rattle.druid_query_text.specs.declared.filter.Level.{Level}
+use Rattle.druid_query_text.specs.declared.filter.Level.TheVariants as levels
 
 -- a filter, where the filters inside are still values
 pub data Layer : Type 0 where
@@ -69,12 +70,12 @@ IsWithin deep (any fields) = items_depth fields < deep
 IsWithin deep (negation field) = depth field < deep
 
 -- a level as the reader borrows it
-abbrev pub layer_lent : Level → Layer
-layer_lent (lent.Selector dimension value) = selector dimension.now (option_map (λ s. s.now) value)
-layer_lent (lent.Among dimension values) = among dimension.now (items_view values.now)
-layer_lent (lent.All fields) = all (items_view fields.now)
-layer_lent (lent.Any fields) = any (items_view fields.now)
-layer_lent (lent.Not field) = negation (view field.now)
+abbrev pub layer_of : Level → Layer
+layer_of (levels.Selector dimension value) = selector dimension.now (option_map (λ s. s.now) value)
+layer_of (levels.Among dimension values) = among dimension.now (items_view values.now)
+layer_of (levels.All fields) = all (items_view fields.now)
+layer_of (levels.Any fields) = any (items_view fields.now)
+layer_of (levels.Not field) = negation (view field.now)
 
 -- ---- room for filters
 
@@ -98,11 +99,6 @@ abbrev mutual
   pub all_left : Conditions → ℕ → ℕ → Option ℕ
   all_left no_conditions deep room = Some room
   all_left (condition c cs) deep room = left_after c deep room >>= λ left. all_left cs deep left
-
--- whether it reads, and as what passes
-abbrev pub holds_in : {A : Type 0} → (A → Bool) → Option A → Bool
-holds_in p None = false
-holds_in p (Some x) = p x
 
 abbrev pub fits_among : List ℕ → Items → Bool
 fits_among dimension values = holds_in (λ wanted. is_label dimension && nat_le (length wanted) max_values && list_all is_short wanted) (each_of value_at values)

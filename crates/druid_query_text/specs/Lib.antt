@@ -1,3 +1,5 @@
 -- words of private contracts
+pub mod Found
 pub mod Levels
-pub mod Lent
+pub mod Names
+pub mod Parts

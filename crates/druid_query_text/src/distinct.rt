@@ -1,16 +1,14 @@
 //! Whether the names in the result are distinct, judged without allocating.
-ghost use Rattle.std.specs.Prelude.{◌≡◌, ℕ, ◌+◌, ◌^◌, ◌<◌, [], List, Ok, Some, length, map, drop, slice_index_or};
+ghost use Rattle.std.specs.Prelude.{◌≡◌, ◌+◌, ◌^◌, ◌<◌, [], length, drop, slice_index_or};
 ghost use Rattle.std.specs.List.{list_any};
 ghost use Rattle.std.specs.Str.{bytes_eq};
 ghost use Rattle.serde_json.specs.View.{view};
-ghost use Rattle.druid_query.specs.Query.{Dimension, Aggregator, are_distinct, result_names};
-ghost use Rattle.druid_query.specs.Fields.{kind_at, dimension_at, aggregator_at};
-ghost use Rattle.druid_query_text.specs.Lent.{output_or, name_or, outputs_in, names_in, all_names};
-ghost use Rattle.druid_query.specs.declared.query_type.QueryType.{QueryType};
-ghost use Rattle.druid_query.specs.Read.{listed_dimensions, dimensions_at, aggregations_at};
+ghost use Rattle.druid_query.specs.Query.{are_distinct};
+ghost use Rattle.druid_query.specs.Fields.{dimension_at, aggregator_at};
+ghost use Rattle.druid_query_text.specs.Names.{output_or, name_or, all_names};
 
-use crate::fields::{aggregator_of, dimension_of, kind_of, list_field};
-use druid_query::QueryType;
+use crate::aggregator::aggregator_of;
+use crate::dimension::dimension_of;
 use serde_json::Value;
 
 fn output_of(value: &Value) -> &str
@@ -58,7 +56,8 @@ fn stands_later(dimensions: &[Value], aggregators: &[Value], place: usize) -> bo
     false
 }
 
-fn are_distinct(dimensions: &[Value], aggregators: &[Value]) -> bool
+// Whether the names in the result are distinct.
+pub(crate) fn are_distinct(dimensions: &[Value], aggregators: &[Value]) -> bool
     requires { length dimensions.now + length aggregators.now < 2 ^ 64 }
     ensures { result ≡ are_distinct (all_names dimensions.now aggregators.now) }
 {
@@ -68,49 +67,4 @@ fn are_distinct(dimensions: &[Value], aggregators: &[Value]) -> bool
         }
     }
     true
-}
-
-#[tactic(auto, using(crate::proofs::NameLemmas::dimension_names, crate::proofs::NameLemmas::no_dimension_names))]
-fn listed(value: &Value) -> &[Value]
-    ensures { (all : List Dimension) → listed_dimensions (view value.now) ≡ Ok all
-        → outputs_in result.now ≡ map (λ d. d.output_name) all }
-{
-    match list_field(value, "dimensions") {
-        Some(values) => values,
-        None => &[],
-    }
-}
-
-// The items of the dimensions; a `timeseries` has none.
-fn dimension_items(kind: QueryType, value: &Value) -> &[Value]
-    ensures { (all : List Dimension) → dimensions_at kind (view value.now) ≡ Ok all
-        → outputs_in result.now ≡ map (λ d. d.output_name) all }
-{
-    match kind {
-        QueryType::Timeseries => &[],
-        QueryType::GroupBy => listed(value),
-    }
-}
-
-#[tactic(auto, using(crate::proofs::NameLemmas::aggregator_names, crate::proofs::NameLemmas::no_aggregator_names))]
-fn aggregator_items(value: &Value) -> &[Value]
-    ensures { (all : List Aggregator) → aggregations_at (view value.now) ≡ Ok all
-        → names_in result.now ≡ map (λ a. a.name) all }
-{
-    match list_field(value, "aggregations") {
-        Some(values) => values,
-        None => &[],
-    }
-}
-
-// Whether the names in the result are distinct, where the dimensions and the aggregators read.
-pub(crate) fn has_distinct_names(value: &Value) -> bool
-    ensures { (kind : QueryType) (dimensions : List Dimension) (aggregations : List Aggregator) → Some kind ≡ kind_at (view value.now)
-        → dimensions_at kind (view value.now) ≡ Ok dimensions → aggregations_at (view value.now) ≡ Ok aggregations
-        → result ≡ are_distinct (result_names dimensions aggregations) }
-{
-    let Some(kind) = kind_of(value) else {
-        return true;
-    };
-    are_distinct(dimension_items(kind, value), aggregator_items(value))
 }

@@ -1,6 +1,6 @@
 use Rattle.std.proofs.Common.{◌≡◌, drop}
 use Rattle.druid_query.specs.Query.{are_distinct}
-use Rattle.druid_query_text.specs.Lent.{all_names}
+use Rattle.druid_query_text.specs.Names.{all_names}
 use Rattle.druid_query_text.proofs.distinct.are_distinct.Given as goal
 
 abbrev pub invariant-loop-place : goal.invariant-loop-place

@@ -1,2 +1,0 @@
--- Distinct names, found one by one.
-use Rattle.std.proofs.Common.{◌≡◌, ◌+◌, ◌<◌, ◌≤◌}

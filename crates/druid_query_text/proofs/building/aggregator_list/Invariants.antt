@@ -1,9 +1,0 @@
-use Rattle.std.proofs.Common.{◌≡◌, drop}
-use Rattle.serde_json.specs.View.{items_view}
-use Rattle.druid_shard.specs.Each.{each_of}
-use Rattle.druid_query.specs.Fields.{aggregator_at}
-use Rattle.druid_shard.proofs.EachLemmas.{with_front}
-use Rattle.druid_query_text.proofs.building.aggregator_list.Given as goal
-
-abbrev pub invariant-loop-value : goal.invariant-loop-value
-invariant-loop-value l = with_front l.all.items (each_of aggregator_at (items_view (drop l.value-index l.values))) ≡ each_of aggregator_at (items_view l.values)

@@ -1,0 +1,304 @@
+//! Filters, read out of JSON.
+ghost use Rattle.std.specs.Prelude.{◌&&◌, length, nat_le, string_bytes, Ok, ◌≡◌, ◌-◌, ◌≤◌, Some, IfOk, IsSome, IfSome, SomeIff, option_map, option_and_then, is_some, IsTrue};
+ghost use Rattle.std.specs.List.{list_all};
+ghost use Rattle.serde_json.specs.Data.{depth};
+ghost use Rattle.serde_json.specs.Find.{get, as_array};
+ghost use Rattle.serde_json.specs.View.{view, items_view};
+ghost use Rattle.druid_shard.specs.Each.{each_of};
+ghost use Rattle.druid_query.specs.Filters.{value_at, filter_at, each_filter};
+ghost use Rattle.druid_query_text.specs.Levels.{selector_layer, among_layer, fields_at, layer_named, layer_at, layer_of, leaf, left_after, all_left, fits_among};
+ghost use Rattle.druid_query_text.specs.Found.{FindsBy, Reads, read_of, holds_in};
+ghost use Rattle.druid_query.specs.Read.{filter_field};
+ghost use Rattle.druid_query.specs.Query.{is_label, is_short, fits_filter};
+ghost use Rattle.druid_filter.specs.Filters.{says, each_says, has, has_among};
+ghost use Rattle.druid_filter.specs.Values.{nullable_texts_of};
+
+use druid_filter::Filter;
+use druid_query::{MAX_LEVELS, MAX_MEMBERS, MAX_VALUES, QueryFault, is_label, is_short};
+use druid_shard::text_field;
+use serde_json::Value;
+use std::alloc::{AllocError, Global};
+
+// A filter seen one level deep, with borrowed texts.
+#[derive(Drop)]
+enum Level<'a> {
+    Selector(&'a str, Option<&'a str>),
+    Among(&'a str, &'a [Value]),
+    All(&'a [Value]),
+    Any(&'a [Value]),
+    Not(&'a Value),
+}
+
+// A value of a dimension.
+#[tactic(auto, unfolding(druid_query::specs::Filters::value_at))]
+fn value_of(value: &Value) -> Option<Option<&str>>
+    ensures { option_map (option_map (λ s. s.now)) result ≡ value_at (view value.now) }
+{
+    if value.is_null() {
+        return Some(None);
+    }
+    Some(Some(value.as_str()?))
+}
+
+fn list_at<'a>(value: &'a Value, key: &str) -> Option<&'a [Value]>
+    ensures { option_map (λ vs. items_view vs.now) result ≡ option_and_then as_array (get key.now (view value.now)) }
+{
+    let values = value.get(key).and_then(Value::as_array)?;
+    Some(values.as_slice())
+}
+
+fn selector_level(value: &Value) -> Option<Level<'_>>
+    ensures { option_map layer_of result ≡ selector_layer (view value.now) }
+{
+    let dimension = text_field(value, "dimension")?;
+    let wanted = value_of(value.get("value")?)?;
+    Some(Level::Selector(dimension, wanted))
+}
+
+fn among_level(value: &Value) -> Option<Level<'_>>
+    ensures { option_map layer_of result ≡ among_layer (view value.now) }
+{
+    let dimension = text_field(value, "dimension")?;
+    let values = list_at(value, "values")?;
+    Some(Level::Among(dimension, values))
+}
+
+#[tactic(auto, unfolding(crate::specs::Levels::layer_named))]
+fn level_named<'a>(kind: &str, value: &'a Value) -> Option<Level<'a>>
+    ensures { option_map layer_of result ≡ layer_named kind.now (view value.now) }
+{
+    if kind == "selector" {
+        return selector_level(value);
+    }
+    if kind == "in" {
+        return among_level(value);
+    }
+    if kind == "and" {
+        return Some(Level::All(list_at(value, "fields")?));
+    }
+    if kind == "or" {
+        return Some(Level::Any(list_at(value, "fields")?));
+    }
+    if kind == "not" {
+        return Some(Level::Not(value.get("field")?));
+    }
+    None
+}
+
+#[tactic(auto, unfolding(crate::specs::Levels::layer_at))]
+fn level_of(value: &Value) -> Option<Level<'_>>
+    ensures { option_map layer_of result ≡ layer_at (view value.now) }
+{
+    level_named(text_field(value, "type")?, value)
+}
+
+fn are_values(values: &[Value]) -> bool
+    ensures { result ≡ list_all (λ value. is_some (value_at (view value))) values.now }
+{
+    values.iter().all(|value| value_of(value).is_some())
+}
+
+// Whether a value is a filter.
+#[cycle(is_filter)]
+fn is_filter(value: &Value) -> bool
+    ensures { result ≡ is_some (filter_at (view value.now)) }
+{
+    match level_of(value) {
+        None => false,
+        Some(Level::Selector(_dimension, _wanted)) => true,
+        Some(Level::Among(_dimension, values)) => are_values(values),
+        Some(Level::All(fields)) => are_filters(fields),
+        Some(Level::Any(fields)) => are_filters(fields),
+        Some(Level::Not(field)) => is_filter(field),
+    }
+}
+
+#[cycle(is_filter)]
+fn are_filters(values: &[Value]) -> bool
+    ensures { result ≡ is_some (each_filter (items_view values.now)) }
+{
+    for value in values {
+        if !is_filter(value) {
+            return false;
+        }
+    }
+    true
+}
+
+fn fits_selector(dimension: &str, wanted: Option<&str>) -> bool
+    ensures { result ≡ (is_label dimension.now && is_short (option_map (λ s. s.now) wanted.entry)) }
+{
+    is_label(dimension) && is_short(wanted)
+}
+
+fn is_short_value(value: &Value) -> bool
+    ensures { result ≡ holds_in is_short (value_at (view value.now)) }
+{
+    match value_of(value) {
+        Some(value) => is_short(value),
+        None => false,
+    }
+}
+
+fn are_short(values: &[Value]) -> bool
+    ensures { result ≡ list_all (λ value. holds_in is_short (value_at (view value))) values.now }
+{
+    values.iter().all(|value| is_short_value(value))
+}
+
+fn are_few(values: &[Value]) -> bool
+    ensures { result ≡ nat_le (length values.now) MAX_VALUES }
+{
+    values.len() <= MAX_VALUES
+}
+
+fn fits_among(dimension: &str, values: &[Value]) -> bool
+    ensures { result ≡ fits_among dimension.now (items_view values.now) }
+{
+    if !is_label(dimension) {
+        return false;
+    }
+    if !are_few(values) {
+        return false;
+    }
+    are_short(values)
+}
+
+fn leaf(fits: bool, room: usize) -> Option<usize>
+    requires { 1 ≤ room }
+    ensures { result ≡ leaf fits room }
+{
+    if fits { Some(room - 1) } else { None }
+}
+
+// The places that a filter leaves of these, where it nests no deeper than this and its texts are within their limits.
+#[cycle(room_after)]
+fn room_after(value: &Value, deep: usize, room: usize) -> Option<usize>
+    ensures { result ≡ option_and_then (λ c. left_after c deep room) (filter_at (view value.now)) }
+{
+    if deep == 0 {
+        return None;
+    }
+    if room == 0 {
+        return None;
+    }
+    match level_of(value) {
+        None => None,
+        Some(Level::Selector(dimension, wanted)) => leaf(fits_selector(dimension, wanted), room),
+        Some(Level::Among(dimension, values)) => leaf(fits_among(dimension, values), room),
+        Some(Level::All(fields)) => room_after_all(fields, deep - 1, room - 1),
+        Some(Level::Any(fields)) => room_after_all(fields, deep - 1, room - 1),
+        Some(Level::Not(field)) => room_after(field, deep - 1, room - 1),
+    }
+}
+
+#[cycle(room_after)]
+fn room_after_all(values: &[Value], deep: usize, room: usize) -> Option<usize>
+    ensures { result ≡ option_and_then (λ cs. all_left cs deep room) (each_filter (items_view values.now)) }
+{
+    let mut left = room;
+    for value in values {
+        match room_after(value, deep, left) {
+            Some(rest) => left = rest,
+            None => return None,
+        }
+    }
+    Some(left)
+}
+
+// Whether a value is a filter that passes no limit.
+fn fits_filter(value: &Value) -> bool
+    ensures { result ≡ holds_in fits_filter (filter_at (view value.now)) }
+{
+    room_after(value, MAX_LEVELS, MAX_MEMBERS).is_some()
+}
+
+// The filter of a query, if there is one.
+#[tactic(auto, unfolding(druid_query::specs::Read::filter_field, druid_query::specs::Read::wanted_filter), using(crate::proofs::ListLemmas::no_filter, crate::proofs::ListLemmas::filter_passes, crate::proofs::ListLemmas::filter_fits))]
+pub(crate) fn filter_field(value: &Value) -> Result<Option<&Value>, QueryFault>
+    ensures read { FindsBy (option_and_then (λ v. read_of filter_at v.now)) result (filter_field (view value.now)) }
+    ensures each { IfOk result (λ filter. IfSome filter (λ v. Reads filter_at v.now)) }
+{
+    let Some(filter) = value.get("filter") else {
+        return Ok(None);
+    };
+    if filter.is_null() {
+        return Ok(None);
+    }
+    if !is_filter(filter) {
+        return Err(QueryFault::Field("filter"));
+    }
+    if !fits_filter(filter) {
+        return Err(QueryFault::LimitPassed);
+    }
+    Ok(Some(filter))
+}
+
+fn copy_of(alloc: Global, text: Option<&str>) -> Result<Option<String>, AllocError>
+    ensures { IfOk result (λ copy. option_map string_bytes copy ≡ option_map (λ s. s.now) text.entry) }
+{
+    match text {
+        Some(text) => Ok(Some(String::from_str(alloc, text)?)),
+        None => Ok(None),
+    }
+}
+
+fn selector_of(alloc: Global, dimension: &str, wanted: Option<&str>) -> Result<Filter, AllocError>
+    ensures { IfOk result (λ f. says f ≡ has dimension.now (option_map (λ s. s.now) wanted.entry)) }
+{
+    let dimension = String::from_str(alloc, dimension)?;
+    let wanted = copy_of(alloc, wanted)?;
+    Ok(Filter::Selector(dimension, wanted))
+}
+
+// The values, each of which is a text or null.
+fn values_of(alloc: Global, values: &[Value]) -> Result<Vec<Option<String>>, AllocError>
+    requires { IsSome (each_of value_at (items_view values.now)) }
+    ensures { IfOk result (λ wanted. each_of value_at (items_view values.now) ≡ Some (nullable_texts_of wanted.items)) }
+{
+    let mut wanted = Vec::with_capacity(alloc, values.len())?;
+    for value in values {
+        let Some(text) = value_of(value) else {
+            unreachable!()
+        };
+        wanted.push(copy_of(alloc, text)?)?;
+    }
+    Ok(wanted)
+}
+
+fn among_of(alloc: Global, dimension: &str, values: &[Value]) -> Result<Filter, AllocError>
+    requires { IsSome (each_of value_at (items_view values.now)) }
+    ensures { IfOk result (λ f. option_map (has_among dimension.now) (each_of value_at (items_view values.now)) ≡ Some (says f)) }
+{
+    let dimension = String::from_str(alloc, dimension)?;
+    let wanted = values_of(alloc, values)?;
+    Ok(Filter::Among(dimension, wanted))
+}
+
+// The filter that a value is. It was judged before to be one.
+#[cycle(filter_of)]
+pub(crate) fn filter_of(alloc: Global, value: &Value) -> Result<Filter, AllocError>
+    requires { IsSome (filter_at (view value.now)) }
+    ensures { IfOk result (λ f. filter_at (view value.now) ≡ Some (says f)) }
+{
+    match level_of(value) {
+        None => unreachable!(),
+        Some(Level::Selector(dimension, wanted)) => selector_of(alloc, dimension, wanted),
+        Some(Level::Among(dimension, values)) => among_of(alloc, dimension, values),
+        Some(Level::All(fields)) => Ok(Filter::All(filters_of(alloc, fields)?)),
+        Some(Level::Any(fields)) => Ok(Filter::Any(filters_of(alloc, fields)?)),
+        Some(Level::Not(field)) => Ok(Filter::Not(Box::new(alloc, filter_of(alloc, field)?)?)),
+    }
+}
+
+#[cycle(filter_of)]
+fn filters_of(alloc: Global, values: &[Value]) -> Result<Vec<Filter>, AllocError>
+    requires { IsSome (each_filter (items_view values.now)) }
+    ensures { IfOk result (λ fs. each_filter (items_view values.now) ≡ Some (each_says fs.items)) }
+{
+    let mut filters = Vec::with_capacity(alloc, values.len())?;
+    for value in values {
+        filters.push(filter_of(alloc, value)?)?;
+    }
+    Ok(filters)
+}

@@ -1,0 +1,155 @@
+//! Subqueries, read.
+ghost use Rattle.std.specs.Prelude.{◌≡◌, IfOk, option_map, option_and_then, codes};
+ghost use Rattle.serde_json.specs.Find.{get};
+ghost use Rattle.serde_json.specs.View.{view, items_view};
+ghost use Rattle.druid_query.specs.Asked.{asked_items, inside_at};
+ghost use Rattle.druid_query.specs.Fields.{listed_texts, interval_of};
+ghost use Rattle.druid_query.specs.Read.{IsQuery, IsReadBy};
+ghost use Rattle.druid_query.specs.SubQuery.{pieces_at, query_intervals_at, span_at, subquery_at, before_search, GivesSub};
+ghost use Rattle.druid_query_text.specs.Found.{FindsBy, FindsAfter, EachReads, those};
+ghost use Rattle.druid_query_text.specs.Parts.{span_by};
+
+use crate::interval::{interval_items, listed_texts};
+use crate::parts::{Head, QueryRef, Tail};
+use druid_asked_text::{are_apart, are_inside, asked_items, asked_list};
+use druid_query::{QueryFault, SubQuery};
+use serde_json::Value;
+use std::alloc::{AllocError, Global};
+use std::marker::Model;
+use std::str;
+
+fn asked_field(value: &Value) -> Option<&[Value]>
+    ensures { option_map (λ vs. items_view vs.now) result ≡ option_and_then asked_items (get (codes "intervals") (view value.now)) }
+{
+    asked_items(value.get("intervals")?)
+}
+
+// The pieces, before they are searched for two that overlap.
+#[tactic(auto, unfolding(druid_query::specs::SubQuery::pieces_at), using(crate::proofs::SubLemmas::no_pieces, crate::proofs::SubLemmas::not_inside, crate::proofs::SubLemmas::inside, crate::proofs::ListLemmas::all_read))]
+fn pieces_of<'a>(source: &str, value: &'a Value) -> Result<&'a [Value], QueryFault>
+    ensures read { FindsBy (λ vs. those (inside_at source.now) vs.now) result (pieces_at source.now (view value.now)) }
+    ensures each { IfOk result (λ vs. EachReads (inside_at source.now) vs.now) }
+{
+    let Some(items) = asked_field(value) else {
+        return Err(QueryFault::Field("intervals"));
+    };
+    if !are_inside(source, items) {
+        return Err(QueryFault::BadInterval);
+    }
+    Ok(items)
+}
+
+fn query_interval_field(value: &Value) -> Option<&[Value]>
+    ensures { option_map (λ vs. items_view vs.now) result ≡ option_and_then listed_texts (get (codes "queryIntervals") (view value.now)) }
+{
+    listed_texts(value.get("queryIntervals")?)
+}
+
+#[tactic(auto, unfolding(druid_query::specs::SubQuery::query_intervals_at))]
+fn query_intervals_of(value: &Value) -> Result<&[Value], QueryFault>
+    ensures { FindsBy (λ vs. those interval_of vs.now) result (query_intervals_at (view value.now)) }
+{
+    interval_items(query_interval_field(value), "queryIntervals")
+}
+
+// The pieces, and then the query's own intervals. Out of memory comes of the search for pieces that overlap.
+fn span_of<'a>(
+    alloc: Global,
+    source: &str,
+    value: &'a Value,
+) -> Result<(&'a [Value], &'a [Value]), QueryFault>
+    ensures read { FindsAfter (λ found. span_by source.now found.0.now found.1.now) (pieces_at source.now (view value.now)) result
+        (span_at source.now (view value.now)) }
+    ensures each { IfOk result (λ found. EachReads (inside_at source.now) found.0.now) }
+{
+    let asked = pieces_of(source, value)?;
+    let Ok(apart) = are_apart(alloc, source, asked) else {
+        return Err(QueryFault::Memory);
+    };
+    if !apart {
+        return Err(QueryFault::BadInterval);
+    }
+    let intervals = query_intervals_of(value)?;
+    Ok((asked, intervals))
+}
+
+// A subquery, with borrowed parts.
+#[derive(Drop)]
+struct SubQueryRef<'a> {
+    query: QueryRef<'a>,
+    asked: &'a [Value],
+}
+
+impl<'a> Model for SubQueryRef<'a> {
+    ghost use Rattle.druid_query.specs.Asked.{inside_at};
+    ghost use Rattle.druid_query.specs.SubQuery.{SubQuery};
+    ghost use Rattle.druid_query_text.specs.Found.{those, EachReads};
+    ghost use Rattle.std.specs.Coded.{codes};
+    ghost use Rattle.druid_filter.specs.FilterCode.{coded_condition};
+
+    ghost Value = { SubQuery };
+
+    ghost coded = { Prim.hlevel (codes, coded_condition) };
+
+    ghost view = { λ a. record { query = a.query; asked = those (inside_at a.query.source) a.asked.now } };
+
+    ghost invariant = { λ a. EachReads (inside_at a.query.source) a.asked.now };
+}
+
+impl<'a> SubQueryRef<'a> {
+    // The subquery that a value is, or its first refusal.
+    fn of(alloc: Global, value: &'a Value) -> Result<SubQueryRef<'a>, QueryFault>
+        ensures { FindsAfter (λ sub. sub) (before_search (view value.now)) result (subquery_at (view value.now)) }
+    {
+        let head = Head::of(value)?;
+        let (asked, intervals) = span_of(alloc, head.source(), value)?;
+        let tail = Tail::of(head.kind(), value)?;
+        Ok(SubQueryRef {
+            query: QueryRef::new(head, intervals, tail),
+            asked,
+        })
+    }
+
+    // A copy.
+    #[tactic(auto, using(crate::proofs::ListLemmas::those_all))]
+    fn owned(&self, alloc: Global) -> Result<SubQuery, AllocError>
+        requires { IsQuery self.now.query }
+        ensures { IfOk result (λ sub. sub ≡ self.now) }
+    {
+        let query = self.query.owned(alloc)?;
+        let asked = asked_list(alloc, query.source(), self.asked)?;
+        Ok(SubQuery::new(query, asked))
+    }
+}
+
+/// Reads a subquery: the refusals of `query_of`, in its order, where `intervals` holds an object of the type `segments` with
+/// the pieces that are asked for, and `queryIntervals`, which is read after it, a list of the query's own intervals. Q3 where
+/// no piece is asked for or one has another shape, its `part` and `ver` included; then Q4 where a text is no interval, a piece
+/// is not inside its segment, or two pieces of one segment overlap. To find the latter allocates: Q9 may come in place of
+/// that refusal and of those after it, and else comes last.
+pub fn subquery_of(alloc: Global, value: &Value) -> Result<SubQuery, QueryFault>
+    ensures { GivesSub (view value.now) result }
+{
+    let parts = SubQueryRef::of(alloc, value)?;
+    match parts.owned(alloc) {
+        Ok(subquery) => Ok(subquery),
+        Err(AllocError) => Err(QueryFault::Memory),
+    }
+}
+
+/// Reads a subquery out of a text: Q1 where the bytes are no JSON in UTF-8, and then the refusals of the value. Reading JSON
+/// allocates as it goes, so Q9 may come before a fault that stands further on.
+pub fn read_subquery(alloc: Global, bytes: &[u8]) -> Result<SubQuery, QueryFault>
+    ensures { IsReadBy subquery_at bytes.now result }
+{
+    match Value::from_slice(alloc, bytes) {
+        Ok(value) => subquery_of(alloc, &value),
+        Err(error) => {
+            if error.is_memory() && str::from_utf8(bytes).is_ok() {
+                Err(QueryFault::Memory)
+            } else {
+                Err(QueryFault::NotJson)
+            }
+        }
+    }
+}
