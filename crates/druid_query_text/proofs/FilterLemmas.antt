@@ -291,7 +291,3 @@ unfolding filter_at
 joined_last done vs i h =
     ap (λ (ws : List Value). joined (map says done) (each_filter (items_view ws))) (drop_of_length-le vs h)
     ∙ ap Some (before_none (map says done))
-
-pub joined_none : (o : Option Conditions) → joined [] o ≡ o
-joined_none None = refl
-joined_none (Some cs) = refl

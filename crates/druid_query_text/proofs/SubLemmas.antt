@@ -1,8 +1,7 @@
 -- The parts of a subquery.
-use Rattle.std.proofs.Common.{◌≡◌, ℕ, List, Option, Some, None, Result, Ok, Err, IsOk, is_some, codes, option_and_then, true, false, Bool, refl, sym, ap, ◌∙◌, subst}
+use Rattle.std.proofs.Common.{◌≡◌, ℕ, List, Option, Some, None, Result, Ok, Err, IsOk, is_some, codes, true, false, Bool, refl, sym, ap, ◌∙◌, subst}
 use Rattle.std.specs.List.{list_all}
 use Rattle.serde_json.specs.Data.{Data, Items}
-use Rattle.serde_json.specs.Find.{get}
 use Rattle.serde_json.specs.View.{view, items_view}
 use Rattle.serde_json.specs.declared.value.Value.{Value}
 use Rattle.druid_time.specs.Extent.{Extent}
@@ -11,7 +10,7 @@ use Rattle.druid_time.specs.declared.granularity.Granularity.{Granularity}
 use Rattle.druid_shard.specs.Each.{each_of}
 use Rattle.druid_shard.proofs.EachLemmas.{not_all_read}
 use Rattle.druid_query.specs.Query.{query_of}
-use Rattle.druid_query.specs.Asked.{Asked, inside_at, asked_items, stand_apart}
+use Rattle.druid_query.specs.Asked.{Asked, inside_at, stand_apart}
 use Rattle.druid_query.specs.Refusal.{Refusal, bad_field, bad_interval, unknown_type, or_refuse, when, TellsAfter}
 use Rattle.druid_query.specs.Fields.{kind_at}
 use Rattle.druid_query.specs.Read.{source_at, granularity_at}
@@ -20,7 +19,7 @@ use Rattle.druid_query.specs.declared.fault.QueryFault.{QueryFault}
 use Rattle.druid_query.specs.declared.query_type.QueryType.{QueryType}
 use Rattle.druid_query.proofs.ChainLemmas.{Reading, whole_by, same_ok, carried}
 use Rattle.druid_query.proofs.StepLemmas.{bound}
-use Rattle.druid_query_text.specs.Found.{Refuses, EachReads, those}
+use Rattle.druid_query_text.specs.Found.{Refuses, those}
 use Rattle.druid_query_text.specs.Parts.{Head, Tail, head_by, head_at, tail_at, query_by}
 use Rattle.druid_query_text.proofs.ListLemmas.{all_read, each_those}
 use Rattle.druid_query_text.proofs.ReadLemmas.{tells, refuses, stop, go, after, after_head, after_times, by_parts, whole_parts, at_times, at_tail, all_parts}

@@ -1,5 +1,5 @@
 -- A filter seen one level deep, as the reader takes it: only proofs use this.
-use Rattle.std.specs.Prelude.{ℕ, ◌<◌, ◌-◌, ◌==◌, ◌||◌, ◌&&◌, nat_le, Bool, false, length, List, codes, Option, Some, None, option_map, option_and_then, if◌then◌else◌}
+use Rattle.std.specs.Prelude.{ℕ, ◌<◌, ◌-◌, ◌==◌, ◌||◌, ◌&&◌, nat_le, Bool, length, List, codes, Option, Some, None, option_map, option_and_then, if◌then◌else◌}
 use Rattle.std.specs.List.{list_all}
 use Rattle.std.specs.Str.{bytes_eq}
 use Rattle.serde_json.specs.Data.{Data, Items, depth, items_depth}

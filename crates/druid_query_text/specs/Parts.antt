@@ -1,5 +1,5 @@
 -- The parts of a query, but for what stands at `intervals`: only proofs use this.
-use Rattle.std.specs.Prelude.{ℕ, List, Option, Some, None, Result, Ok}
+use Rattle.std.specs.Prelude.{ℕ, List, Option, Result, Ok}
 use Rattle.serde_json.specs.Data.{Data}
 use Rattle.druid_time.specs.Extent.{Extent}
 use Rattle.druid_time.specs.Results.{◌>>=◌}

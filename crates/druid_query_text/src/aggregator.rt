@@ -1,15 +1,16 @@
-//! Aggregators, read out of JSON.
+//! Aggregators, read out of JSON and written.
 ghost use Rattle.std.specs.Prelude.{◌≡◌, IfOk, option_map};
-ghost use Rattle.serde_json.specs.View.{view};
+ghost use Rattle.serde_json.specs.View.{view, items_view};
 ghost use Rattle.druid_query.specs.Fields.{aggregator_named, field_for, aggregator_at};
 ghost use Rattle.druid_query.specs.Query.{is_label_if, fits_aggregator};
 ghost use Rattle.druid_query.specs.Read.{aggregations_at};
 ghost use Rattle.druid_query_text.specs.Found.{FindsBy, EachReads, those};
+ghost use Rattle.druid_query.specs.Written.{aggregator_text, counting_data, of_field_data, fielded_data, aggregator_data, aggregations_data};
 
 use crate::item::{Item, are_fit, list_field};
 use druid_query::{Aggregator, AggregatorKind, MAX_AGGREGATORS, QueryFault, is_label};
 use druid_shard::text_field;
-use serde_json::Value;
+use serde_json::{Value, json};
 use std::alloc::{AllocError, Global};
 use std::marker::Model;
 
@@ -142,6 +143,61 @@ pub(crate) fn aggregator_list(alloc: Global, items: &[Value]) -> Result<Vec<Aggr
             continue;
         };
         all.push(aggregator.owned(alloc)?)?;
+    }
+    Ok(all)
+}
+
+fn aggregator_text(kind: AggregatorKind) -> &'static str
+    ensures { result.now ≡ aggregator_text kind }
+{
+    match kind {
+        AggregatorKind::Count => "count",
+        AggregatorKind::LongSum => "longSum",
+        AggregatorKind::LongMin => "longMin",
+        AggregatorKind::LongMax => "longMax",
+    }
+}
+
+#[tactic(auto, unfolding(druid_query::specs::Written::counting_data))]
+fn counting_value(alloc: Global, kind: &str, name: &str) -> Result<Value, AllocError>
+    ensures { IfOk result (λ v. view v ≡ counting_data kind.now name.now) }
+{
+    json!(in alloc; {
+        "name": name,
+        "type": kind,
+    })
+}
+
+#[tactic(auto, unfolding(druid_query::specs::Written::of_field_data))]
+fn of_field_value(alloc: Global, kind: &str, name: &str, field: &str) -> Result<Value, AllocError>
+    ensures { IfOk result (λ v. view v ≡ of_field_data kind.now name.now field.now) }
+{
+    json!(in alloc; {
+        "fieldName": field,
+        "name": name,
+        "type": kind,
+    })
+}
+
+fn aggregator_value(alloc: Global, aggregator: &Aggregator) -> Result<Value, AllocError>
+    ensures { IfOk result (λ v. view v ≡ aggregator_data aggregator.now) }
+{
+    let kind = aggregator_text(aggregator.kind());
+    match aggregator.field() {
+        Some(field) => of_field_value(alloc, kind, aggregator.name(), field),
+        None => counting_value(alloc, kind, aggregator.name()),
+    }
+}
+
+pub(crate) fn aggregations_value(
+    alloc: Global,
+    aggregators: &[Aggregator],
+) -> Result<Vec<Value>, AllocError>
+    ensures { IfOk result (λ vs. items_view vs.items ≡ aggregations_data aggregators.now) }
+{
+    let mut all = Vec::with_capacity(alloc, aggregators.len())?;
+    for aggregator in aggregators {
+        all.push(aggregator_value(alloc, aggregator)?)?;
     }
     Ok(all)
 }

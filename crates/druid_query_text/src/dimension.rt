@@ -1,16 +1,17 @@
-//! Dimensions, read out of JSON.
+//! Dimensions, read out of JSON and written.
 ghost use Rattle.std.specs.Prelude.{◌≡◌, IfOk, option_map};
 ghost use Rattle.serde_json.specs.Find.{get};
-ghost use Rattle.serde_json.specs.View.{view};
+ghost use Rattle.serde_json.specs.View.{view, items_view};
 ghost use Rattle.druid_query.specs.Fields.{text_or, default_dimension, dimension_at};
 ghost use Rattle.druid_query.specs.Query.{fits_dimension};
 ghost use Rattle.druid_query.specs.Read.{listed_dimensions, dimensions_at};
 ghost use Rattle.druid_query_text.specs.Found.{FindsBy, EachReads, those};
+ghost use Rattle.druid_query.specs.Written.{dimension_data, dimensions_data};
 
 use crate::fields::typed_text;
 use crate::item::{Item, are_fit, list_field};
 use druid_query::{Dimension, MAX_DIMENSIONS, QueryFault, QueryType, is_label};
-use serde_json::Value;
+use serde_json::{Value, json};
 use std::alloc::{AllocError, Global};
 use std::marker::Model;
 
@@ -133,6 +134,30 @@ pub(crate) fn dimension_list(alloc: Global, items: &[Value]) -> Result<Vec<Dimen
             continue;
         };
         all.push(dimension.owned(alloc)?)?;
+    }
+    Ok(all)
+}
+
+#[tactic(auto, unfolding(druid_query::specs::Written::dimension_data))]
+fn dimension_value(alloc: Global, dimension: &Dimension) -> Result<Value, AllocError>
+    ensures { IfOk result (λ v. view v ≡ dimension_data dimension.now) }
+{
+    json!(in alloc; {
+        "dimension": dimension.dimension(),
+        "outputName": dimension.output_name(),
+        "type": "default",
+    })
+}
+
+pub(crate) fn dimensions_value(
+    alloc: Global,
+    dimensions: &[Dimension],
+) -> Result<Vec<Value>, AllocError>
+    ensures { IfOk result (λ vs. items_view vs.items ≡ dimensions_data dimensions.now) }
+{
+    let mut all = Vec::with_capacity(alloc, dimensions.len())?;
+    for dimension in dimensions {
+        all.push(dimension_value(alloc, dimension)?)?;
     }
     Ok(all)
 }

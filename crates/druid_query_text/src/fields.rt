@@ -1,10 +1,12 @@
-//! The fields of a query that are no lists, read out of JSON. Nothing here allocates.
+//! The fields of a query that are no lists, read out of JSON and written. Nothing here allocates.
 ghost use Rattle.std.specs.Prelude.{◌≡◌, codes, option_map, option_and_then};
 ghost use Rattle.serde_json.specs.View.{view};
 ghost use Rattle.serde_json.specs.Find.{get};
 ghost use Rattle.druid_query.specs.Fields.{kind_at, typed_text, source_text, granularity_named, all_at, granularity_of, is_empty, is_empty_or_absent, is_null_or_false, is_off};
 ghost use Rattle.druid_query.specs.Read.{source_at, granularity_at, no_more_at};
 ghost use Rattle.druid_query_text.specs.Found.{FindsBy, Finds};
+ghost use Rattle.druid_query.specs.Written.{granularity_text};
+ghost use Rattle.druid_query_text.specs.Members.{kind_text};
 
 use druid_query::{QueryFault, QueryType, is_label};
 use druid_segid::Name;
@@ -200,4 +202,25 @@ pub(crate) fn check_no_more(value: &Value) -> Result<(), QueryFault>
         return Err(QueryFault::Field("subtotalsSpec"));
     }
     Ok(())
+}
+
+pub(crate) fn granularity_text(granularity: Granularity) -> &'static str
+    ensures { result.now ≡ granularity_text granularity }
+{
+    match granularity {
+        Granularity::All => "all",
+        Granularity::Second => "second",
+        Granularity::Minute => "minute",
+        Granularity::Hour => "hour",
+        Granularity::Day => "day",
+    }
+}
+
+pub(crate) fn kind_text(kind: QueryType) -> &'static str
+    ensures { result.now ≡ kind_text kind }
+{
+    match kind {
+        QueryType::Timeseries => "timeseries",
+        QueryType::GroupBy => "groupBy",
+    }
 }

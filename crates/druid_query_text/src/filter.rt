@@ -1,5 +1,5 @@
-//! Filters, read out of JSON.
-ghost use Rattle.std.specs.Prelude.{◌&&◌, length, nat_le, string_bytes, Ok, ◌≡◌, ◌-◌, ◌≤◌, Some, IfOk, IsSome, IfSome, SomeIff, option_map, option_and_then, is_some, IsTrue};
+//! Filters, read out of JSON and written.
+ghost use Rattle.std.specs.Prelude.{◌&&◌, map, length, nat_le, string_bytes, Ok, ◌≡◌, ◌-◌, ◌≤◌, Some, IfOk, IsSome, IfSome, SomeIff, option_map, option_and_then, is_some, IsTrue};
 ghost use Rattle.std.specs.List.{list_all};
 ghost use Rattle.serde_json.specs.Data.{depth};
 ghost use Rattle.serde_json.specs.Find.{get, as_array};
@@ -12,11 +12,13 @@ ghost use Rattle.druid_query.specs.Read.{filter_field};
 ghost use Rattle.druid_query.specs.Query.{is_label, is_short, fits_filter};
 ghost use Rattle.druid_filter.specs.Filters.{says, each_says, has, has_among};
 ghost use Rattle.druid_filter.specs.Values.{nullable_texts_of};
+ghost use Rattle.serde_json.specs.View.{items_of};
+ghost use Rattle.druid_query.specs.Written.{value_data, selector_data, among_data, fields_data, not_data, filter_data, filters_data, wanted_data};
 
 use druid_filter::Filter;
 use druid_query::{MAX_LEVELS, MAX_MEMBERS, MAX_VALUES, QueryFault, is_label, is_short};
 use druid_shard::text_field;
-use serde_json::Value;
+use serde_json::{Value, json};
 use std::alloc::{AllocError, Global};
 
 // A filter seen one level deep, with borrowed texts.
@@ -301,4 +303,109 @@ fn filters_of(alloc: Global, values: &[Value]) -> Result<Vec<Filter>, AllocError
         filters.push(filter_of(alloc, value)?)?;
     }
     Ok(filters)
+}
+
+fn value_value(alloc: Global, value: &Option<String>) -> Result<Value, AllocError>
+    ensures { IfOk result (λ v. view v ≡ value_data (option_map string_bytes value.now)) }
+{
+    match value {
+        Some(text) => Ok(Value::String(String::from_str(alloc, text.as_str())?)),
+        None => Ok(Value::Null),
+    }
+}
+
+fn values_value(alloc: Global, values: &[Option<String>]) -> Result<Vec<Value>, AllocError>
+    ensures { IfOk result (λ vs. items_view vs.items ≡ items_of (map value_data (nullable_texts_of values.now))) }
+{
+    let mut all = Vec::with_capacity(alloc, values.len())?;
+    for value in values {
+        all.push(value_value(alloc, value)?)?;
+    }
+    Ok(all)
+}
+
+#[tactic(auto, unfolding(druid_query::specs::Written::selector_data))]
+fn selector_value(
+    alloc: Global,
+    dimension: &str,
+    value: &Option<String>,
+) -> Result<Value, AllocError>
+    ensures { IfOk result (λ v. view v ≡ selector_data dimension.now (option_map string_bytes value.now)) }
+{
+    let value = value_value(alloc, value)?;
+    json!(in alloc; {
+        "dimension": dimension,
+        "type": "selector",
+        "value": value,
+    })
+}
+
+#[tactic(auto, unfolding(druid_query::specs::Written::among_data))]
+fn among_value(
+    alloc: Global,
+    dimension: &str,
+    values: &[Option<String>],
+) -> Result<Value, AllocError>
+    ensures { IfOk result (λ v. view v ≡ among_data dimension.now (nullable_texts_of values.now)) }
+{
+    let values = values_value(alloc, values)?;
+    json!(in alloc; {
+        "dimension": dimension,
+        "type": "in",
+        "values": Value::Array(values),
+    })
+}
+
+#[tactic(auto, unfolding(druid_query::specs::Written::fields_data))]
+fn fields_value(alloc: Global, kind: &str, fields: Vec<Value>) -> Result<Value, AllocError>
+    ensures { IfOk result (λ v. view v ≡ fields_data kind.now (items_view fields.items)) }
+{
+    json!(in alloc; {
+        "fields": Value::Array(fields),
+        "type": kind,
+    })
+}
+
+#[tactic(auto, unfolding(druid_query::specs::Written::not_data))]
+fn not_value(alloc: Global, field: Value) -> Result<Value, AllocError>
+    ensures { IfOk result (λ v. view v ≡ not_data (view field)) }
+{
+    json!(in alloc; {
+        "field": field,
+        "type": "not",
+    })
+}
+
+// The JSON of a filter.
+#[cycle(filter_value)]
+fn filter_value(alloc: Global, filter: &Filter) -> Result<Value, AllocError>
+    ensures { IfOk result (λ v. view v ≡ filter_data (says filter.now)) }
+{
+    match filter {
+        Filter::Selector(dimension, value) => selector_value(alloc, dimension.as_str(), value),
+        Filter::Among(dimension, values) => among_value(alloc, dimension.as_str(), values),
+        Filter::All(filters) => fields_value(alloc, "and", filter_values(alloc, filters)?),
+        Filter::Any(filters) => fields_value(alloc, "or", filter_values(alloc, filters)?),
+        Filter::Not(filter) => not_value(alloc, filter_value(alloc, filter)?),
+    }
+}
+
+#[cycle(filter_value)]
+fn filter_values(alloc: Global, filters: &[Filter]) -> Result<Vec<Value>, AllocError>
+    ensures { IfOk result (λ vs. items_view vs.items ≡ filters_data (each_says filters.now)) }
+{
+    let mut all = Vec::with_capacity(alloc, filters.len())?;
+    for filter in filters {
+        all.push(filter_value(alloc, filter)?)?;
+    }
+    Ok(all)
+}
+
+pub(crate) fn wanted_value(alloc: Global, filter: Option<&Filter>) -> Result<Value, AllocError>
+    ensures { IfOk result (λ v. view v ≡ wanted_data (option_map (λ f. says f.now) filter.entry)) }
+{
+    match filter {
+        Some(filter) => filter_value(alloc, filter),
+        None => Ok(Value::Null),
+    }
 }

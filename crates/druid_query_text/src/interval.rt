@@ -1,4 +1,4 @@
-//! Intervals, read out of JSON.
+//! Intervals, read out of JSON and written.
 ghost use Rattle.std.specs.Prelude.{◌≡◌, true, IfOk, option_map, is_some};
 ghost use Rattle.std.specs.List.{list_all};
 ghost use Rattle.serde_json.specs.View.{view, items_view};
@@ -7,6 +7,7 @@ ghost use Rattle.druid_query.specs.Fields.{texts_among, listed_at, interval_text
 ghost use Rattle.druid_query.specs.Read.{list_of, fit_intervals};
 ghost use Rattle.druid_query.specs.Refusal.{bad_field, bad_interval};
 ghost use Rattle.druid_query_text.specs.Found.{FindsBy, those};
+ghost use Rattle.druid_query.specs.Written.{interval_data, intervals_data};
 
 use crate::item::{Item, are_fit};
 use druid_query::{MAX_INTERVALS, QueryFault};
@@ -123,6 +124,19 @@ pub(crate) fn interval_list(alloc: Global, texts: &[Value]) -> Result<Vec<Interv
             continue;
         };
         all.push(interval)?;
+    }
+    Ok(all)
+}
+
+pub(crate) fn intervals_value(
+    alloc: Global,
+    intervals: &[Interval],
+) -> Result<Vec<Value>, AllocError>
+    ensures { IfOk result (λ vs. items_view vs.items ≡ intervals_data intervals.now) }
+{
+    let mut all = Vec::with_capacity(alloc, intervals.len())?;
+    for interval in intervals {
+        all.push(Value::String(interval.text(alloc)?))?;
     }
     Ok(all)
 }

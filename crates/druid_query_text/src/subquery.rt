@@ -1,19 +1,21 @@
-//! Subqueries, read.
-ghost use Rattle.std.specs.Prelude.{◌≡◌, IfOk, option_map, option_and_then, codes};
+//! Subqueries, read and written.
+ghost use Rattle.std.specs.Prelude.{◌≡◌, Some, IfOk, option_map, option_and_then, codes, string_bytes};
 ghost use Rattle.serde_json.specs.Find.{get};
 ghost use Rattle.serde_json.specs.View.{view, items_view};
 ghost use Rattle.druid_query.specs.Asked.{asked_items, inside_at};
 ghost use Rattle.druid_query.specs.Fields.{listed_texts, interval_of};
 ghost use Rattle.druid_query.specs.Read.{IsQuery, IsReadBy};
-ghost use Rattle.druid_query.specs.SubQuery.{pieces_at, query_intervals_at, span_at, subquery_at, before_search, GivesSub};
+ghost use Rattle.druid_query.specs.SubQuery.{pieces_at, query_intervals_at, span_at, subquery_at, before_search, GivesSub, segments_data, subquery_data, subquery_text};
 ghost use Rattle.druid_query_text.specs.Found.{FindsBy, FindsAfter, EachReads, those};
 ghost use Rattle.druid_query_text.specs.Parts.{span_by};
+ghost use Rattle.serde_json.specs.Read.{read};
 
-use crate::interval::{interval_items, listed_texts};
+use crate::interval::{interval_items, intervals_value, listed_texts};
 use crate::parts::{Head, QueryRef, Tail};
-use druid_asked_text::{are_apart, are_inside, asked_items, asked_list};
-use druid_query::{QueryFault, SubQuery};
-use serde_json::Value;
+use crate::query::members_of;
+use druid_asked_text::{are_apart, are_inside, asked_items, asked_list, asked_values};
+use druid_query::{Asked, QueryFault, SubQuery};
+use serde_json::{Value, json, put};
 use std::alloc::{AllocError, Global};
 use std::marker::Model;
 use std::str;
@@ -152,4 +154,44 @@ pub fn read_subquery(alloc: Global, bytes: &[u8]) -> Result<SubQuery, QueryFault
             }
         }
     }
+}
+
+#[tactic(auto, unfolding(druid_query::specs::SubQuery::segments_data))]
+fn segments_value(alloc: Global, asked: &[Asked]) -> Result<Value, AllocError>
+    ensures { IfOk result (λ v. view v ≡ segments_data asked.now) }
+{
+    let segments = asked_values(alloc, asked)?;
+    json!(in alloc; {
+        "segments": Value::Array(segments),
+        "type": "segments",
+    })
+}
+
+/// The JSON of a subquery.
+pub fn subquery_value(alloc: Global, subquery: &SubQuery) -> Result<Value, AllocError>
+    ensures { IfOk result (λ v. view v ≡ subquery_data subquery.now) }
+{
+    let query = subquery.query();
+    let segments = segments_value(alloc, subquery.asked())?;
+    let mut members = members_of(alloc, query, segments)?;
+    let intervals = intervals_value(alloc, query.intervals())?;
+    put(
+        &mut members,
+        alloc,
+        "queryIntervals",
+        Value::Array(intervals),
+    )?;
+    Ok(Value::Object(members))
+}
+
+/// The text of a subquery: that of its query, where `intervals` holds the pieces, as an object of the type `segments`, and
+/// `queryIntervals` the intervals of the query.
+#[tactic(auto, using(crate::proofs::PlainLemmas::subquery_plain, crate::proofs::DepthLemmas::subquery_deep))]
+pub fn subquery_text(alloc: Global, subquery: &SubQuery) -> Result<String, AllocError>
+    ensures text { IfOk result (λ text. string_bytes text ≡ subquery_text subquery.now) }
+    ensures read_back { IfOk result (λ text. read (string_bytes text) ≡ Some (subquery_data subquery.now)) }
+{
+    // What it ensures is that some JSON reads as the query, so that it nests no deeper than a reader takes.
+    let _ = subquery.query().kind();
+    subquery_value(alloc, subquery)?.to_string(alloc)
 }

@@ -1,11 +1,7 @@
-use Rattle.std.proofs.Common.{◌≡◌, sym, ap, ◌∙◌}
-use Rattle.std.specs.List.{list_any}
+use Rattle.std.proofs.Common.{sym, ap, ◌∙◌}
 use Rattle.serde_json.specs.View.{view}
-use Rattle.druid_query.specs.Query.{are_distinct, result_names}
-use Rattle.druid_query.specs.Refusal.{when, doubled_name}
-use Rattle.druid_query.specs.Fields.{dimension_at, aggregator_at}
-use Rattle.druid_query.specs.Filters.{filter_at}
-use Rattle.druid_query_text.specs.Found.{Finds, those, read_of}
+use Rattle.druid_query.specs.Query.{are_distinct}
+use Rattle.druid_query_text.specs.Found.{Finds}
 use Rattle.druid_query_text.specs.Parts.{tail_at}
 use Rattle.druid_query_text.proofs.NameLemmas.{names_read}
 use Rattle.druid_query_text.proofs.ReadLemmas.{erred, tail_filter, tail_dimensions, tail_aggregations, tail_more, tail_judged}
