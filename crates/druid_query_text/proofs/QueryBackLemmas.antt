@@ -60,19 +60,24 @@ pub record Timed (all : List Extent) : Type 0 where
   pub each : (e : Extent) → Contains all e → IsExtent e
   pub few : fit_intervals all ≡ true
 
-intervals_tell : (d : Data) (all : List Extent) → intervals_at d ≡ Ok all → Timed all
-unfolding intervals_at
-intervals_tell d all h =
-    let t = list_tells (option_and_then interval_texts (get (codes "intervals") d)) (bad_field (codes "intervals")) bad_interval interval_of fit_intervals all h in
+-- whichever way the texts are found
+pub times_tell : (texts : Data → Option Items) (shape : Refusal) (o : Option Data) (all : List Extent) → ((e : Data) (ds : Items) → texts e ≡ Some ds → HasItem ds)
+    → list_of (option_and_then texts o) shape interval_of bad_interval fit_intervals ≡ Ok all → Timed all
+times_tell texts shape o all item h =
+    let t = list_tells (option_and_then texts o) shape bad_interval interval_of fit_intervals all h in
     record {
-      some = read_some interval_of t.0 all (item_of (get (codes "intervals") d) t.0 t.1) t.2;
+      some = read_some interval_of t.0 all (item_of o t.0 t.1) t.2;
       each = each_sound IsExtent interval_of interval_sound t.0 all t.2;
       few = t.3;
     }
   where
-    item_of : (o : Option Data) (ds : Items) → option_and_then interval_texts o ≡ Some ds → HasItem ds
+    item_of : (o : Option Data) (ds : Items) → option_and_then texts o ≡ Some ds → HasItem ds
     item_of None ds h = absurd (cc)
-    item_of (Some e) ds h = texts_item e ds h
+    item_of (Some e) ds h = item e ds h
+
+intervals_tell : (d : Data) (all : List Extent) → intervals_at d ≡ Ok all → Timed all
+unfolding intervals_at
+intervals_tell d all h = times_tell interval_texts (bad_field (codes "intervals")) (get (codes "intervals") d) all texts_item h
 
 abbrev pub Passes : Option Condition → Type 0
 Passes None = Unit {0}
@@ -131,12 +136,16 @@ unfolding interval_texts
 texts_read [] some = absurd some
 texts_read (e ∷ es) some = let all = texts_back (e ∷ es) in rw all refl
 
+pub times_read : (texts : Data → Option Items) (shape : Refusal) (o : Option Data) (all : List Extent) → o ≡ Some (array (intervals_data all)) → texts (array (intervals_data all)) ≡ Some (intervals_data all) → Timed all
+    → list_of (option_and_then texts o) shape interval_of bad_interval fit_intervals ≡ Ok all
+times_read texts shape o all h back t =
+    ap (λ o'. list_of (option_and_then texts o') shape interval_of bad_interval fit_intervals) h
+    ∙ ap (λ o'. list_of o' shape interval_of bad_interval fit_intervals) back
+    ∙ list_read (intervals_data all) shape bad_interval interval_of fit_intervals all (each_back interval_data interval_of all (λ e there. interval_back e (t.each e there))) t.few
+
 intervals_read : (d : Data) (all : List Extent) → get (codes "intervals") d ≡ Some (array (intervals_data all)) → Timed all → intervals_at d ≡ Ok all
 unfolding intervals_at
-intervals_read d all h t =
-    ap (λ o. list_of (option_and_then interval_texts o) (bad_field (codes "intervals")) interval_of bad_interval fit_intervals) h
-    ∙ ap (λ o. list_of o (bad_field (codes "intervals")) interval_of bad_interval fit_intervals) (texts_read all t.some)
-    ∙ list_read (intervals_data all) (bad_field (codes "intervals")) bad_interval interval_of fit_intervals all (each_back interval_data interval_of all (λ e there. interval_back e (t.each e there))) t.few
+intervals_read d all h t = times_read interval_texts (bad_field (codes "intervals")) (get (codes "intervals") d) all h (texts_read all t.some) t
 
 filter_read : (d : Data) (f : Option Condition) → get (codes "filter") d ≡ Some (wanted_data f) → Passes f → filter_field d ≡ Ok f
 unfolding filter_field wanted_filter

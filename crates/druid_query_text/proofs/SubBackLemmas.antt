@@ -23,12 +23,12 @@ use Rattle.druid_query.proofs.AskedLemmas.{apart_told}
 use Rattle.druid_query.proofs.StepLemmas.{bound}
 use Rattle.druid_query.proofs.ChainLemmas.{parts_made, whole_read, whole_bound, steps_of}
 use Rattle.druid_asked_text.proofs.BackLemmas.{spelled_some, inside_back}
-use Rattle.druid_query_text.proofs.SubLemmas.{subs, of_sub}
+use Rattle.druid_query_text.proofs.SubLemmas.{subs, of_sub, span_bound}
 use Rattle.druid_query.proofs.BackLemmas.{texts_back, interval_back}
 use Rattle.druid_query.proofs.SoundLemmas.{HasItem, bound_item, read_some, interval_sound, IsSomeList}
 use Rattle.druid_shard.proofs.EachLemmas.{each_sound}
 use Rattle.serde_json.specs.Find.{as_array}
-use Rattle.druid_query_text.proofs.QueryBackLemmas.{Timed, Keys, keys_back, query_sound, sound_of, sound_back, list_tells, list_read, no_both}
+use Rattle.druid_query_text.proofs.QueryBackLemmas.{Timed, Keys, keys_back, query_sound, sound_of, sound_back, times_tell, times_read, no_both}
 
 -- ---- the pieces
 
@@ -72,10 +72,7 @@ listed_back (e ∷ es) some = let all = texts_back (e ∷ es) in rw all refl
 
 intervals_read : (d : Data) (all : List Extent) → get (codes "queryIntervals") d ≡ Some (array (intervals_data all)) → Timed all → query_intervals_at d ≡ Ok all
 unfolding query_intervals_at
-intervals_read d all h t =
-    ap (λ o. list_of (option_and_then listed_texts o) (bad_field (codes "queryIntervals")) interval_of bad_interval fit_intervals) h
-    ∙ ap (λ o. list_of o (bad_field (codes "queryIntervals")) interval_of bad_interval fit_intervals) (listed_back all t.some)
-    ∙ list_read (intervals_data all) (bad_field (codes "queryIntervals")) bad_interval interval_of fit_intervals all (each_back interval_data interval_of all (λ e there. interval_back e (t.each e there))) t.few
+intervals_read d all h t = times_read listed_texts (bad_field (codes "queryIntervals")) (get (codes "queryIntervals") d) all h (listed_back all t.some) t
 
 item_of : (d : Data) (ds : Items) → listed_texts d ≡ Some ds → HasItem ds
 unfolding listed_texts
@@ -83,33 +80,13 @@ item_of d ds h = bound_item (as_array d) ds h
 
 intervals_tell : (d : Data) (all : List Extent) → query_intervals_at d ≡ Ok all → Timed all
 unfolding query_intervals_at
-intervals_tell d all h =
-    let t = list_tells (option_and_then listed_texts (get (codes "queryIntervals") d)) (bad_field (codes "queryIntervals")) bad_interval interval_of fit_intervals all h in
-    record {
-      some = read_some interval_of t.0 all (there (get (codes "queryIntervals") d) t.0 t.1) t.2;
-      each = each_sound IsExtent interval_of interval_sound t.0 all t.2;
-      few = t.3;
-    }
-  where
-    there : (o : Option Data) (ds : Items) → option_and_then listed_texts o ≡ Some ds → HasItem ds
-    there None ds h = absurd (cc)
-    there (Some e) ds h = item_of e ds h
+intervals_tell d all h = times_tell listed_texts (bad_field (codes "queryIntervals")) (get (codes "queryIntervals") d) all item_of h
 
 span_read : (source : List ℕ) (d : Data) (asked : List Asked) (all : List Extent) → apart_at source d ≡ Ok asked → query_intervals_at d ≡ Ok all → span_at source d ≡ Ok (record { asked = asked; intervals = all })
 unfolding span_at
 span_read source d asked all a b =
     ap (λ r. r >>= λ pieces. query_intervals_at d >>= λ intervals. Ok (record { asked = pieces; intervals = intervals })) a
     ∙ ap (λ r. r >>= λ intervals. Ok (record { asked = asked; intervals = intervals })) b
-
-span_tells : (source : List ℕ) (d : Data) (span : Span) → span_at source d ≡ Ok span → query_intervals_at d ≡ Ok span.intervals
-unfolding span_at
-span_tells source d span h =
-    let a = bound (apart_at source d) (λ asked. query_intervals_at d >>= λ intervals. Ok (record { asked = asked; intervals = intervals })) span h in
-    let i = bound (query_intervals_at d) (λ intervals. Ok (record { asked = a.0; intervals = intervals })) span a.2 in
-    i.1 ∙ made i.0 a.0 i.2
-  where
-    made : (i : List Extent) (asked : List Asked) → ◌≡◌ {A = Result Span Refusal} (Ok (record { asked = asked; intervals = i })) (Ok span) → ◌≡◌ {A = Result (List Extent) Refusal} (Ok i) (Ok span.intervals)
-    made i asked e = let same : ◌≡◌ {A = Span} (record { asked = asked; intervals = i }) span = cc in ap (λ s. Ok s.intervals) same
 
 -- ---- the whole
 
@@ -157,5 +134,5 @@ sub_query d sub read =
     let made = ap (λ x. x.query) p.made in
     let distinct : are_distinct (result_names p.dimensions p.aggregations) ≡ true = ap (λ x. are_distinct (result_names x.query.dimensions x.query.aggregations)) p.made ∙ whole.1 in
     let sound = sound_of d (query_of p.kind p.source p.granularity p.times.intervals p.filter p.dimensions p.aggregations) p.source_is
-    (intervals_tell d p.times.intervals (span_tells p.source d p.times p.times_is)) p.filter_is p.dimensions_is p.aggregations_is distinct in
+    (intervals_tell d p.times.intervals (span_bound p.source d p.times p.times_is).1) p.filter_is p.dimensions_is p.aggregations_is distinct in
     subst IsQuery made (_, sound_back (query_of p.kind p.source p.granularity p.times.intervals p.filter p.dimensions p.aggregations) sound)

@@ -123,16 +123,22 @@ pub sub_made : (d : Data) (h : Head) (t : Span) (l : Tail) → head_at d ≡ Ok 
     → subquery_at d ≡ Ok (record { query = query_by h t.intervals l; asked = t.asked })
 sub_made d h t l is read more = sym (of_sub_parts d) ∙ all_parts subs d h t l is read more
 
-pieces_ok : (s : List ℕ) (d : Data) (span : Span) → span_at s d ≡ Ok span → IsOk (pieces_at s d)
-unfolding span_at apart_at
-pieces_ok s d span read =
-    let a = bound (pieces_at s d >>= λ all. judged all) (after_apart d) span read in
-    let p = bound (pieces_at s d) (λ all. judged all) a.0 a.1 in
-    subst (λ r. IsOk r) (sym p.1) refl
+-- what reads as pieces and intervals is of both
+pub span_bound : (s : List ℕ) (d : Data) (span : Span) → span_at s d ≡ Ok span → (apart_at s d ≡ Ok span.asked) × (query_intervals_at d ≡ Ok span.intervals)
+unfolding span_at
+span_bound s d span read =
+    let a = bound (apart_at s d) (after_apart d) span read in
+    let i = bound (query_intervals_at d) (λ i'. Ok (record { asked = a.0; intervals = i' })) span a.2 in
+    let same : ◌≡◌ {A = Span} (record { asked = a.0; intervals = i.0 }) span = same_ok (record { asked = a.0; intervals = i.0 }) span i.2 in
+    (a.1 ∙ ap (λ t. Ok t.asked) same, i.1 ∙ ap (λ t. Ok t.intervals) same)
+
+pieces_ok : (s : List ℕ) (d : Data) (all : List Asked) → apart_at s d ≡ Ok all → IsOk (pieces_at s d)
+unfolding apart_at
+pieces_ok s d all read = let p = bound (pieces_at s d) (λ all'. judged all') all read in subst (λ r. IsOk r) (sym p.1) refl
 
 -- what stands before the search reads where the whole does
 pub before_ok : (d : Data) (sub : SubQuery) → subquery_at d ≡ Ok sub → IsOk (before_search d)
 before_ok d sub read =
     let h = bound (head_at d) (λ h'. after_head subs d h') sub (of_sub_parts d ∙ read) in
     let t = bound (span_at h.0.source d) (λ t'. after_times subs d h.0 t') sub h.2 in
-    subst (λ r. IsOk r) (sym (before_is d h.0 h.1)) (pieces_ok h.0.source d t.0 t.1)
+    subst (λ r. IsOk r) (sym (before_is d h.0 h.1)) (pieces_ok h.0.source d t.0.asked (span_bound h.0.source d t.0 t.1).0)

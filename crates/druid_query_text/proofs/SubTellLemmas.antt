@@ -14,7 +14,7 @@ use Rattle.druid_query.proofs.AskedLemmas.{apart_seen}
 use Rattle.druid_query.proofs.ChainLemmas.{whole_bound, steps_of}
 use Rattle.druid_query.proofs.SoundLemmas.{IsSomeList, read_some}
 use Rattle.druid_query_text.proofs.QueryBackLemmas.{when_true, source_tells}
-use Rattle.druid_query_text.proofs.SubLemmas.{subs, of_sub, told_of}
+use Rattle.druid_query_text.proofs.SubLemmas.{subs, of_sub, told_of, span_bound}
 use Rattle.druid_query_text.proofs.SubSoundLemmas.{is_name-to, IsPiece, inside_sound, items_there}
 use Rattle.druid_asked_text.proofs.BackLemmas.{inside_seen}
 
@@ -34,17 +34,6 @@ pieces_tell source d all h = through (option_and_then asked_items (get (codes "i
         → (items : Items) × (o ≡ Some items) × (each_of (inside_at source) items ≡ Some all)
     through None h = absurd (cc)
     through (Some items) h = (items, refl, told_of (each_of (inside_at source) items) bad_interval all h)
-
-span_asked : (source : List ℕ) (d : Data) (span : Span) → span_at source d ≡ Ok span → apart_at source d ≡ Ok span.asked
-unfolding span_at
-span_asked source d span h =
-    let a = bound (apart_at source d) (λ asked. query_intervals_at d >>= λ intervals. Ok (record { asked = asked; intervals = intervals })) span h in
-    let i = bound (query_intervals_at d) (λ intervals. Ok (record { asked = a.0; intervals = intervals })) span a.2 in
-    let same : ◌≡◌ {A = Span} (record { asked = a.0; intervals = i.0 }) span = same_span (record { asked = a.0; intervals = i.0 }) span i.2 in
-    a.1 ∙ ap (λ s. Ok s.asked) same
-  where
-    same_span : (p q : Span) → ◌≡◌ {A = Result Span Refusal} (Ok p) (Ok q) → p ≡ q
-    same_span p q e = cc
 
 first_of : (all : List Asked) → IsSomeList all → (a : Asked) × Contains all a
 first_of [] some = absurd some
@@ -68,4 +57,4 @@ pub sub_asked : (d : Data) (sub : SubQuery) → subquery_at d ≡ Ok sub → IsA
 sub_asked d sub read =
     let p = steps_of subs d sub (whole_bound subs d sub (of_sub d ∙ read)).0 in
     subst (λ (x : SubQuery). IsAsked x.query.source x.asked) p.made
-    (apart_asked p.source d p.times.asked (is_name-to p.source (source_tells d p.source p.source_is)) (span_asked p.source d p.times p.times_is))
+    (apart_asked p.source d p.times.asked (is_name-to p.source (source_tells d p.source p.source_is)) ((span_bound p.source d p.times p.times_is).0))

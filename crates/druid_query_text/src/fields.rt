@@ -104,7 +104,7 @@ fn all_of(value: &Value) -> Option<Granularity>
 }
 
 #[tactic(auto, unfolding(druid_query::specs::Fields::granularity_of))]
-fn granularity_at(value: &Value) -> Option<Granularity>
+fn granularity_in(value: &Value) -> Option<Granularity>
     ensures { result ≡ granularity_of (view value.now) }
 {
     match value.as_str() {
@@ -116,7 +116,7 @@ fn granularity_at(value: &Value) -> Option<Granularity>
 fn granularity_field(value: &Value) -> Option<Granularity>
     ensures { result ≡ option_and_then granularity_of (get (codes "granularity") (view value.now)) }
 {
-    granularity_at(value.get("granularity")?)
+    granularity_in(value.get("granularity")?)
 }
 
 #[tactic(auto, unfolding(druid_query::specs::Read::granularity_at))]
