@@ -260,7 +260,7 @@ abbrev pub before : List Condition → Conditions → Conditions
 before [] cs = cs
 before (x ∷ xs) cs = condition x (before xs cs)
 
--- those that were read, and then what the rest reads as
+-- readings that were read, and then what the rest reads as
 abbrev pub joined : List Condition → Option Conditions → Option Conditions
 joined done rest = option_map (before done) rest
 

@@ -8,7 +8,7 @@ use Rattle.druid_time.specs.Options.{◌>>=◌}
 use Rattle.druid_query.specs.Query.{result_names}
 use Rattle.druid_shard.specs.Each.{each_of}
 use Rattle.druid_query.specs.Fields.{dimension_at, aggregator_at}
-use Rattle.druid_query_text.specs.Found.{EachReads, those}
+use Rattle.druid_query_text.specs.Found.{EachReads, readings}
 use Rattle.druid_query_text.specs.Names.{output_or, name_or, all_names}
 
 next : {A B : Type 0} (h : Option A → B) (g : A → B) → ((x : A) → h (Some x) ≡ g x) → (first : Option A) (rest : Option (List A)) (xs : List A) (seen : List B)
@@ -18,13 +18,13 @@ next h g same (Some x) None xs seen all more = absurd (cc)
 next h g same (Some x) (Some ys) xs seen all more = ap (λ b. b ∷ seen) (same x) ∙ ap (λ bs. g x ∷ bs) (more refl)
 
 -- what is seen of each item of a list that reads
-mapped : {A B : Type 0} (f : Data → Option A) (h : Option A → B) (g : A → B) → ((x : A) → h (Some x) ≡ g x) → (vs : List Value) → EachReads f vs → map (λ v. h (f (view v))) vs ≡ map g (those f vs)
-mapped f h g same [] all = refl
-mapped f h g same (v ∷ vs) all =
-    next h g same (f (view v)) (each_of f (items_view vs)) (those f vs) (map (λ w. h (f (view w))) vs) all (mapped f h g same vs)
+map_readings : {A B : Type 0} (f : Data → Option A) (h : Option A → B) (g : A → B) → ((x : A) → h (Some x) ≡ g x) → (vs : List Value) → EachReads f vs → map (λ v. h (f (view v))) vs ≡ map g (readings f vs)
+map_readings f h g same [] all = refl
+map_readings f h g same (v ∷ vs) all =
+    next h g same (f (view v)) (each_of f (items_view vs)) (readings f vs) (map (λ w. h (f (view w))) vs) all (map_readings f h g same vs)
 
-pub names_read : (ds all : List Value) → EachReads dimension_at ds → EachReads aggregator_at all → all_names ds all ≡ result_names (those dimension_at ds) (those aggregator_at all)
+pub names_read : (ds all : List Value) → EachReads dimension_at ds → EachReads aggregator_at all → all_names ds all ≡ result_names (readings dimension_at ds) (readings aggregator_at all)
 names_read ds all h j =
-    let outputs = mapped dimension_at output_or (λ x. x.output_name) (λ x. refl) ds h in
-    let names = mapped aggregator_at name_or (λ x. x.name) (λ x. refl) all j in
-    ap (λ xs. xs ++ map (λ v. name_or (aggregator_at (view v))) all) outputs ∙ ap (λ xs. map (λ x. x.output_name) (those dimension_at ds) ++ xs) names
+    let outputs = map_readings dimension_at output_or (λ x. x.output_name) (λ x. refl) ds h in
+    let names = map_readings aggregator_at name_or (λ x. x.name) (λ x. refl) all j in
+    ap (λ xs. xs ++ map (λ v. name_or (aggregator_at (view v))) all) outputs ∙ ap (λ xs. map (λ x. x.output_name) (readings dimension_at ds) ++ xs) names

@@ -61,9 +61,9 @@ pub after : {A B : Type 0} (before : Result B Refusal) (e : QueryFault) (r : Res
 after before e r h = to_after before e r (other_than e r h) (tells e r h)
 
 -- what holds of an error holds of what `?` makes of it
-pub erred : {A : Type 0} (P : Result A QueryFault → Type 0) (r : Result A QueryFault) (e : QueryFault) → IsErrAnd r (λ f. f ≡ e) → P (Err e) → P r
-erred P (Ok x) e h t = absurd h
-erred P (Err f) e h t = subst (λ f'. P (Err f')) (sym h) t
+pub error_holds : {A : Type 0} (P : Result A QueryFault → Type 0) (r : Result A QueryFault) (e : QueryFault) → IsErrAnd r (λ f. f ≡ e) → P (Err e) → P r
+error_holds P (Ok x) e h t = absurd h
+error_holds P (Err f) e h t = subst (λ f'. P (Err f')) (sym h) t
 
 -- ---- before the intervals
 
@@ -83,8 +83,8 @@ head_granularity d k s e is named t =
     subst (Refuses e) (after_kind d k is)
     (go (source_at d) (λ s'. granularity_at d >>= λ g. Ok (head_by k s' g)) (Refuses e) s named (stop (granularity_at d) (λ g. Ok (head_by k s g)) e t))
 
-pub head_made : (d : Data) (k : QueryType) (s : List ℕ) (g : Granularity) → Some k ≡ kind_at d → source_at d ≡ Ok s → granularity_at d ≡ Ok g → head_at d ≡ Ok (head_by k s g)
-head_made d k s g is named read =
+pub head_is : (d : Data) (k : QueryType) (s : List ℕ) (g : Granularity) → Some k ≡ kind_at d → source_at d ≡ Ok s → granularity_at d ≡ Ok g → head_at d ≡ Ok (head_by k s g)
+head_is d k s g is named read =
     sym (after_kind d k is) ∙ ap (λ r. r >>= λ s'. granularity_at d >>= λ g'. Ok (head_by k s' g')) named ∙ ap (λ r. r >>= λ g'. Ok (head_by k s g')) read
 
 -- ---- after the intervals
@@ -132,11 +132,11 @@ module _ (d : Data) (k : QueryType) where
 
 -- ---- before the intervals, at them and after them
 
-abbrev pub made : {T S : Type 0} → Reading T S → Head → T → Tail → S
-made r h t l = r.make h.kind h.source h.granularity t l.filter l.dimensions l.aggregations
+abbrev pub whole_of : {T S : Type 0} → Reading T S → Head → T → Tail → S
+whole_of r h t l = r.make h.kind h.source h.granularity t l.filter l.dimensions l.aggregations
 
 abbrev pub after_times : {T S : Type 0} → Reading T S → Data → Head → T → Result S Refusal
-after_times r d h t = tail_at h.kind d >>= λ l. Ok (made r h t l)
+after_times r d h t = tail_at h.kind d >>= λ l. Ok (whole_of r h t l)
 
 abbrev pub after_head : {T S : Type 0} → Reading T S → Data → Head → Result S Refusal
 after_head r d h = r.timed h.source d >>= λ t. after_times r d h t
@@ -144,7 +144,7 @@ after_head r d h = r.timed h.source d >>= λ t. after_times r d h t
 abbrev pub by_parts : {T S : Type 0} → Reading T S → Data → Result S Refusal
 by_parts r d = head_at d >>= λ h. after_head r d h
 
--- the names of what is made are those of its parts
+-- the names of what is whole_of are readings of its parts
 abbrev pub IsNamed : {T S : Type 0} → Reading T S → Type 0
 IsNamed {T} r = (k : QueryType) (s : List ℕ) (g : Granularity) (t : T) (f : Option Condition) (ds : List Dimension) (all : List Aggregator) → distinct_in r (r.make k s g t f ds all) ≡ are_distinct (result_names ds all)
 
@@ -194,9 +194,9 @@ module _ {T S : Type 0} (r : Reading T S) (d : Data) (P : Result S Refusal → T
   pub at_tail : (h : Head) (t : T) → head_at d ≡ Ok h → r.timed h.source d ≡ Ok t → P (after_times r d h t) → P (by_parts r d)
   at_tail h t is read more = at_times h is (go (r.timed h.source d) (λ t'. after_times r d h t') P t read more)
 
-pub all_parts : {T S : Type 0} (r : Reading T S) (d : Data) (h : Head) (t : T) (l : Tail) → head_at d ≡ Ok h → r.timed h.source d ≡ Ok t → tail_at h.kind d ≡ Ok l → by_parts r d ≡ Ok (made r h t l)
+pub all_parts : {T S : Type 0} (r : Reading T S) (d : Data) (h : Head) (t : T) (l : Tail) → head_at d ≡ Ok h → r.timed h.source d ≡ Ok t → tail_at h.kind d ≡ Ok l → by_parts r d ≡ Ok (whole_of r h t l)
 all_parts r d h t l is read more =
-    at_tail r d (λ w. w ≡ Ok (made r h t l)) h t is read (go (tail_at h.kind d) (λ l'. Ok (made r h t l')) (λ w. w ≡ Ok (made r h t l)) l more refl)
+    at_tail r d (λ w. w ≡ Ok (whole_of r h t l)) h t is read (go (tail_at h.kind d) (λ l'. Ok (whole_of r h t l')) (λ w. w ≡ Ok (whole_of r h t l)) l more refl)
 
 -- ---- a query
 
@@ -213,5 +213,5 @@ pub query_tail : (d : Data) (h : Head) (i : List Extent) (e : QueryFault) → he
 query_tail d h i e is read t =
     subst (Refuses e) (of_query_parts d) (at_tail queries d (Refuses e) h i is read (stop (tail_at h.kind d) (λ l. Ok (query_by h i l)) e t))
 
-pub query_made : (d : Data) (h : Head) (i : List Extent) (l : Tail) → head_at d ≡ Ok h → intervals_at d ≡ Ok i → tail_at h.kind d ≡ Ok l → query_at d ≡ Ok (query_by h i l)
-query_made d h i l is read more = sym (of_query_parts d) ∙ all_parts queries d h i l is read more
+pub query_is : (d : Data) (h : Head) (i : List Extent) (l : Tail) → head_at d ≡ Ok h → intervals_at d ≡ Ok i → tail_at h.kind d ≡ Ok l → query_at d ≡ Ok (query_by h i l)
+query_is d h i l is read more = sym (of_query_parts d) ∙ all_parts queries d h i l is read more

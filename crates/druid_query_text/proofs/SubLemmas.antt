@@ -19,9 +19,9 @@ use Rattle.druid_query.specs.declared.fault.QueryFault.{QueryFault}
 use Rattle.druid_query.specs.declared.query_type.QueryType.{QueryType}
 use Rattle.druid_query.proofs.ChainLemmas.{Reading, whole_by, same_ok, carried}
 use Rattle.druid_query.proofs.StepLemmas.{bound}
-use Rattle.druid_query_text.specs.Found.{Refuses, those}
+use Rattle.druid_query_text.specs.Found.{Refuses, readings}
 use Rattle.druid_query_text.specs.Parts.{Head, Tail, head_by, head_at, tail_at, query_by}
-use Rattle.druid_query_text.proofs.ListLemmas.{all_read, each_those}
+use Rattle.druid_query_text.proofs.ListLemmas.{all_read, each_reading}
 use Rattle.druid_query_text.proofs.ReadLemmas.{tells, refuses, stop, go, after, after_head, after_times, by_parts, whole_parts, at_times, at_tail, all_parts}
 
 abbrev pub subs : Reading Span SubQuery
@@ -49,29 +49,29 @@ pub not_inside : (source : List ℕ) (o : Option Items) (vs : List Value) → So
 not_inside source o vs h bad = sym (ap (listed source) h) ∙ ap (λ all. or_refuse all bad_interval) (not_all_read (inside_at source) vs (sym bad))
 
 pub inside : (source : List ℕ) (o : Option Items) (vs : List Value) → Some (items_view vs) ≡ o → true ≡ list_all (λ v. is_some (inside_at source (view v))) vs
-    → (or_refuse o (bad_field (codes "intervals")) >>= λ items. or_refuse (each_of (inside_at source) items) bad_interval) ≡ Ok (those (inside_at source) vs)
+    → (or_refuse o (bad_field (codes "intervals")) >>= λ items. or_refuse (each_of (inside_at source) items) bad_interval) ≡ Ok (readings (inside_at source) vs)
 inside source o vs h good =
-    sym (ap (listed source) h) ∙ ap (λ all. or_refuse all bad_interval) (each_those (inside_at source) vs (all_read (inside_at source) vs good))
+    sym (ap (listed source) h) ∙ ap (λ all. or_refuse all bad_interval) (each_reading (inside_at source) vs (all_read (inside_at source) vs good))
 
-pub told_of : {A : Type 0} (o : Option A) (e : Refusal) (x : A) → or_refuse o e ≡ Ok x → o ≡ Some x
-told_of None e x h = absurd (cc)
-told_of (Some y) e x h = ap Some (same_ok y x h)
+pub ok_some : {A : Type 0} (o : Option A) (e : Refusal) (x : A) → or_refuse o e ≡ Ok x → o ≡ Some x
+ok_some None e x h = absurd (cc)
+ok_some (Some y) e x h = ap Some (same_ok y x h)
 
 -- ---- the pieces and the query's own intervals
 
 abbrev after_apart : Data → List Asked → Result Span Refusal
 after_apart d asked = query_intervals_at d >>= λ intervals. Ok (record { asked = asked; intervals = intervals })
 
-abbrev judged : List Asked → Result (List Asked) Refusal
-judged all = when (stand_apart all) all bad_interval
+abbrev apart_answer : List Asked → Result (List Asked) Refusal
+apart_answer all = when (stand_apart all) all bad_interval
 
 pub span_pieces : (s : List ℕ) (d : Data) (e : QueryFault) → Refuses e (pieces_at s d) → Refuses e (span_at s d)
 unfolding span_at apart_at
-span_pieces s d e t = stop (pieces_at s d >>= λ all. judged all) (after_apart d) e (stop (pieces_at s d) (λ all. judged all) e t)
+span_pieces s d e t = stop (pieces_at s d >>= λ all. apart_answer all) (after_apart d) e (stop (pieces_at s d) (λ all. apart_answer all) e t)
 
 apart_is : (s : List ℕ) (d : Data) (all : List Asked) (b : Bool) → pieces_at s d ≡ Ok all → b ≡ stand_apart all → apart_at s d ≡ when b all bad_interval
 unfolding apart_at
-apart_is s d all b read apart = ap (λ r. r >>= λ all'. judged all') read ∙ ap (λ (c : Bool). when c all bad_interval) (sym apart)
+apart_is s d all b read apart = ap (λ r. r >>= λ all'. apart_answer all') read ∙ ap (λ (c : Bool). when c all bad_interval) (sym apart)
 
 pub span_overlaps : (s : List ℕ) (d : Data) (all : List Asked) → pieces_at s d ≡ Ok all → false ≡ stand_apart all → span_at s d ≡ Err bad_interval
 unfolding span_at
@@ -82,9 +82,9 @@ unfolding span_at
 span_intervals s d all e read apart t =
     go (apart_at s d) (after_apart d) (Refuses e) all (apart_is s d all true read apart) (stop (query_intervals_at d) (λ i. Ok (record { asked = all; intervals = i })) e t)
 
-pub span_made : (s : List ℕ) (d : Data) (all : List Asked) (i : List Extent) → pieces_at s d ≡ Ok all → true ≡ stand_apart all → query_intervals_at d ≡ Ok i → span_at s d ≡ Ok (record { asked = all; intervals = i })
+pub span_is : (s : List ℕ) (d : Data) (all : List Asked) (i : List Extent) → pieces_at s d ≡ Ok all → true ≡ stand_apart all → query_intervals_at d ≡ Ok i → span_at s d ≡ Ok (record { asked = all; intervals = i })
 unfolding span_at
-span_made s d all i read apart times =
+span_is s d all i read apart times =
     ap (λ r. r >>= after_apart d) (apart_is s d all true read apart) ∙ ap (λ r. r >>= λ i'. Ok (record { asked = all; intervals = i' })) times
 
 -- ---- the whole
@@ -119,9 +119,9 @@ sub_tail d h t e is read l =
     after (before_search d) e (subquery_at d)
     (subst (Refuses e) (of_sub_parts d) (at_tail subs d (Refuses e) h t is read (stop (tail_at h.kind d) (λ l'. Ok (record { query = query_by h t.intervals l'; asked = t.asked })) e l)))
 
-pub sub_made : (d : Data) (h : Head) (t : Span) (l : Tail) → head_at d ≡ Ok h → span_at h.source d ≡ Ok t → tail_at h.kind d ≡ Ok l
+pub sub_is : (d : Data) (h : Head) (t : Span) (l : Tail) → head_at d ≡ Ok h → span_at h.source d ≡ Ok t → tail_at h.kind d ≡ Ok l
     → subquery_at d ≡ Ok (record { query = query_by h t.intervals l; asked = t.asked })
-sub_made d h t l is read more = sym (of_sub_parts d) ∙ all_parts subs d h t l is read more
+sub_is d h t l is read more = sym (of_sub_parts d) ∙ all_parts subs d h t l is read more
 
 -- what reads as pieces and intervals is of both
 pub span_bound : (s : List ℕ) (d : Data) (span : Span) → span_at s d ≡ Ok span → (apart_at s d ≡ Ok span.asked) × (query_intervals_at d ≡ Ok span.intervals)
@@ -134,7 +134,7 @@ span_bound s d span read =
 
 pieces_ok : (s : List ℕ) (d : Data) (all : List Asked) → apart_at s d ≡ Ok all → IsOk (pieces_at s d)
 unfolding apart_at
-pieces_ok s d all read = let p = bound (pieces_at s d) (λ all'. judged all') all read in subst (λ r. IsOk r) (sym p.1) refl
+pieces_ok s d all read = let p = bound (pieces_at s d) (λ all'. apart_answer all') all read in subst (λ r. IsOk r) (sym p.1) refl
 
 -- what stands before the search reads where the whole does
 pub before_ok : (d : Data) (sub : SubQuery) → subquery_at d ≡ Ok sub → IsOk (before_search d)

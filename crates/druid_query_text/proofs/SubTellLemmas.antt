@@ -14,7 +14,7 @@ use Rattle.druid_query.proofs.AskedLemmas.{apart_seen}
 use Rattle.druid_query.proofs.ChainLemmas.{whole_bound, steps_of}
 use Rattle.druid_query.proofs.SoundLemmas.{IsSomeList, read_some}
 use Rattle.druid_query_text.proofs.QueryBackLemmas.{when_true, source_tells}
-use Rattle.druid_query_text.proofs.SubLemmas.{subs, of_sub, told_of, span_bound}
+use Rattle.druid_query_text.proofs.SubLemmas.{subs, of_sub, ok_some, span_bound}
 use Rattle.druid_query_text.proofs.SubSoundLemmas.{is_name-to, IsPiece, inside_sound, items_there}
 use Rattle.druid_asked_text.proofs.BackLemmas.{inside_seen}
 
@@ -33,7 +33,7 @@ pieces_tell source d all h = through (option_and_then asked_items (get (codes "i
     through : (o : Option Items) → (or_refuse o (bad_field (codes "intervals")) >>= λ items. or_refuse (each_of (inside_at source) items) bad_interval) ≡ Ok all
         → (items : Items) × (o ≡ Some items) × (each_of (inside_at source) items ≡ Some all)
     through None h = absurd (cc)
-    through (Some items) h = (items, refl, told_of (each_of (inside_at source) items) bad_interval all h)
+    through (Some items) h = (items, refl, ok_some (each_of (inside_at source) items) bad_interval all h)
 
 first_of : (all : List Asked) → IsSomeList all → (a : Asked) × Contains all a
 first_of [] some = absurd some

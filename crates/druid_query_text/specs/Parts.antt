@@ -10,7 +10,7 @@ use Rattle.druid_query.specs.Refusal.{Refusal, unknown_type, doubled_name, or_re
 use Rattle.druid_query.specs.Asked.{inside_at}
 use Rattle.druid_query.specs.SubQuery.{Span}
 use Rattle.druid_query.specs.Fields.{kind_at, interval_of}
-use Rattle.druid_query_text.specs.Found.{those}
+use Rattle.druid_query_text.specs.Found.{readings}
 use Rattle.serde_json.specs.declared.value.Value.{Value}
 use Rattle.druid_query.specs.Read.{source_at, granularity_at, filter_field, dimensions_at, aggregations_at, no_more_at}
 use Rattle.druid_query.specs.declared.query_type.QueryType.{QueryType}
@@ -54,4 +54,4 @@ query_by head intervals tail = query_of head.kind head.source head.granularity i
 
 -- the pieces and the intervals of values that read
 abbrev pub span_by : List ℕ → List Value → List Value → Span
-span_by source asked intervals = record { asked = those (inside_at source) asked; intervals = those interval_of intervals }
+span_by source asked intervals = record { asked = readings (inside_at source) asked; intervals = readings interval_of intervals }

@@ -4,7 +4,7 @@ ghost use Rattle.serde_json.specs.View.{view, items_view};
 ghost use Rattle.druid_query.specs.Fields.{aggregator_named, field_for, aggregator_at};
 ghost use Rattle.druid_query.specs.Query.{is_label_if, fits_aggregator};
 ghost use Rattle.druid_query.specs.Read.{aggregations_at};
-ghost use Rattle.druid_query_text.specs.Found.{FindsBy, EachReads, those};
+ghost use Rattle.druid_query_text.specs.Found.{FindsBy, EachReads, readings};
 ghost use Rattle.druid_query.specs.Written.{aggregator_text, counting_data, of_field_data, fielded_data, aggregator_data, aggregations_data};
 
 use crate::item::{Item, are_fit, list_field};
@@ -120,7 +120,7 @@ pub(crate) fn aggregator_of(value: &Value) -> Option<AggregatorRef<'_>>
 // The items of the aggregations.
 #[tactic(auto, unfolding(druid_query::specs::Read::aggregations_at), using(crate::proofs::ListLemmas::no_list, crate::proofs::ListLemmas::bad_item, crate::proofs::ListLemmas::aggregators_unfit, crate::proofs::ListLemmas::aggregators_fit, crate::proofs::ListLemmas::each_reads))]
 pub(crate) fn aggregator_items(value: &Value) -> Result<&[Value], QueryFault>
-    ensures read { FindsBy (λ vs. those aggregator_at vs.now) result (aggregations_at (view value.now)) }
+    ensures read { FindsBy (λ vs. readings aggregator_at vs.now) result (aggregations_at (view value.now)) }
     ensures each { IfOk result (λ vs. EachReads aggregator_at vs.now) }
 {
     let Some(items) = list_field(value, "aggregations") else {
@@ -135,7 +135,7 @@ pub(crate) fn aggregator_items(value: &Value) -> Result<&[Value], QueryFault>
 
 // The aggregators that items are.
 pub(crate) fn aggregator_list(alloc: Global, items: &[Value]) -> Result<Vec<Aggregator>, AllocError>
-    ensures { IfOk result (λ all. all.items ≡ those aggregator_at items.now) }
+    ensures { IfOk result (λ all. all.items ≡ readings aggregator_at items.now) }
 {
     let mut all = Vec::with_capacity(alloc, items.len())?;
     for item in items {

@@ -5,7 +5,7 @@ ghost use Rattle.serde_json.specs.View.{view, items_view};
 ghost use Rattle.druid_query.specs.Fields.{text_or, default_dimension, dimension_at};
 ghost use Rattle.druid_query.specs.Query.{fits_dimension};
 ghost use Rattle.druid_query.specs.Read.{listed_dimensions, dimensions_at};
-ghost use Rattle.druid_query_text.specs.Found.{FindsBy, EachReads, those};
+ghost use Rattle.druid_query_text.specs.Found.{FindsBy, EachReads, readings};
 ghost use Rattle.druid_query.specs.Written.{dimension_data, dimensions_data};
 
 use crate::fields::typed_text;
@@ -99,8 +99,8 @@ pub(crate) fn dimension_of(value: &Value) -> Option<DimensionRef<'_>>
 }
 
 #[tactic(auto, unfolding(druid_query::specs::Read::listed_dimensions), using(crate::proofs::ListLemmas::no_list, crate::proofs::ListLemmas::bad_item, crate::proofs::ListLemmas::dimensions_unfit, crate::proofs::ListLemmas::dimensions_fit, crate::proofs::ListLemmas::each_reads))]
-fn listed(value: &Value) -> Result<&[Value], QueryFault>
-    ensures read { FindsBy (λ vs. those dimension_at vs.now) result (listed_dimensions (view value.now)) }
+fn listed_dimensions(value: &Value) -> Result<&[Value], QueryFault>
+    ensures read { FindsBy (λ vs. readings dimension_at vs.now) result (listed_dimensions (view value.now)) }
     ensures each { IfOk result (λ vs. EachReads dimension_at vs.now) }
 {
     let Some(items) = list_field(value, "dimensions") else {
@@ -115,18 +115,18 @@ fn listed(value: &Value) -> Result<&[Value], QueryFault>
 
 // The items of the dimensions; a `timeseries` has none.
 pub(crate) fn dimension_items(kind: QueryType, value: &Value) -> Result<&[Value], QueryFault>
-    ensures read { FindsBy (λ vs. those dimension_at vs.now) result (dimensions_at kind (view value.now)) }
+    ensures read { FindsBy (λ vs. readings dimension_at vs.now) result (dimensions_at kind (view value.now)) }
     ensures each { IfOk result (λ vs. EachReads dimension_at vs.now) }
 {
     match kind {
         QueryType::Timeseries => Ok(&[]),
-        QueryType::GroupBy => listed(value),
+        QueryType::GroupBy => listed_dimensions(value),
     }
 }
 
 // The dimensions that items are.
 pub(crate) fn dimension_list(alloc: Global, items: &[Value]) -> Result<Vec<Dimension>, AllocError>
-    ensures { IfOk result (λ all. all.items ≡ those dimension_at items.now) }
+    ensures { IfOk result (λ all. all.items ≡ readings dimension_at items.now) }
 {
     let mut all = Vec::with_capacity(alloc, items.len())?;
     for item in items {

@@ -6,7 +6,7 @@ ghost use Rattle.serde_json.specs.Find.{as_str};
 ghost use Rattle.druid_query.specs.Fields.{texts_among, listed_at, interval_texts, listed_texts, interval_of};
 ghost use Rattle.druid_query.specs.Read.{list_of, fit_intervals};
 ghost use Rattle.druid_query.specs.Refusal.{bad_field, bad_interval};
-ghost use Rattle.druid_query_text.specs.Found.{FindsBy, those};
+ghost use Rattle.druid_query_text.specs.Found.{FindsBy, readings};
 ghost use Rattle.druid_query.specs.Written.{interval_data, intervals_data};
 
 use crate::item::{Item, are_fit};
@@ -95,16 +95,16 @@ impl<'a> Item<'a> for Interval {
     }
 }
 
-// The texts that were found at a key, where each names an interval.
+// The texts at a key, where there are some and each names an interval.
 #[tactic(auto, using(crate::proofs::ListLemmas::no_list, crate::proofs::ListLemmas::bad_item, crate::proofs::ListLemmas::intervals_unfit, crate::proofs::ListLemmas::intervals_fit))]
 pub(crate) fn interval_items<'a>(
-    found: Option<&'a [Value]>,
+    texts: Option<&'a [Value]>,
     key: &'static str,
 ) -> Result<&'a [Value], QueryFault>
-    ensures { FindsBy (λ vs. those interval_of vs.now) result
-        (list_of (option_map (λ vs. items_view vs.now) found.entry) (bad_field key.now) interval_of bad_interval fit_intervals) }
+    ensures { FindsBy (λ vs. readings interval_of vs.now) result
+        (list_of (option_map (λ vs. items_view vs.now) texts.entry) (bad_field key.now) interval_of bad_interval fit_intervals) }
 {
-    let Some(texts) = found else {
+    let Some(texts) = texts else {
         return Err(QueryFault::Field(key));
     };
     match are_fit::<Interval>(texts, MAX_INTERVALS) {
@@ -116,7 +116,7 @@ pub(crate) fn interval_items<'a>(
 
 // The intervals that texts name.
 pub(crate) fn interval_list(alloc: Global, texts: &[Value]) -> Result<Vec<Interval>, AllocError>
-    ensures { IfOk result (λ all. all.items ≡ those interval_of texts.now) }
+    ensures { IfOk result (λ all. all.items ≡ readings interval_of texts.now) }
 {
     let mut all = Vec::with_capacity(alloc, texts.len())?;
     for text in texts {

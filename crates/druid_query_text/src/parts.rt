@@ -4,7 +4,7 @@ ghost use Rattle.serde_json.specs.View.{view};
 ghost use Rattle.druid_filter.specs.Filters.{says};
 ghost use Rattle.druid_query.specs.Fields.{interval_of};
 ghost use Rattle.druid_query.specs.Read.{IsQuery};
-ghost use Rattle.druid_query_text.specs.Found.{Finds, those};
+ghost use Rattle.druid_query_text.specs.Found.{Finds, readings};
 ghost use Rattle.druid_query_text.specs.Parts.{head_at, tail_at, query_by};
 
 use crate::aggregator::{aggregator_items, aggregator_list};
@@ -90,7 +90,7 @@ impl<'a> Model for Tail<'a> {
     ghost use Rattle.std.specs.Prelude.{option_and_then, IfSome};
     ghost use Rattle.druid_query.specs.Fields.{dimension_at, aggregator_at};
     ghost use Rattle.druid_query.specs.Filters.{filter_at};
-    ghost use Rattle.druid_query_text.specs.Found.{read_of, those, Reads};
+    ghost use Rattle.druid_query_text.specs.Found.{read_of, readings, Reads};
     ghost use Rattle.druid_query_text.specs.Parts.{Tail};
     ghost use Rattle.std.specs.Coded.{codes};
     ghost use Rattle.druid_filter.specs.FilterCode.{coded_condition};
@@ -101,8 +101,8 @@ impl<'a> Model for Tail<'a> {
 
     ghost view = { λ a. record {
       filter = option_and_then (λ v. read_of filter_at v.now) a.filter;
-      dimensions = those dimension_at a.dimensions.now;
-      aggregations = those aggregator_at a.aggregations.now;
+      dimensions = readings dimension_at a.dimensions.now;
+      aggregations = readings aggregator_at a.aggregations.now;
     } };
 
     ghost invariant = { λ a. IfSome a.filter (λ v. Reads filter_at v.now) };
@@ -162,20 +162,20 @@ impl<'a> Model for QueryRef<'a> {
     ghost use Rattle.druid_query.specs.Query.{Query, query_of};
     ghost use Rattle.std.specs.Coded.{codes};
     ghost use Rattle.druid_filter.specs.FilterCode.{coded_condition};
-    ghost use Rattle.druid_query_text.specs.Found.{those};
+    ghost use Rattle.druid_query_text.specs.Found.{readings};
 
     ghost Value = { Query };
 
     ghost coded = { Prim.hlevel (codes, coded_condition) };
 
-    ghost view = { λ a. query_of a.head.kind a.head.source a.head.granularity (those interval_of a.intervals.now)
+    ghost view = { λ a. query_of a.head.kind a.head.source a.head.granularity (readings interval_of a.intervals.now)
         a.tail.filter a.tail.dimensions a.tail.aggregations };
 }
 
 impl<'a> QueryRef<'a> {
     // The query of these parts, where each of the intervals is the text of one.
     pub(crate) fn new(head: Head<'a>, intervals: &'a [Value], tail: Tail<'a>) -> QueryRef<'a>
-        ensures { result ≡ query_by head.entry (those interval_of intervals.now) tail.entry }
+        ensures { result ≡ query_by head.entry (readings interval_of intervals.now) tail.entry }
     {
         QueryRef {
             head,

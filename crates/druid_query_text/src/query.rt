@@ -5,7 +5,7 @@ ghost use Rattle.serde_json.specs.View.{view, items_view, members_view};
 ghost use Rattle.druid_query.specs.Fields.{interval_texts, interval_of};
 ghost use Rattle.druid_query.specs.Refusal.{Gives};
 ghost use Rattle.druid_query.specs.Read.{intervals_at, query_at, IsReadOf};
-ghost use Rattle.druid_query_text.specs.Found.{FindsBy, Finds, those};
+ghost use Rattle.druid_query_text.specs.Found.{FindsBy, Finds, readings};
 ghost use Rattle.serde_json.specs.Data.{array, string, object, put};
 ghost use Rattle.serde_json.specs.Read.{read};
 ghost use Rattle.druid_query.specs.Written.{kinded_data, query_data, query_text};
@@ -30,7 +30,7 @@ fn interval_field(value: &Value) -> Option<&[Value]>
 
 #[tactic(auto, unfolding(druid_query::specs::Read::intervals_at))]
 fn intervals_of(value: &Value) -> Result<&[Value], QueryFault>
-    ensures { FindsBy (λ vs. those interval_of vs.now) result (intervals_at (view value.now)) }
+    ensures { FindsBy (λ vs. readings interval_of vs.now) result (intervals_at (view value.now)) }
 {
     interval_items(interval_field(value), "intervals")
 }

@@ -6,7 +6,7 @@ ghost use Rattle.druid_query.specs.Asked.{asked_items, inside_at};
 ghost use Rattle.druid_query.specs.Fields.{listed_texts, interval_of};
 ghost use Rattle.druid_query.specs.Read.{IsQuery, IsReadBy};
 ghost use Rattle.druid_query.specs.SubQuery.{pieces_at, query_intervals_at, span_at, subquery_at, before_search, GivesSub, segments_data, subquery_data, subquery_text};
-ghost use Rattle.druid_query_text.specs.Found.{FindsBy, FindsAfter, EachReads, those};
+ghost use Rattle.druid_query_text.specs.Found.{FindsBy, FindsAfter, EachReads, readings};
 ghost use Rattle.druid_query_text.specs.Parts.{span_by};
 ghost use Rattle.serde_json.specs.Read.{read};
 
@@ -29,7 +29,7 @@ fn asked_field(value: &Value) -> Option<&[Value]>
 // The pieces, before they are searched for two that overlap.
 #[tactic(auto, unfolding(druid_query::specs::SubQuery::pieces_at), using(crate::proofs::SubLemmas::no_pieces, crate::proofs::SubLemmas::not_inside, crate::proofs::SubLemmas::inside, crate::proofs::ListLemmas::all_read))]
 fn pieces_of<'a>(source: &str, value: &'a Value) -> Result<&'a [Value], QueryFault>
-    ensures read { FindsBy (λ vs. those (inside_at source.now) vs.now) result (pieces_at source.now (view value.now)) }
+    ensures read { FindsBy (λ vs. readings (inside_at source.now) vs.now) result (pieces_at source.now (view value.now)) }
     ensures each { IfOk result (λ vs. EachReads (inside_at source.now) vs.now) }
 {
     let Some(items) = asked_field(value) else {
@@ -49,7 +49,7 @@ fn query_interval_field(value: &Value) -> Option<&[Value]>
 
 #[tactic(auto, unfolding(druid_query::specs::SubQuery::query_intervals_at))]
 fn query_intervals_of(value: &Value) -> Result<&[Value], QueryFault>
-    ensures { FindsBy (λ vs. those interval_of vs.now) result (query_intervals_at (view value.now)) }
+    ensures { FindsBy (λ vs. readings interval_of vs.now) result (query_intervals_at (view value.now)) }
 {
     interval_items(query_interval_field(value), "queryIntervals")
 }
@@ -60,9 +60,9 @@ fn span_of<'a>(
     source: &str,
     value: &'a Value,
 ) -> Result<(&'a [Value], &'a [Value]), QueryFault>
-    ensures read { FindsAfter (λ found. span_by source.now found.0.now found.1.now) (pieces_at source.now (view value.now)) result
+    ensures read { FindsAfter (λ slices. span_by source.now slices.0.now slices.1.now) (pieces_at source.now (view value.now)) result
         (span_at source.now (view value.now)) }
-    ensures each { IfOk result (λ found. EachReads (inside_at source.now) found.0.now) }
+    ensures each { IfOk result (λ slices. EachReads (inside_at source.now) slices.0.now) }
 {
     let asked = pieces_of(source, value)?;
     let Ok(apart) = are_apart(alloc, source, asked) else {
@@ -85,7 +85,7 @@ struct SubQueryRef<'a> {
 impl<'a> Model for SubQueryRef<'a> {
     ghost use Rattle.druid_query.specs.Asked.{inside_at};
     ghost use Rattle.druid_query.specs.SubQuery.{SubQuery};
-    ghost use Rattle.druid_query_text.specs.Found.{those, EachReads};
+    ghost use Rattle.druid_query_text.specs.Found.{readings, EachReads};
     ghost use Rattle.std.specs.Coded.{codes};
     ghost use Rattle.druid_filter.specs.FilterCode.{coded_condition};
 
@@ -93,7 +93,7 @@ impl<'a> Model for SubQueryRef<'a> {
 
     ghost coded = { Prim.hlevel (codes, coded_condition) };
 
-    ghost view = { λ a. record { query = a.query; asked = those (inside_at a.query.source) a.asked.now } };
+    ghost view = { λ a. record { query = a.query; asked = readings (inside_at a.query.source) a.asked.now } };
 
     ghost invariant = { λ a. EachReads (inside_at a.query.source) a.asked.now };
 }
@@ -113,7 +113,7 @@ impl<'a> SubQueryRef<'a> {
     }
 
     // A copy.
-    #[tactic(auto, using(crate::proofs::ListLemmas::those_all))]
+    #[tactic(auto, using(crate::proofs::ListLemmas::all_readings))]
     fn owned(&self, alloc: Global) -> Result<SubQuery, AllocError>
         requires { IsQuery self.now.query }
         ensures { IfOk result (λ sub. sub ≡ self.now) }
@@ -128,7 +128,7 @@ impl<'a> SubQueryRef<'a> {
 /// the pieces that are asked for, and `queryIntervals`, which is read after it, a list of the query's own intervals. Q3 where
 /// no piece is asked for or one has another shape, its `part` and `ver` included; then Q4 where a text is no interval, a piece
 /// is not inside its segment, or two pieces of one segment overlap. To find the latter allocates: Q9 may come in place of
-/// that refusal and of those after it, and else comes last.
+/// that refusal and of readings after it, and else comes last.
 pub fn subquery_of(alloc: Global, value: &Value) -> Result<SubQuery, QueryFault>
     ensures { GivesSub (view value.now) result }
 {

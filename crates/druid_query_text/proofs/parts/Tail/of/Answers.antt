@@ -4,7 +4,7 @@ use Rattle.druid_query.specs.Query.{are_distinct}
 use Rattle.druid_query_text.specs.Found.{Finds}
 use Rattle.druid_query_text.specs.Parts.{tail_at}
 use Rattle.druid_query_text.proofs.NameLemmas.{names_read}
-use Rattle.druid_query_text.proofs.ReadLemmas.{erred, tail_filter, tail_dimensions, tail_aggregations, tail_more, tail_judged}
+use Rattle.druid_query_text.proofs.ReadLemmas.{error_holds, tail_filter, tail_dimensions, tail_aggregations, tail_more, tail_judged}
 use Rattle.druid_query_text.proofs.parts.Tail.of.Goals as goal
 
 pub returns-in_err-filter : goal.returns-in_err-filter
@@ -12,14 +12,14 @@ returns-in_err-filter c =
     let k = c.args.kind in
     let d = view c.args.value.now in
     let e = c.in_err-filter.field-0.0 in
-    erred (λ r. Finds r (tail_at k d)) c.from_residual.result e c.from_residual.ensures.1 (tail_filter d k e c.in_err-filter.ensures.read)
+    error_holds (λ r. Finds r (tail_at k d)) c.from_residual.result e c.from_residual.ensures.1 (tail_filter d k e c.in_err-filter.ensures.read)
 
 pub returns-in_err-dimensions : goal.returns-in_err-dimensions
 returns-in_err-dimensions c =
     let k = c.args.kind in
     let d = view c.args.value.now in
     let e = c.in_err-dimensions.field-0.0 in
-    erred (λ r. Finds r (tail_at k d)) c.from_residual-in_err-dimensions.result e c.from_residual-in_err-dimensions.ensures.1
+    error_holds (λ r. Finds r (tail_at k d)) c.from_residual-in_err-dimensions.result e c.from_residual-in_err-dimensions.ensures.1
     (tail_dimensions d k _ e c.in_ok-filter.ensures.read c.in_err-dimensions.ensures.read)
 
 pub returns-in_err-aggregations : goal.returns-in_err-aggregations
@@ -27,7 +27,7 @@ returns-in_err-aggregations c =
     let k = c.args.kind in
     let d = view c.args.value.now in
     let e = c.in_err-aggregations.field-0.0 in
-    erred (λ r. Finds r (tail_at k d)) c.from_residual-in_err-aggregations.result e c.from_residual-in_err-aggregations.ensures.1
+    error_holds (λ r. Finds r (tail_at k d)) c.from_residual-in_err-aggregations.result e c.from_residual-in_err-aggregations.ensures.1
     (tail_aggregations d k _ _ e c.in_ok-filter.ensures.read c.in_ok-dimensions.ensures.read c.in_err-aggregations.ensures.read)
 
 pub returns-in_err-check_no_more : goal.returns-in_err-check_no_more
@@ -35,7 +35,7 @@ returns-in_err-check_no_more c =
     let k = c.args.kind in
     let d = view c.args.value.now in
     let e = c.in_err-check_no_more.field-0.0 in
-    erred (λ r. Finds r (tail_at k d)) c.from_residual-in_err-check_no_more.result e c.from_residual-in_err-check_no_more.ensures.1
+    error_holds (λ r. Finds r (tail_at k d)) c.from_residual-in_err-check_no_more.result e c.from_residual-in_err-check_no_more.ensures.1
     (tail_more d k _ _ _ e c.in_ok-filter.ensures.read c.in_ok-dimensions.ensures.read c.in_ok-aggregations.ensures.read c.in_err-check_no_more.ensures)
 
 pub returns-then-not-are_distinct : goal.returns-then-not-are_distinct
