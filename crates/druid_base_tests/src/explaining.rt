@@ -168,12 +168,10 @@ fn failing_devices(rt: HostRuntime) {
     );
 }
 
-// A device that is out of memory is reported as that.
+// A read that is out of memory is reported as that.
 #[test]
-fn devices_out_of_memory(rt: HostRuntime) {
+fn read_out_of_memory(rt: HostRuntime) {
     let (alloc, kind) = (rt.alloc(), ErrorKind::OutOfMemory);
-    let text = reported_over(&rt, alloc, kind, false);
-    assert_reported(&rt, &text, "line 1: device\n  out of memory\n");
     let text = reported_unread(&rt, alloc, kind);
     assert_reported(&rt, &text, "line 1: device\n  out of memory\n");
 }
