@@ -168,14 +168,6 @@ fn failing_devices(rt: HostRuntime) {
     );
 }
 
-// A read that is out of memory is reported as that.
-#[test]
-fn read_out_of_memory(rt: HostRuntime) {
-    let (alloc, kind) = (rt.alloc(), ErrorKind::OutOfMemory);
-    let text = reported_unread(&rt, alloc, kind);
-    assert_reported(&rt, &text, "line 1: device\n  out of memory\n");
-}
-
 // Where the error writer takes the first line alone, that is no report.
 #[test]
 fn half_a_report(rt: HostRuntime) {
