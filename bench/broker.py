@@ -24,11 +24,11 @@ def main():
         kind, pairs = name.split(':')
         print(f'plan, {kind:10} {int(pairs):7,} pairs {spent / 1000:9.1f} ms', flush=True)
     lines, peak = run(program, 'all')
-    told = times_of(lines)
+    reported = times_of(lines)
     for kind in ('hours', 'day', 'groups'):
-        times = sorted(spent for name, spent in told if name == kind)
+        times = sorted(spent for name, spent in reported if name == kind)
         whole = sum(times) / len(times)
-        parts = {name.split(':')[1]: spent for name, spent in told if name.startswith(kind + ':')}
+        parts = {name.split(':')[1]: spent for name, spent in reported if name.startswith(kind + ':')}
         print(f'{kind:8} {1e6 / whole:8.1f} a second, half within {times[len(times) // 2] / 1000:.1f} ms, 99% within '
               f'{times[(len(times) * 99 - 1) // 100] / 1000:.1f} ms, {parts.pop("pairs"):,} pairs; '
               + ', '.join(f'{name} {spent / 1000:.1f} ms' for name, spent in parts.items()), flush=True)

@@ -15,15 +15,15 @@ def main():
     program, _ = build('node', ['druid_node', 'druid_store', 'anyhow'], words=['write', folder])
     size = sum(os.path.getsize(os.path.join(folder, name)) for name in os.listdir(folder)) / 2**20
     lines, peak = run(program, 'serve', folder)
-    told = [(name, int(count), int(spent), int(size)) for name, count, spent, size in map(str.split, lines)]
-    for name, count, spent, sent in told:
+    reported = [(name, int(count), int(spent), int(size)) for name, count, spent, size in map(str.split, lines)]
+    for name, count, spent, sent in reported:
         if ':' not in name:
             print(f'{name:12} {count / spent * 1e6:12,.1f} a second  {sent // count:10,} bytes each', flush=True)
     for kind in ('one', 'all'):
-        parts = [(name.split(':')[1], spent / count) for name, count, spent, _ in told if name.startswith(kind + ':')]
+        parts = [(name.split(':')[1], spent / count) for name, count, spent, _ in reported if name.startswith(kind + ':')]
         whole = sum(spent for _, spent in parts)
         print(f'{kind:12} ' + ', '.join(f'{name} {spent:,.1f} us ({spent / whole:.1%})' for name, spent in parts))
-    one, four = ((count / spent * 1e6) for name, count, spent, _ in told if name.startswith('clients:'))
+    one, four = ((count / spent * 1e6) for name, count, spent, _ in reported if name.startswith('clients:'))
     print(f'{"clients":12} one {one:,.1f} a second, four {four:,.1f} a second ({four / one:.2f} times as many)')
     print(f'{size:.0f} MiB of files, {peak:.0f} MiB of memory')
 

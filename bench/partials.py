@@ -125,9 +125,9 @@ def hostile(program):
         for size in (4, 8, 16):
             with open(texts[kind], 'w') as f:
                 f.write(made(size << 20))
-            told, peak = times(program, 'judge', texts['subquery'], texts['answer'])
-            last = list(told)[-1]
-            spent.append(told[last][1] / 1000)
+            reported, peak = times(program, 'judge', texts['subquery'], texts['answer'])
+            last = list(reported)[-1]
+            spent.append(reported[last][1] / 1000)
         print(f'{kind + ": " + name:42}' + ' '.join(f'{it:7.1f} ms' for it in spent) + f'  {last}, {peak:.0f} MiB', flush=True)
 
 
@@ -144,15 +144,15 @@ def main():
             json.dump(asked, f)
         runs = [times(program, path, answer) for _ in range(RUNS)]
         groups = runs[0][0]['groups'][0]
-        spent = min(told['groups'][1] for told, _ in runs)
+        spent = min(reported['groups'][1] for reported, _ in runs)
         rows, best = asked_of_sqlite(db, text)
         with open(answer) as f:
             assert same(asked, json.load(f), rows), name
         print(f'{name:42}{ROWS / spent * 1e6:14,.0f} {ROWS / best:14,.0f}  {groups} groups, {runs[0][1]:.0f} MiB', flush=True)
     with open(path, 'w') as f:
         json.dump(QUERIES[3][1], f)
-    told, peak = times(program, 'merge', path)
-    for name, (count, spent) in told.items():
+    reported, peak = times(program, 'merge', path)
+    for name, (count, spent) in reported.items():
         print(f'{name:10} {count:10,} {spent / 1000:10.1f} ms')
     print(f'{peak:.0f} MiB')
     hostile(program)

@@ -26,12 +26,12 @@ def alone(lines):
 
 def beside(lines, peak):
     """Prints what a publisher and three threads that read did."""
-    told = {name: list(map(int, words)) for name, *words in map(str.split, lines)}
-    rate = {name: told[name][0] / told[name][1] * 1e6 for name in ('alone', 'beside')}
+    reported = {name: list(map(int, words)) for name, *words in map(str.split, lines)}
+    rate = {name: reported[name][0] / reported[name][1] * 1e6 for name in ('alone', 'beside')}
     print(f'publisher: {rate["alone"]:,.0f} deltas a second alone, {rate["beside"]:,.0f} beside three threads that read: '
           f'{rate["beside"] / rate["alone"]:.2f} (wanted: at least 0.80)')
     for name, what in (('read', 'a read'), ('drop', 'a read and the drop of what it gave')):
-        count, half, most, nearly = told[name]
+        count, half, most, nearly = reported[name]
         print(f'{what}, {count:,} times: half within {half / 1000:.2f} us, 99.9% within {most / 1000:.2f} us, '
               f'99.99% within {nearly / 1000:.2f} us' + (' (wanted: below 1,000)' if name == 'read' else ''))
     print(f'{peak:.0f} MiB of memory')

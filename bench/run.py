@@ -6,7 +6,7 @@ with core 0, one chunk with a core partition for each segment, and one-hour chun
 of short lines, for the memory that they take, and one lookup whose answer is long: 2,000 partitions under 2,000
 alternating hours, for which the peak is at most 40 MiB. Last, a snapshot of one-hour chunks, and then 2,000 deltas of 5
 changes each with a lookup of a changed day after each: at most 20 s and 250 MB at 20,000 segments. And 64 brokers over 8
-nodes of 2,500 segments each, every segment on two nodes: one broker is told the snapshots, the others join it, and then
+nodes of 2,500 segments each, every segment on two nodes: one broker is given the snapshots, the others join it, and then
 there are 4 rounds of a delta of each node to each broker, with a lookup each: at most 20 s and 1 GB. Nothing else is
 checked but that the program ends with status 0.
 """

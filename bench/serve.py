@@ -83,7 +83,7 @@ def config(folder, ports):
 
 @contextlib.contextmanager
 def running(words, **more):
-    """A program that is ended behind the block, first kindly."""
+    """A program that is ended after the block, first kindly."""
     child = subprocess.Popen(words, stdin=subprocess.DEVNULL, **more)
     try:
         yield child
@@ -105,12 +105,12 @@ def ask(port, method, path, body=None, limit=WAITING):
     try:
         link.request(method, path, body, {'Content-Type': 'application/json', 'Connection': 'close'})
         answer = link.getresponse()
-        told = answer.status, answer.read()
+        reported = answer.status, answer.read()
     except (OSError, http.client.HTTPException) as fault:
-        told = type(fault).__name__, b''
+        reported = type(fault).__name__, b''
     finally:
         link.close()
-    return *told, time.monotonic() - start
+    return *reported, time.monotonic() - start
 
 
 def ask_query(port, limit=WAITING):
@@ -170,7 +170,7 @@ def compare(name, rate, other):
     if rate and other:
         print(f'{name} {rate / other:.3f}', flush=True)
     else:
-        print(f'{name} not told, since not each was answered with 200', flush=True)
+        print(f'{name} not reported, since not each was answered with 200', flush=True)
 
 
 def measure_nginx(folder):
@@ -205,8 +205,8 @@ def rates(folder, broker):
 
 def held(pid):
     with open(f'/proc/{pid}/status') as f:
-        told = dict(line.split(':', 1) for line in f)
-    return {'KiB': int(told['VmRSS'].split()[0]), 'threads': int(told['Threads']), 'files': len(os.listdir(f'/proc/{pid}/fd'))}
+        reported = dict(line.split(':', 1) for line in f)
+    return {'KiB': int(reported['VmRSS'].split()[0]), 'threads': int(reported['Threads']), 'files': len(os.listdir(f'/proc/{pid}/fd'))}
 
 
 def some_connections(broker, count):
@@ -218,9 +218,9 @@ def one_after_another(pid, broker):
     some_connections(broker, WARM_UP)
     before = held(pid)
     good = some_connections(broker, CONNECTIONS)
-    behind = held(pid)
+    after = held(pid)
     print(f'{CONNECTIONS:,} connections one after another, {good:,} of them 200: '
-          + ', '.join(f'{kind} {before[kind]:,} to {behind[kind]:,}' for kind in before), flush=True)
+          + ', '.join(f'{kind} {before[kind]:,} to {after[kind]:,}' for kind in before), flush=True)
 
 
 # Slow clients.
@@ -266,8 +266,8 @@ class Slow:
             it.join()
         for it in self.links:
             it.close()
-        told = ', '.join(f'{it:.1f}' for it in sorted(self.closed)) or 'none'
-        print(f'    of {len(self.links)} slow clients closed by the server, after seconds: {told}', flush=True)
+        reported = ', '.join(f'{it:.1f}' for it in sorted(self.closed)) or 'none'
+        print(f'    of {len(self.links)} slow clients closed by the server, after seconds: {reported}', flush=True)
 
 
 @contextlib.contextmanager
@@ -280,8 +280,8 @@ def slow(port, count, drips):
         clients.end()
 
 
-def tell(what, told):
-    status, body, spent = told
+def tell(what, reported):
+    status, body, spent = reported
     print(f'    {what:36} {status} in {spent:.2f} s, {len(body):,} bytes', flush=True)
 
 
@@ -290,7 +290,7 @@ def slow_at_node(name, which, node, broker, drips):
     print(f'{NODE_WORKERS} clients at {name}, {which}, that send ' + ('a byte a second' if drips else 'nothing'), flush=True)
     with slow(node, NODE_WORKERS, drips):
         tell('a query', ask_query(broker))
-        tell('a query behind it', ask_query(broker))
+        tell('a query after it', ask_query(broker))
         tell(f'health of {name}', ask(node, 'GET', HEALTH_PATH, limit=5))
     tell('a query once they are gone', ask_query(broker))
 

@@ -158,7 +158,7 @@ def rows_of(path, time, dimensions, metrics, length):
                 raise Refused(f'{path}:{line}: column {name}: {fault}') from None
         rows.append((values[0], values[1:len(dimensions) + 1], values[len(dimensions) + 1:]))
     if not rows:
-        raise Refused(f'{path}:{line}: no rows behind the header')
+        raise Refused(f'{path}:{line}: no rows after the header')
     return rows
 
 
@@ -225,10 +225,10 @@ def encoded(segment, sized=False, by_columns=False):
     """The bytes of a segment's file, which state the segment's size, or their own length."""
     before = ((b'DSG2' if by_columns else b'DSG1') + short_text(segment.source) + struct.pack('>qq', segment.start, segment.end)
               + short_text(segment.version) + struct.pack('>HH', segment.partition, segment.core))
-    behind = (names_bytes(segment.dimensions) + names_bytes(segment.metrics) + struct.pack('>I', len(segment.rows))
+    after = (names_bytes(segment.dimensions) + names_bytes(segment.metrics) + struct.pack('>I', len(segment.rows))
               + (columns_bytes if by_columns else rows_bytes)(segment))
-    size = len(before) + 8 + len(behind) if sized else segment.size
-    return before + struct.pack('>Q', size) + behind
+    size = len(before) + 8 + len(after) if sized else segment.size
+    return before + struct.pack('>Q', size) + after
 
 
 def file_of(segment, by_columns=False):

@@ -248,7 +248,7 @@ def main(words):
         return 2
     clusters, requests = ([int(word) for word in words] + [3, 2_000][len(words):])[:2]
     for number in range(clusters):
-        folder, told = tempfile.mkdtemp(prefix='druid_cluster_drawn_'), {}
+        folder, reported = tempfile.mkdtemp(prefix='druid_cluster_drawn_'), {}
         cluster = Cluster(random.Random(number), number, folder)
         try:
             for _ in range(requests):
@@ -260,12 +260,12 @@ def main(words):
                     print(f'{request}\nthe rules answer {wanted}\nthe program answers {got}')
                     return 1
                 kind = '200' if got[0] == 200 else got[1][10:12]
-                told[kind] = told.get(kind, 0) + 1
+                reported[kind] = reported.get(kind, 0) + 1
         finally:
             cluster.program.kill()
             cluster.program.wait()
             shutil.rmtree(folder)
-        print(f'cluster {number}: {requests} requests answered as the rules answer them:', *(f'{key} {told[key]}' for key in sorted(told)))
+        print(f'cluster {number}: {requests} requests answered as the rules answer them:', *(f'{key} {reported[key]}' for key in sorted(reported)))
     return 0
 
 

@@ -25,10 +25,10 @@ class Refused(Exception):
         self.code, self.field = code, field
 
     def text(self):
-        told = {'error': self.code}
+        reported = {'error': self.code}
         if self.code == 'Q3':
-            told['field'] = self.field
-        return text(told)
+            reported['field'] = self.field
+        return text(reported)
 
 
 # Texts and numbers
@@ -301,10 +301,10 @@ def groups_of(query, rows):
     def number(kind, field, of_group):
         if kind == 'count':
             return len(of_group)
-        told = [row[2][field] for row in of_group if row[2].get(field) is not None]
-        if not told:
+        reported = [row[2][field] for row in of_group if row[2].get(field) is not None]
+        if not reported:
             return None
-        return {'longMin': min, 'longMax': max}.get(kind, lambda all_told: (sum(all_told) + 2**63) % 2**64 - 2**63)(told)
+        return {'longMin': min, 'longMax': max}.get(kind, lambda all_of_them: (sum(all_of_them) + 2**63) % 2**64 - 2**63)(reported)
 
     def place(key):
         return key[0], [(value is not None, (value or '').encode()) for value in key[1]]
@@ -385,13 +385,13 @@ def columns(segment):
     rows = segment['rows']
     parts = [struct.pack('>q', time) for time, _, _ in rows]
     for name in segment['dims']:
-        told = [None if values[name] is None else values[name].encode() for _, values, _ in rows]
-        known = sorted(set(told) - {None})
+        reported = [None if values[name] is None else values[name].encode() for _, values, _ in rows]
+        known = sorted(set(reported) - {None})
         parts += [struct.pack('>I', len(known)), *(struct.pack('>H', len(it)) + it for it in known)]
-        parts += [struct.pack('>I', 0 if it is None else 1 + known.index(it)) for it in told]
+        parts += [struct.pack('>I', 0 if it is None else 1 + known.index(it)) for it in reported]
     for name in segment['mets']:
-        told = [numbers[name] for _, _, numbers in rows]
-        parts += [b'\0' if it is None else b'\1' for it in told] + [struct.pack('>q', it) for it in told if it is not None]
+        reported = [numbers[name] for _, _, numbers in rows]
+        parts += [b'\0' if it is None else b'\1' for it in reported] + [struct.pack('>q', it) for it in reported if it is not None]
     return b''.join(parts)
 
 
@@ -421,12 +421,12 @@ def reply(ask, loaded, kept):
     if ask is False:
         return 400, '{"error":"Y6"}'
     end = len(loaded)
-    told = {'counter': {'counter': end, 'hash': 1}, 'from': None, 'requests': [], 'resetCause': None, 'resetCounter': False}
+    reported = {'counter': {'counter': end, 'hash': 1}, 'from': None, 'requests': [], 'resetCause': None, 'resetCounter': False}
     if ask is None:
-        told['requests'] = [load_of(it) for it in sorted(loaded, key=lambda it: identifier(it).encode())]
-        return 200, text(told)
+        reported['requests'] = [load_of(it) for it in sorted(loaded, key=lambda it: identifier(it).encode())]
+        return 200, text(reported)
     count, incarnation = ask
     cause = ('OtherIncarnation' if incarnation != 1 else 'Ahead' if count > end else 'TooOld' if end - count > kept else None)
     if cause:
-        return 200, text({**told, 'resetCause': cause, 'resetCounter': True})
-    return 200, text({**told, 'from': {'counter': count, 'hash': 1}, 'requests': [load_of(it) for it in loaded[count:]]})
+        return 200, text({**reported, 'resetCause': cause, 'resetCounter': True})
+    return 200, text({**reported, 'from': {'counter': count, 'hash': 1}, 'requests': [load_of(it) for it in loaded[count:]]})

@@ -4,7 +4,7 @@
 fuzz.py [SECONDS [TARGET..]]     an hour for each of the four, side by side, unless said otherwise
 
 It makes a static library of the proved readers in a folder for temporary files, over copies of the crates, with the kit's clang
-told to count which branches are taken, and links it with libFuzzer. What it looks for is an end that is none of Rust's: a signal, an
+made to count which branches are taken, and links it with libFuzzer. What it looks for is an end that is none of Rust's: a signal, an
 input that takes longer than ten seconds, more than 2 GiB. It begins with inputs made of the examples and with those that earlier
 runs kept, and at its end keeps, in tests/fuzz/corpus.tar.gz, those without which some branch would not be taken. It needs Debian's
 `clang` and `libclang-rt-14-dev`. Crates whose libraries do not stand are proved first. It ends with 1 where an input was found,

@@ -5,8 +5,8 @@ kill.py [STARTS]     200 starts at drawn moments, unless said otherwise, and one
 
 A node is served over a folder of the machine's and is killed (SIGKILL) at a drawn moment of its start, half of the time before
 it answers. Where `strace` is there (Debian's package), it is then killed at its n-th open, write, sync and rename, for each n
-until it comes through. Whoever asks a node is told its incarnation. Over all starts these numbers rise strictly, and the file
-holds a number at least as great as each that was told. It ends with 1 where that fails. What
+until it comes through. Whoever asks a node learns its incarnation. Over all starts these numbers rise strictly, and the file
+holds a number at least as great as each that was reported. It ends with 1 where that fails. What
 this shows is the order of the calls; that a machine loses power is another matter, which the proof speaks of.
 """
 import json
@@ -56,7 +56,7 @@ def number_in(folder):
 
 
 def start(cluster, delay, prefix=()):
-    """Starts the node and kills it after so many seconds, or waits for its answer where there is none. What it told."""
+    """Starts the node and kills it after so many seconds, or waits for its answer where there is none. What it reported."""
     asker = Asker(cluster.nodes[0])
     cluster.words = [*prefix, *cluster.words[-3:]]
     process = subprocess.Popen(cluster.words, stdout=subprocess.DEVNULL, stderr=subprocess.DEVNULL)
@@ -73,19 +73,19 @@ def start(cluster, delay, prefix=()):
 
 
 class Record:
-    """The numbers told so far, each above the one before."""
+    """The numbers reported so far, each above the one before."""
 
     def __init__(self, folder):
-        self.folder, self.last, self.told, self.starts, self.raised = folder, 0, 0, 0, 0
+        self.folder, self.last, self.reported, self.starts, self.raised = folder, 0, 0, 0, 0
 
     def add(self, found, where):
         held = number_in(self.folder)
         if found is not None and found <= self.last:
-            raise SystemExit(f'{where}: incarnation {found} was told after {self.last}')
+            raise SystemExit(f'{where}: incarnation {found} was reported after {self.last}')
         if found is not None:
-            self.last, self.told = found, self.told + 1
+            self.last, self.reported = found, self.reported + 1
         if held is not None and held < self.last or held is None and self.last:
-            raise SystemExit(f'{where}: the file holds {held}, and {self.last} was told')
+            raise SystemExit(f'{where}: the file holds {held}, and {self.last} was reported')
         self.starts += 1
 
 
@@ -105,7 +105,7 @@ def main(words):
             # Half of the starts are to end before the node answers, so near the raise: the moments are drawn from where that is.
             if delay is not None:
                 spread = min(whole, spread * 1.1) if found is None else spread / 1.1
-        print(f'{record.starts} starts, killed at drawn moments: {record.told} told their incarnation, and the last is {record.last}')
+        print(f'{record.starts} starts, killed at drawn moments: {record.reported} reported their incarnation, and the last is {record.last}')
         if not shutil.which('strace'):
             print('strace is not there: apt-get install strace')
             return 0
@@ -119,7 +119,7 @@ def main(words):
                 if found is not None:
                     break
             at.add(start(cluster, None), f'after {call}')
-        print(f'{at.starts} starts, killed at the n-th of {", ".join(CALLS)}: {at.told} told their incarnation, and the last is {at.last}')
+        print(f'{at.starts} starts, killed at the n-th of {", ".join(CALLS)}: {at.reported} reported their incarnation, and the last is {at.last}')
         return 0
     finally:
         shutil.rmtree(folder, ignore_errors=True)

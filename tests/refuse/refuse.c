@@ -27,7 +27,7 @@ static long chosen_call, chosen_at;
 static long calls, asked, refused;
 static int inside;
 
-/* What dlsym itself asks for before it has told where calloc is. */
+/* What dlsym itself asks for before it has said where calloc is. */
 static _Alignas(16) char early[4096];
 static size_t early_used;
 

@@ -36,21 +36,21 @@ def run(shared, folder, test, call, k):
     path = os.path.join(folder, f'{test}-{call}-{k}'.replace(':', '.'))
     words = {'LD_PRELOAD': shared, 'REFUSE_CALL': str(call), 'REFUSE_AT': str(k), 'REFUSE_REPORT': path}
     ran = subprocess.run([PROGRAM, test], env={**os.environ, **words}, stdout=subprocess.PIPE, stderr=subprocess.STDOUT, errors='replace', timeout=120)
-    told = {}
+    reported = {}
     if os.path.exists(path):
         with open(path, encoding='utf-8') as file:
-            told = {key: int(value) for key, value in re.findall(r'(\w+)=(\d+)', file.read())}
+            reported = {key: int(value) for key, value in re.findall(r'(\w+)=(\d+)', file.read())}
         os.remove(path)
-    return ran.returncode == 0, told, ran.stdout
+    return ran.returncode == 0, reported, ran.stdout
 
 
 def try_call(shared, folder, test, call):
     """How many allocations of a call were refused, and what did not pass."""
     for k in range(1, MOST):
-        passed, told, output = run(shared, folder, test, call, k)
+        passed, reported, output = run(shared, folder, test, call, k)
         if not passed:
             return k, f'{test}, call {call}, allocation {k}: {output.strip()[-300:]}'
-        if not told.get('refused'):
+        if not reported.get('refused'):
             return k - 1, None
     return MOST, f'{test}, call {call}: no end'
 
@@ -62,8 +62,8 @@ def main():
         shared = os.path.join(folder, 'refuse.so')
         subprocess.run(['cc', '-O1', '-shared', '-fPIC', '-o', shared, os.path.join(HERE, 'refuse.c'), '-ldl'], check=True)
         for test in tests:
-            passed, told, output = run(shared, folder, test, 0, 0)
-            count = told.get('calls', 0)
+            passed, reported, output = run(shared, folder, test, 0, 0)
+            count = reported.get('calls', 0)
             if not passed or not count:
                 faults.append(f'{test}: {output.strip()[-300:] or "no calls"}')
                 continue

@@ -16,8 +16,8 @@ inside_seen a h t has =
     let last : a.1.end ≤ a.0.interval.end = leb-true a.1.end a.0.interval.end (second_so (nat_le a.0.interval.start a.1.start) (nat_le a.1.end a.0.interval.end) h) in
     (omega (arith, first, has.0), omega (arith, last, has.1))
 
-pub inside_told : (a : Asked) → IsExtent a.1 → LiesInside a → lies_inside a ≡ true
-inside_told a valid h =
+pub inside_reported : (a : Asked) → IsExtent a.1 → LiesInside a → lies_inside a ≡ true
+inside_reported a valid h =
     let first = h a.1.start (omega arith, valid.0) in
     let last = h (a.1.end - 1) (omega (arith, valid.0), omega (arith, valid.0)) in
     ap (λ b. b && nat_le a.1.end a.0.interval.end) (le-leb a.0.interval.start a.1.start first.0) ∙ le-leb a.1.end a.0.interval.end (omega (arith, last.1, valid.0))
@@ -44,5 +44,5 @@ pub inside_back : (a : Asked) → IsIdentifier a.0 → IsExtent a.1 → LiesInsi
 unfolding inside_at
 inside_back a h valid inside =
     let back = asked_back a h valid in
-    let lies = inside_told a valid inside in
+    let lies = inside_reported a valid inside in
     rw (back, lies) refl

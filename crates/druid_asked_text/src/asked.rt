@@ -41,7 +41,7 @@ impl<'a> Model for Spelled<'a> {
 
 // A piece, with borrowed texts. Pieces are in the order of the parts of their segments, and then of their own starts and ends.
 #[derive(Drop)]
-struct LentAsked<'a> {
+struct AskedRef<'a> {
     source: &'a str,
     chunk: Interval,
     version: &'a str,
@@ -49,7 +49,7 @@ struct LentAsked<'a> {
     piece: Interval,
 }
 
-impl<'a> Model for LentAsked<'a> {
+impl<'a> Model for AskedRef<'a> {
     ghost use Rattle.druid_segid.specs.Names.{IsVersion};
     ghost use Rattle.druid_query.specs.Asked.{Asked};
 
@@ -60,12 +60,12 @@ impl<'a> Model for LentAsked<'a> {
     ghost invariant = { λ a. IsVersion a.version.now };
 }
 
-impl<'a> PartialEq for LentAsked<'a> {
+impl<'a> PartialEq for AskedRef<'a> {
     ghost eq = { same_asked };
 
     ghost laws = { order.same_asked-per };
 
-    fn eq(&self, other: &LentAsked<'a>) -> bool
+    fn eq(&self, other: &AskedRef<'a>) -> bool
         ensures { result ≡ same_asked self.now other.now }
     {
         self.source == other.source
@@ -78,21 +78,21 @@ impl<'a> PartialEq for LentAsked<'a> {
     }
 }
 
-impl<'a> Eq for LentAsked<'a> {
+impl<'a> Eq for AskedRef<'a> {
     ghost laws = { order.same_asked-equiv };
 }
 
-impl<'a> PartialOrd for LentAsked<'a> {
+impl<'a> PartialOrd for AskedRef<'a> {
     ghost partial_cmp = { λ a b. Some (asked_cmp a b) };
 
     ghost laws = { order.asked_cmp-po };
 
-    fn partial_cmp(&self, other: &LentAsked<'a>) -> Option<Ordering> {
+    fn partial_cmp(&self, other: &AskedRef<'a>) -> Option<Ordering> {
         Some(self.cmp(other))
     }
 }
 
-impl<'a> Ord for LentAsked<'a> {
+impl<'a> Ord for AskedRef<'a> {
     ghost cmp = { asked_cmp };
 
     ghost total = { order.asked_cmp-total };
@@ -101,7 +101,7 @@ impl<'a> Ord for LentAsked<'a> {
 
     ghost matches_eq = { order.asked_cmp-ties };
 
-    fn cmp(&self, other: &LentAsked<'a>) -> Ordering {
+    fn cmp(&self, other: &AskedRef<'a>) -> Ordering {
         self.source
             .cmp(other.source)
             .then(self.chunk.start().cmp(&other.chunk.start()))
@@ -113,7 +113,7 @@ impl<'a> Ord for LentAsked<'a> {
     }
 }
 
-impl<'a> LentAsked<'a> {
+impl<'a> AskedRef<'a> {
     // Whether it lies inside its segment.
     fn lies_inside(&self) -> bool
         ensures { result ≡ lies_inside self.now }
@@ -122,7 +122,7 @@ impl<'a> LentAsked<'a> {
     }
 
     // Whether both are of one segment and have an instant in common.
-    fn overlaps(&self, other: &LentAsked<'a>) -> bool
+    fn overlaps(&self, other: &AskedRef<'a>) -> bool
         ensures { result ≡ do_overlap self.now other.now }
     {
         self.partition == other.partition
@@ -175,12 +175,12 @@ fn spelled_of(value: &Value) -> Option<Spelled<'_>>
 }
 
 #[tactic(auto, unfolding(druid_query::specs::Asked::named_by))]
-fn named_by<'a>(source: &'a str, spelled: &Spelled<'a>) -> Option<LentAsked<'a>>
+fn named_by<'a>(source: &'a str, spelled: &Spelled<'a>) -> Option<AskedRef<'a>>
     ensures { result ≡ named_by source.now spelled.now }
 {
     let chunk = Interval::parse(spelled.chunk).ok()?;
     let piece = Interval::parse(spelled.piece).ok()?;
-    Some(LentAsked {
+    Some(AskedRef {
         source,
         chunk,
         version: spelled.version,
@@ -191,7 +191,7 @@ fn named_by<'a>(source: &'a str, spelled: &Spelled<'a>) -> Option<LentAsked<'a>>
 
 // The piece that a value asks for, of a segment of that source.
 #[tactic(auto, unfolding(druid_query::specs::Asked::asked_at))]
-fn asked_of<'a>(source: &'a str, value: &'a Value) -> Option<LentAsked<'a>>
+fn asked_of<'a>(source: &'a str, value: &'a Value) -> Option<AskedRef<'a>>
     ensures { result ≡ asked_at source.now (view value.now) }
 {
     named_by(source, &spelled_of(value)?)
@@ -199,7 +199,7 @@ fn asked_of<'a>(source: &'a str, value: &'a Value) -> Option<LentAsked<'a>>
 
 // The same, where it lies inside its segment.
 #[tactic(auto, unfolding(druid_query::specs::Asked::inside_at))]
-fn inside_of<'a>(source: &'a str, value: &'a Value) -> Option<LentAsked<'a>>
+fn inside_of<'a>(source: &'a str, value: &'a Value) -> Option<AskedRef<'a>>
     ensures { result ≡ inside_at source.now (view value.now) }
 {
     let asked = asked_of(source, value)?;
@@ -220,7 +220,7 @@ pub fn are_inside(source: &str, values: &[Value]) -> bool
 }
 
 // Whether no piece overlaps the next.
-fn stand_apart(pieces: &[LentAsked<'_>]) -> bool
+fn stand_apart(pieces: &[AskedRef<'_>]) -> bool
     ensures { IsTrue result ↔ AllAdjacentBelow AreApart pieces.now (length pieces.now) }
 {
     for place in 1..pieces.len() {
@@ -235,7 +235,7 @@ fn pieces_of<'a>(
     alloc: Global,
     source: &'a str,
     values: &'a [Value],
-) -> Result<Vec<LentAsked<'a>>, AllocError>
+) -> Result<Vec<AskedRef<'a>>, AllocError>
     requires { IsSome (each_of (inside_at source.now) (items_view values.now)) }
     ensures { IfOk result (λ all. each_of (inside_at source.now) (items_view values.now) ≡ Some all.items) }
 {

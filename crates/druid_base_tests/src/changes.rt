@@ -1,6 +1,6 @@
-use crate::printing::{assert_printed, assert_rows, assert_told, owned, printed};
+use crate::printing::{assert_printed, assert_reported, assert_rows, owned, printed};
 use crate::rows::{
-    change, first_segments, mark_told, numbered, parsed, push_partition, push_partitions,
+    change, first_segments, mark_reported, numbered, parsed, push_partition, push_partitions,
 };
 use druid_changes::{History, HistoryFault};
 use druid_shard::{Ask, Body, Cause, Change, Descriptor, MAX_SEGMENTS, Mark, Reply};
@@ -39,55 +39,61 @@ fn five_changes(rt: &impl Abort, alloc: Global) -> History {
     history
 }
 
-fn push_changes(rt: &impl Abort, told: &mut String, changes: &[Change]) {
+fn push_changes(rt: &impl Abort, reported: &mut String, changes: &[Change]) {
     for change in changes {
         match change {
-            Change::Load(segment) => push_partition(rt, told, " +", segment),
-            Change::Drop(segment) => push_partition(rt, told, " -", segment),
+            Change::Load(segment) => push_partition(rt, reported, " +", segment),
+            Change::Drop(segment) => push_partition(rt, reported, " -", segment),
         }
     }
 }
 
-fn delta_told(rt: &impl Abort, alloc: Global, from: Mark, to: Mark, changes: &[Change]) -> String {
-    let mut told = kind_told(rt, alloc, "delta", from);
-    write!(told, " {} {}", to.incarnation(), to.count()).expect(rt, "memory");
-    push_changes(rt, &mut told, changes);
-    told
+fn delta_reported(
+    rt: &impl Abort,
+    alloc: Global,
+    from: Mark,
+    to: Mark,
+    changes: &[Change],
+) -> String {
+    let mut reported = kind_reported(rt, alloc, "delta", from);
+    write!(reported, " {} {}", to.incarnation(), to.count()).expect(rt, "memory");
+    push_changes(rt, &mut reported, changes);
+    reported
 }
 
-fn snapshot_told(rt: &impl Abort, alloc: Global, at: Mark, segments: &[Descriptor]) -> String {
-    let mut told = kind_told(rt, alloc, "snapshot", at);
-    push_partitions(rt, &mut told, segments);
-    told
+fn snapshot_reported(rt: &impl Abort, alloc: Global, at: Mark, segments: &[Descriptor]) -> String {
+    let mut reported = kind_reported(rt, alloc, "snapshot", at);
+    push_partitions(rt, &mut reported, segments);
+    reported
 }
 
-fn reset_told(rt: &impl Abort, alloc: Global, cause: Cause, at: Mark) -> String {
-    let mut told = kind_told(rt, alloc, "reset", at);
-    write!(told, " {cause:?}").expect(rt, "memory");
-    told
+fn reset_reported(rt: &impl Abort, alloc: Global, cause: Cause, at: Mark) -> String {
+    let mut reported = kind_reported(rt, alloc, "reset", at);
+    write!(reported, " {cause:?}").expect(rt, "memory");
+    reported
 }
 
 // A kind of reply and a mark.
-fn kind_told(rt: &impl Abort, alloc: Global, kind: &str, mark: Mark) -> String {
-    let mark = mark_told(rt, alloc, mark);
+fn kind_reported(rt: &impl Abort, alloc: Global, kind: &str, mark: Mark) -> String {
+    let mark = mark_reported(rt, alloc, mark);
     format!(in alloc; "{kind} {mark}").expect(rt, "memory")
 }
 
-fn reply_told(rt: &impl Abort, alloc: Global, reply: &Reply) -> String {
+fn reply_reported(rt: &impl Abort, alloc: Global, reply: &Reply) -> String {
     match reply.body() {
         Body::Delta { from, to, changes } => {
-            delta_told(rt, alloc, *from, *to, changes.as_slice())
+            delta_reported(rt, alloc, *from, *to, changes.as_slice())
         }
-        Body::Snapshot { at, segments } => snapshot_told(rt, alloc, *at, segments.as_slice()),
-        Body::Page { at, .. } => kind_told(rt, alloc, "page", *at),
-        Body::Reset { cause, at } => reset_told(rt, alloc, *cause, *at),
+        Body::Snapshot { at, segments } => snapshot_reported(rt, alloc, *at, segments.as_slice()),
+        Body::Page { at, .. } => kind_reported(rt, alloc, "page", *at),
+        Body::Reset { cause, at } => reset_reported(rt, alloc, *cause, *at),
     }
 }
 
 // What the node answers to an ask.
 fn answered(rt: &impl Abort, alloc: Global, ask: &Ask) -> String {
     let reply = five_changes(rt, alloc).since(ask).expect(rt, "memory");
-    reply_told(rt, alloc, &reply)
+    reply_reported(rt, alloc, &reply)
 }
 
 fn answer_since(rt: &impl Abort, alloc: Global, mark: &str) -> String {
@@ -97,18 +103,18 @@ fn answer_since(rt: &impl Abort, alloc: Global, mark: &str) -> String {
 }
 
 // The set that the node has.
-fn set_told(rt: &impl Abort, alloc: Global, history: &History) -> String {
+fn set_reported(rt: &impl Abort, alloc: Global, history: &History) -> String {
     let set = history.set().expect(rt, "memory");
-    let mut told = owned(rt, alloc, "set");
-    push_partitions(rt, &mut told, set.as_slice());
-    told
+    let mut reported = owned(rt, alloc, "set");
+    push_partitions(rt, &mut reported, set.as_slice());
+    reported
 }
 
 // The set after the five changes and one more, or why that one is refused.
 fn set_after(rt: &impl Abort, alloc: Global, text: &str) -> String {
     let mut history = five_changes(rt, alloc);
     match history.record(change(rt, alloc, text)) {
-        Ok(()) => set_told(rt, alloc, &history),
+        Ok(()) => set_reported(rt, alloc, &history),
         Err(fault) => printed(rt, alloc, &fault),
     }
 }
@@ -129,8 +135,8 @@ fn fault_when_full(rt: &impl Abort, alloc: Global) -> Option<HistoryFault> {
 
 #[test]
 fn ample_memory(rt: HostRuntime) {
-    let told = answered(&rt, rt.alloc(), &Ask::Whole);
-    assert_told(&rt, "the whole", told, "snapshot 1 5 1 2 3");
+    let reported = answered(&rt, rt.alloc(), &Ask::Whole);
+    assert_reported(&rt, "the whole", reported, "snapshot 1 5 1 2 3");
     let mark = five_changes(&rt, rt.alloc()).mark();
     assert!(rt; mark == Mark::new(1, 5));
     assert_rows(&rt, rt.alloc(), RECORDED, set_after);

@@ -43,12 +43,12 @@ fn overlaps(rt: &impl Abort, alloc: Global, case: &str) -> String {
     let (rows, row) = case.split_once('?').expect(rt, "no segment");
     let chunks = served(rt, alloc, rows);
     let other = descriptor(rt, alloc, row);
-    let mut told = String::new(alloc);
+    let mut reported = String::new(alloc);
     for key in &chunks.overlapping(other.id()).expect(rt, "memory") {
-        push_version(rt, alloc, &mut told, key);
-        write!(told, " {};", key.interval()).expect(rt, "memory");
+        push_version(rt, alloc, &mut reported, key);
+        write!(reported, " {};", key.interval()).expect(rt, "memory");
     }
-    told
+    reported
 }
 
 // Whether nothing is left once all that was added is removed, while a copy keeps it.

@@ -94,7 +94,7 @@ fn beside<T: Display>(rt: &impl Abort, alloc: Global, value: &T, count: usize) -
     format!(in alloc; "{value} {count}").expect(rt, "memory")
 }
 
-fn end_told(
+fn end_reported(
     rt: &impl Abort,
     alloc: Global,
     end: Result<(), ReplayFault>,
@@ -124,7 +124,7 @@ fn end_of(
     let mut reader = BufReader::with_capacity(alloc, 16, input).expect(rt, "memory");
     let end = replay(alloc, &mut reader, writer);
     assert!(rt; writer.flushed, "{name} {reads}");
-    end_told(rt, alloc, end, &writer.written)
+    end_reported(rt, alloc, end, &writer.written)
 }
 
 // The same of a row: the script, and the plans for reads, writes and flushes.

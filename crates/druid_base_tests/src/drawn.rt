@@ -200,7 +200,7 @@ fn event(rt: &impl Abort, alloc: Global, drawn: Drawn) -> Event {
 
 // A change of a node that was recorded: of which incarnation, and the partition that it loads or drops.
 #[derive(Clone, Copy, Drop)]
-struct Told {
+struct Reported {
     node: NodeNo,
     incarnation: u64,
     load: bool,
@@ -212,7 +212,7 @@ struct Told {
 struct Plain {
     // So many loads came first at node 0: of the partitions from `BALLAST` on.
     ballast: u64,
-    told: Vec<Told>,
+    reported: Vec<Reported>,
     restarts: Vec<NodeNo>,
     packets: usize,
 }
@@ -236,13 +236,13 @@ fn keep(rt: &impl Abort, plain: &mut Plain, drawn: Drawn) {
             load,
             partition,
         } => {
-            let told = Told {
+            let reported = Reported {
                 node,
                 incarnation: incarnation_of(&plain.restarts, node),
                 load,
                 partition,
             };
-            plain.told.push(told).expect(rt, "memory");
+            plain.reported.push(reported).expect(rt, "memory");
         }
         Drawn::Restart { node } => plain.restarts.push(node).expect(rt, "memory"),
         Drawn::Ask { .. } | Drawn::Answer { .. } | Drawn::Seed { .. } => {
@@ -275,7 +275,7 @@ fn replayed(plain: &Plain, node: NodeNo, mark: Mark) -> Option<Held> {
         ballast = left.min(plain.ballast);
         left -= ballast;
     }
-    for change in &plain.told {
+    for change in &plain.reported {
         if left > 0 && change.node == node && change.incarnation == mark.incarnation() {
             left -= 1;
             set = if change.load {
@@ -426,7 +426,7 @@ impl Entries {
 fn fresh_plain(alloc: Global, ballast: u64) -> Plain {
     Plain {
         ballast,
-        told: Vec::new(alloc),
+        reported: Vec::new(alloc),
         restarts: Vec::new(alloc),
         packets: 0,
     }

@@ -1,5 +1,5 @@
-use crate::printing::{assert_printed, assert_rows, assert_told, printed};
-use crate::rows::{change, descriptor, mark_told, name, parsed, push_partitions};
+use crate::printing::{assert_printed, assert_reported, assert_rows, printed};
+use crate::rows::{change, descriptor, mark_reported, name, parsed, push_partitions};
 use druid_inventory::{ApplyFault, Inventory, InventoryFault, JoinFault, Outcome};
 use druid_shard::{Cause, Change, Descriptor, Mark, NodeNo, Reply};
 use std::alloc::Global;
@@ -116,15 +116,15 @@ fn reply(rt: &impl Abort, alloc: Global, row: &str) -> Reply {
 }
 
 // The mark of a node, and the partitions that it serves there.
-fn entry_told(rt: &impl Abort, alloc: Global, inventory: &Inventory, node: NodeNo) -> String {
-    let mut told = mark_told(rt, alloc, inventory.mark(node).expect(rt, "no node"));
-    told.push(':').expect(rt, "memory");
+fn entry_reported(rt: &impl Abort, alloc: Global, inventory: &Inventory, node: NodeNo) -> String {
+    let mut reported = mark_reported(rt, alloc, inventory.mark(node).expect(rt, "no node"));
+    reported.push(':').expect(rt, "memory");
     push_partitions(
         rt,
-        &mut told,
+        &mut reported,
         inventory.segments(node).expect(rt, "no node"),
     );
-    told
+    reported
 }
 
 fn name_of(outcome: Outcome) -> &'static str {
@@ -136,8 +136,13 @@ fn name_of(outcome: Outcome) -> &'static str {
     }
 }
 
-fn outcome_told(rt: &impl Abort, alloc: Global, inventory: &Inventory, outcome: Outcome) -> String {
-    let entry = entry_told(rt, alloc, inventory, 0);
+fn outcome_reported(
+    rt: &impl Abort,
+    alloc: Global,
+    inventory: &Inventory,
+    outcome: Outcome,
+) -> String {
+    let entry = entry_reported(rt, alloc, inventory, 0);
     format!(in alloc; "{} {entry}", name_of(outcome)).expect(rt, "memory")
 }
 
@@ -146,7 +151,7 @@ fn take(rt: &impl Abort, alloc: Global, inventory: &mut Inventory, reply: &Reply
     match inventory.apply(0, reply) {
         Ok((next, outcome)) => {
             *inventory = next;
-            outcome_told(rt, alloc, inventory, outcome)
+            outcome_reported(rt, alloc, inventory, outcome)
         }
         Err(fault) => printed(rt, alloc, &fault),
     }
@@ -160,7 +165,7 @@ fn take_in_place(
     reply: &Reply,
 ) -> String {
     match inventory.advance(0, reply) {
-        Ok(outcome) => outcome_told(rt, alloc, inventory, outcome),
+        Ok(outcome) => outcome_reported(rt, alloc, inventory, outcome),
         Err(fault) => printed(rt, alloc, &fault),
     }
 }
@@ -172,8 +177,8 @@ fn assert_replies(rt: &impl Abort, alloc: Global, rows: &str) {
     for row in rows.lines() {
         let (text, wanted) = row.split_once(" = ").expect(rt, "no row");
         let reply = reply(rt, alloc, text);
-        assert_told(rt, text, take(rt, alloc, &mut inventory, &reply), wanted);
-        assert_told(
+        assert_reported(rt, text, take(rt, alloc, &mut inventory, &reply), wanted);
+        assert_reported(
             rt,
             text,
             take_in_place(rt, alloc, &mut alone, &reply),
@@ -205,15 +210,15 @@ fn broker(rt: &impl Abort, alloc: Global, row: &str) -> Inventory {
     inventory
 }
 
-fn both_told(rt: &impl Abort, alloc: Global, both: &Inventory) -> String {
-    let first = entry_told(rt, alloc, both, 0);
-    let second = entry_told(rt, alloc, both, 1);
+fn both_reported(rt: &impl Abort, alloc: Global, both: &Inventory) -> String {
+    let first = entry_reported(rt, alloc, both, 0);
+    let second = entry_reported(rt, alloc, both, 1);
     format!(in alloc; "{first},{second}").expect(rt, "memory")
 }
 
-fn join_told(rt: &impl Abort, alloc: Global, left: &Inventory, right: &Inventory) -> String {
+fn join_reported(rt: &impl Abort, alloc: Global, left: &Inventory, right: &Inventory) -> String {
     match left.join(right) {
-        Ok(both) => both_told(rt, alloc, &both),
+        Ok(both) => both_reported(rt, alloc, &both),
         Err(fault) => printed(rt, alloc, &fault),
     }
 }
@@ -222,16 +227,16 @@ fn join_told(rt: &impl Abort, alloc: Global, left: &Inventory, right: &Inventory
 fn joined(rt: &impl Abort, alloc: Global, brokers: &str) -> String {
     let (left, right) = brokers.split_once(';').expect(rt, "one broker");
     let (left, right) = (broker(rt, alloc, left), broker(rt, alloc, right));
-    let there = join_told(rt, alloc, &left, &right);
-    let back = join_told(rt, alloc, &right, &left);
-    assert_told(rt, brokers, back, there.as_str());
+    let there = join_reported(rt, alloc, &left, &right);
+    let back = join_reported(rt, alloc, &right, &left);
+    assert_reported(rt, brokers, back, there.as_str());
     there
 }
 
 // What a reply of a node makes of an inventory that was never synced.
 fn alone(rt: &impl Abort, alloc: Global, node: NodeNo, reply: &Reply) -> String {
     let synced = applied(rt, &nodes(rt, alloc, "n1"), node, reply);
-    entry_told(rt, alloc, &synced, node)
+    entry_reported(rt, alloc, &synced, node)
 }
 
 // What the entry of a node is, or the refusal.
@@ -251,7 +256,7 @@ fn entry_of_text(rt: &impl Abort, alloc: Global, node: &str) -> String {
 // What brokers over `n0` and `n1` and over `n0` and `n2` are together.
 fn other_nodes_joined(rt: &impl Abort, alloc: Global) -> String {
     let (left, right) = (nodes(rt, alloc, "n1"), nodes(rt, alloc, "n2"));
-    join_told(rt, alloc, &left, &right)
+    join_reported(rt, alloc, &left, &right)
 }
 
 // Whether `n0` and `n0` are refused.
@@ -275,7 +280,7 @@ fn ample_memory(rt: HostRuntime) {
 }
 
 #[test]
-fn replies_do_as_told(rt: HostRuntime) {
+fn replies_do_as_reported(rt: HostRuntime) {
     assert_replies(&rt, rt.alloc(), DELTAS);
     assert_replies(&rt, rt.alloc(), SNAPSHOTS);
 }
@@ -287,8 +292,8 @@ fn joins_from_either_side(rt: HostRuntime) {
 
 #[test]
 fn other_nodes_and_doubled_ones(rt: HostRuntime) {
-    let told = other_nodes_joined(&rt, rt.alloc());
-    assert_told(&rt, "n1 and n2", told, "J1: other nodes");
+    let reported = other_nodes_joined(&rt, rt.alloc());
+    assert_reported(&rt, "n1 and n2", reported, "J1: other nodes");
     assert!(rt; is_doubled(&rt, rt.alloc()));
 }
 

@@ -1,4 +1,4 @@
-use crate::printing::{assert_rows, assert_told};
+use crate::printing::{assert_reported, assert_rows};
 use crate::rows::{descriptor, name, parsed, push_partitions};
 use druid_changes::History;
 use druid_inventory::{Assembly as Replies, Inventory};
@@ -172,7 +172,7 @@ fn ask(rt: &impl Abort, node: &mut History, ask: &Ask) -> Reply {
 
 fn assert_said(rt: &impl Abort, alloc: Global, node: &mut History, asked: &Ask, wanted: &str) {
     let reply = ask(rt, node, asked);
-    assert_told(rt, "a reply", reply_said(rt, alloc, &reply), wanted);
+    assert_reported(rt, "a reply", reply_said(rt, alloc, &reply), wanted);
 }
 
 // What a page gives.
@@ -239,5 +239,5 @@ fn pages_of_a_node(rt: HostRuntime) {
     assert_said(&rt, alloc, &mut node, &Ask::Whole, "0 of 3 at 45011: 20000");
     let target = ask_target(alloc, &second).expect(&rt, "memory");
     let wanted = "/druid-internal/v1/segments?counter=45000&hash=1&page=1";
-    assert_told(&rt, "an ask", target, wanted);
+    assert_reported(&rt, "an ask", target, wanted);
 }

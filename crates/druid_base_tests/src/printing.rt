@@ -14,8 +14,8 @@ pub(crate) fn printed<T: Display>(rt: &impl Abort, alloc: Global, value: &T) -> 
 }
 
 /// Asserts that what is reported of a text is what is wanted.
-pub(crate) fn assert_told(rt: &impl Abort, text: &str, told: String, wanted: &str) {
-    assert!(rt; told.as_str() == wanted, "at {text}: {told}");
+pub(crate) fn assert_reported(rt: &impl Abort, text: &str, reported: String, wanted: &str) {
+    assert!(rt; reported.as_str() == wanted, "at {text}: {reported}");
 }
 
 /// Asserts what is reported of the text of each row `TEXT = WANTED`.
@@ -23,19 +23,19 @@ pub(crate) fn assert_rows<R: Abort, F: Fn(&R, Global, &str) -> String>(
     rt: &R,
     alloc: Global,
     rows: &str,
-    told: F,
+    reported: F,
 )
-    requires { F.IsAlwaysCallable told }
+    requires { F.IsAlwaysCallable reported }
 {
     for row in rows.lines() {
         let (text, wanted) = row.split_once(" = ").expect(rt, "no row");
-        assert_told(rt, text, told(rt, alloc, text), wanted);
+        assert_reported(rt, text, reported(rt, alloc, text), wanted);
     }
 }
 
 /// Asserts that each of these values prints as the text beside it.
 pub(crate) fn assert_printed<T: Display>(rt: &impl Abort, alloc: Global, rows: &[(T, &str)]) {
     for (value, wanted) in rows {
-        assert_told(rt, wanted, printed(rt, alloc, value), wanted);
+        assert_reported(rt, wanted, printed(rt, alloc, value), wanted);
     }
 }

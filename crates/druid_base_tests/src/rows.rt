@@ -86,18 +86,23 @@ pub(crate) fn change(rt: &impl Abort, alloc: Global, text: &str) -> Change {
 }
 
 /// A mark, as `1 5`.
-pub(crate) fn mark_told(rt: &impl Abort, alloc: Global, mark: Mark) -> String {
+pub(crate) fn mark_reported(rt: &impl Abort, alloc: Global, mark: Mark) -> String {
     format!(in alloc; "{} {}", mark.incarnation(), mark.count()).expect(rt, "memory")
 }
 
 /// Appends the partition of a segment, after this.
-pub(crate) fn push_partition(rt: &impl Abort, told: &mut String, sign: &str, segment: &Descriptor) {
-    write!(told, "{sign}{}", segment.id().partition()).expect(rt, "memory");
+pub(crate) fn push_partition(
+    rt: &impl Abort,
+    reported: &mut String,
+    sign: &str,
+    segment: &Descriptor,
+) {
+    write!(reported, "{sign}{}", segment.id().partition()).expect(rt, "memory");
 }
 
 /// Appends the partitions of these segments, each after a blank.
-pub(crate) fn push_partitions(rt: &impl Abort, told: &mut String, segments: &[Descriptor]) {
+pub(crate) fn push_partitions(rt: &impl Abort, reported: &mut String, segments: &[Descriptor]) {
     for segment in segments {
-        push_partition(rt, told, " ", segment);
+        push_partition(rt, reported, " ", segment);
     }
 }

@@ -1,4 +1,4 @@
-use crate::printing::{assert_printed, assert_rows, assert_told, printed};
+use crate::printing::{assert_printed, assert_reported, assert_rows, printed};
 use crate::rows::{name, parsed, segment};
 use druid_segid::{IdFault, Name, SegmentId, Version};
 use std::alloc::Global;
@@ -57,7 +57,7 @@ a_b a_b_2024-01-01T00:00:00.000Z_2024-01-02T00:00:00.000Z_v1 = v1 0
 a a_b_2024-01-01T00:00:00.000Z_2024-01-02T00:00:00.000Z_v1 = I4: not the parts of an identifier
 b a_b_2024-01-01T00:00:00.000Z_2024-01-02T00:00:00.000Z_v1 = I3: another source";
 
-fn name_told(rt: &impl Abort, alloc: Global, text: &str) -> String {
+fn name_reported(rt: &impl Abort, alloc: Global, text: &str) -> String {
     match Name::new(alloc, text) {
         Ok(name) => {
             let copy = name.clone().expect(rt, "memory");
@@ -67,7 +67,7 @@ fn name_told(rt: &impl Abort, alloc: Global, text: &str) -> String {
     }
 }
 
-fn version_told(rt: &impl Abort, alloc: Global, text: &str) -> String {
+fn version_reported(rt: &impl Abort, alloc: Global, text: &str) -> String {
     match Version::new(alloc, text) {
         Ok(version) => {
             let copy = version.clone().expect(rt, "memory");
@@ -89,7 +89,7 @@ fn text_of(rt: &impl Abort, alloc: Global, parts: &str) -> String {
 }
 
 // The version and the partition.
-fn parts_told(rt: &impl Abort, alloc: Global, id: &SegmentId) -> String {
+fn parts_reported(rt: &impl Abort, alloc: Global, id: &SegmentId) -> String {
     let version = id.version().text(alloc).expect(rt, "memory");
     format!(in alloc; "{version} {}", id.partition()).expect(rt, "memory")
 }
@@ -99,9 +99,9 @@ fn read(rt: &impl Abort, alloc: Global, row: &str) -> Result<SegmentId, IdFault>
     SegmentId::parse(alloc, &name(rt, alloc, source), text)
 }
 
-fn read_told(rt: &impl Abort, alloc: Global, row: &str) -> String {
+fn read_reported(rt: &impl Abort, alloc: Global, row: &str) -> String {
     match read(rt, alloc, row) {
-        Ok(id) => parts_told(rt, alloc, &id),
+        Ok(id) => parts_reported(rt, alloc, &id),
         Err(fault) => printed(rt, alloc, &fault),
     }
 }
@@ -114,20 +114,20 @@ fn version_of_group(rt: &impl Abort, alloc: Global, parts: &str) -> String {
 
 #[test]
 fn names(rt: HostRuntime) {
-    assert_rows(&rt, rt.alloc(), NAMES, name_told);
+    assert_rows(&rt, rt.alloc(), NAMES, name_reported);
 }
 
 #[test]
 fn versions(rt: HostRuntime) {
-    assert_rows(&rt, rt.alloc(), VERSIONS, version_told);
+    assert_rows(&rt, rt.alloc(), VERSIONS, version_reported);
 }
 
 #[test]
 fn ample_memory(rt: HostRuntime) {
     assert_rows(&rt, rt.alloc(), IDENTIFIERS, text_of);
-    assert_rows(&rt, rt.alloc(), READ, read_told);
+    assert_rows(&rt, rt.alloc(), READ, read_reported);
     let version = version_of_group(&rt, rt.alloc(), "v1 3");
-    assert_told(&rt, "the group", version, "v1");
+    assert_reported(&rt, "the group", version, "v1");
 }
 
 #[test]

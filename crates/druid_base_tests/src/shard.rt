@@ -1,4 +1,4 @@
-use crate::printing::{assert_printed, assert_rows, assert_told, owned, printed};
+use crate::printing::{assert_printed, assert_reported, assert_rows, owned, printed};
 use crate::rows::first_segments;
 use druid_shard::{
     Descriptor, Mark, Reply, ReplyFault, ShardFault, descriptor_value, read_descriptor,
@@ -62,7 +62,7 @@ fn written_again(rt: &impl Abort, alloc: Global, text: &str) -> String {
 fn ample_memory(rt: HostRuntime) {
     for text in [WRITTEN, TOMBSTONE] {
         let written = written_again(&rt, rt.alloc(), text);
-        assert_told(&rt, "it", written, text);
+        assert_reported(&rt, "it", written, text);
     }
 }
 

@@ -1,4 +1,4 @@
-use crate::printing::{assert_printed, assert_rows, assert_told, owned, printed};
+use crate::printing::{assert_printed, assert_reported, assert_rows, owned, printed};
 use druid_shard::{Ask, Mark, Reply};
 use druid_sync::{AskFault, SyncFault, ask_target, read_ask, read_reply, reply_text};
 use std::alloc::Global;
@@ -52,7 +52,7 @@ fn written(rt: &impl Abort, alloc: Global, reply: &Reply, text: &str) -> String 
     written
 }
 
-fn reply_told(rt: &impl Abort, alloc: Global, text: &str) -> String {
+fn reply_reported(rt: &impl Abort, alloc: Global, text: &str) -> String {
     match read_reply(alloc, text.as_bytes()) {
         Ok(reply) => written(rt, alloc, &reply, text),
         Err(fault) => printed(rt, alloc, &fault),
@@ -63,7 +63,7 @@ fn target(rt: &impl Abort, alloc: Global, ask: &Ask) -> String {
     ask_target(alloc, ask).expect(rt, "memory")
 }
 
-fn ask_told(rt: &impl Abort, alloc: Global, query: &str) -> String {
+fn ask_reported(rt: &impl Abort, alloc: Global, query: &str) -> String {
     match read_ask(query) {
         Ok(ask) => target(rt, alloc, &ask),
         Err(fault) => printed(rt, alloc, &fault),
@@ -72,8 +72,8 @@ fn ask_told(rt: &impl Abort, alloc: Global, query: &str) -> String {
 
 #[test]
 fn ample_memory(rt: HostRuntime) {
-    assert_rows(&rt, rt.alloc(), REPLIES, reply_told);
-    assert_rows(&rt, rt.alloc(), ASKS, ask_told);
+    assert_rows(&rt, rt.alloc(), REPLIES, reply_reported);
+    assert_rows(&rt, rt.alloc(), ASKS, ask_reported);
 }
 
 // The text of the first row.
@@ -86,7 +86,7 @@ fn first_reply(rt: &impl Abort) -> &'static str {
 fn empty_delta_of_117_bytes(rt: HostRuntime) {
     assert!(rt; first_reply(&rt).len() == 117);
     let target = target(&rt, rt.alloc(), &Ask::Since(Mark::new(1, 5)));
-    assert_told(
+    assert_reported(
         &rt,
         "1 5",
         target,

@@ -83,7 +83,7 @@ const SETS: &str = " =\u{20}
 2024-01-01T00:00/2024-01-01T06:00 2024-01-01T06:00/2024-01-01T12:00 = 2024-01-01T00:00:00.000Z/2024-01-01T12:00:00.000Z\u{20}
 2024-01-03/2024-01-04 2024-01-01T06:00/2024-01-01T12:00 2024-01-01T00:00/2024-01-01T06:00 = 2024-01-01T00:00:00.000Z/2024-01-01T12:00:00.000Z 2024-01-03T00:00:00.000Z/2024-01-04T00:00:00.000Z\u{20}";
 
-fn instant_told(rt: &impl Abort, alloc: Global, text: &str) -> String {
+fn instant_reported(rt: &impl Abort, alloc: Global, text: &str) -> String {
     match Instant::parse(text) {
         Ok(instant) => printed(rt, alloc, &instant.ms()),
         Err(fault) => printed(rt, alloc, &fault),
@@ -108,7 +108,7 @@ fn start(rt: &impl Abort, instant: Instant, granularity: Granularity) -> i64 {
     instant.bucket(granularity).expect(rt, "no bucket").ms()
 }
 
-fn buckets_told(rt: &impl Abort, alloc: Global, ms: &str) -> String {
+fn buckets_reported(rt: &impl Abort, alloc: Global, ms: &str) -> String {
     let instant = Instant::new(parsed(rt, ms)).expect(rt, "no instant");
     let second = start(rt, instant, Granularity::Second);
     let minute = start(rt, instant, Granularity::Minute);
@@ -117,7 +117,7 @@ fn buckets_told(rt: &impl Abort, alloc: Global, ms: &str) -> String {
     format!(in alloc; "{second} {minute} {hour} {day}").expect(rt, "memory")
 }
 
-fn interval_told(rt: &impl Abort, alloc: Global, text: &str) -> String {
+fn interval_reported(rt: &impl Abort, alloc: Global, text: &str) -> String {
     match Interval::parse(text) {
         Ok(interval) => interval.text(alloc).expect(rt, "memory"),
         Err(fault) => printed(rt, alloc, &fault),
@@ -134,23 +134,23 @@ fn set(rt: &impl Abort, alloc: Global, text: &str) -> IntervalSet {
     set.clone().expect(rt, "memory")
 }
 
-fn push_part(rt: &impl Abort, alloc: Global, told: &mut String, part: &Interval) {
+fn push_part(rt: &impl Abort, alloc: Global, reported: &mut String, part: &Interval) {
     let text = part.text(alloc).expect(rt, "memory");
-    told.push_str(text.as_str()).expect(rt, "memory");
-    told.push(' ').expect(rt, "memory");
+    reported.push_str(text.as_str()).expect(rt, "memory");
+    reported.push(' ').expect(rt, "memory");
 }
 
 fn parts(rt: &impl Abort, alloc: Global, text: &str) -> String {
-    let mut told = String::new(alloc);
+    let mut reported = String::new(alloc);
     for part in set(rt, alloc, text).parts() {
-        push_part(rt, alloc, &mut told, part);
+        push_part(rt, alloc, &mut reported, part);
     }
-    told
+    reported
 }
 
 #[test]
 fn instants(rt: HostRuntime) {
-    assert_rows(&rt, rt.alloc(), INSTANTS, instant_told);
+    assert_rows(&rt, rt.alloc(), INSTANTS, instant_reported);
 }
 
 #[test]
@@ -160,12 +160,12 @@ fn printed_instants(rt: HostRuntime) {
 
 #[test]
 fn buckets(rt: HostRuntime) {
-    assert_rows(&rt, rt.alloc(), BUCKETS, buckets_told);
+    assert_rows(&rt, rt.alloc(), BUCKETS, buckets_reported);
 }
 
 #[test]
 fn intervals(rt: HostRuntime) {
-    assert_rows(&rt, rt.alloc(), INTERVALS, interval_told);
+    assert_rows(&rt, rt.alloc(), INTERVALS, interval_reported);
 }
 
 #[test]

@@ -1,4 +1,4 @@
-use crate::printing::{assert_printed, assert_rows, assert_told, printed};
+use crate::printing::{assert_printed, assert_reported, assert_rows, printed};
 use crate::rows::{interval, name, parsed, segment};
 use druid_segid::{GroupKey, Meter};
 use druid_shard::Descriptor;
@@ -110,42 +110,42 @@ fn pieces(rt: &impl Abort, alloc: Global, timeline: &Timeline) -> Vec<Piece> {
     timeline.lookup(&set).expect(rt, "memory")
 }
 
-pub(crate) fn push_version(rt: &impl Abort, alloc: Global, told: &mut String, key: &GroupKey) {
+pub(crate) fn push_version(rt: &impl Abort, alloc: Global, reported: &mut String, key: &GroupKey) {
     let version = key.version().text(alloc).expect(rt, "memory");
-    told.push_str(version.as_str()).expect(rt, "memory");
+    reported.push_str(version.as_str()).expect(rt, "memory");
 }
 
 // What is reported of the pieces of the day.
-fn told(rt: &impl Abort, alloc: Global, timeline: &Timeline) -> String {
-    let mut told = String::new(alloc);
+fn reported(rt: &impl Abort, alloc: Global, timeline: &Timeline) -> String {
+    let mut reported = String::new(alloc);
     for piece in &pieces(rt, alloc, timeline) {
-        push_version(rt, alloc, &mut told, piece.key());
-        write!(told, " {} {:?};", piece.interval(), piece.parts()).expect(rt, "memory");
+        push_version(rt, alloc, &mut reported, piece.key());
+        write!(reported, " {} {:?};", piece.interval(), piece.parts()).expect(rt, "memory");
     }
-    told
+    reported
 }
 
 // Appends the overshadowed chunks.
-fn push_hidden(rt: &impl Abort, alloc: Global, told: &mut String, timeline: &Timeline) {
+fn push_hidden(rt: &impl Abort, alloc: Global, reported: &mut String, timeline: &Timeline) {
     let mut meter = Meter::new();
     for key in &timeline.overshadowed(&mut meter).expect(rt, "memory") {
-        push_version(rt, alloc, told, key);
-        write!(told, " {};", key.interval()).expect(rt, "memory");
+        push_version(rt, alloc, reported, key);
+        write!(reported, " {};", key.interval()).expect(rt, "memory");
     }
 }
 
 // The pieces of the day and the overshadowed chunks.
-fn all_told(rt: &impl Abort, alloc: Global, timeline: &Timeline) -> String {
-    let mut told = told(rt, alloc, timeline);
-    told.push('|').expect(rt, "memory");
-    push_hidden(rt, alloc, &mut told, timeline);
-    told
+fn all_reported(rt: &impl Abort, alloc: Global, timeline: &Timeline) -> String {
+    let mut reported = reported(rt, alloc, timeline);
+    reported.push('|').expect(rt, "memory");
+    push_hidden(rt, alloc, &mut reported, timeline);
+    reported
 }
 
 // The result of a step on a timeline.
 fn after(rt: &impl Abort, alloc: Global, timeline: &mut Timeline, step: &str) -> String {
     match edit(rt, alloc, timeline, step) {
-        Ok(()) => all_told(rt, alloc, timeline),
+        Ok(()) => all_reported(rt, alloc, timeline),
         Err(fault) => printed(rt, alloc, &fault),
     }
 }
@@ -155,7 +155,7 @@ fn assert_steps(rt: &impl Abort, alloc: Global, steps: &str) {
     let mut timeline = timeline(rt, alloc, "wiki");
     for row in steps.lines() {
         let (step, wanted) = row.split_once(" = ").expect(rt, "no step");
-        assert_told(rt, step, after(rt, alloc, &mut timeline, step), wanted);
+        assert_reported(rt, step, after(rt, alloc, &mut timeline, step), wanted);
     }
 }
 
@@ -168,7 +168,7 @@ fn copied(rt: &impl Abort, alloc: Global, step: &str) -> String {
     );
     let copy = timeline.clone().expect(rt, "memory");
     let after = after(rt, alloc, &mut timeline, step);
-    let before = told(rt, alloc, &copy);
+    let before = reported(rt, alloc, &copy);
     format!(in alloc; "{before} then {after}").expect(rt, "memory")
 }
 
@@ -189,7 +189,7 @@ fn replicas(rt: &impl Abort, alloc: Global, source: &str) -> String {
 }
 
 fn answer(rt: &impl Abort, alloc: Global, case: &str) -> String {
-    told(rt, alloc, &served(rt, alloc, case))
+    reported(rt, alloc, &served(rt, alloc, case))
 }
 
 #[test]

@@ -1,5 +1,5 @@
-use crate::printing::{assert_printed, assert_told, owned, printed};
-use crate::rows::{change, mark_told, parsed, push_partitions};
+use crate::printing::{assert_printed, assert_reported, owned, printed};
+use crate::rows::{change, mark_reported, parsed, push_partitions};
 use druid_inventory::Inventory;
 use druid_world::{AskKind, Event, Sim, SimFault};
 use std::alloc::Global;
@@ -145,8 +145,8 @@ fn stepped(rt: &impl Abort, alloc: Global, sim: &mut Sim, text: &str) -> String 
 }
 
 // The mark of node 0 and its partitions.
-fn told(rt: &impl Abort, alloc: Global, inventory: &Inventory) -> String {
-    let mut text = mark_told(rt, alloc, inventory.mark(0).expect(rt, "no node"));
+fn reported(rt: &impl Abort, alloc: Global, inventory: &Inventory) -> String {
+    let mut text = mark_reported(rt, alloc, inventory.mark(0).expect(rt, "no node"));
     push_partitions(rt, &mut text, inventory.segments(0).expect(rt, "no node"));
     text
 }
@@ -156,7 +156,7 @@ fn broker<'a>(rt: &impl Abort, sim: &'a Sim, broker: usize) -> &'a Inventory {
 }
 
 fn known(rt: &impl Abort, alloc: Global, sim: &Sim, number: usize) -> String {
-    told(rt, alloc, broker(rt, sim, number))
+    reported(rt, alloc, broker(rt, sim, number))
 }
 
 fn new_sim(rt: &impl Abort, alloc: Global) -> Sim {
@@ -171,8 +171,8 @@ fn are_equal(rt: &impl Abort, sim: &Sim) -> bool {
 fn assert_event(rt: &impl Abort, alloc: Global, sim: &mut Sim, row: &str) {
     let (text, wanted) = row.split_once(" = ").expect(rt, "no row");
     let (answer, held) = wanted.split_once(" = ").expect(rt, "no row");
-    assert_told(rt, row, stepped(rt, alloc, sim, text), answer);
-    assert_told(rt, row, known(rt, alloc, sim, 0), held);
+    assert_reported(rt, row, stepped(rt, alloc, sim, text), answer);
+    assert_reported(rt, row, known(rt, alloc, sim, 0), held);
 }
 
 fn assert_run(rt: &impl Abort, alloc: Global, sim: &mut Sim, rows: &str) {
@@ -195,7 +195,7 @@ fn simulated_run(rt: HostRuntime) {
 fn assert_answers(rt: &impl Abort, alloc: Global, sim: &mut Sim, rows: &str) {
     for row in rows.lines() {
         let (text, wanted) = row.split_once(" = ").expect(rt, "no row");
-        assert_told(rt, text, stepped(rt, alloc, sim, text), wanted);
+        assert_reported(rt, text, stepped(rt, alloc, sim, text), wanted);
     }
 }
 
@@ -209,8 +209,8 @@ fn refusals(rt: HostRuntime) {
 #[test]
 fn ample_memory(rt: HostRuntime) {
     let mut sim = new_sim(&rt, rt.alloc());
-    assert_told(&rt, "broker 0", known(&rt, rt.alloc(), &sim, 0), "0 0");
+    assert_reported(&rt, "broker 0", known(&rt, rt.alloc(), &sim, 0), "0 0");
     assert_answers(&rt, rt.alloc(), &mut sim, EACH);
-    assert_told(&rt, "broker 1", known(&rt, rt.alloc(), &sim, 1), "1 1 0");
+    assert_reported(&rt, "broker 1", known(&rt, rt.alloc(), &sim, 1), "1 1 0");
     assert_printed(&rt, rt.alloc(), &[(SimFault::Memory, "E9: out of memory")]);
 }

@@ -21,7 +21,7 @@ use Rattle.druid_inventory.specs.declared.fault.ApplyFault.{ApplyFault}
 use Rattle.druid_inventory.specs.declared.fault.ApplyFault.TheVariants as apply
 use Rattle.druid_link.specs.Links.{Came}
 use Rattle.druid_message.specs.Requests.{RequestValue}
-use Rattle.druid_broker.specs.Turns.{IsTold, Fetches, Exchanges, pages_from, IsPageAt, DiffersFrom, RefusesPage, Completes, FollowsPages}
+use Rattle.druid_broker.specs.Turns.{IsReported, Fetches, Exchanges, pages_from, IsPageAt, DiffersFrom, RefusesPage, Completes, FollowsPages}
 use Rattle.druid_broker.specs.Paging.{as_page, place_of, segments_of, turn_fault, first_pages, PutsPage, RefusesPut, LosesPage, HaveCome}
 use Rattle.druid_broker.specs.declared.fault.TurnFault.{TurnFault}
 use Rattle.druid_broker.specs.declared.fault.TurnFault.TheVariants as turn
@@ -223,9 +223,9 @@ begin_fault reply at of fault is several (refusal, refuses, reported) =
 -- ---- the others
 
 module _ {L : Type 0} (step : L → List ℕ → Came → L → Type 0) (request : Ask → RequestValue) (at : Point) (of : ℕ) where
-  one_more : (sent : List (RequestValue × Body)) (x : RequestValue × Body) (old between new : L) → Exchanges step sent old between → IsTold step x.0 between new (Ok x.1)
+  one_more : (sent : List (RequestValue × Body)) (x : RequestValue × Body) (old between new : L) → Exchanges step sent old between → IsReported step x.0 between new (Ok x.1)
       → Exchanges step (sent ++ x ∷ []) old new
-  one_more [] x old between new same exchange = (new, subst (λ (l : L). IsTold step x.0 l new (Ok x.1)) same exchange, refl)
+  one_more [] x old between new same exchange = (new, subst (λ (l : L). IsReported step x.0 l new (Ok x.1)) same exchange, refl)
   one_more (y ∷ sent) x old between new (mid, first, rest) exchange = (mid, first, one_more sent x mid between new rest exchange)
 
   abbrev page_of : ℕ → List Described → RequestValue × Body
@@ -271,16 +271,16 @@ module _ {L : Type 0} (step : L → List ℕ → Came → L → Type 0) (request
       same_count : (other : ℕ) → length (first ∷ have.come) + suc have.left ≡ other → other ≡ of
       same_count other is = let n = next in let l = have.lacking in omega (arith, is, n, l)
 
-      asked_with : (new : L) (other : ℕ) (s : List Described) → other ≡ of → IsTold step (request (asks.Page at page)) between new (Ok (Page at page other s))
+      asked_with : (new : L) (other : ℕ) (s : List Described) → other ≡ of → IsReported step (request (asks.Page at page)) between new (Ok (Page at page other s))
           → Exchanges step (pages_from request at of 1 (have.come ++ s ∷ [])) old new
       asked_with new other s same exchange =
           let here : page ≡ 1 + length have.come = sym have.count in
           subst (λ (sent : List (RequestValue × Body)). Exchanges step sent old new) (sym (pages_more have.come s 1))
           (one_more (pages_from request at of 1 have.come) (page_of (1 + length have.come) s) old between new have.asked
-          (subst (λ (n : ℕ). IsTold step (request (asks.Page at n)) between new (Ok (Page at n of s))) here
-          (subst (λ (n : ℕ). IsTold step (request (asks.Page at page)) between new (Ok (Page at page n s))) same exchange)))
+          (subst (λ (n : ℕ). IsReported step (request (asks.Page at n)) between new (Ok (Page at n of s))) here
+          (subst (λ (n : ℕ). IsReported step (request (asks.Page at page)) between new (Ok (Page at page n s))) same exchange)))
 
-      kept_by : (after : Option Parts) (new : L) (other : ℕ) (s : List Described) (set : Option (List Described)) → IsTold step (request (asks.Page at page)) between new (Ok (Page at page other s))
+      kept_by : (after : Option Parts) (new : L) (other : ℕ) (s : List Described) (set : Option (List Described)) → IsReported step (request (asks.Page at page)) between new (Ok (Page at page other s))
           → Takes parts (as_page at page other s) set after → Path (Option Body) None (option_map (λ (set : List Described). Snapshot at set) set)
           → HaveCome step request at of first (page + 1) after old new
       kept_by after new other s (Some set) exchange takes none = absurd (none-some (Snapshot at set) none)
@@ -302,7 +302,7 @@ module _ {L : Type 0} (step : L → List ℕ → Came → L → Type 0) (request
       pub goes_on : (after : Option Parts) (new : L) → PutsPage step request at page parts after between new None → HaveCome step request at of first (page + 1) after old new
       goes_on after new (other, s, exchange, (set, takes, none)) = kept_by after new other s set exchange takes none
 
-      given_by : (after : Option Parts) (new : L) (reply : Body) (other : ℕ) (s : List Described) (set : Option (List Described)) → IsTold step (request (asks.Page at page)) between new (Ok (Page at page other s))
+      given_by : (after : Option Parts) (new : L) (reply : Body) (other : ℕ) (s : List Described) (set : Option (List Described)) → IsReported step (request (asks.Page at page)) between new (Ok (Page at page other s))
           → Takes parts (as_page at page other s) set after → Path (Option Body) (Some reply) (option_map (λ (set : List Described). Snapshot at set) set)
           → Completes step request at of first old new (Ok reply)
       given_by after new reply other s None exchange takes given = absurd (none-some reply (sym given))
@@ -340,15 +340,15 @@ module _ {L : Type 0} (step : L → List ℕ → Came → L → Type 0) (request
             have.asked,
             inr (
               reply,
-              subst (λ (n : ℕ). IsTold step (request (asks.Page at n)) between new (Ok reply)) here exchange,
+              subst (λ (n : ℕ). IsReported step (request (asks.Page at n)) between new (Ok reply)) here exchange,
               subst (λ (n : ℕ). IsPageAt at n reply → ⊥) here other,
             ),
           )
 
-      by_reply : (new : L) (other : ℕ) (s : List Described) (fault : TurnFault) → IsTold step (request (asks.Page at page)) between new (Ok (Page at page other s))
+      by_reply : (new : L) (other : ℕ) (s : List Described) (fault : TurnFault) → IsReported step (request (asks.Page at page)) between new (Ok (Page at page other s))
           → RefusesPage at of first have.come (Page at page other s) fault → Completes step request at of first old new (Err fault)
       by_reply new other s fault exchange refuses =
-          (have.come, between, within, have.asked, inr (Page at page other s, subst (λ (n : ℕ). IsTold step (request (asks.Page at n)) between new (Ok (Page at page other s))) here exchange, refuses))
+          (have.come, between, within, have.asked, inr (Page at page other s, subst (λ (n : ℕ). IsReported step (request (asks.Page at n)) between new (Ok (Page at page other s))) here exchange, refuses))
 
       same_page : (other : ℕ) (s : List Described) → Page at page other s ≡ Page at (1 + length have.come) other s
       same_page other s = ap (λ (n : ℕ). Page at n other s) here
@@ -384,7 +384,7 @@ module _ {L : Type 0} (step : L → List ℕ → Came → L → Type 0) (request
           (λ last. last.3 (subst AreSorted (same_Some set last.1
           (sym whole ∙ ap (λ (u : List Described). whole_of (map Some (first ∷ have.come ++ u ∷ []))) same.1 ∙ last.2)) sorted)) why
 
-      refused_as : (new : L) (other : ℕ) (s : List Described) (refusal : ApplyFault) → IsTold step (request (asks.Page at page)) between new (Ok (Page at page other s))
+      refused_as : (new : L) (other : ℕ) (s : List Described) (refusal : ApplyFault) → IsReported step (request (asks.Page at page)) between new (Ok (Page at page other s))
           → PageRefused parts (as_page at page other s) refusal → Completes step request at of first old new (Err (turn_fault refusal))
       refused_as new other s apply.UnknownNode exchange h = absurd h
       refused_as new other s apply.OtherIncarnation exchange h = absurd h

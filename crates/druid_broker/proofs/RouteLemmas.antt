@@ -10,24 +10,24 @@ use Rattle.matchit.specs.Router.{RouteOf}
 use Rattle.druid_broker.specs.declared.routes.Place.{Place}
 use Rattle.matchit.specs.Seek.{or_else, first}
 use Rattle.druid_broker.specs.Routes.{entry, nowhere, entry_front, is_part, entry_route, route_of}
-use Rattle.druid_broker.specs.Rows.{entry_row, path_rows, the_rows, told}
-use Rattle.druid_broker.proofs.RowLemmas.{literal, with_part, seek_part, part_behind}
+use Rattle.druid_broker.specs.Rows.{entry_row, path_rows, the_rows, reported}
+use Rattle.druid_broker.proofs.RowLemmas.{literal, with_part, seek_part, part_beyond}
 
 -- the row that a path matches
 abbrev found : List ℕ → Option (RouteOf Place)
 found path = or_else (literal path_rows path) (with_part entry_front entry_row.1 path)
 
 abbrev IsRight : List ℕ → Type 0
-IsRight path = told (found path) path ≡ route_of path
+IsRight path = reported (found path) path ≡ route_of path
 
 -- a path that is written out
 right_at : (text path : List ℕ) → IsRight text → bytes_eq path text ≡ true → IsRight path
 right_at text path right same = subst (λ p. IsRight p) (sym ((bytes_eq-Decides path text).0 same)) right
 
-behind : (path : List ℕ) → told (with_part entry_front entry_row.1 path) path ≡ entry_route path
-behind path = ap (λ o. told o path) (part_behind entry_front entry_row.1 path) ∙ by (bytes_eq (take (length entry_front) path) entry_front && is_part (drop (length entry_front) path))
+beyond : (path : List ℕ) → reported (with_part entry_front entry_row.1 path) path ≡ entry_route path
+beyond path = ap (λ o. reported o path) (part_beyond entry_front entry_row.1 path) ∙ by (bytes_eq (take (length entry_front) path) entry_front && is_part (drop (length entry_front) path))
   where
-    by : (v : Bool) → told (cond v (Some entry_row.1) None) path ≡ cond v (entry (drop (length entry_front) path)) nowhere
+    by : (v : Bool) → reported (cond v (Some entry_row.1) None) path ≡ cond v (entry (drop (length entry_front) path)) nowhere
     by true = refl
     by false = refl
 
@@ -38,20 +38,20 @@ cases path false true q2 s l eh eq eq2 es el = right_at (codes "/druid/v2") path
 cases path false false true s l eh eq eq2 es el = right_at (codes "/druid/v2/") path refl eq2
 cases path false false false true l eh eq eq2 es el = right_at (codes "/druid/v2/datasources") path refl es
 cases path false false false false true eh eq eq2 es el = right_at (codes "/druid/broker/v1/loadstatus") path refl el
-cases path false false false false false eh eq eq2 es el = rw (eh, eq, eq2, es, el) (behind path)
+cases path false false false false false eh eq eq2 es el = rw (eh, eq, eq2, es, el) (beyond path)
 
 right : (path : List ℕ) → IsRight path
 right path =
     cases path (bytes_eq path (codes "/status/health")) (bytes_eq path (codes "/druid/v2")) (bytes_eq path (codes "/druid/v2/"))
     (bytes_eq path (codes "/druid/v2/datasources")) (bytes_eq path (codes "/druid/broker/v1/loadstatus")) refl refl refl refl refl
 
-pub leads : (path : List ℕ) → AllByRecursion (λ b. (256 == b) ≡ false) path → told (first the_rows path) path ≡ route_of path
-leads path low = ap (λ o. told o path) (seek_part entry_front entry_row.1 path_rows path refl (refl, (refl, (refl, (refl, (refl, tt))))) low) ∙ right path
+pub leads : (path : List ℕ) → AllByRecursion (λ b. (256 == b) ≡ false) path → reported (first the_rows path) path ≡ route_of path
+leads path low = ap (λ o. reported o path) (seek_part entry_front entry_row.1 path_rows path refl (refl, (refl, (refl, (refl, (refl, tt))))) low) ∙ right path
 
 -- what was found, over a router of these rows
 pub leads_to : (rows : RowsOf (RouteOf Place)) (path : List ℕ) (o : Option (RouteOf Place)) → rows ≡ the_rows → AllByRecursion (λ b. (256 == b) ≡ false) path
-    → first rows path ≡ o → told o path ≡ route_of path
-leads_to rows path o are low is = ap (λ p. told p path) (sym is) ∙ ap (λ r. told (first r path) path) are ∙ leads path low
+    → first rows path ≡ o → reported o path ≡ route_of path
+leads_to rows path o are low is = ap (λ p. reported p path) (sym is) ∙ ap (λ r. reported (first r path) path) are ∙ leads path low
 
 -- bytes are no tokens of parts
 is_byte : (b : ℕ) → b < 256 → (256 == b) ≡ false

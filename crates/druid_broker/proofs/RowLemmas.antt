@@ -182,11 +182,11 @@ module _ {K : Type 0} where
       by false here next = next ∙ sym (none_more (literal (step b rs) path))
 
   -- the same by the front and what is after it
-  pub part_behind : (w : List ℕ) (k : K) (path : List ℕ)
+  pub part_beyond : (w : List ℕ) (k : K) (path : List ℕ)
       → with_part w k path ≡ cond (bytes_eq (take (length w) path) w && is_part (drop (length w) path)) (Some k) None
-  part_behind [] k path = refl
-  part_behind (x ∷ w) k [] = refl
-  part_behind (x ∷ w) k (b ∷ path) = by (x == b) (part_behind w k path)
+  part_beyond [] k path = refl
+  part_beyond (x ∷ w) k [] = refl
+  part_beyond (x ∷ w) k (b ∷ path) = by (x == b) (part_beyond w k path)
       ∙ ap (λ v. cond ((v && bytes_eq (take (length w) path) w) && is_part (drop (length w) path)) (Some k) None) (same_either_way x b)
     where
       by : (v : Bool) → with_part w k path ≡ cond (bytes_eq (take (length w) path) w && is_part (drop (length w) path)) (Some k) None

@@ -84,7 +84,7 @@ module _ {L : Type 0} (step : L → List ℕ → Came → L → Type 0) (order :
   -- where nothing is read, that is reported
   pub unread : (route : Route) (request : RequestValue) (status : ℕ) (body : List ℕ) → TakesInventory route request
       → AnswersUnread status body → now ≡ seen → new ≡ old → RespondsAt step order opening route seen now old new request status body
-  unread route request status body takes told same links = inr (inr (takes, told, same, links))
+  unread route request status body takes reported same links = inr (inr (takes, reported, same, links))
 
   -- a query that was posted is answered by what was read
   pub answered : (inventory found : List Entry) (request : RequestValue) (asked : Query) (status : ℕ) (body : List ℕ) → found ≡ inventory
@@ -103,18 +103,18 @@ module _ {L : Type 0} (step : L → List ℕ → Came → L → Type 0) (order :
 
     refused_as : (fault : QueryFault) → fault ≢ Memory → IsReadOf request.body (Err fault) → Tells 400 (refusal_text fault) status body ⊎ (NamesField fault × IsOutOfMemory status body)
         → RespondsAt step order opening query seen now old new request status body
-    refused_as fault had read (inl told) =
-        whatever (λ takes. absurd (one_reading request.body takes.1.0 fault had takes.1.1 read)) (λ inventory. inl (inr (fault, had, read, told, links)))
+    refused_as fault had read (inl reported) =
+        whatever (λ takes. absurd (one_reading request.body takes.1.0 fault had takes.1.1 read)) (λ inventory. inl (inr (fault, had, read, reported, links)))
     refused_as fault had read (inr lacks) =
         whatever (λ takes. lacks.1) (λ inventory. inr (inr (inl (fault, lacks.0, read, links)), lacks.1))
 
     -- what was posted is no query, or memory was refused to read it
     pub refused : (fault : QueryFault) → IsReadOf request.body (Err fault) → (fault ≢ Memory → Tells 400 (refusal_text fault) status body ⊎ (NamesField fault × IsOutOfMemory status body))
         → (fault ≡ Memory → IsOutOfMemory status body) → RespondsAt step order opening query seen now old new request status body
-    refused NotJson read told memory = let had : NotJson ≢ Memory = λ e. cc in refused_as NotJson had read (told had)
-    refused UnknownType read told memory = let had : UnknownType ≢ Memory = λ e. cc in refused_as UnknownType had read (told had)
-    refused (Field key) read told memory = let had : Field key ≢ Memory = λ e. cc in refused_as (Field key) had read (told had)
-    refused BadInterval read told memory = let had : BadInterval ≢ Memory = λ e. cc in refused_as BadInterval had read (told had)
-    refused LimitPassed read told memory = let had : LimitPassed ≢ Memory = λ e. cc in refused_as LimitPassed had read (told had)
-    refused DoubledName read told memory = let had : DoubledName ≢ Memory = λ e. cc in refused_as DoubledName had read (told had)
-    refused Memory read told memory = whatever (λ takes. memory refl) (λ inventory. inr (inl (read, links), memory refl))
+    refused NotJson read reported memory = let had : NotJson ≢ Memory = λ e. cc in refused_as NotJson had read (reported had)
+    refused UnknownType read reported memory = let had : UnknownType ≢ Memory = λ e. cc in refused_as UnknownType had read (reported had)
+    refused (Field key) read reported memory = let had : Field key ≢ Memory = λ e. cc in refused_as (Field key) had read (reported had)
+    refused BadInterval read reported memory = let had : BadInterval ≢ Memory = λ e. cc in refused_as BadInterval had read (reported had)
+    refused LimitPassed read reported memory = let had : LimitPassed ≢ Memory = λ e. cc in refused_as LimitPassed had read (reported had)
+    refused DoubledName read reported memory = let had : DoubledName ≢ Memory = λ e. cc in refused_as DoubledName had read (reported had)
+    refused Memory read reported memory = whatever (λ takes. memory refl) (λ inventory. inr (inl (read, links), memory refl))

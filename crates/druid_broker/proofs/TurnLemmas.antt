@@ -15,8 +15,8 @@ use Rattle.druid_message.specs.Requests.{RequestValue}
 use Rattle.druid_published.specs.Fold.{Published, PublisherValue, fold_of}
 use Rattle.druid_published.proofs.FoldLemmas.{fold_names}
 use Rattle.druid_published.proofs.Beginnings.{prefix_self, prefix_trans}
-use Rattle.druid_broker.specs.Lent.{RefusesTurn}
-use Rattle.druid_broker.specs.Turns.{IsTold, Fetches, ask_request, FollowsPages, IsAsked, StartsAgain, IsFetched, IsFetchedFrom, TakesTurn, FailsTurn, Publishes, TakesSharedTurn, FailsSharedTurn, IsSharedTurn, MakesTurns}
+use Rattle.druid_broker.specs.Borrowed.{RefusesTurn}
+use Rattle.druid_broker.specs.Turns.{IsReported, Fetches, ask_request, FollowsPages, IsAsked, StartsAgain, IsFetched, IsFetchedFrom, TakesTurn, FailsTurn, Publishes, TakesSharedTurn, FailsSharedTurn, IsSharedTurn, MakesTurns}
 use Rattle.druid_broker.specs.declared.fault.TurnFault.{TurnFault}
 use Rattle.druid_broker.specs.declared.fault.TurnFault.TheVariants as turn
 
@@ -52,7 +52,7 @@ module _ {X : Type 0} (Fetched : Result Body TurnFault → Type 0) (node : ℕ) 
 
 module _ {L : Type 0} (step : L → List ℕ → Came → L → Type 0) where
   -- a reply comes of an exchange
-  pub by_exchange : (request : RequestValue) (old new : L) (reply : Body) → Fetches step request old new (Ok reply) → IsTold step request old new (Ok reply)
+  pub by_exchange : (request : RequestValue) (old new : L) (reply : Body) → Fetches step request old new (Ok reply) → IsReported step request old new (Ok reply)
   by_exchange request old new reply (inl exchange) = exchange
   by_exchange request old new reply (inr (wants, same)) = absurd (cc)
 
@@ -67,14 +67,14 @@ module _ {L : Type 0} (step : L → List ℕ → Came → L → Type 0) where
 -- a reply that is not applied, of a node that is there, is refused
 pub refused_at : (inventory : List Entry) (node : ℕ) (body : Body) (fault : ApplyFault) → (slice_get inventory node ≡ None → ⊥) → fault ≢ apply.Memory
     → Tells inventory node body fault → RefusedAt inventory node body fault
-refused_at inventory node body apply.UnknownNode there other told = absurd (there told)
-refused_at inventory node body apply.OtherIncarnation there other told = told
-refused_at inventory node body apply.Gap there other told = told
-refused_at inventory node body (apply.NotStrict index) there other told = told
-refused_at inventory node body apply.TooMany there other told = told
-refused_at inventory node body apply.Conflict there other told = told
-refused_at inventory node body apply.PageConflict there other told = told
-refused_at inventory node body apply.Memory there other told = absurd (other refl)
+refused_at inventory node body apply.UnknownNode there other reported = absurd (there reported)
+refused_at inventory node body apply.OtherIncarnation there other reported = reported
+refused_at inventory node body apply.Gap there other reported = reported
+refused_at inventory node body (apply.NotStrict index) there other reported = reported
+refused_at inventory node body apply.TooMany there other reported = reported
+refused_at inventory node body apply.Conflict there other reported = reported
+refused_at inventory node body apply.PageConflict there other reported = reported
+refused_at inventory node body apply.Memory there other reported = absurd (other refl)
 
 -- ---- turns of threads that share a publisher
 
@@ -122,14 +122,14 @@ pub there_in_fold : (opening inventory : List Entry) (published : Published) (no
 there_in_fold opening inventory published node folds there = let same = ap length folds ∙ fold_nodes opening published in omega (arith, same, there)
 
 -- after what was published
-pub behind : (opening : List Entry) (node : ℕ) (reply : Body) (old new : PublisherValue) (r : Result (Outcome × Published) TurnFault) → old.inventory ≡ fold_of opening old.published
+pub beyond : (opening : List Entry) (node : ℕ) (reply : Body) (old new : PublisherValue) (r : Result (Outcome × Published) TurnFault) → old.inventory ≡ fold_of opening old.published
     → IfOk r (λ x. Publishes old node reply x.0 new) → IfOk r (λ x. x.1 ≡ new.published)
     → IfOk r (λ x. (before : Published) × (entry : Entry) × StepsAt (fold_of opening before) node reply x.0 entry × (x.1 ≡ before ++ (node, reply) ∷ []))
-behind opening node reply old new (Ok x) folds (entry, steps, is) same =
+beyond opening node reply old new (Ok x) folds (entry, steps, is) same =
     (old.published, entry, subst (λ (i : List Entry). StepsAt i node reply x.0 entry) folds steps, same ∙ ap (λ (p : PublisherValue). p.published) is)
-behind opening node reply old new (Err fault) folds publishes same = tt
+beyond opening node reply old new (Err fault) folds publishes same = tt
 
-pub refused_behind : (opening : List Entry) (node : ℕ) (reply : Body) (old : PublisherValue) (r : Result (Outcome × Published) TurnFault) → old.inventory ≡ fold_of opening old.published
+pub refused_beyond : (opening : List Entry) (node : ℕ) (reply : Body) (old : PublisherValue) (r : Result (Outcome × Published) TurnFault) → old.inventory ≡ fold_of opening old.published
     → IfErr r (RefusesTurn old.inventory node reply) → IfErr r (λ fault. (before : Published) × RefusesTurn (fold_of opening before) node reply fault)
-refused_behind opening node reply old (Ok x) folds refuses = tt
-refused_behind opening node reply old (Err fault) folds refuses = (old.published, subst (λ (i : List Entry). RefusesTurn i node reply fault) folds refuses)
+refused_beyond opening node reply old (Ok x) folds refuses = tt
+refused_beyond opening node reply old (Err fault) folds refuses = (old.published, subst (λ (i : List Entry). RefusesTurn i node reply fault) folds refuses)

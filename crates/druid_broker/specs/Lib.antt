@@ -2,7 +2,7 @@
 pub mod Queries
 pub mod Routes
 pub mod Turns
-pub mod Lent
+pub mod Borrowed
 pub mod Views
 -- words of private contracts
 pub mod Rows

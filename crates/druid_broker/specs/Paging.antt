@@ -14,7 +14,7 @@ use Rattle.druid_inventory.specs.declared.fault.ApplyFault.{ApplyFault}
 use Rattle.druid_inventory.specs.declared.fault.ApplyFault.TheVariants as apply
 use Rattle.druid_link.specs.Links.{Came}
 use Rattle.druid_message.specs.Requests.{RequestValue}
-use Rattle.druid_broker.specs.Turns.{get_request, IsTold, Fetches, Exchanges, pages_from, IsPageAt}
+use Rattle.druid_broker.specs.Turns.{get_request, IsReported, Fetches, Exchanges, pages_from, IsPageAt}
 use Rattle.druid_broker.specs.declared.fault.TurnFault.{TurnFault}
 use Rattle.druid_broker.specs.declared.fault.TurnFault.TheVariants.{PageLost, Apply, Memory}
 
@@ -45,24 +45,24 @@ turn_fault fault = Apply fault
 
 -- the reply to the ask for a page is that page
 abbrev pub GetsPage : {L : Type 0} → (L → List ℕ → Came → L → Type 0) → (Ask → RequestValue) → Point → ℕ → L → L → Body → Type 0
-GetsPage step request at page old new reply = IsTold step (request (asks.Page at page)) old new (Ok reply) × IsPageAt at page reply
+GetsPage step request at page old new reply = IsReported step (request (asks.Page at page)) old new (Ok reply) × IsPageAt at page reply
 
 -- or none comes, or another reply
 abbrev pub LosesPage : {L : Type 0} → (L → List ℕ → Came → L → Type 0) → (Ask → RequestValue) → Point → ℕ → L → L → TurnFault → Type 0
 LosesPage step request at page old new fault =
     Fetches step (request (asks.Page at page)) old new (Err fault)
-    ⊎ ((reply : Body) × IsTold step (request (asks.Page at page)) old new (Ok reply) × (fault ≡ PageLost) × (IsPageAt at page reply → ⊥))
+    ⊎ ((reply : Body) × IsReported step (request (asks.Page at page)) old new (Ok reply) × (fault ≡ PageLost) × (IsPageAt at page reply → ⊥))
 
 -- the page that is asked for comes, and this is given for it
 abbrev pub PutsPage : {L : Type 0} → (L → List ℕ → Came → L → Type 0) → (Ask → RequestValue) → Point → ℕ → Option Parts → Option Parts → L → L → Option Body → Type 0
 PutsPage step request at page parts after old new given =
-    (of : ℕ) × (segments : List Described) × IsTold step (request (asks.Page at page)) old new (Ok (Page at page of segments))
+    (of : ℕ) × (segments : List Described) × IsReported step (request (asks.Page at page)) old new (Ok (Page at page of segments))
     × Gives parts (as_page at page of segments) given after
 
 -- or it is refused
 abbrev pub RefusesPut : {L : Type 0} → (L → List ℕ → Came → L → Type 0) → (Ask → RequestValue) → Point → ℕ → Option Parts → L → L → TurnFault → Type 0
 RefusesPut step request at page parts old new fault =
-    (of : ℕ) × (segments : List Described) × (refusal : ApplyFault) × IsTold step (request (asks.Page at page)) old new (Ok (Page at page of segments))
+    (of : ℕ) × (segments : List Described) × (refusal : ApplyFault) × IsReported step (request (asks.Page at page)) old new (Ok (Page at page of segments))
     × PageRefused parts (as_page at page of segments) refusal × (fault ≡ turn_fault refusal)
 
 -- the first pages have come, and so many more have not

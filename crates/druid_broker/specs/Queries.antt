@@ -29,7 +29,7 @@ pub record AnswersRows {L : Type 0} (step : L → List ℕ → Came → L → Ty
   pub missing : List Asked
   pub groups : List Group
   pub gathered : IsGathered order query pairs exchanges missing groups
-  pub told : TellsRows query missing groups status body
+  pub reported : TellsRows query missing groups status body
 
 -- the bytes read as a query, or are refused as one, and then no link is used
 abbrev pub AnswersQuery : {L : Type 0} → (L → List ℕ → Came → L → Type 0) → (List ℕ → List ℕ) → List Entry → List ℕ → List L → List L → ℕ → List ℕ → Type 0

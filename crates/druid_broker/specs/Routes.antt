@@ -69,7 +69,7 @@ pub record AnswersSources (inventory : List Entry) (status : ℕ) (body : List �
   pub names : List (List ℕ)
   pub all : (source : List ℕ) → Contains names source ↔ HasSource inventory source
   pub ordered : IsStrictlySortedBy (slice_cmp nat_cmp) names
-  pub told : Tells 200 (compact_text (names_data names)) status body
+  pub reported : Tells 200 (compact_text (names_data names)) status body
 
 -- each node was synced
 abbrev pub is_loaded : List Entry → Bool

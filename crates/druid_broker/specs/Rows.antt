@@ -37,6 +37,6 @@ place_route Sources path = sources
 place_route LoadStatus path = load_status
 place_route Entry path = entry (drop (length entry_front) path)
 
-abbrev pub told : Option (RouteOf Place) → List ℕ → Route
-told None path = nowhere
-told (Some r) path = place_route r.value path
+abbrev pub reported : Option (RouteOf Place) → List ℕ → Route
+reported None path = nowhere
+reported (Some r) path = place_route r.value path

@@ -69,19 +69,19 @@ IsAnswerTo came (Err (Apply fault)) = ⊥
 IsAnswerTo came (Err Memory) = (came ≡ Err wire.Memory) ⊎ ((bytes body : List ℕ) × (came ≡ Ok bytes) × Responds bytes 200 body)
 
 -- one exchange leads the link from old to new, and is reported
-pub record IsTold {L : Type 0} (step : L → List ℕ → Came → L → Type 0) (request : RequestValue) (old new : L) (answer : Result Body TurnFault) : Type 0 where
+pub record IsReported {L : Type 0} (step : L → List ℕ → Came → L → Type 0) (request : RequestValue) (old new : L) (answer : Result Body TurnFault) : Type 0 where
   pub came : Came
   pub made : step old (request_text request) came new
-  pub told : IsAnswerTo came answer
+  pub reported : IsAnswerTo came answer
 
 -- the same, unless memory was refused for the request, and nothing was sent
 abbrev pub Fetches : {L : Type 0} → (L → List ℕ → Came → L → Type 0) → RequestValue → L → L → Result Body TurnFault → Type 0
-Fetches step request old new answer = IsTold step request old new answer ⊎ ((answer ≡ Err Memory) × (new ≡ old))
+Fetches step request old new answer = IsReported step request old new answer ⊎ ((answer ≡ Err Memory) × (new ≡ old))
 
 -- exchanges one after another, each of which gives that reply to that request
 abbrev pub Exchanges : {L : Type 0} → (L → List ℕ → Came → L → Type 0) → List (RequestValue × Body) → L → L → Type 0
 Exchanges step [] old new = new ≡ old
-Exchanges {L} step (sent ∷ rest) old new = (between : L) × IsTold step sent.0 old between (Ok sent.1) × Exchanges step rest between new
+Exchanges {L} step (sent ∷ rest) old new = (between : L) × IsReported step sent.0 old between (Ok sent.1) × Exchanges step rest between new
 
 -- ---- pages
 
@@ -124,7 +124,7 @@ Completes step request at of first old new (Ok reply) =
 Completes {L} step request at of first old new (Err fault) =
     (come : List (List Described)) × (between : L) × (1 + length come < of) × Exchanges step (pages_from request at of 1 come) old between
     × (Fetches step (request (asks.Page at (1 + length come))) between new (Err fault)
-    ⊎ ((reply : Body) × IsTold step (request (asks.Page at (1 + length come))) between new (Ok reply) × RefusesPage at of first come reply fault))
+    ⊎ ((reply : Body) × IsReported step (request (asks.Page at (1 + length come))) between new (Ok reply) × RefusesPage at of first come reply fault))
 
 -- what the reply to an ask for all, or for changes, leads to: page 0 is followed by the others, and another page was not asked for
 abbrev pub FollowsPages : {L : Type 0} → (L → List ℕ → Came → L → Type 0) → (Ask → RequestValue) → Body → L → L → Result Body TurnFault → Type 0
@@ -136,7 +136,7 @@ FollowsPages step request first old new answer = (answer ≡ Ok first) × (new �
 abbrev pub IsAsked : {L : Type 0} → (L → List ℕ → Came → L → Type 0) → (Ask → RequestValue) → Ask → L → L → Result Body TurnFault → Type 0
 IsAsked {L} step request ask old new answer =
     ((fault : TurnFault) × (answer ≡ Err fault) × Fetches step (request ask) old new (Err fault))
-    ⊎ ((between : L) × (first : Body) × IsTold step (request ask) old between (Ok first) × FollowsPages step request first between new answer)
+    ⊎ ((between : L) × (first : Body) × IsReported step (request ask) old between (Ok first) × FollowsPages step request first between new answer)
 
 -- ---- a node's changes
 
@@ -149,9 +149,9 @@ StartsAgain ask answer = ⊥
 abbrev pub IsFetched : {L : Type 0} → (L → List ℕ → Came → L → Type 0) → Ask → L → L → Result Body TurnFault → Type 0
 IsFetched {L} step ask old new answer =
     ((fault : TurnFault) × (answer ≡ Err fault) × Fetches step (ask_request ask) old new (Err fault))
-    ⊎ ((between : L) × (first : Body) × IsTold step (ask_request ask) old between (Ok first)
+    ⊎ ((between : L) × (first : Body) × IsReported step (ask_request ask) old between (Ok first)
     × (StartsAgain ask (Ok first) → ⊥) × FollowsPages step ask_request first between new answer)
-    ⊎ ((between : L) × (first : Body) × IsTold step (ask_request ask) old between (Ok first)
+    ⊎ ((between : L) × (first : Body) × IsReported step (ask_request ask) old between (Ok first)
     × StartsAgain ask (Ok first) × IsAsked step ask_request Whole between new answer)
 
 -- the node is asked for what comes after its mark in the inventory

@@ -6,7 +6,7 @@ ghost use Rattle.druid_inventory.specs.Entry.{Entry};
 ghost use Rattle.druid_inventory.specs.Step.{StepsAt};
 ghost use Rattle.druid_published.specs.Fold.{Published, fold_of};
 ghost use Rattle.druid_broker.specs.Turns.{TakesSharedTurn, FailsSharedTurn, MakesTurns};
-ghost use Rattle.druid_broker.specs.Lent.{RefusesTurn};
+ghost use Rattle.druid_broker.specs.Borrowed.{RefusesTurn};
 
 use crate::TurnFault;
 use crate::turns::{fetch, publish_reply};
@@ -38,7 +38,7 @@ fn known<J: Publication, R: Wait + Drop>(publisher: &Publisher<J, R>)
     let _ = publisher.inventory();
 }
 
-fn publish_behind<J: Publication, R: Wait + Drop>(
+fn publish_beyond<J: Publication, R: Wait + Drop>(
     node: NodeNo,
     reply: &Reply,
     publisher: &mut Publisher<J, R>,
@@ -65,7 +65,7 @@ fn publish_locked<W: Wait, J: Publication, R: Wait + Drop>(
     ensures err { IfErr result (λ fault. (before : Published) × RefusesTurn (fold_of J.opening before) node reply.now fault) }
 {
     let mut publisher = publisher.lock(rt);
-    publish_behind(node, reply, &mut publisher)
+    publish_beyond(node, reply, &mut publisher)
 }
 
 /// A turn of one of the threads that share a publisher: fetches what changed of a node by what the view reads, page by page where it

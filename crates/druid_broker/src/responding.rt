@@ -5,7 +5,7 @@ ghost use Rattle.druid_sync.specs.Asks.{ask_at};
 ghost use Rattle.druid_inventory.specs.Entry.{Entry};
 ghost use Rattle.druid_message.specs.Requests.{parameters_of};
 ghost use Rattle.druid_wire.specs.Served.{Tells};
-ghost use Rattle.druid_broker.specs.Lent.{lent_route};
+ghost use Rattle.druid_broker.specs.Borrowed.{borrowed_route};
 ghost use Rattle.druid_broker.specs.Routes.{query, OrOutOfMemory, Gets, AnswersSources, AnswersEntry, AnswersAt};
 ghost use Rattle.druid_broker.specs.Views.{TakesInventory, AnswersUnread, RespondsAt, RespondsBy};
 ghost use Rattle.druid_query.specs.Read.{IsReadOf};
@@ -37,8 +37,8 @@ fn is_entry_asked(number: &[u8], request: &Request) -> bool
 
 // Whether the answer takes the inventory, on a route that is no query's.
 fn takes_inventory(route: &Route, request: &Request) -> bool
-    requires { lent_route route.now ≢ query }
-    ensures { IsTrue result ↔ TakesInventory (lent_route route.now) request.now }
+    requires { borrowed_route route.now ≢ query }
+    ensures { IsTrue result ↔ TakesInventory (borrowed_route route.now) request.now }
 {
     match route {
         Route::Health => false,
@@ -75,10 +75,10 @@ fn answer_no_node(number: &[u8], request: &Request) -> Response
 
 // What is answered whatever is known.
 fn answer_anyway<L: Link>(route: &Route, request: &Request) -> Response
-    requires no_query { lent_route route.now ≢ query }
-    requires takes { TakesInventory (lent_route route.now) request.now → ⊥ }
+    requires no_query { borrowed_route route.now ≢ query }
+    requires takes { TakesInventory (borrowed_route route.now) request.now → ⊥ }
     ensures { (order : List ℕ → List ℕ) (inventory : List Entry) (links : List L)
-        → AnswersAt L.exchanges order (lent_route route.now) inventory links links request.now result.status result.body }
+        → AnswersAt L.exchanges order (borrowed_route route.now) inventory links links request.now result.status result.body }
 {
     match route {
         Route::Health => health(request),
@@ -105,9 +105,9 @@ fn answer_known<L: Link>(
     inventory: &Inventory,
     request: &Request,
 ) -> Response
-    requires no_query { lent_route route.now ≢ query }
-    requires takes { TakesInventory (lent_route route.now) request.now }
-    ensures { (order : List ℕ → List ℕ) (links : List L) → AnswersAt L.exchanges order (lent_route route.now) inventory.now links links request.now result.status result.body }
+    requires no_query { borrowed_route route.now ≢ query }
+    requires takes { TakesInventory (borrowed_route route.now) request.now }
+    ensures { (order : List ℕ → List ℕ) (links : List L) → AnswersAt L.exchanges order (borrowed_route route.now) inventory.now links links request.now result.status result.body }
 {
     match route {
         Route::Query => unreachable!(),
@@ -137,9 +137,9 @@ fn answer_got<J: Publication, L: Link>(
     view: &mut View<J>,
     request: &Request,
 ) -> Response
-    requires { lent_route route.now ≢ query }
+    requires { borrowed_route route.now ≢ query }
     ensures { (order : List ℕ → List ℕ) (links : List L)
-        → RespondsAt L.exchanges order J.opening (lent_route route.now) view.old view.new links links request.now result.status result.body }
+        → RespondsAt L.exchanges order J.opening (borrowed_route route.now) view.old view.new links links request.now result.status result.body }
 {
     if !takes_inventory(route, request) {
         return answer_anyway::<L>(route, request);

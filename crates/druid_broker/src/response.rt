@@ -20,7 +20,7 @@ pub(crate) struct Response {
 }
 
 impl Model for Response {
-    ghost use Rattle.druid_broker.specs.Lent.{Answered, text_of};
+    ghost use Rattle.druid_broker.specs.Borrowed.{Answered, text_of};
 
     ghost Value = { Answered };
 

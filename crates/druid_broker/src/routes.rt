@@ -1,6 +1,6 @@
 //! Where requests go.
 ghost use Rattle.std.specs.Prelude.{◌≡◌, IfOk, length, drop};
-ghost use Rattle.druid_broker.specs.Lent.{lent_route};
+ghost use Rattle.druid_broker.specs.Borrowed.{borrowed_route};
 ghost use Rattle.druid_broker.specs.Routes.{route_of, entry_front};
 ghost use Rattle.druid_broker.specs.Rows.{the_rows};
 
@@ -50,7 +50,7 @@ fn router(alloc: Global) -> Result<Router<Place>, InsertError>
 
 // What follows the front of such a path.
 #[tactic(auto, using(crate::proofs::RouteLemmas::front_end))]
-fn behind_front(path: &[u8]) -> &[u8]
+fn beyond_front(path: &[u8]) -> &[u8]
     ensures { result.now ≡ drop (length entry_front) path.now }
 {
     let front = b"/druid-internal/v1/inventory/".len();
@@ -75,7 +75,7 @@ impl Routes {
 
     // Where a path leads. Does not allocate.
     pub(crate) fn route_of<'a>(&self, path: &'a str) -> Route<'a>
-        ensures { lent_route result ≡ route_of path.now }
+        ensures { borrowed_route result ≡ route_of path.now }
     {
         let Ok(found) = self.router.at(path) else {
             return Route::Nowhere;
@@ -85,7 +85,7 @@ impl Routes {
             Place::Query => Route::Query,
             Place::Sources => Route::Sources,
             Place::LoadStatus => Route::LoadStatus,
-            Place::Entry => Route::Entry(behind_front(path.as_bytes())),
+            Place::Entry => Route::Entry(beyond_front(path.as_bytes())),
         }
     }
 }

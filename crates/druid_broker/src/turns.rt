@@ -2,7 +2,7 @@
 ghost use Rattle.std.specs.Prelude.{◌≡◌, ◌↔◌, ◌<◌, IsTrue, IfOk, IfErr, OnErr, Ok, length, string_bytes};
 ghost use Rattle.druid_shard.specs.declared.change.Ask.TheVariants.{Whole};
 ghost use Rattle.druid_broker.specs.Turns.{entry_request, entry_target, IsAsked, StartsAgain, IsFetched, IsFetchedFrom, Publishes, TakesTurn, FailsTurn};
-ghost use Rattle.druid_broker.specs.Lent.{RefusesTurn};
+ghost use Rattle.druid_broker.specs.Borrowed.{RefusesTurn};
 
 use crate::TurnFault;
 use crate::exchange::ask_once;

@@ -3,8 +3,8 @@ ghost use Rattle.std.specs.Prelude.{◌≡◌};
 
 use crate::broker::query;
 use crate::cluster::{
-    First, Handle, answer_of, inventory, message_of, node_that_keeps, reaches, segment,
-    told_response, try_linked,
+    First, Handle, answer_of, inventory, message_of, node_that_keeps, reaches, reported_response,
+    segment, try_linked,
 };
 use crate::printing::assert_holds;
 use crate::reading::mark_read;
@@ -177,7 +177,7 @@ fn is_answered<R: Handle, J: Publication, L: Link + Send>(
     if try_linked(rt, alloc, view, links, turn, message, &mut written).is_err() {
         return false;
     }
-    let answer = told_response(&rt, alloc, &written);
+    let answer = reported_response(&rt, alloc, &written);
     answer.as_str() == WHOLE || answer.as_str() == SHORT
 }
 

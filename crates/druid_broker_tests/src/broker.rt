@@ -2,10 +2,10 @@
 ghost use Rattle.std.specs.Prelude.{◌≡◌};
 
 use crate::cluster::{
-    Behind, Cluster, Failure, Handle, Setup, answered, followed, made_by_two, posted, set, set_up,
+    Cluster, Failure, Handle, Server, Setup, answered, followed, made_by_two, posted, set, set_up,
     written,
 };
-use crate::printing::{assert_holds, assert_told, halves, printed, replaced};
+use crate::printing::{assert_holds, assert_reported, halves, printed, replaced};
 use druid_published::Publication;
 use std::alloc::Global;
 use std::marker::Brand;
@@ -90,7 +90,7 @@ fn answer_to<R: Handle, J: Publication>(
 {
     let mut made: Cluster<R, J> = followed(rt, alloc, setup, 64);
     for place in failing {
-        set(&mut made, place, Behind::Failing(Failure::Read));
+        set(&mut made, place, Server::Failing(Failure::Read));
     }
     posted(alloc, &mut made, turn, query.as_str())
 }
@@ -113,7 +113,7 @@ pub(crate) fn answer_of<R: Handle>(
 fn assert_line<R: Handle>(rt: R, alloc: Global, line: &str, turn: u64) {
     let (nodes, rest) = halves(&rt, line, " => ");
     let (asked, wanted) = halves(&rt, rest, " = ");
-    assert_told(&rt, line, answer_of(rt, alloc, nodes, asked, turn), wanted);
+    assert_reported(&rt, line, answer_of(rt, alloc, nodes, asked, turn), wanted);
 }
 
 #[test]
@@ -175,7 +175,7 @@ fn assert_message<R: Handle, J: Publication>(alloc: Global, made: &mut Cluster<R
     let rt = made.rt;
     let (text, wanted) = halves(&rt, line, " = ");
     let message = message(&rt, alloc, text);
-    assert_told(
+    assert_reported(
         &rt,
         line,
         answered(alloc, made, 0, message.as_bytes()),
@@ -305,8 +305,8 @@ fn is_asked_once<R: Handle, J: Publication>(
     wanted: &str,
 ) -> bool {
     made_by_two(made);
-    let told = counted(alloc, made, turn);
-    made_by_two(made) == (1, 1) && told.as_str() == wanted
+    let reported = counted(alloc, made, turn);
+    made_by_two(made) == (1, 1) && reported.as_str() == wanted
 }
 
 // Puts a server that answers these bytes after a link.
@@ -317,7 +317,7 @@ fn set_bytes<R: Handle, J: Publication>(
     bytes: &[u8],
 ) {
     let bytes = bytes.to_vec(alloc).expect(&made.rt, "memory");
-    set(made, place, Behind::Bytes(bytes));
+    set(made, place, Server::Bytes(bytes));
 }
 
 // Whether a broker with two replicas counts the row where one of them answers these bytes, and lists it as missing where both
@@ -356,16 +356,16 @@ fn passes_over<R: Handle, J: Publication>(
     made: &mut Cluster<R, J>,
     failure: Failure,
 ) -> bool {
-    set(made, 0, Behind::Failing(failure));
+    set(made, 0, Server::Failing(failure));
     let counts = is_asked_once(alloc, made, 0, COUNTED);
-    set(made, 1, Behind::Failing(failure));
+    set(made, 1, Server::Failing(failure));
     counts && is_asked_once(alloc, made, 1, NOT_COUNTED)
 }
 
 // Whether the broker runs out of memory where the first link that it asks does, and asks no other then.
 fn lacks_memory<R: Handle, J: Publication>(alloc: Global, made: &mut Cluster<R, J>) -> bool {
     made_by_two(made);
-    set(made, 0, Behind::Failing(Failure::Memory));
+    set(made, 0, Server::Failing(Failure::Memory));
     let lacks = counted(alloc, made, 0).as_str() == NO_MEMORY && made_by_two(made) == (1, 0);
     lacks && counted(alloc, made, 1).as_str() == COUNTED && made_by_two(made) == (0, 1)
 }

@@ -69,7 +69,7 @@ fn fail(failure: Failure, faults: &mut u64) -> Result<Vec<u8>, WireFault>
 
 /// What follows a link.
 #[derive(Drop)]
-pub(crate) enum Behind {
+pub(crate) enum Server {
     /// A data node.
     Node(DataNode<First>),
     /// Nothing: each exchange fails so.
@@ -82,7 +82,7 @@ pub(crate) enum Behind {
 #[derive(Drop)]
 pub(crate) struct TestLink<R: Handle> {
     rt: R,
-    behind: Behind,
+    server: Server,
     // What was seen of the node after it.
     seen: Mark,
     made: u64,
@@ -133,10 +133,10 @@ impl<R: Handle> Link for TestLink<R> {
         if number < 2 && self.failing[number] {
             return fail(Failure::Read, &mut self.faults);
         }
-        match &self.behind {
-            Behind::Node(node) => answer_of(&self.rt, alloc, node, request, &mut self.seen),
-            Behind::Bytes(bytes) => copy_of(alloc, bytes),
-            Behind::Failing(failure) => fail(*failure, &mut self.faults),
+        match &self.server {
+            Server::Node(node) => answer_of(&self.rt, alloc, node, request, &mut self.seen),
+            Server::Bytes(bytes) => copy_of(alloc, bytes),
+            Server::Failing(failure) => fail(*failure, &mut self.faults),
         }
     }
 
@@ -147,10 +147,10 @@ impl<R: Handle> Link for TestLink<R> {
 
 impl<R: Handle> TestLink<R> {
     /// A link to that.
-    pub(crate) fn new(rt: R, behind: Behind) -> TestLink<R> {
+    pub(crate) fn new(rt: R, server: Server) -> TestLink<R> {
         TestLink {
             rt,
-            behind,
+            server,
             seen: Mark::never(),
             made: 0,
             failing: [false, false],
@@ -165,8 +165,8 @@ impl<R: Handle> TestLink<R> {
     }
 
     /// Puts something else after it.
-    pub(crate) fn set(&mut self, behind: Behind) {
-        self.behind = behind;
+    pub(crate) fn set(&mut self, server: Server) {
+        self.server = server;
         self.seen = Mark::never();
     }
 
@@ -391,7 +391,7 @@ pub(crate) fn inventory(rt: &impl Abort, alloc: Global, count: usize) -> Invento
 
 // A link to a data node.
 fn node_link<R: Handle>(rt: R, alloc: Global, text: &str) -> TestLink<R> {
-    TestLink::new(rt, Behind::Node(node_that_keeps(&rt, alloc, text, 1_000)))
+    TestLink::new(rt, Server::Node(node_that_keeps(&rt, alloc, text, 1_000)))
 }
 
 /// The parts of a cluster of nodes, between which `|` stands.
@@ -515,7 +515,7 @@ pub(crate) fn answered_alone<R: Handle, J: Publication>(
     drop(publisher);
     let mut written = Vec::new(alloc);
     try_linked(rt, alloc, &mut view, &mut links, 0, message, &mut written).expect(&rt, "an answer");
-    told_response(&rt, alloc, &written)
+    reported_response(&rt, alloc, &written)
 }
 
 /// What the broker writes for a message, at a turn.
@@ -536,7 +536,7 @@ fn code_and_body(rt: &impl Abort, alloc: Global, code: u16, body: &[u8]) -> Stri
 }
 
 /// A response: `200 true`.
-pub(crate) fn told_response(rt: &impl Abort, alloc: Global, bytes: &[u8]) -> String {
+pub(crate) fn reported_response(rt: &impl Abort, alloc: Global, bytes: &[u8]) -> String {
     match response_of(bytes) {
         Ok((status, body)) => code_and_body(rt, alloc, status.as_u16(), body),
         Err(_) => panic!(rt; "no response"),
@@ -551,7 +551,7 @@ pub(crate) fn answered<R: Handle, J: Publication>(
     message: &[u8],
 ) -> String {
     let bytes = written(alloc, cluster, turn, message);
-    told_response(&cluster.rt, alloc, &bytes)
+    reported_response(&cluster.rt, alloc, &bytes)
 }
 
 /// The message that posts a query.
@@ -586,9 +586,9 @@ pub(crate) fn link_at<R: Handle, J: Publication>(
 pub(crate) fn set<R: Handle, J: Publication>(
     cluster: &mut Cluster<R, J>,
     place: usize,
-    behind: Behind,
+    server: Server,
 ) {
-    link_at(cluster, place).set(behind);
+    link_at(cluster, place).set(server);
 }
 
 /// How often each link was asked since the last time that this was asked: `1 0 2`.

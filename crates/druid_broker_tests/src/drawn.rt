@@ -184,8 +184,8 @@ fn is_answered<R: Handle>(
 ) -> bool {
     let nodes = plain.text(&rt, alloc);
     let asked = query_text(&rt, alloc, query);
-    let told = answer_of(rt, alloc, nodes.as_str(), asked.as_str(), turn);
-    told.as_str() == wanted
+    let reported = answer_of(rt, alloc, nodes.as_str(), asked.as_str(), turn);
+    reported.as_str() == wanted
 }
 
 // Asserts that a broker over a drawn cluster answers as it should, and gives whether something was missing.

@@ -4,7 +4,7 @@ ghost use Rattle.std.specs.Prelude.{◌≡◌, ◌<◌, length};
 
 use crate::broker::{COUNTED, TWO_REPLICAS, counted, message};
 use crate::cluster::{
-    Behind, Cluster, Handle, Setup, followed, made_by_two, message_of, set, set_up, try_message,
+    Cluster, Handle, Server, Setup, followed, made_by_two, message_of, set, set_up, try_message,
 };
 use crate::drawn::Draws;
 use crate::hostile_turns::{Turn, state, take_turn, whole_line};
@@ -148,7 +148,7 @@ fn gathers<R: Handle, J: Publication>(
     let rt = cluster.rt;
     let bytes = drawn_reply(&rt, alloc, draws, ANSWER);
     let spoiled = bytes != whole_reply(&rt, alloc, "200", ANSWER);
-    set(cluster, 0, Behind::Bytes(bytes));
+    set(cluster, 0, Server::Bytes(bytes));
     made_by_two(cluster);
     let answer = counted(alloc, cluster, 0);
     match made_by_two(cluster) {

@@ -2,8 +2,8 @@
 ghost use Rattle.std.specs.Prelude.{◌≡◌};
 
 use crate::broker::query;
-use crate::cluster::{Behind, Cluster, Handle, Setup, followed, link_at, posted, set, set_up};
-use crate::printing::{all_replaced, assert_told, halves};
+use crate::cluster::{Cluster, Handle, Server, Setup, followed, link_at, posted, set, set_up};
+use crate::printing::{all_replaced, assert_reported, halves};
 use crate::scatter::{PIECE, gather_text};
 use crate::turns::whole_reply;
 use druid_link::MemoryLink;
@@ -45,7 +45,7 @@ fn assert_sum<R: Handle, J: Publication>(
     let query = query(&rt, alloc, SUM);
     let answer = posted(alloc, cluster, turn, query.as_str());
     let whole = all_replaced(&rt, alloc, wanted, &SIGNS);
-    assert_told(&rt, wanted, answer, whole.as_str());
+    assert_reported(&rt, wanted, answer, whole.as_str());
 }
 
 // The replicas of a partition: the node that is asked for it first, and the other.
@@ -192,7 +192,7 @@ fn set_answer<R: Handle, J: Publication>(
     let rt = cluster.rt;
     let body = all_replaced(&rt, alloc, body, &SIGNS);
     let bytes = whole_reply(&rt, alloc, "200", body.as_str());
-    set(cluster, place, Behind::Bytes(bytes));
+    set(cluster, place, Server::Bytes(bytes));
 }
 
 fn assert_swapped<R: Handle, J: Publication>(
@@ -254,7 +254,7 @@ fn assert_cut<R: Handle>(
 ) {
     let asked = link_of(&rt, alloc, 9, length, fuse);
     let answer = gather_text(rt, alloc, link_of(&rt, alloc, 5, other, 1), asked);
-    assert_told(&rt, wanted, answer, wanted);
+    assert_reported(&rt, wanted, answer, wanted);
 }
 
 #[test]

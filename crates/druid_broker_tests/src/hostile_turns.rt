@@ -3,7 +3,7 @@ ghost use Rattle.std.specs.Prelude.{◌≡◌};
 
 use crate::broker::answer_of;
 use crate::cluster::inventory;
-use crate::printing::{all_replaced, assert_told, halves, printed, replaced};
+use crate::printing::{all_replaced, assert_reported, halves, printed, replaced};
 use crate::turns::{mark_text, outcome_of, reply};
 use druid_broker::{TurnFault, seed_turn, sync_turn};
 use druid_inventory::{Inventory, Outcome};
@@ -263,5 +263,5 @@ fn hostile_replies(rt: HostRuntime) {
 fn hostile_query(rt: HostRuntime) {
     let query = brackets(&rt, rt.alloc());
     let answer = answer_of(&rt, rt.alloc(), ".", query.as_str(), 0);
-    assert_told(&rt, "brackets", answer, "400 {\"error\":\"Q1\"}");
+    assert_reported(&rt, "brackets", answer, "400 {\"error\":\"Q1\"}");
 }

@@ -1,7 +1,7 @@
 //! Queries and subqueries whose filters are at a limit, and beyond it.
 use crate::broker::answer_of;
-use crate::cluster::{Handle, message_of, set_up, told_response};
-use crate::printing::{assert_holds, assert_told, halves};
+use crate::cluster::{Handle, message_of, reported_response, set_up};
+use crate::printing::{assert_holds, assert_reported, halves};
 use druid_link::Link;
 use std::alloc::Global;
 use std::process::Abort;
@@ -53,17 +53,17 @@ fn node_answer<R: Handle>(rt: R, alloc: Global, subquery: &str) -> String {
     let bytes = link
         .exchange(alloc, message.as_bytes())
         .expect(&rt, "an answer");
-    told_response(&rt, alloc, &bytes)
+    reported_response(&rt, alloc, &bytes)
 }
 
 // Whether a node answers with the status that the broker does, and refuses for the same.
 fn is_answered_alike<R: Handle>(rt: R, alloc: Global, filter: &str, wanted: &str) -> bool {
     let subquery = subquery(&rt, alloc, filter);
-    let told = node_answer(rt, alloc, subquery.as_str());
+    let reported = node_answer(rt, alloc, subquery.as_str());
     if wanted.starts_with("400") {
-        return told.as_str() == wanted;
+        return reported.as_str() == wanted;
     }
-    told.as_str() == "200 {\"missing\":[],\"rows\":[[1704067200000,[],[1]]]}"
+    reported.as_str() == "200 {\"missing\":[],\"rows\":[[1704067200000,[],[1]]]}"
 }
 
 // Asserts that the filter of a line is answered so.
@@ -71,7 +71,7 @@ fn assert_filter<R: Handle>(rt: R, alloc: Global, line: &str) {
     let (text, wanted) = halves(&rt, line, " = ");
     let filter = filter(&rt, alloc, text);
     let asked = count(&rt, alloc, filter.as_str());
-    assert_told(
+    assert_reported(
         &rt,
         line,
         answer_of(rt, alloc, NODE, asked.as_str(), 0),

@@ -58,9 +58,12 @@ fn assert_planned(rt: &impl Abort, alloc: Global, inventory: &Inventory, partiti
         "{partitions}"
     );
     for (number, pair) in plan.pairs().iter().enumerate() {
-        let told = piece_text(rt, alloc, pair.asked());
+        let reported = piece_text(rt, alloc, pair.asked());
         let wanted = wanted_piece(rt, alloc, number);
-        assert!(rt; told == wanted && pair.nodes() == [0].as_slice(), "{told}");
+        assert!(rt;
+            reported == wanted && pair.nodes() == [0].as_slice(),
+            "{reported}"
+        );
     }
 }
 
@@ -71,14 +74,14 @@ fn assert_missing(rt: &impl Abort, alloc: Global, answer: &Answer, partitions: u
         "{partitions}"
     );
     for (number, piece) in answer.missing().iter().enumerate() {
-        let told = piece_text(rt, alloc, piece);
-        assert!(rt; told == wanted_piece(rt, alloc, number), "{told}");
+        let reported = piece_text(rt, alloc, piece);
+        assert!(rt; reported == wanted_piece(rt, alloc, number), "{reported}");
     }
 }
 
 // What is gathered where the only node answers so; nothing is a lost answer.
-fn answer_of<R: Handle>(rt: R, alloc: Global, inventory: &Inventory, told: &str) -> Answer {
-    let mut links = vec![in alloc; link(&rt, alloc, told)].expect(&rt, "memory");
+fn answer_of<R: Handle>(rt: R, alloc: Global, inventory: &Inventory, reported: &str) -> Answer {
+    let mut links = vec![in alloc; link(&rt, alloc, reported)].expect(&rt, "memory");
     gathered(rt, alloc, inventory, &count(&rt, alloc), &mut links)
 }
 

@@ -57,14 +57,14 @@ pub(crate) struct PlainQuery {
 
 // What is reported of a group.
 #[derive(Clone, Copy, Drop)]
-struct Told {
+struct Reported {
     count: i64,
     sum: Option<i64>,
     least: Option<i64>,
     greatest: Option<i64>,
 }
 
-const NOTHING: Told = Told {
+const NOTHING: Reported = Reported {
     count: 0,
     sum: None,
     least: None,
@@ -72,21 +72,21 @@ const NOTHING: Told = Told {
 };
 
 // The number beside another.
-fn sum(told: Option<i64>, number: i64) -> i64 {
-    told.unwrap_or(0).wrapping_add(number)
+fn sum(reported: Option<i64>, number: i64) -> i64 {
+    reported.unwrap_or(0).wrapping_add(number)
 }
 
 // What is counted with one row more.
-fn with_row(told: Told, row: PlainRow) -> Told {
-    let count = told.count.wrapping_add(1);
+fn with_row(reported: Reported, row: PlainRow) -> Reported {
+    let count = reported.count.wrapping_add(1);
     let Some(number) = row.number else {
-        return Told { count, ..told };
+        return Reported { count, ..reported };
     };
-    Told {
+    Reported {
         count,
-        sum: Some(sum(told.sum, number)),
-        least: Some(told.least.unwrap_or(number).min(number)),
-        greatest: Some(told.greatest.unwrap_or(number).max(number)),
+        sum: Some(sum(reported.sum, number)),
+        least: Some(reported.least.unwrap_or(number).min(number)),
+        greatest: Some(reported.greatest.unwrap_or(number).max(number)),
     }
 }
 
@@ -122,11 +122,11 @@ fn push_part(rt: &impl Abort, text: &mut String, between: &str, part: &str) {
 }
 
 // What a result row tells of a group, with this text in the place of its value.
-fn fields(rt: &impl Abort, alloc: Global, told: Told, value: &str) -> String {
-    let least = number(rt, alloc, told.least, "null");
-    let greatest = number(rt, alloc, told.greatest, "null");
-    let sum = number(rt, alloc, told.sum, "null");
-    let count = told.count;
+fn fields(rt: &impl Abort, alloc: Global, reported: Reported, value: &str) -> String {
+    let least = number(rt, alloc, reported.least, "null");
+    let greatest = number(rt, alloc, reported.greatest, "null");
+    let sum = number(rt, alloc, reported.sum, "null");
+    let count = reported.count;
     format!(in alloc; "\"a\":{least},\"b\":{greatest},{value}\"n\":{count},\"s\":{sum}").expect(
         rt, "memory",
     )
@@ -141,8 +141,8 @@ fn value_field(rt: &impl Abort, alloc: Global, value: Option<&str>) -> String {
 }
 
 // The result row of a group without a value.
-fn result_row(rt: &impl Abort, alloc: Global, hour: &str, told: Told) -> String {
-    let fields = fields(rt, alloc, told, "");
+fn result_row(rt: &impl Abort, alloc: Global, hour: &str, reported: Reported) -> String {
+    let fields = fields(rt, alloc, reported, "");
     format!(in alloc;
         "{{\"result\":{{{fields}}},\"timestamp\":\"2024-01-01T{hour}:00:00.000Z\"}}"
     ).expect(rt, "memory")
@@ -153,23 +153,29 @@ fn event_row(
     rt: &impl Abort,
     alloc: Global,
     hour: &str,
-    told: Told,
+    reported: Reported,
     value: Option<&str>,
 ) -> String {
     let value = value_field(rt, alloc, value);
-    let fields = fields(rt, alloc, told, value.as_str());
+    let fields = fields(rt, alloc, reported, value.as_str());
     format!(in alloc;
         "{{\"event\":{{{fields}}},\"timestamp\":\"2024-01-01T{hour}:00:00.000Z\",\"version\":\"v1\"}}"
     ).expect(rt, "memory")
 }
 
 // The result row of a group.
-fn row(rt: &impl Abort, alloc: Global, query: PlainQuery, place: usize, told: Told) -> String {
+fn row(
+    rt: &impl Abort,
+    alloc: Global,
+    query: PlainQuery,
+    place: usize,
+    reported: Reported,
+) -> String {
     let hour = digits(rt, alloc, place / 4);
     if query.by_value {
-        event_row(rt, alloc, hour.as_str(), told, VALUES[place % 4])
+        event_row(rt, alloc, hour.as_str(), reported, VALUES[place % 4])
     } else {
-        result_row(rt, alloc, hour.as_str(), told)
+        result_row(rt, alloc, hour.as_str(), reported)
     }
 }
 
@@ -252,18 +258,18 @@ impl Plain {
     }
 
     // Adds the rows of a segment to what is reported of the groups.
-    fn add_rows(&self, groups: &mut [Told], query: PlainQuery, segment: &PlainSegment) {
+    fn add_rows(&self, groups: &mut [Reported], query: PlainQuery, segment: &PlainSegment) {
         for row in &segment.rows {
             if let Some(place) = self.place(query, segment, *row)
-                && let Some(told) = groups.get_mut(place)
+                && let Some(reported) = groups.get_mut(place)
             {
-                *told = with_row(*told, *row);
+                *reported = with_row(*reported, *row);
             }
         }
     }
 
     // What is reported of each group, by its place.
-    fn groups(&self, rt: &impl Abort, alloc: Global, query: PlainQuery) -> Vec<Told> {
+    fn groups(&self, rt: &impl Abort, alloc: Global, query: PlainQuery) -> Vec<Reported> {
         let mut groups = vec![in alloc; NOTHING; HOURS.saturating_mul(4)].expect(rt, "memory");
         for segment in &self.segments {
             self.add_rows(&mut groups, query, segment);
@@ -274,9 +280,9 @@ impl Plain {
     // The rows of the result.
     fn rows(&self, rt: &impl Abort, alloc: Global, query: PlainQuery) -> String {
         let mut text = String::new(alloc);
-        for (place, told) in self.groups(rt, alloc, query).iter().enumerate() {
-            if told.count > 0 {
-                let row = row(rt, alloc, query, place, *told);
+        for (place, reported) in self.groups(rt, alloc, query).iter().enumerate() {
+            if reported.count > 0 {
+                let row = row(rt, alloc, query, place, *reported);
                 push_part(rt, &mut text, ",", row.as_str());
             }
         }

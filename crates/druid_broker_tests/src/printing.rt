@@ -33,8 +33,8 @@ pub(crate) fn halves<'a>(rt: &impl Abort, line: &'a str, between: &str) -> (&'a 
 }
 
 /// Asserts that this is the fault of a line.
-pub(crate) fn assert_told(rt: &impl Abort, line: &str, told: String, wanted: &str) {
-    assert!(rt; told.as_str() == wanted, "{line}");
+pub(crate) fn assert_reported(rt: &impl Abort, line: &str, reported: String, wanted: &str) {
+    assert!(rt; reported.as_str() == wanted, "{line}");
 }
 
 /// Asserts that this holds of a line.

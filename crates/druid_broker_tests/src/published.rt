@@ -1,7 +1,7 @@
 //! What views read of what is published.
 ghost use Rattle.std.specs.Prelude.{◌≡◌, ◌≤◌};
 
-use crate::printing::{assert_told, printed};
+use crate::printing::{assert_reported, printed};
 use crate::turns::{link, mark_text, one_node};
 use druid_broker::fetch;
 use druid_inventory::Inventory;
@@ -79,10 +79,10 @@ fn publish_to<R: Wait + Abort + Drop, J: Publication>(
 fn both<J: Publication>(
     rt: &impl Abort,
     alloc: Global,
-    told: &mut View<J>,
+    reported: &mut View<J>,
     untold: &mut View<J>,
 ) -> String {
-    let first = read(rt, alloc, told);
+    let first = read(rt, alloc, reported);
     let other = read(rt, alloc, untold);
     format!(in alloc; "{first} {other}").expect(rt, "memory")
 }
@@ -93,19 +93,19 @@ fn views_read<R: Wait + Abort + Drop, J: Publication>(
     rt: &R,
     alloc: Global,
     publisher: Publisher<J, R>,
-    told: &mut View<J>,
+    reported: &mut View<J>,
     untold: &mut View<J>,
 ) -> String {
     let mut publisher = publisher;
-    let before = both(rt, alloc, told, untold);
-    publish_to(rt, alloc, &mut publisher, told, SNAPSHOT);
-    let snapshot = both(rt, alloc, told, untold);
-    publish_to(rt, alloc, &mut publisher, told, DELTA);
-    let delta = both(rt, alloc, told, untold);
+    let before = both(rt, alloc, reported, untold);
+    publish_to(rt, alloc, &mut publisher, reported, SNAPSHOT);
+    let snapshot = both(rt, alloc, reported, untold);
+    publish_to(rt, alloc, &mut publisher, reported, DELTA);
+    let delta = both(rt, alloc, reported, untold);
     let refused = refused(rt, alloc, &mut publisher, GAP);
-    let after = both(rt, alloc, told, untold);
+    let after = both(rt, alloc, reported, untold);
     drop(publisher);
-    let gone = both(rt, alloc, told, untold);
+    let gone = both(rt, alloc, reported, untold);
     format!(in alloc; "{before}, {snapshot}, {delta}, {refused}, {after}, {gone}").expect(
         rt, "memory",
     )
@@ -124,9 +124,9 @@ fn both_read<R: Wait + Abort + Drop + Copy, J: Publication>(
     let (publisher, mut views) = open::<J, R>(alloc, *rt, opened, inventory, 2).expect(
         rt, "memory",
     );
-    let mut told = views.pop().expect(rt, "a view");
+    let mut reported = views.pop().expect(rt, "a view");
     let mut untold = views.pop().expect(rt, "a view");
-    views_read(rt, alloc, publisher, &mut told, &mut untold)
+    views_read(rt, alloc, publisher, &mut reported, &mut untold)
 }
 
 fn read_of<R: Wait + Abort + Drop + Copy>(rt: &R, alloc: Global) -> String {
@@ -156,8 +156,8 @@ fn all_read<R: Wait + Abort + Drop + Copy, J: Publication>(
         let reply = reply(rt, alloc, &publisher, text);
         publisher.publish(0, &reply).expect(rt, "a receipt");
         for view in &mut views {
-            let told = read(rt, alloc, view);
-            if told.as_str() != wanted(text) {
+            let reported = read(rt, alloc, view);
+            if reported.as_str() != wanted(text) {
                 return false;
             }
         }
@@ -187,7 +187,7 @@ fn sizes_of_publications(rt: HostRuntime) {
 #[test]
 fn ample_memory(rt: HostRuntime) {
     let read = read_of(&rt, rt.alloc());
-    assert_told(
+    assert_reported(
         &rt,
         "two views",
         read,

@@ -4,10 +4,10 @@ ghost use Rattle.druid_scatter.specs.Rounds.{AreLinked};
 
 use crate::broker::{counted, query};
 use crate::cluster::{
-    Behind, Cluster, Failure, Handle, Setup, followed, inventory, made_by_all, made_by_two, set,
+    Cluster, Failure, Handle, Server, Setup, followed, inventory, made_by_all, made_by_two, set,
     set_up,
 };
-use crate::printing::{assert_told, halves};
+use crate::printing::{assert_reported, halves};
 use crate::published::SNAPSHOT;
 use crate::turns::link;
 use druid_broker::fetch_entry;
@@ -110,7 +110,7 @@ fn asked_over<R: Handle, J: Publication>(
     let mut cluster: Cluster<R, J> = followed(rt, alloc, setup, 3);
     for (place, mark) in marks.iter().enumerate() {
         if *mark == b'!' {
-            set(&mut cluster, place, Behind::Failing(Failure::Connect));
+            set(&mut cluster, place, Server::Failing(Failure::Connect));
         }
     }
     asked_in_turn(alloc, &mut cluster)
@@ -128,7 +128,7 @@ fn asked_of_three<R: Handle>(rt: R, alloc: Global, marks: &str) -> String {
 fn three_replicas(rt: HostRuntime) {
     for line in IN_TURN.lines() {
         let (marks, wanted) = halves(&rt, line, " = ");
-        assert_told(&rt, line, asked_of_three(&rt, rt.alloc(), marks), wanted);
+        assert_reported(&rt, line, asked_of_three(&rt, rt.alloc(), marks), wanted);
     }
 }
 
@@ -178,7 +178,7 @@ fn planned(rt: HostRuntime) {
     .expect(&rt, "a plan");
     let pair = plan.pairs().first().expect(&rt, "a pair");
     assert!(rt; plan.pairs().len() == 1 && pair.nodes() == [0, 1].as_slice());
-    assert_told(
+    assert_reported(
         &rt,
         "the piece",
         piece_text(&rt, rt.alloc(), pair.asked()),
@@ -243,7 +243,7 @@ pub(crate) fn gather_text<R: Handle>(
 }
 
 // What is gathered where two nodes answer so.
-fn told_of<R: Handle>(rt: R, alloc: Global, first: &str, second: &str) -> String {
+fn reported_of<R: Handle>(rt: R, alloc: Global, first: &str, second: &str) -> String {
     gather_text(rt, alloc, link(&rt, alloc, first), link(&rt, alloc, second))
 }
 
@@ -258,7 +258,7 @@ const GATHERED: &str =
 fn assert_gathered<R: Handle>(rt: R, alloc: Global, line: &str) {
     let (nodes, wanted) = halves(&rt, line, " = ");
     let (first, second) = halves(&rt, nodes, " | ");
-    assert_told(&rt, line, told_of(rt, alloc, first, second), wanted);
+    assert_reported(&rt, line, reported_of(rt, alloc, first, second), wanted);
 }
 
 #[test]

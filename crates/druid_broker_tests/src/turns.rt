@@ -2,7 +2,7 @@
 ghost use Rattle.std.specs.Prelude.{◌≡◌};
 
 use crate::cluster::{Cluster, Handle, Setup, answered, followed, set_up};
-use crate::printing::{assert_told, halves, printed, replaced};
+use crate::printing::{assert_reported, halves, printed, replaced};
 use crate::published::SNAPSHOT;
 use druid_broker::{fetch, fetch_entry, seed_turn, sync_turn};
 use druid_inventory::{Inventory, Outcome};
@@ -131,15 +131,15 @@ fn followed_once<R: Wait + Abort + Drop, J: Publication>(
 }
 
 // What following the node tells, and the mark that is then held.
-fn told_of<R: Wait + Abort + Drop, J: Publication>(
+fn reported_of<R: Wait + Abort + Drop, J: Publication>(
     rt: &R,
     alloc: Global,
     publisher: &mut Publisher<J, R>,
     replies: &str,
 ) -> String {
-    let told = followed_once(rt, alloc, publisher, replies);
+    let reported = followed_once(rt, alloc, publisher, replies);
     let mark = mark_text(rt, alloc, publisher.inventory(), 0);
-    format!(in alloc; "{told} {mark}").expect(rt, "memory")
+    format!(in alloc; "{reported} {mark}").expect(rt, "memory")
 }
 
 // Asserts that the replies of a line are followed so.
@@ -150,7 +150,7 @@ fn assert_line<R: Wait + Abort + Drop, J: Publication>(
     line: &str,
 ) {
     let (replies, wanted) = halves(rt, line, " = ");
-    assert_told(rt, line, told_of(rt, alloc, publisher, replies), wanted);
+    assert_reported(rt, line, reported_of(rt, alloc, publisher, replies), wanted);
 }
 
 fn assert_lines<R: Wait + Abort + Drop + Copy, J: Publication>(
@@ -247,16 +247,16 @@ fn fetched(rt: &impl Abort, alloc: Global, peer: &mut MemoryLink) -> String {
 #[test]
 fn synced_peer(rt: HostRuntime) {
     let mut peer = link(&rt, rt.alloc(), SNAPSHOT);
-    let told = fetched(&rt, rt.alloc(), &mut peer);
-    assert_told(&rt, "a synced peer", told, "1 3: 1");
+    let reported = fetched(&rt, rt.alloc(), &mut peer);
+    assert_reported(&rt, "a synced peer", reported, "1 3: 1");
 }
 
 // What a peer tells that was never synced with the node.
 #[test]
 fn unsynced_peer(rt: HostRuntime) {
     let mut peer = link(&rt, rt.alloc(), "404 {\"error\":\"V3\"}");
-    let told = fetched(&rt, rt.alloc(), &mut peer);
-    assert_told(&rt, "an unsynced peer", told, "K4: status 404");
+    let reported = fetched(&rt, rt.alloc(), &mut peer);
+    assert_reported(&rt, "an unsynced peer", reported, "K4: status 404");
 }
 
 // The load of a partition. With five digits the segments rise as the partitions do.
@@ -314,7 +314,7 @@ fn last_page(rt: &impl Abort, alloc: Global, partition: u16) -> Vec<u8> {
 fn pages(rt: HostRuntime) {
     let alloc = rt.alloc();
     let second = last_page(&rt, alloc, 30_000);
-    assert_told(
+    assert_reported(
         &rt,
         "both pages",
         paged(&rt, alloc, second, 2),
@@ -328,7 +328,7 @@ fn page_cut_off(rt: HostRuntime) {
     let alloc = rt.alloc();
     let second = last_page(&rt, alloc, 30_000);
     let answer = paged(&rt, alloc, second, 1);
-    assert_told(
+    assert_reported(
         &rt,
         "no second page",
         answer,
@@ -342,7 +342,7 @@ fn page_lost(rt: HostRuntime) {
     let alloc = rt.alloc();
     let second = reply(&rt, alloc, SNAPSHOT);
     let answer = paged(&rt, alloc, second, 2);
-    assert_told(&rt, "a snapshot", answer, "K5: another page");
+    assert_reported(&rt, "a snapshot", answer, "K5: another page");
 }
 
 // The second page does not rise after the first.
@@ -351,7 +351,7 @@ fn pages_differ(rt: HostRuntime) {
     let alloc = rt.alloc();
     let second = last_page(&rt, alloc, 29_999);
     let answer = paged(&rt, alloc, second, 2);
-    assert_told(
+    assert_reported(
         &rt,
         "a doubled segment",
         answer,

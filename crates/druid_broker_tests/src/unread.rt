@@ -3,7 +3,7 @@ ghost use Rattle.std.specs.Prelude.{◌≡◌};
 
 use crate::broker::{message, query};
 use crate::cluster::{Cluster, Handle, Setup, answered_alone, followed, message_of, set_up};
-use crate::printing::{assert_told, halves};
+use crate::printing::{assert_reported, halves};
 use druid_published::Publication;
 use std::alloc::Global;
 use std::marker::Brand;
@@ -58,6 +58,6 @@ fn answer_to<R: Handle>(rt: R, alloc: Global, text: &str) -> String {
 fn unread_views(rt: HostRuntime) {
     for line in UNREAD.lines() {
         let (text, wanted) = halves(&rt, line, " = ");
-        assert_told(&rt, line, answer_to(&rt, rt.alloc(), text), wanted);
+        assert_reported(&rt, line, answer_to(&rt, rt.alloc(), text), wanted);
     }
 }

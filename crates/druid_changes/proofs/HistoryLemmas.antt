@@ -101,11 +101,11 @@ no_cause incarnation count limit mark h =
     elim (cases_Bool (nat_eq mark.incarnation incarnation)) [
       | inl same ↦ elim (cases_Bool (nat_lt count mark.count)) [
         | inl ahead ↦ let some = rw (same, ahead) at h in absurd (cc)
-        | inr behind ↦ elim (cases_Bool (nat_lt limit (count - mark.count))) [
-          | inl far ↦ let some = rw (same, behind, far) at h in absurd (cc)
+        | inr beyond ↦ elim (cases_Bool (nat_lt limit (count - mark.count))) [
+          | inl far ↦ let some = rw (same, beyond, far) at h in absurd (cc)
           | inr near ↦ record {
             incarnation_is = eqb-true mark.incarnation incarnation same;
-            before = ltb-false count mark.count behind;
+            before = ltb-false count mark.count beyond;
             near = ltb-false limit (count - mark.count) near;
           }
         ]
@@ -125,9 +125,9 @@ enough-kept kept mark h within =
     omega (arith, within.near, within.before)
 
 -- the last kept ones are those after the mark
-pub behind-kept : (kept : Kept) (mark : Point) (history : List Change) → StandsFor kept history → IsWithin kept.incarnation kept.count kept.limit mark
+pub beyond-kept : (kept : Kept) (mark : Point) (history : List Change) → StandsFor kept history → IsWithin kept.incarnation kept.count kept.limit mark
     → drop (length kept.changes - (kept.count - mark.count)) kept.changes ≡ drop mark.count history
-behind-kept kept mark history h within =
+beyond-kept kept mark history h within =
     let n = length-kept kept history h in
     let k = length history - kept.limit in
     let first = length kept.changes - (kept.count - mark.count) in
@@ -191,10 +191,10 @@ not_strict-named : (c : Change) → not_strict c ≡ faults.Memory → ⊥
 not_strict-named (Load d) e = absurd (cc)
 not_strict-named (Drop d) e = absurd (cc)
 
-abbrev pub recording_told : HistoryFault → Result ⊤ HistoryFault
-recording_told f = Err f
+abbrev pub recording_reported : HistoryFault → Result ⊤ HistoryFault
+recording_reported f = Err f
 
-pub never_memory : (kept : Kept) (c : Change) (f : HistoryFault) → refusal kept c ≡ Some f → recording_told f ≡ recording_told faults.Memory → ⊥
+pub never_memory : (kept : Kept) (c : Change) (f : HistoryFault) → refusal kept c ≡ Some f → recording_reported f ≡ recording_reported faults.Memory → ⊥
 unfolding refusal
 never_memory kept c f h e =
     let memory : f ≡ faults.Memory = cc in
@@ -202,12 +202,12 @@ never_memory kept c f h e =
 
 -- ---- in the steps of the code
 
-abbrev pub fault_told : ReplyFault → Result Body ReplyFault
-fault_told f = Err f
+abbrev pub fault_reported : ReplyFault → Result Body ReplyFault
+fault_reported f = Err f
 
 -- a fault has one of these names
-pub no_fault : (f : ReplyFault) → (fault_told f ≡ fault_told TooMany → ⊥) → (fault_told f ≡ fault_told LengthOfDelta → ⊥)
-    → (fault_told f ≡ fault_told DoubledSegment → ⊥) → (fault_told f ≡ fault_told BadPage → ⊥) → (fault_told f ≡ fault_told Memory → ⊥) → ⊥
+pub no_fault : (f : ReplyFault) → (fault_reported f ≡ fault_reported TooMany → ⊥) → (fault_reported f ≡ fault_reported LengthOfDelta → ⊥)
+    → (fault_reported f ≡ fault_reported DoubledSegment → ⊥) → (fault_reported f ≡ fault_reported BadPage → ⊥) → (fault_reported f ≡ fault_reported Memory → ⊥) → ⊥
 no_fault TooMany many length doubled page memory = many refl
 no_fault LengthOfDelta many length doubled page memory = length refl
 no_fault DoubledSegment many length doubled page memory = doubled refl
@@ -267,5 +267,5 @@ delta_of_view kept mark n len items h none n_is len_is items_are =
     record {
       within = within;
       long = omega (arith, n_items, enough);
-      last = λ history stands. same ∙ behind-kept kept mark history stands within;
+      last = λ history stands. same ∙ beyond-kept kept mark history stands within;
     }

@@ -15,8 +15,8 @@ use Rattle.druid_shard.specs.declared.reply.Body.{Body}
 use Rattle.druid_shard.specs.declared.reply.Body.TheVariants.{Delta, Snapshot, Page, Reset}
 
 -- the mark after a history
-abbrev pub mark_behind : ℕ → List Change → Point
-mark_behind incarnation history = record { incarnation = incarnation; count = length history }
+abbrev pub mark_after : ℕ → List Change → Point
+mark_after incarnation history = record { incarnation = incarnation; count = length history }
 
 -- why a node that keeps so many changes has not those after a mark
 unfoldable pub cause_of : ℕ → ℕ → ℕ → Point → Option Cause
@@ -27,9 +27,9 @@ cause_of incarnation count limit mark =
 
 -- the changes after a mark, or why the broker has to begin anew
 abbrev pub reset_or_delta : ℕ → List Change → Point → Option Cause → Body
-reset_or_delta incarnation history mark (Some cause) = Reset cause (mark_behind incarnation history)
+reset_or_delta incarnation history mark (Some cause) = Reset cause (mark_after incarnation history)
 reset_or_delta incarnation history mark None =
-    Delta mark (mark_behind incarnation history) (drop mark.count history)
+    Delta mark (mark_after incarnation history) (drop mark.count history)
 
 -- a page of the set that there was after so many changes
 abbrev pub page_of : ℕ → ℕ → ℕ → List Described → Body
@@ -43,7 +43,7 @@ first_page incarnation history count = option_map (λ set. (page_of incarnation 
 -- all that is served: whole, or where that is too large for one message the first page of the set that is frozen, or is from now on
 abbrev pub whole_answer : ℕ → List Change → Option ℕ → List Described → Option (Body × Option ℕ)
 whole_answer incarnation history frozen set =
-    if nat_le (length set) max_page then Some (Snapshot (mark_behind incarnation history) set, frozen)
+    if nat_le (length set) max_page then Some (Snapshot (mark_after incarnation history) set, frozen)
     else first_page incarnation history (unwrap_or frozen (length history))
 
 -- whether the set after so many changes is frozen
@@ -54,14 +54,14 @@ is_frozen (Some frozen) count = frozen == count
 -- a page of the frozen set, if it has that page
 abbrev pub page_answer : ℕ → List Change → ℕ → ℕ → List Described → Body
 page_answer incarnation history count page set =
-    if nat_lt page (pages_in (length set)) then page_of incarnation count page set else Reset TooOld (mark_behind incarnation history)
+    if nat_lt page (pages_in (length set)) then page_of incarnation count page set else Reset TooOld (mark_after incarnation history)
 
 -- a page of the set at a mark, where it is frozen
 abbrev pub asked_page : ℕ → List Change → Option ℕ → Point → ℕ → Option Body
 asked_page incarnation history frozen mark page =
-    if not (mark.incarnation == incarnation) then Some (Reset OtherIncarnation (mark_behind incarnation history))
+    if not (mark.incarnation == incarnation) then Some (Reset OtherIncarnation (mark_after incarnation history))
     else (if is_frozen frozen mark.count then option_map (page_answer incarnation history mark.count page) (replay (take mark.count history))
-    else Some (Reset TooOld (mark_behind incarnation history)))
+    else Some (Reset TooOld (mark_after incarnation history)))
 
 -- the answer, where each change of the history is strict, and after how many changes a set is frozen then; before it, that is `frozen`
 abbrev pub answer : ℕ → List Change → ℕ → Option ℕ → Ask → Option (Body × Option ℕ)

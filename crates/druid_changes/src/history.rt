@@ -7,7 +7,7 @@ ghost use Rattle.druid_shard.specs.declared.change.Change.{Change as Event};
 ghost use Rattle.druid_shard.specs.declared.change.Change.TheVariants.{Load, Drop as Dropped};
 ghost use Rattle.druid_shard.specs.declared.reply.Body.TheVariants.{Delta, Snapshot};
 ghost use Rattle.druid_changes.specs.Kept.{StandsFor, IsKept, IsDrop, described_named, frozen_after, frozen_count, with_frozen, KeepsOrFreezes, refusal_of_set, refusal_of_count, refusal};
-ghost use Rattle.druid_changes.specs.Answer.{answer, page_of, whole_answer, asked_page, HasCopies, cause_of, mark_behind};
+ghost use Rattle.druid_changes.specs.Answer.{answer, page_of, whole_answer, asked_page, HasCopies, cause_of, mark_after};
 
 use crate::HistoryFault;
 use crate::segments::Segments;
@@ -206,8 +206,8 @@ impl History {
     /// The mark after its changes.
     pub fn mark(&self) -> Mark
         ensures value { result ≡ record { incarnation = self.now.incarnation; count = self.now.count } }
-        ensures behind { (history : List Event) → StandsFor self.now history
-            → result ≡ mark_behind self.now.incarnation history }
+        ensures beyond { (history : List Event) → StandsFor self.now history
+            → result ≡ mark_after self.now.incarnation history }
         ensures valid { 1 ≤ result.incarnation }
         ensures kept { IsKept self.now }
     {
@@ -338,10 +338,10 @@ impl History {
     fn delta(&self, mark: Mark) -> Result<Reply, AllocError>
         requires { cause_of self.now.incarnation self.now.count self.now.limit mark ≡ None }
         ensures { IfOk result (λ reply. (history : List Event) → StandsFor self.now history
-            → reply ≡ Delta mark (mark_behind self.now.incarnation history) (drop mark.count history)) }
+            → reply ≡ Delta mark (mark_after self.now.incarnation history) (drop mark.count history)) }
     {
-        let behind = (self.count - mark.count()) as usize;
-        let changes = self.changes_from(self.changes.len() - behind)?;
+        let beyond = (self.count - mark.count()) as usize;
+        let changes = self.changes_from(self.changes.len() - beyond)?;
         let Ok(reply) = Reply::delta(mark, self.mark(), changes) else {
             unreachable!();
         };

@@ -6,7 +6,7 @@ ghost use Rattle.druid_shard.specs.Replay.{replay, replay_from};
 ghost use Rattle.druid_shard.specs.declared.change.Ask.TheVariants.{Since};
 ghost use Rattle.druid_shard.specs.declared.change.Change.{Change};
 ghost use Rattle.druid_shard.specs.declared.reply.Body.TheVariants.{Delta};
-ghost use Rattle.druid_changes.specs.Answer.{answer, mark_behind};
+ghost use Rattle.druid_changes.specs.Answer.{answer, mark_after};
 
 /// A broker that has what a node served at a mark, and makes the changes of the delta that the node answers, has what
 /// the node serves, and its mark.
@@ -14,5 +14,5 @@ pub fn deltas_reach_the_node()
     ensures { (incarnation limit : ℕ) (frozen after : Option ℕ) (history changes : List Change) (mark from to : Point) (held set : List Described)
         → replay history ≡ Some set → replay (take mark.count history) ≡ Some held
         → answer incarnation history limit frozen (Since mark) ≡ Some (Delta from to changes, after)
-        → (from ≡ mark) × (to ≡ mark_behind incarnation history) × (replay_from held changes ≡ Some set) }
+        → (from ≡ mark) × (to ≡ mark_after incarnation history) × (replay_from held changes ≡ Some set) }
 {}

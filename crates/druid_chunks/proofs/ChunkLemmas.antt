@@ -132,7 +132,7 @@ any-Contains (x ∷ ns) n = by_test (eqb x n) refl (any-Contains ns n) where
     ],
   )
 
--- what is told of an option by another way
+-- what is known of an option by another way
 pub of_option : {X : Type 0} (o : Option X) (N M : Type 0) (P Q : X → Type 0) → (N → M) → ((x : X) → P x → Q x) → MatchOption o N P → MatchOption o M Q
 of_option None N M P Q f g h = f h
 of_option (Some x) N M P Q f g h = g x h

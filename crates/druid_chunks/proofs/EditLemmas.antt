@@ -151,11 +151,11 @@ RemovesOne-once old new p node removes (m, there, partition, at) once = (m, (par
   back x (inl same) = subst (Contains old) (sym same) there
   back x (inr h) = ((removes x).0 h).0
 
--- ---- what is lent of a chunk that copies share
+-- ---- what is borrowed of a chunk that copies share
 
-pub lent_chunk : (lent inside now : Chunk) → (lent ≡ inside) ⊎ (lent ≡ inside) → inside ≡ now → lent ≡ now
-lent_chunk lent inside now (inl e) f = e ∙ f
-lent_chunk lent inside now (inr e) f = e ∙ f
+pub borrowed_chunk : (borrowed inside now : Chunk) → (borrowed ≡ inside) ⊎ (borrowed ≡ inside) → inside ≡ now → borrowed ≡ now
+borrowed_chunk borrowed inside now (inl e) f = e ∙ f
+borrowed_chunk borrowed inside now (inr e) f = e ∙ f
 
 pub was_ok : {T E : Type 0} {r : Result T E} {x : T} → r ≡ Ok x → IsOk r
 was_ok {T} {E} {r} {x} e = subst (λ (s : Result T E). IsOk s) (sym e) refl

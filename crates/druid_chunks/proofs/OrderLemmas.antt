@@ -24,10 +24,10 @@ not_less a b e = elim (cases_order a b) [
 -- ---- a chunk that is sought
 
 -- two intervals that a test tells apart
-pub told_apart : (a b : Extent) (r : Bool) → r ≡ not (a.start == b.start && a.end == b.end) → r ≡ true → a ≡ b → ⊥
-told_apart a b r e told same =
+pub reported_apart : (a b : Extent) (r : Bool) → r ≡ not (a.start == b.start && a.end == b.end) → r ≡ true → a ≡ b → ⊥
+reported_apart a b r e reported same =
     let both : (a.start == b.start && a.end == b.end) ≡ true = both_true (a.start == b.start) (a.end == b.end) (eq-eqb a.start b.start (ap (λ (x : Extent). x.start) same)) (eq-eqb a.end b.end (ap (λ (x : Extent). x.end) same)) in
-    false≢true (sym (ap not both) ∙ sym e ∙ told) where
+    false≢true (sym (ap not both) ∙ sym e ∙ reported) where
       both_true : (x y : Bool) → x ≡ true → y ≡ true → (x && y) ≡ true
       both_true x y f g = ap (λ (z : Bool). z && y) f ∙ g
 

@@ -81,7 +81,7 @@ before_by_end n c s e d t f level same =
 -- the test of two numbers, at what they stand for
 pub test_at : (a b p q x y : ℕ) → (a < b) ↔ (p < q) → p ≡ x → q ≡ y → IsTrue (ltb a b) ↔ (x < y)
 test_at a b p q x y h e f =
-    subst (λ (z : ℕ × ℕ). IsTrue (ltb a b) ↔ (z.0 < z.1)) (λ i. (e i, f i)) (λ told. h.0 (ltb-true a b told), λ less. lt-ltb a b (h.1 less))
+    subst (λ (z : ℕ × ℕ). IsTrue (ltb a b) ↔ (z.0 < z.1)) (λ i. (e i, f i)) (λ reported. h.0 (ltb-true a b reported), λ less. lt-ltb a b (h.1 less))
 
 -- ---- places from a start on
 

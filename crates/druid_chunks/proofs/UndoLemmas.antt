@@ -67,12 +67,12 @@ hides : (saved : List Saved) (old new : List Chunk) (g : Group) → HasSaved sav
     → members_at (chunks_before saved new) g ≡ members_at (chunks_before saved old) g
 hides [] old new g (inl there) = absurd (Contains-nil g there)
 hides [] old new g (inr same) = same
-hides (s ∷ saved) old new g told = elim (cases_group s.0 g) [
+hides (s ∷ saved) old new g reported = elim (cases_group s.0 g) [
   | inl here ↦
       at_head (chunk_before s) (chunks_before saved new) g here ∙ sym (at_head (chunk_before s) (chunks_before saved old) g here)
   | inr other ↦
       at_tail (chunk_before s) (chunks_before saved new) g other
-      ∙ hides saved old new g (later other told)
+      ∙ hides saved old new g (later other reported)
       ∙ sym (at_tail (chunk_before s) (chunks_before saved old) g other)
 ] where
   later : (s.0 ≡ g → ⊥) → HasSaved (s ∷ saved) g ⊎ (members_at new g ≡ members_at old g) → HasSaved saved g ⊎ (members_at new g ≡ members_at old g)
@@ -102,19 +102,19 @@ HasSaved-more saved s g has =
 pub AreSaved-more : (saved : List Saved) (s : Saved) (groups : List Group) → AreSaved saved groups → IsSaved s → AreSaved (saved ++ s ∷ []) groups
 AreSaved-more saved s groups log is = record {
   valid = All-push IsSaved saved s log.valid is;
-  touched = λ g told. HasSaved-more saved s g (log.touched g told);
+  touched = λ g reported. HasSaved-more saved s g (log.touched g reported);
 }
 
 pub AreSaved-touched : (saved : List Saved) (s : Saved) (k : Group) (groups more : List Group) → AreSaved saved groups → IsSaved s → k ≡ s.0
     → ((q : Group) → list_any (same_group q) more ≡ cond (same_group k q) true (list_any (same_group q) groups)) → AreSaved (saved ++ s ∷ []) more
 AreSaved-touched saved s k groups more log is e updates = record {
   valid = (AreSaved-more saved s groups log is).valid;
-  touched = λ g told. by_group g told (cases_group k g);
+  touched = λ g reported. by_group g reported (cases_group k g);
 } where
   by_group : (g : Group) → IsTrue (list_any (same_group g) more) → (k ≡ g) ⊎ (k ≡ g → ⊥) → HasSaved (saved ++ s ∷ []) g
-  by_group g told (inl here) = subst (HasSaved (saved ++ s ∷ [])) (sym e ∙ here) (HasSaved-last saved s)
-  by_group g told (inr other) =
-      HasSaved-more saved s g (log.touched g (sym (updates g ∙ ap (λ (b : Bool). cond b true (list_any (same_group g) groups)) (same_group-other k g other)) ∙ told))
+  by_group g reported (inl here) = subst (HasSaved (saved ++ s ∷ [])) (sym e ∙ here) (HasSaved-last saved s)
+  by_group g reported (inr other) =
+      HasSaved-more saved s g (log.touched g (sym (updates g ∙ ap (λ (b : Bool). cond b true (list_any (same_group g) groups)) (same_group-other k g other)) ∙ reported))
 
 pub HasMember-of : (chunks : List Chunk) (c : Chunk) → AreChunks chunks → Contains chunks c → HasMember c.1
 HasMember-of chunks c are there = All-contains (λ (x : Chunk). HasMember x.1) chunks c are.inhabited there
@@ -139,5 +139,5 @@ one_more old new k are others =
       ]
 
       there : (q : Group) → list_any (same_group q) (keys_of new) ≡ true → list_any (same_group q) (k ∷ keys_of old) ≡ true
-      there q told =
-          list_any-from_Contains same_group-equiv q (k ∷ keys_of old) (among q (Contains-from_any same_group-exact q (keys_of new) told))
+      there q reported =
+          list_any-from_Contains same_group-equiv q (k ∷ keys_of old) (among q (Contains-from_any same_group-exact q (keys_of new) reported))

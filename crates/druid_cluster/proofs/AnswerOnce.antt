@@ -9,7 +9,7 @@ use Rattle.druid_time.specs.declared.fault.TimeFault.{TimeFault}
 use Rattle.druid_time.specs.declared.fault.TimeFault.TheVariants as times
 use Rattle.druid_segid.specs.Names.{IsName}
 use Rattle.druid_shard.specs.declared.reply.Body.{Body}
-use Rattle.druid_timeline.specs.Pieces.{Told}
+use Rattle.druid_timeline.specs.Pieces.{Reported}
 use Rattle.druid_inventory.specs.Entry.{Entry, fresh, HaveOwnNames}
 use Rattle.druid_inventory.specs.Step.{Steps, Refuses, Tells}
 use Rattle.druid_inventory.specs.declared.fault.ApplyFault.{ApplyFault}
@@ -72,7 +72,7 @@ brokers_tree o (Refused refusals.OtherSets) next h = absurd h
 brokers_tree o (Taken count) next h = inr (h.0.0, inr (h.0.1, ap Taken h.1, h.2))
 brokers_tree o (Stepped mark outcome) next h = absurd h
 brokers_tree o (Found pieces) next h = absurd h
-brokers_tree o (Marked told) next h = absurd h
+brokers_tree o (Marked reported) next h = absurd h
 brokers_tree o (Joined broker) next h = absurd h
 brokers_tree o (Compared same) next h = absurd h
 
@@ -110,22 +110,22 @@ abbrev pub OfReply : List Entry → ℕ → Data → Answer → List Entry → T
 OfReply inventory node d answer next =
     (r : Result Body SyncFault) × IsRead d r × OfRead inventory node r answer next
 
-told_tree : (inventory : List Entry) (node : ℕ) (body : Body) (fault : ApplyFault) (refusal : Refusal)
+reported_tree : (inventory : List Entry) (node : ℕ) (body : Body) (fault : ApplyFault) (refusal : Refusal)
     → Tells inventory node body fault → not_applied fault ≡ Some refusal → OfBody inventory node body (Refused refusal) inventory
-told_tree inventory node body steps.UnknownNode refusal h is =
+reported_tree inventory node body steps.UnknownNode refusal h is =
     inl (h, ap Refused (sym (same_Some refusals.UnknownNode refusal is)), refl)
-told_tree inventory node body steps.OtherIncarnation refusal h is = inr (h.0, h.1, inl (_, refusal, h.2, is, refl, refl))
-told_tree inventory node body steps.Gap refusal h is = inr (h.0, h.1, inl (_, refusal, h.2, is, refl, refl))
-told_tree inventory node body (steps.NotStrict index) refusal h is = inr (h.0, h.1, inl (_, refusal, h.2, is, refl, refl))
-told_tree inventory node body steps.TooMany refusal h is = inr (h.0, h.1, inl (_, refusal, h.2, is, refl, refl))
-told_tree inventory node body steps.Conflict refusal h is = inr (h.0, h.1, inl (_, refusal, h.2, is, refl, refl))
-told_tree inventory node body steps.PageConflict refusal h is = inr (h.0, h.1, inl (_, refusal, h.2, is, refl, refl))
-told_tree inventory node body steps.Memory refusal h is = absurd cc
+reported_tree inventory node body steps.OtherIncarnation refusal h is = inr (h.0, h.1, inl (_, refusal, h.2, is, refl, refl))
+reported_tree inventory node body steps.Gap refusal h is = inr (h.0, h.1, inl (_, refusal, h.2, is, refl, refl))
+reported_tree inventory node body (steps.NotStrict index) refusal h is = inr (h.0, h.1, inl (_, refusal, h.2, is, refl, refl))
+reported_tree inventory node body steps.TooMany refusal h is = inr (h.0, h.1, inl (_, refusal, h.2, is, refl, refl))
+reported_tree inventory node body steps.Conflict refusal h is = inr (h.0, h.1, inl (_, refusal, h.2, is, refl, refl))
+reported_tree inventory node body steps.PageConflict refusal h is = inr (h.0, h.1, inl (_, refusal, h.2, is, refl, refl))
+reported_tree inventory node body steps.Memory refusal h is = absurd cc
 
 refused_tree : (inventory : List Entry) (node : ℕ) (d : Data) (refusal : Refusal)
     → RefusesReply inventory node d refusal → OfReply inventory node d (Refused refusal) inventory
 refused_tree inventory node d refusal (inl x) = (Err x.0, x.1, (refusal, x.2, refl, refl))
-refused_tree inventory node d refusal (inr x) = (Ok x.0, x.1, told_tree inventory node x.0 x.2 refusal x.3 x.4)
+refused_tree inventory node d refusal (inr x) = (Ok x.0, x.1, reported_tree inventory node x.0 x.2 refusal x.3 x.4)
 
 pub reply_tree : (inventory : List Entry) (node : ℕ) (d : Data) (answer : Answer) (next : List Entry) → TakesReply inventory node d answer next → OfReply inventory node d answer next
 reply_tree inventory node d (Refused refusal) next h =
@@ -134,7 +134,7 @@ reply_tree inventory node d (Taken count) next h = absurd h
 reply_tree inventory node d (Stepped mark outcome) next h =
     (Ok h.0, h.1, inr (h.3.0, h.3.1, inr (outcome, h.2, h.3.2, (λ i. Stepped (h.5 i) outcome), h.4)))
 reply_tree inventory node d (Found pieces) next h = absurd h
-reply_tree inventory node d (Marked told) next h = absurd h
+reply_tree inventory node d (Marked reported) next h = absurd h
 reply_tree inventory node d (Joined broker) next h = absurd h
 reply_tree inventory node d (Compared same) next h = absurd h
 
@@ -167,7 +167,7 @@ known inventory node (Err replies.TooMany) answer next h e = cc
 known inventory node (Err replies.LengthOfDelta) answer next h e = cc
 known inventory node (Err replies.DoubledSegment) answer next h e = cc
 known inventory node (Err replies.BadPage) answer next h e = cc
-known inventory node (Err replies.Memory) answer next h e = let told = h.1 in cc
+known inventory node (Err replies.Memory) answer next h e = let reported = h.1 in cc
 
 judged_once : (inventory : List Entry) (node : ℕ) (r : Result Body SyncFault) (a b : Answer) (next other : List Entry) → OfRead inventory node r a next → OfRead inventory node r b other → IsOne a b next other
 judged_once inventory node (Ok body) a b next other x y = found_entry inventory node body a b next other x y
@@ -190,7 +190,7 @@ refusal_of times.Empty = refusals.Empty
 abbrev pub OfSource : List Entry → List ℕ → Extent → Answer → Type 0
 OfSource inventory source asked answer =
     ((IsName source → ⊥) × (answer ≡ Refused refusals.BadName))
-    ⊎ (IsName source × (pieces : List Told) × IsFound inventory source asked pieces × (answer ≡ Found pieces))
+    ⊎ (IsName source × (pieces : List Reported) × IsFound inventory source asked pieces × (answer ≡ Found pieces))
 
 abbrev pub OfLookup : List Entry → List ℕ → List ℕ → Answer → Type 0
 OfLookup inventory interval source answer =
@@ -220,11 +220,11 @@ lookup_tree inventory interval source (Refused refusals.OtherSets) h = absurd h
 lookup_tree inventory interval source (Taken count) h = absurd h
 lookup_tree inventory interval source (Stepped mark outcome) h = absurd h
 lookup_tree inventory interval source (Found pieces) h = inr (h.0, h.1, inr (h.2, pieces, h.3, refl))
-lookup_tree inventory interval source (Marked told) h = absurd h
+lookup_tree inventory interval source (Marked reported) h = absurd h
 lookup_tree inventory interval source (Joined broker) h = absurd h
 lookup_tree inventory interval source (Compared same) h = absurd h
 
-pieces_found_once : (inventory : List Entry) (source : List ℕ) (asked : Extent) (ps qs : List Told) → IsFound inventory source asked ps → IsFound inventory source asked qs → ps ≡ qs
+pieces_found_once : (inventory : List Entry) (source : List ℕ) (asked : Extent) (ps qs : List Reported) → IsFound inventory source asked ps → IsFound inventory source asked qs → ps ≡ qs
 pieces_found_once inventory source asked ps qs (inl x) (inl y) = x.1 ∙ sym y.1
 pieces_found_once inventory source asked ps qs (inl x) (inr y) = absurd (x.0 y.0)
 pieces_found_once inventory source asked ps qs (inr x) (inl y) = absurd (y.0 x.0)

@@ -114,7 +114,7 @@ reply_some : (inventory : List Entry) (node : ℕ) (d : Data) → ReplyAnswer in
 reply_some inventory node d = by (read_some d) where
   by : IsReadSo (form_at d) → ReplyAnswer inventory node d
   by (inl (body, read)) = body_some inventory node d body read
-  by (inr (fault, refusal, refuses, told)) = (Refused refusal, inventory, (inl (fault, refuses, told), refl))
+  by (inr (fault, refusal, refuses, reported)) = (Refused refusal, inventory, (inl (fault, refuses, reported), refl))
 
 -- ---- lookups
 

@@ -127,8 +127,8 @@ placed : (x : Described) (ys : List Described) → AreSorted ys → ((d : Descri
 placed x [] h none = (x ∷ [], IsPermutation-refl (x ∷ []), sorted_cons x [] sorted_nil (λ d there. absurd (Contains-nil d there)))
 placed x (y ∷ ys) h none =
     by (slice_cmp nat_cmp (identifier_text x.id) (identifier_text y.id)) refl (placed x ys (by_identifier.tail y ys h) (λ d there. none d (Contains-later y ys d there))) where
-      behind : (zs : List Described) → IsPermutation (x ∷ ys) zs → IsBefore y x → (d : Described) → Contains zs d → IsBefore y d
-      behind zs moved before d there =
+      beyond : (zs : List Described) → IsPermutation (x ∷ ys) zs → IsBefore y x → (d : Described) → Contains zs d → IsBefore y d
+      beyond zs moved before d there =
           elim (Contains-cons x ys d (Contains-permutation zs (x ∷ ys) d (IsPermutation-sym (x ∷ ys) zs moved) there)) [
             | inl here ↦ subst (IsBefore y) here before
             | inr later ↦ by_identifier.later y ys d h later
@@ -142,7 +142,7 @@ placed x (y ∷ ys) h none =
           let before : IsBefore y x = nat_list_cmp_total.antisymm (identifier_text y.id) (identifier_text x.id) ∙ ap ordering_reverse e in
           let swapped : IsPermutation (x ∷ y ∷ ys) (y ∷ x ∷ ys) = IsPermutation-sym (y ∷ x ∷ ys) (x ∷ y ∷ ys) (IsPermutation-middle (y ∷ []) x ys) in
           let whole = IsPermutation-trans (x ∷ y ∷ ys) (y ∷ x ∷ ys) (y ∷ rest.0) swapped (IsPermutation-cons y (x ∷ ys) rest.0 rest.1) in
-          (y ∷ rest.0, whole, sorted_cons y rest.0 rest.2 (behind rest.0 rest.1 before))
+          (y ∷ rest.0, whole, sorted_cons y rest.0 rest.2 (beyond rest.0 rest.1 before))
 
 -- segments of different identifiers can be put in order
 pub in_order : (given : List Described) → HaveOwnIdentifiers given → (sorted : List Described) × IsPermutation given sorted × AreSorted sorted

@@ -15,7 +15,7 @@ use Rattle.druid_members.specs.Members.{Member, HasPartition}
 use Rattle.druid_shard.proofs.MemberLemmas.{Contains-cons, Contains-later, Contains-nil, Contains-map, Contains-map_back}
 use Rattle.druid_timeline.specs.Holding.{Held, held_of, members_of}
 use Rattle.druid_timeline.specs.Visible.{IsVisible}
-use Rattle.druid_timeline.specs.Pieces.{Told, Shown, shown_of, AreRuns, Shows, ArePiecesIn, ArePartitions}
+use Rattle.druid_timeline.specs.Pieces.{Reported, Shown, shown_of, AreRuns, Shows, ArePiecesIn, ArePartitions}
 use Rattle.druid_chunks.proofs.ChunkLemmas.{same_group-exact, same_group-same}
 use Rattle.druid_timeline.proofs.RunsLemmas.{Shows-first, AreRuns-first}
 use Rattle.druid_inventory.specs.Entry.{Entry}
@@ -160,11 +160,11 @@ longer_shows from g p more t k start stretch same = (forth, back) where
   back (inr (inr later)) = inr later
 
 grown : (from : ℕ) (g : Group) (ps : List Shown) → AreRuns ps → ((t : ℕ) (k : Group) → Shows ps t k → from < t) → Grown from g ps
-grown from g [] runs behind = (instant_of from g ∷ [], omega arith, instant_shows from g [])
-grown from g (p ∷ more) runs behind =
+grown from g [] runs beyond = (instant_of from g ∷ [], omega arith, instant_shows from g [])
+grown from g (p ∷ more) runs beyond =
     by (cases_eq p.interval.start (from + 1)) (group_decided g p.group) where
       after : from < p.interval.start
-      after = behind p.interval.start p.group (Shows-first p more runs)
+      after = beyond p.interval.start p.group (Shows-first p more runs)
 
       stretch : p.interval.start < p.interval.end
       stretch = AreRuns-first p more runs
@@ -290,9 +290,9 @@ with_one n (x ∷ xs) h = by (cases_order n x) (with_one n xs (by_number.tail x 
       | inl here ↦ omega (arith, below, here)
       | inr later ↦ let up : x < d = by_number.later x xs d h later in omega (arith, below, up)
     ]
-  by (inr (inr above)) rest = (x ∷ rest.0, rising_cons x rest.0 rest.1 behind, λ p. (forth p, back p)) where
-    behind : (d : ℕ) → Contains rest.0 d → x < d
-    behind d there = elim ((rest.2 d).0 there) [
+  by (inr (inr above)) rest = (x ∷ rest.0, rising_cons x rest.0 rest.1 beyond, λ p. (forth p, back p)) where
+    beyond : (d : ℕ) → Contains rest.0 d → x < d
+    beyond d there = elim ((rest.2 d).0 there) [
       | inl same ↦ omega (arith, above, same)
       | inr later ↦ by_number.later x xs d h later
     ]
@@ -335,27 +335,27 @@ partitions (m ∷ ms) =
       back parts are p h (inl here) = inl (sym h.2 ∙ sym (ap (λ (x : Member). x.partition) here))
       back parts are p h (inr later) = inr ((are.all p).1 (h.0, later, h.2))
 
-abbrev HasParts : List Held → Told → Type 0
+abbrev HasParts : List Held → Reported → Type 0
 HasParts held piece = ArePartitions (members_of held piece.group) piece.parts
 
-told : (held : List Held) (ps : List Shown) → (pieces : List Told) × (map shown_of pieces ≡ ps) × All (HasParts held) pieces
-told held [] = ([], refl, All-nil (HasParts held))
-told held (p ∷ ps) =
-    let rest = told held ps in
+reported : (held : List Held) (ps : List Shown) → (pieces : List Reported) × (map shown_of pieces ≡ ps) × All (HasParts held) pieces
+reported held [] = ([], refl, All-nil (HasParts held))
+reported held (p ∷ ps) =
+    let rest = reported held ps in
     let parts = partitions (members_of held p.group) in
-    let one : Told = record { interval = p.interval; group = p.group; parts = parts.0 } in
+    let one : Reported = record { interval = p.interval; group = p.group; parts = parts.0 } in
     (one ∷ rest.0, ap (λ (qs : List Shown). p ∷ qs) rest.1, All-cons (HasParts held) one rest.0 parts.1 rest.2)
 
 -- each lookup finds pieces
-pub found_some : (inventory : List Entry) (source : List ℕ) (asked : Extent) → (pieces : List Told) × IsFound inventory source asked pieces
+pub found_some : (inventory : List Entry) (source : List ℕ) (asked : Extent) → (pieces : List Reported) × IsFound inventory source asked pieces
 found_some inventory source asked =
     let all = holding inventory source in
     by all.0 all.1 (has_source inventory source all.0 all.1) where
-      by : (held : List Held) → IsHoldingOf inventory source held → Decided (HasSource inventory source) → (pieces : List Told) × IsFound inventory source asked pieces
+      by : (held : List Held) → IsHoldingOf inventory source held → Decided (HasSource inventory source) → (pieces : List Reported) × IsFound inventory source asked pieces
       by held holds (inr none) = ([], inl (none, refl))
       by held holds (inl some) =
           let shown = pieces_in held asked in
-          let pieces = told held shown.0 in (
+          let pieces = reported held shown.0 in (
             pieces.0,
             inr (
               some,

@@ -2,7 +2,7 @@
 use Rattle.std.proofs.Common.{List, [], ◌∷◌, map, All, ◌⊎◌, inl, inr}
 use Rattle.druid_time.specs.Extent.{Extent, Has, AnyHas, SameInstants}
 use Rattle.druid_timeline.specs.Holding.{Held, members_of}
-use Rattle.druid_timeline.specs.Pieces.{Told, Shown, shown_of, ArePiecesIn, ArePartitions}
+use Rattle.druid_timeline.specs.Pieces.{Reported, Shown, shown_of, ArePiecesIn, ArePartitions}
 use Rattle.druid_cluster.specs.Serving.{AreFoundIn}
 
 only : (P : Type 0) → P ⊎ ⊥ → P
@@ -18,7 +18,7 @@ in_interval set asked held pieces same found = record {
   );
 }
 
-pub found_in : (asked : Extent) (set : List Extent) (held : List Held) (pieces : List Told)
+pub found_in : (asked : Extent) (set : List Extent) (held : List Held) (pieces : List Reported)
     → SameInstants set (asked ∷ []) → ArePiecesIn (AnyHas set) held (map shown_of pieces)
     → All (λ piece. ArePartitions (members_of held piece.group) piece.parts) pieces → AreFoundIn asked held pieces
 found_in asked set held pieces same shown parts = record {

@@ -3,7 +3,7 @@ use Rattle.std.proofs.Common.{◌≡◌, ℕ, List, [], ◌∷◌, map, false, r
 use Rattle.serde_json.specs.Data.{number, unsigned}
 use Rattle.serde_json.specs.View.{items_of}
 use Rattle.serde_json.specs.Written.{has_float, items_have_float}
-use Rattle.druid_timeline.specs.Pieces.{Told}
+use Rattle.druid_timeline.specs.Pieces.{Reported}
 use Rattle.druid_shard.specs.Mark.{Point}
 use Rattle.druid_sync.specs.Written.{mark_data}
 use Rattle.druid_cluster.specs.Answers.{parts_data, piece_data, pieces_data, marks_data, answer_data}
@@ -14,11 +14,11 @@ numbers_plain : (ps : List ℕ) → items_have_float (items_of (map (λ p. numbe
 numbers_plain [] = refl
 numbers_plain (p ∷ ps) = numbers_plain ps
 
-pub piece_plain : (p : Told) → has_float (piece_data p) ≡ false
+pub piece_plain : (p : Reported) → has_float (piece_data p) ≡ false
 unfolding piece_data parts_data
 piece_plain p = rw (numbers_plain p.parts) refl
 
-pieces_plain : (ps : List Told) → items_have_float (items_of (map piece_data ps)) ≡ false
+pieces_plain : (ps : List Reported) → items_have_float (items_of (map piece_data ps)) ≡ false
 pieces_plain [] = refl
 pieces_plain (p ∷ ps) = rw (piece_plain p) (pieces_plain ps)
 

@@ -66,14 +66,14 @@ counter_marked (Some d) m e = mark_marked d m e
 abbrev IsMarkedFive : Five → Type 0
 IsMarkedFive five = IsMarked five.at
 
-abbrev five_behind : Data → Point → Option Five
-five_behind d at =
+abbrev five_beyond : Data → Point → Option Five
+five_beyond d at =
     get (codes "from") d >>= λ from. option_and_then as_array (get (codes "requests") d) >>= λ requests.
     get (codes "resetCause") d >>= λ cause. option_and_then as_bool (get (codes "resetCounter") d) >>= λ reset.
     Some (record { at = at; from = from; requests = requests; cause = cause; reset = reset })
 
-behind_marked : (d : Data) (at : Point) → IsMarked at → (five : Five) → five_behind d at ≡ Some five → IsMarkedFive five
-behind_marked d at marked =
+beyond_marked : (d : Data) (at : Point) → IsMarked at → (five : Five) → five_beyond d at ≡ Some five → IsMarkedFive five
+beyond_marked d at marked =
     each_next IsMarkedFive (get (codes "from") d)
     (λ from. option_and_then as_array (get (codes "requests") d) >>= λ requests. get (codes "resetCause") d >>= λ cause. option_and_then as_bool (get (codes "resetCounter") d) >>= λ reset. Some (record { at = at; from = from; requests = requests; cause = cause; reset = reset }))
     (λ from _. each_next IsMarkedFive (option_and_then as_array (get (codes "requests") d))
@@ -87,8 +87,8 @@ behind_marked d at marked =
 five_marked : (d : Data) (five : Five) → five_at d ≡ Some five → IsMarkedFive five
 unfolding five_at
 five_marked d =
-    each_next IsMarkedFive (option_and_then mark_at (get (codes "counter") d)) (five_behind d)
-    (λ at read. behind_marked d at (counter_marked (get (codes "counter") d) at read))
+    each_next IsMarkedFive (option_and_then mark_at (get (codes "counter") d)) (five_beyond d)
+    (λ at read. beyond_marked d at (counter_marked (get (codes "counter") d) at read))
 
 -- a snapshot is of an incarnation
 abbrev pub IsMarkedForm : Form → Type 0

@@ -99,12 +99,12 @@ found_is_bad None m state line found bad = tt
 found_is_bad (Some ys) m state line found bad = (found.0, subst (IsBad state) found.1 bad)
 
 -- the fault of a line that was found
-pub told_of : (fault : ReplayFault) (a l m b w v : Option (List ℕ)) (state : Option (List (List Entry))) (n : ℕ) (line : List ℕ)
+pub reported_of : (fault : ReplayFault) (a l m b w v : Option (List ℕ)) (state : Option (List (List Entry))) (n : ℕ) (line : List ℕ)
     → UnderWay a l b w state n → IfSome l (λ ys. (0 < length ys) × (line ≡ line_at ys) × (m ≡ Some (drop_through 10 ys)))
     → n < 2 ^ 64 → TellsLine state line n w v fault → EndsBy a b v fault
-told_of (BadCommand k) a l m b w v state n line way found small tells =
+reported_of (BadCommand k) a l m b w v state n line way found small tells =
     subst (λ (i : ℕ). Writes a b v (bad_at i)) (sym tells.0) (breaks a l b w v state n way (found_is_bad l m state line found tells.1) tells.2)
-told_of (Device k) a l m b w v state n line way found small tells =
+reported_of (Device k) a l m b w v state n line way found small tells =
     (n, tells.0 ∙ omega (arith, small), stops_inside a l m b w v state n line tells.1 way found tells.2 tells.3)
 
 -- a flush keeps what was written
@@ -137,11 +137,11 @@ found_line TooLong l m line e found = absurd cc
 found_line AtEnd l m line e found = absurd cc
 
 -- what a writer that failed has got of an answer
-pub told_front : (state next : Option (List (List Entry))) (line : List ℕ) (answer : Answer) (number : ℕ) (w v : Option (List ℕ))
+pub reported_front : (state next : Option (List (List Entry))) (line : List ℕ) (answer : Answer) (number : ℕ) (w v : Option (List ℕ))
     → IsAnswered state line answer next → AppendsFront w v (line_text answer) → TellsLine state line number w v (Device number)
-told_front state next line answer number w v answered grown =
+reported_front state next line answer number w v answered grown =
     (refl, grown.0, inr (answer, next, answered, grown.1, grown.2, grown.3), grown.4)
 
 -- before anything is written
-pub told_nothing : (state : Option (List (List Entry))) (line : List ℕ) (number : ℕ) (w : Option (List ℕ)) → TellsLine state line number w w (Device number)
-told_nothing state line number w = (refl, [], inl refl, Appends-nil w)
+pub reported_nothing : (state : Option (List (List Entry))) (line : List ℕ) (number : ℕ) (w : Option (List ℕ)) → TellsLine state line number w w (Device number)
+reported_nothing state line number w = (refl, [], inl refl, Appends-nil w)

@@ -6,7 +6,7 @@ use Rattle.serde_json.specs.Written.{compact_text}
 use Rattle.druid_time.specs.Texts.{extent_text}
 use Rattle.druid_shard.specs.Mark.{Point}
 use Rattle.druid_sync.specs.Written.{mark_data}
-use Rattle.druid_timeline.specs.Pieces.{Told}
+use Rattle.druid_timeline.specs.Pieces.{Reported}
 use Rattle.druid_inventory.specs.declared.fault.Outcome.{Outcome}
 use Rattle.druid_inventory.specs.declared.fault.Outcome.TheVariants.{Moved, AlreadyHave, AskWhole, AskPages}
 use Rattle.druid_cluster.specs.declared.answer.Refusal.{Refusal}
@@ -50,14 +50,14 @@ unfoldable pub parts_data : List ℕ → Data
 parts_data parts = array (items_of (map (λ p. number (unsigned p)) parts))
 
 -- `chunk` is the interval of the chunk that is visible, and `interval` the stretch where it is
-unfoldable pub piece_data : Told → Data
+unfoldable pub piece_data : Reported → Data
 piece_data piece =
     object (member (codes "chunk") (string (extent_text piece.group.interval))
     (member (codes "interval") (string (extent_text piece.interval))
     (member (codes "parts") (parts_data piece.parts)
     (member (codes "version") (string piece.group.version) no_members))))
 
-unfoldable pub pieces_data : List Told → Data
+unfoldable pub pieces_data : List Reported → Data
 pieces_data pieces = array (items_of (map piece_data pieces))
 
 unfoldable pub marks_data : List Point → Data

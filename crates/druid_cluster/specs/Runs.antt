@@ -49,6 +49,6 @@ EndsBy input old new (Device number) =
 
 -- the same of one line
 abbrev pub TellsLine : Option (List (List Entry)) → List ℕ → ℕ → Option (List ℕ) → Option (List ℕ) → ReplayFault → Type 0
-TellsLine state line number old new (BadCommand told) = (told ≡ number) × IsBad state line × Keeps old new
-TellsLine state line number old new (Device told) =
-    (told ≡ number) × (out : List ℕ) × IsFront state line out × Appends old new out
+TellsLine state line number old new (BadCommand reported) = (reported ≡ number) × IsBad state line × Keeps old new
+TellsLine state line number old new (Device reported) =
+    (reported ≡ number) × (out : List ℕ) × IsFront state line out × Appends old new out

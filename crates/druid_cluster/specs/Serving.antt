@@ -7,7 +7,7 @@ use Rattle.druid_time.specs.declared.fault.TimeFault.TheVariants as times
 use Rattle.druid_segid.specs.Names.{IsName}
 use Rattle.druid_shard.specs.declared.reply.Body.{Body}
 use Rattle.druid_timeline.specs.Holding.{Held, members_of}
-use Rattle.druid_timeline.specs.Pieces.{Told, shown_of, ArePiecesIn, ArePartitions}
+use Rattle.druid_timeline.specs.Pieces.{Reported, shown_of, ArePiecesIn, ArePartitions}
 use Rattle.druid_inventory.specs.Entry.{Entry, fresh, HaveOwnNames}
 use Rattle.druid_inventory.specs.Join.{IsJoin, RefusesJoin, TellsJoin}
 use Rattle.druid_inventory.specs.Step.{StepsAt, Tells}
@@ -76,12 +76,12 @@ TakesReply inventory node d (Stepped mark outcome) next =
 TakesReply inventory node d answer next = ⊥
 
 -- these are the visible pieces in an interval of what is held, each with all partitions of its chunk
-pub record AreFoundIn (asked : Extent) (held : List Held) (pieces : List Told) : Type 0 where
+pub record AreFoundIn (asked : Extent) (held : List Held) (pieces : List Reported) : Type 0 where
   pub shown : ArePiecesIn (Has asked) held (map shown_of pieces)
   pub parts : All (λ piece. ArePartitions (members_of held piece.group) piece.parts) pieces
 
 -- the same of the holding of a source, and none where no node serves a segment of the source
-abbrev pub IsFound : List Entry → List ℕ → Extent → List Told → Type 0
+abbrev pub IsFound : List Entry → List ℕ → Extent → List Reported → Type 0
 IsFound inventory source asked pieces =
     ((HasSource inventory source → ⊥) × (pieces ≡ []))
     ⊎ (HasSource inventory source

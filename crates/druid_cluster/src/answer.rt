@@ -92,9 +92,9 @@ pub struct Pieces {
 
 impl Model for Pieces {
     ghost use Rattle.std.specs.Prelude.{List};
-    ghost use Rattle.druid_timeline.specs.Pieces.{Told};
+    ghost use Rattle.druid_timeline.specs.Pieces.{Reported};
 
-    ghost Value = { List Told };
+    ghost Value = { List Reported };
 
     ghost view = { λ a. a.items.items };
 }

@@ -32,7 +32,7 @@ fn reason_of(error: &io::Error, device: Reason) -> Reason
 }
 
 // Writes the answer to a line, and gives the brokers that stand after it.
-#[tactic(auto, using(crate::proofs::RunLemmas::told_front, crate::proofs::RunLemmas::told_nothing))]
+#[tactic(auto, using(crate::proofs::RunLemmas::reported_front, crate::proofs::RunLemmas::reported_nothing))]
 fn answer_to<W: Write>(
     alloc: Global,
     state: Option<Brokers>,

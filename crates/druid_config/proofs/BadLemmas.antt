@@ -9,7 +9,7 @@ use Rattle.serde_json.specs.declared.value.Value.{Value}
 use Rattle.druid_shard.proofs.EachLemmas.{all_read, each_of_length}
 use Rattle.druid_config.specs.BadFields.{HasNameTwice, HasOtherCount}
 use Rattle.druid_config.specs.Configs.{node_at, broker_at, are_few}
-use Rattle.druid_config.specs.Lent.{names_in}
+use Rattle.druid_config.specs.Borrowed.{names_in}
 use Rattle.druid_config.proofs.FormLemmas.{names_back}
 
 -- the value at a place is the item there

@@ -10,7 +10,7 @@ use Rattle.druid_time.specs.Options.{◌>>=◌}
 use Rattle.druid_shard.specs.Each.{each_of}
 use Rattle.druid_shard.proofs.EachLemmas.{all_read, not_all_read, all_reads, each_of_length}
 use Rattle.druid_config.specs.Configs.{Node, Broker, name_at, tombstone_at, node_at, broker_at, query_at, are_few, are_distinct, names_of, nodes_in, brokers_in, list_at, nodes_at, brokers_at}
-use Rattle.druid_config.specs.Lent.{text_or, names_in}
+use Rattle.druid_config.specs.Borrowed.{text_or, names_in}
 use Rattle.druid_config.proofs.PartLemmas.{node_parts, some_of}
 
 pub texts_judged : (vs : List Value) → list_all (λ v. is_some (as_str (view v))) vs ≡ is_some (each_of as_str (items_view vs))

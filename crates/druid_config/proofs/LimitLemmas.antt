@@ -15,7 +15,7 @@ use Rattle.druid_shard.specs.Json.{text_at, number_at}
 use Rattle.druid_shard.proofs.EachLemmas.{each_sound}
 use Rattle.druid_segid.specs.Names.{is_name}
 use Rattle.druid_config.specs.Limits.{max_servers, max_workers, max_kept, max_count}
-use Rattle.druid_config.specs.Configs.{IsObject, Node, Broker, Asked, Posted, Told, asked_of, is_address, some_at, count_at, list_at, node_at, broker_at, query_at, are_few, are_distinct, names_of, nodes_in, brokers_in, config_at, IsNode, IsBroker, HaveOwnNames, IsWithinLimits}
+use Rattle.druid_config.specs.Configs.{IsObject, Node, Broker, Asked, Posted, Reported, asked_of, is_address, some_at, count_at, list_at, node_at, broker_at, query_at, are_few, are_distinct, names_of, nodes_in, brokers_in, config_at, IsNode, IsBroker, HaveOwnNames, IsWithinLimits}
 use Rattle.druid_config.proofs.PartLemmas.{node_parts, broker_parts, query_parts, config_parts}
 
 -- ---- tests
@@ -180,15 +180,15 @@ brokers_fit items brokers read =
 
 -- ---- configs
 
-pub within : (d : Data) (told : Told) → config_at d ≡ Some told → IsWithinLimits told
-within d told read =
-    let parts = config_parts d told read in
-    let listed = chained nodes_in (list_at (codes "nodes") d) told.nodes parts.nodes in
-    let nodes = nodes_fit listed.0 told.nodes listed.2 in
-    let ranked = chained brokers_in (list_at (codes "brokers") d) told.brokers parts.brokers in
-    let brokers = brokers_fit ranked.0 told.brokers ranked.2 in
-    let queued = chained (each_of (query_at (length told.brokers))) (list_at (codes "queries") d) told.queries parts.queries in
-    let kept = some_between max_kept (codes "kept") d told.kept parts.kept in
+pub within : (d : Data) (reported : Reported) → config_at d ≡ Some reported → IsWithinLimits reported
+within d reported read =
+    let parts = config_parts d reported read in
+    let listed = chained nodes_in (list_at (codes "nodes") d) reported.nodes parts.nodes in
+    let nodes = nodes_fit listed.0 reported.nodes listed.2 in
+    let ranked = chained brokers_in (list_at (codes "brokers") d) reported.brokers parts.brokers in
+    let brokers = brokers_fit ranked.0 reported.brokers ranked.2 in
+    let queued = chained (each_of (query_at (length reported.brokers))) (list_at (codes "queries") d) reported.queries parts.queries in
+    let kept = some_between max_kept (codes "kept") d reported.kept parts.kept in
     record {
       some_nodes = nodes.count.above;
       few_nodes = nodes.count.below;
@@ -197,12 +197,12 @@ within d told read =
       some_brokers = brokers.count.above;
       few_brokers = brokers.count.below;
       brokers = brokers.each;
-      asked = each_is (λ q. q.broker < length told.brokers) (query_at (length told.brokers)) (query_is (length told.brokers)) queued.0 told.queries queued.2;
-      objects = each_is IsObject (query_at (length told.brokers)) (query_object (length told.brokers)) queued.0 told.queries queued.2;
-      few_connections = count_below (codes "connections") d told.connections parts.connections;
+      asked = each_is (λ q. q.broker < length reported.brokers) (query_at (length reported.brokers)) (query_is (length reported.brokers)) queued.0 reported.queries queued.2;
+      objects = each_is IsObject (query_at (length reported.brokers)) (query_object (length reported.brokers)) queued.0 reported.queries queued.2;
+      few_connections = count_below (codes "connections") d reported.connections parts.connections;
       some_kept = kept.above;
       few_kept = kept.below;
-      few_turns = count_below (codes "turns") d told.turns parts.turns;
+      few_turns = count_below (codes "turns") d reported.turns parts.turns;
     }
 
 -- what holds of queries as the config has them holds of them as they are posted

@@ -6,7 +6,7 @@ use Rattle.druid_time.specs.Options.{◌>>=◌}
 use Rattle.druid_segid.specs.Identifier.{Identifier}
 use Rattle.druid_shard.specs.Json.{text_at}
 use Rattle.druid_config.specs.Limits.{max_workers, max_kept}
-use Rattle.druid_config.specs.Configs.{Node, Broker, Asked, Told, node_of, name_at, address_at, some_at, count_at, loads_at, tombstones_at, place_at, object_at, node_at, broker_at, query_at, nodes_at, brokers_at, queries_at, config_at}
+use Rattle.druid_config.specs.Configs.{Node, Broker, Asked, Reported, node_of, name_at, address_at, some_at, count_at, loads_at, tombstones_at, place_at, object_at, node_at, broker_at, query_at, nodes_at, brokers_at, queries_at, config_at}
 
 -- what holds of each outcome of the step on the value holds of the step
 pub each_next : {A B : Type 0} (P : B → Type 0) (o : Option A) (f : A → Option B) → ((x : A) → o ≡ Some x → (y : B) → f x ≡ Some y → P y) → (y : B) → (o >>= f) ≡ Some y → P y
@@ -102,35 +102,35 @@ query_parts brokers d =
 
 -- ---- configs
 
-pub record ConfigParts (d : Data) (told : Told) : Type 0 where
-  pub connections : count_at (codes "connections") d ≡ Some told.connections
-  pub kept : some_at max_kept (codes "kept") d ≡ Some told.kept
-  pub turns : count_at (codes "turns") d ≡ Some told.turns
-  pub nodes : nodes_at d ≡ Some told.nodes
-  pub brokers : brokers_at d ≡ Some told.brokers
-  pub queries : queries_at (length told.brokers) d ≡ Some told.queries
+pub record ConfigParts (d : Data) (reported : Reported) : Type 0 where
+  pub connections : count_at (codes "connections") d ≡ Some reported.connections
+  pub kept : some_at max_kept (codes "kept") d ≡ Some reported.kept
+  pub turns : count_at (codes "turns") d ≡ Some reported.turns
+  pub nodes : nodes_at d ≡ Some reported.nodes
+  pub brokers : brokers_at d ≡ Some reported.brokers
+  pub queries : queries_at (length reported.brokers) d ≡ Some reported.queries
 
-abbrev told_made : ℕ → ℕ → ℕ → List Node → List Broker → List Asked → Told
-told_made connections kept turns nodes brokers queries =
+abbrev reported_made : ℕ → ℕ → ℕ → List Node → List Broker → List Asked → Reported
+reported_made connections kept turns nodes brokers queries =
     record { nodes = nodes; brokers = brokers; queries = queries; connections = connections; kept = kept; turns = turns }
 
-abbrev config_last : Data → ℕ → ℕ → ℕ → List Node → List Broker → Option Told
+abbrev config_last : Data → ℕ → ℕ → ℕ → List Node → List Broker → Option Reported
 config_last d connections kept turns nodes brokers =
-    queries_at (length brokers) d >>= λ queries. Some (told_made connections kept turns nodes brokers queries)
+    queries_at (length brokers) d >>= λ queries. Some (reported_made connections kept turns nodes brokers queries)
 
-abbrev config_fifth : Data → ℕ → ℕ → ℕ → List Node → Option Told
+abbrev config_fifth : Data → ℕ → ℕ → ℕ → List Node → Option Reported
 config_fifth d connections kept turns nodes = brokers_at d >>= config_last d connections kept turns nodes
 
-abbrev config_fourth : Data → ℕ → ℕ → ℕ → Option Told
+abbrev config_fourth : Data → ℕ → ℕ → ℕ → Option Reported
 config_fourth d connections kept turns = nodes_at d >>= config_fifth d connections kept turns
 
-abbrev config_third : Data → ℕ → ℕ → Option Told
+abbrev config_third : Data → ℕ → ℕ → Option Reported
 config_third d connections kept = count_at (codes "turns") d >>= config_fourth d connections kept
 
-abbrev config_second : Data → ℕ → Option Told
+abbrev config_second : Data → ℕ → Option Reported
 config_second d connections = some_at max_kept (codes "kept") d >>= config_third d connections
 
-pub config_parts : (d : Data) (told : Told) → config_at d ≡ Some told → ConfigParts d told
+pub config_parts : (d : Data) (reported : Reported) → config_at d ≡ Some reported → ConfigParts d reported
 unfolding config_at
 config_parts d =
     each_next (ConfigParts d) (count_at (codes "connections") d) (config_second d)
@@ -138,8 +138,8 @@ config_parts d =
     (λ kept b. each_next (ConfigParts d) (count_at (codes "turns") d) (config_fourth d connections kept)
     (λ turns h. each_next (ConfigParts d) (nodes_at d) (config_fifth d connections kept turns)
     (λ nodes i. each_next (ConfigParts d) (brokers_at d) (config_last d connections kept turns nodes)
-    (λ brokers j. each_next (ConfigParts d) (queries_at (length brokers) d) (λ queries. Some (told_made connections kept turns nodes brokers queries))
-    (λ queries k. given_so (ConfigParts d) (told_made connections kept turns nodes brokers queries)
+    (λ brokers j. each_next (ConfigParts d) (queries_at (length brokers) d) (λ queries. Some (reported_made connections kept turns nodes brokers queries))
+    (λ queries k. given_so (ConfigParts d) (reported_made connections kept turns nodes brokers queries)
     (record { connections = a; kept = b; turns = h; nodes = i; brokers = j; queries = k })))))))
 
 -- ---- where the whole reads, each part does
@@ -156,7 +156,7 @@ loads_read d some = let read = node_reads d some in some_is (loads_at d) read.0.
 pub tombstones_read : (d : Data) → IsSome (node_at d) → IsSome (tombstones_at d)
 tombstones_read d some = let read = node_reads d some in some_is (tombstones_at d) read.0.tombstones read.1.tombstones
 
-pub config_reads : (d : Data) → IsSome (config_at d) → (told : Told) × ConfigParts d told
+pub config_reads : (d : Data) → IsSome (config_at d) → (reported : Reported) × ConfigParts d reported
 config_reads d some = let read = some_of (config_at d) some in (read.0, config_parts d read.0 read.1)
 
 pub connections_read : (d : Data) → IsSome (config_at d) → None ≡ count_at (codes "connections") d → ⊥

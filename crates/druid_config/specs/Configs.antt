@@ -64,7 +64,7 @@ pub record Asked : Type 0 where
   pub query : Option Data
 
 -- a cluster, each of its queries by its JSON
-pub record Told : Type 0 where
+pub record Reported : Type 0 where
   pub nodes : List Node
   pub brokers : List Broker
   pub queries : List Asked
@@ -76,8 +76,8 @@ abbrev pub asked_of : Posted → Asked
 asked_of q = record { broker = q.broker; query = read q.text }
 
 -- what a config tells of a cluster
-abbrev pub told_of : Cluster → Told
-told_of c = record {
+abbrev pub reported_of : Cluster → Reported
+reported_of c = record {
   nodes = c.nodes;
   brokers = c.brokers;
   queries = map asked_of c.queries;
@@ -214,7 +214,7 @@ queries_at brokers d = option_and_then (each_of (query_at brokers)) (list_at (co
 -- ---- configs
 
 -- what a config tells, if it is one
-unfoldable pub config_at : Data → Option Told
+unfoldable pub config_at : Data → Option Reported
 config_at d = do
   connections ← count_at (codes "connections") d
   kept ← some_at max_kept (codes "kept") d
@@ -250,17 +250,17 @@ abbrev pub IsObject : Asked → Type 0
 IsObject q = IsSome (option_and_then as_object q.query)
 
 -- what a config tells is within its limits
-pub record IsWithinLimits (told : Told) : Type 0 where
-  pub some_nodes : 1 ≤ length told.nodes
-  pub few_nodes : length told.nodes ≤ max_servers
-  pub nodes : All IsNode told.nodes
-  pub own_names : HaveOwnNames (names_of told.nodes)
-  pub some_brokers : 1 ≤ length told.brokers
-  pub few_brokers : length told.brokers ≤ max_servers
-  pub brokers : All IsBroker told.brokers
-  pub asked : All (λ q. q.broker < length told.brokers) told.queries
-  pub objects : All IsObject told.queries
-  pub few_connections : told.connections ≤ max_count
-  pub some_kept : 1 ≤ told.kept
-  pub few_kept : told.kept ≤ max_kept
-  pub few_turns : told.turns ≤ max_count
+pub record IsWithinLimits (reported : Reported) : Type 0 where
+  pub some_nodes : 1 ≤ length reported.nodes
+  pub few_nodes : length reported.nodes ≤ max_servers
+  pub nodes : All IsNode reported.nodes
+  pub own_names : HaveOwnNames (names_of reported.nodes)
+  pub some_brokers : 1 ≤ length reported.brokers
+  pub few_brokers : length reported.brokers ≤ max_servers
+  pub brokers : All IsBroker reported.brokers
+  pub asked : All (λ q. q.broker < length reported.brokers) reported.queries
+  pub objects : All IsObject reported.queries
+  pub few_connections : reported.connections ≤ max_count
+  pub some_kept : 1 ≤ reported.kept
+  pub few_kept : reported.kept ≤ max_kept
+  pub few_turns : reported.turns ≤ max_count

@@ -4,4 +4,4 @@ pub mod Configs
 pub mod Read
 pub mod BadFields
 -- words of private contracts
-pub mod Lent
+pub mod Borrowed

@@ -5,7 +5,7 @@ use Rattle.serde_json.specs.Read.{read}
 use Rattle.druid_config.specs.BadFields.{IsWrong}
 use Rattle.druid_config.specs.declared.bad_field.BadField.{BadField}
 use Rattle.druid_config.specs.declared.bad_field.BadField.TheVariants as bad
-use Rattle.druid_config.specs.Configs.{Cluster, Told, told_of, config_at}
+use Rattle.druid_config.specs.Configs.{Cluster, Reported, reported_of, config_at}
 use Rattle.druid_config.specs.declared.fault.ConfigFault.{ConfigFault}
 use Rattle.druid_config.specs.declared.fault.ConfigFault.TheVariants as faults
 
@@ -14,14 +14,14 @@ abbrev pub ReadsAs : List ℕ → Data → Type 0
 ReadsAs bytes d = IsUtf8 bytes × (read bytes ≡ Some d)
 
 -- the config that the bytes give, or that none is. out of memory only where nothing else is refused
-abbrev pub Gives : Result Cluster ConfigFault → Option Told → Type 0
-Gives (Ok config) told = told ≡ Some (told_of config)
-Gives (Err faults.Refused) told = told ≡ None
-Gives (Err faults.Memory) told = IsSome told
+abbrev pub Gives : Result Cluster ConfigFault → Option Reported → Type 0
+Gives (Ok config) reported = reported ≡ Some (reported_of config)
+Gives (Err faults.Refused) reported = reported ≡ None
+Gives (Err faults.Memory) reported = IsSome reported
 
 -- the same out of bytes, which may be no JSON; reading JSON may run out of memory at any byte of a text
 abbrev pub IsReadOf : List ℕ → Result Cluster ConfigFault → Type 0
-IsReadOf bytes (Ok config) = (d : Data) × ReadsAs bytes d × (config_at d ≡ Some (told_of config))
+IsReadOf bytes (Ok config) = (d : Data) × ReadsAs bytes d × (config_at d ≡ Some (reported_of config))
 IsReadOf bytes (Err faults.Refused) = (d : Data) → ReadsAs bytes d → config_at d ≡ None
 IsReadOf bytes (Err faults.Memory) = IsUtf8 bytes
 

@@ -5,7 +5,7 @@ ghost use Rattle.serde_json.specs.Find.{as_str};
 ghost use Rattle.serde_json.specs.Read.{max_depth};
 ghost use Rattle.serde_json.specs.View.{view, items_view};
 ghost use Rattle.druid_shard.specs.Each.{each_of};
-ghost use Rattle.druid_config.specs.Configs.{asked_of, told_of, name_at, loads_at, tombstone_at, tombstones_at, node_at, broker_at, query_at, nodes_at, brokers_at, queries_at, config_at};
+ghost use Rattle.druid_config.specs.Configs.{asked_of, reported_of, name_at, loads_at, tombstone_at, tombstones_at, node_at, broker_at, query_at, nodes_at, brokers_at, queries_at, config_at};
 
 use crate::fields::{
     address_field, chunk_field, count_field, list_field, name_field, object_field, place_field,
@@ -241,7 +241,7 @@ fn queries_of(alloc: Global, value: &Value, brokers: usize) -> Result<Vec<QueryC
 pub(crate) fn built(alloc: Global, value: &Value) -> Result<Config, AllocError>
     requires reads { IsSome (config_at (view value.now)) }
     requires shallow { depth (view value.now) ≤ max_depth }
-    ensures { IfOk result (λ config. config_at (view value.now) ≡ Some (told_of config)) }
+    ensures { IfOk result (λ config. config_at (view value.now) ≡ Some (reported_of config)) }
 {
     let Some(connections) = count_field(value, "connections") else {
         unreachable!()

@@ -1,6 +1,6 @@
 //! What a config tells: the servers of a cluster, and what it does.
 ghost use Rattle.std.specs.Prelude.{◌≡◌, ◌<◌, All, IfOk, length, map, string_bytes};
-ghost use Rattle.druid_config.specs.Configs.{IsNode, IsBroker, IsCompact, IsObject, IsWithinLimits, asked_of, node_of, names_of, cluster_of, told_of};
+ghost use Rattle.druid_config.specs.Configs.{IsNode, IsBroker, IsCompact, IsObject, IsWithinLimits, asked_of, node_of, names_of, cluster_of, reported_of};
 
 use druid_segid::{Name, SegmentId};
 use std::alloc::{AllocError, Global};
@@ -211,13 +211,13 @@ pub struct Config {
 }
 
 impl Model for Config {
-    ghost use Rattle.druid_config.specs.Configs.{Cluster, IsWithinLimits, cluster_of, told_of};
+    ghost use Rattle.druid_config.specs.Configs.{Cluster, IsWithinLimits, cluster_of, reported_of};
 
     ghost Value = { Cluster };
 
     ghost view = { λ a. cluster_of a.nodes.items a.brokers.items a.queries.items a.connections a.kept a.turns };
 
-    ghost invariant = { λ a. IsWithinLimits (told_of (cluster_of a.nodes.items a.brokers.items a.queries.items a.connections a.kept a.turns)) };
+    ghost invariant = { λ a. IsWithinLimits (reported_of (cluster_of a.nodes.items a.brokers.items a.queries.items a.connections a.kept a.turns)) };
 }
 
 impl Config {
@@ -230,7 +230,7 @@ impl Config {
         kept: usize,
         turns: u64,
     ) -> Config
-        requires { IsWithinLimits (told_of (cluster_of nodes.items brokers.items queries.items connections kept turns)) }
+        requires { IsWithinLimits (reported_of (cluster_of nodes.items brokers.items queries.items connections kept turns)) }
         ensures { result ≡ cluster_of nodes.items brokers.items queries.items connections kept turns }
     {
         Config {
@@ -246,7 +246,7 @@ impl Config {
     /// The data nodes, 1 to 64, no two of one name.
     pub fn nodes(&self) -> &[NodeConfig]
         ensures value { result.now ≡ self.now.nodes }
-        ensures valid { IsWithinLimits (told_of self.now) }
+        ensures valid { IsWithinLimits (reported_of self.now) }
     {
         self.nodes.as_slice()
     }
@@ -254,7 +254,7 @@ impl Config {
     /// The brokers, 1 to 64.
     pub fn brokers(&self) -> &[BrokerConfig]
         ensures value { result.now ≡ self.now.brokers }
-        ensures valid { IsWithinLimits (told_of self.now) }
+        ensures valid { IsWithinLimits (reported_of self.now) }
     {
         self.brokers.as_slice()
     }
@@ -271,7 +271,7 @@ impl Config {
     /// How many connections from outside each broker answers, at most 1,000,000.
     pub fn connections(&self) -> u64
         ensures value { result ≡ self.now.connections }
-        ensures valid { IsWithinLimits (told_of self.now) }
+        ensures valid { IsWithinLimits (reported_of self.now) }
     {
         self.connections
     }
@@ -279,7 +279,7 @@ impl Config {
     /// How many changes each node keeps, 1 to 1,000.
     pub fn kept(&self) -> usize
         ensures value { result ≡ self.now.kept }
-        ensures valid { IsWithinLimits (told_of self.now) }
+        ensures valid { IsWithinLimits (reported_of self.now) }
     {
         self.kept
     }
@@ -287,7 +287,7 @@ impl Config {
     /// How many turns each syncer makes, at most 1,000,000.
     pub fn turns(&self) -> u64
         ensures value { result ≡ self.now.turns }
-        ensures valid { IsWithinLimits (told_of self.now) }
+        ensures valid { IsWithinLimits (reported_of self.now) }
     {
         self.turns
     }

@@ -1,12 +1,12 @@
 //! Facts that hold of all configs.
 ghost use Rattle.std.specs.Prelude.{◌≡◌, ◌↔◌, ℕ, List, Some, IsTrue};
 ghost use Rattle.serde_json.specs.Data.{Data};
-ghost use Rattle.druid_config.specs.Configs.{Told, config_at, is_address, NamesPort, IsWithinLimits};
+ghost use Rattle.druid_config.specs.Configs.{Reported, config_at, is_address, NamesPort, IsWithinLimits};
 
 /// What a config tells is within its limits: 1 to 64 nodes and brokers, no two nodes of one name, 1 to 16 workers each, 1 to
 /// 1,000 changes kept, at most 1,000,000 connections and turns, and each query an object and to a broker that is there.
 pub fn configs_are_within_limits()
-    ensures { (d : Data) (told : Told) → config_at d ≡ Some told → IsWithinLimits told }
+    ensures { (d : Data) (reported : Reported) → config_at d ≡ Some reported → IsWithinLimits reported }
 {}
 
 /// An address is `127.0.0.1:` and then the decimal digits of a port, 1 to 65,535.

@@ -233,7 +233,12 @@ fn by_columns(rt: &impl Abort, alloc: Global, table: &Table) -> Vec<u8> {
 }
 
 // What is reported of the columns of a table, with so many bytes more: how many there are, and the fault.
-fn told(rt: &impl Abort, alloc: Global, shape: &Shape, more: usize) -> (usize, Option<FileFault>) {
+fn reported(
+    rt: &impl Abort,
+    alloc: Global,
+    shape: &Shape,
+    more: usize,
+) -> (usize, Option<FileFault>) {
     let mut columns = by_columns(rt, alloc, &table_of(rt, alloc, shape));
     for _ in 0..more {
         columns.push(0).expect(rt, "memory");
@@ -341,16 +346,19 @@ const LARGE_FILES: [(usize, usize, usize, Option<FileFault>); 3] = [
 #[test]
 fn files_of_16_mib(rt: HostRuntime) {
     for (letters, more, len, fault) in &LARGE_FILES {
-        let told = told(&rt, rt.alloc(), &long_texts(*letters), *more);
-        assert!(rt; told == (*len, *fault), "{told:?}");
+        let reported = reported(&rt, rt.alloc(), &long_texts(*letters), *more);
+        assert!(rt; reported == (*len, *fault), "{reported:?}");
     }
 }
 
 // By rows it has 16,777,217 bytes.
 #[test]
 fn too_long_by_rows(rt: HostRuntime) {
-    let told = told(&rt, rt.alloc(), &two_texts(77_171), 0);
-    assert!(rt; told == (1_300_365, Some(FileFault::TooLong)), "{told:?}");
+    let reported = reported(&rt, rt.alloc(), &two_texts(77_171), 0);
+    assert!(rt;
+        reported == (1_300_365, Some(FileFault::TooLong)),
+        "{reported:?}"
+    );
 }
 
 #[test]
@@ -390,7 +398,7 @@ impl Write for Narrow<'_> {
 }
 
 // What is reported where so many writes are taken, and how many bytes are left, if what was written is what is wanted.
-fn told_of_narrow(
+fn reported_of_narrow(
     alloc: Global,
     segment: &Segment,
     wanted: &[u8],
@@ -426,10 +434,13 @@ fn writers_fail(rt: HostRuntime) {
     let segment = segment(&rt, rt.alloc(), &columns);
     for kind in &KINDS {
         for (writes, left) in &LEFT {
-            let told = told_of_narrow(rt.alloc(), &segment, &columns, *writes, *kind);
-            assert!(rt; told == (Some(fault_of(*kind)), Some(*left)), "{told:?}");
+            let reported = reported_of_narrow(rt.alloc(), &segment, &columns, *writes, *kind);
+            assert!(rt;
+                reported == (Some(fault_of(*kind)), Some(*left)),
+                "{reported:?}"
+            );
         }
     }
-    let told = told_of_narrow(rt.alloc(), &segment, &columns, 3, ErrorKind::Other);
-    assert!(rt; told == (None, Some(0)), "{told:?}");
+    let reported = reported_of_narrow(rt.alloc(), &segment, &columns, 3, ErrorKind::Other);
+    assert!(rt; reported == (None, Some(0)), "{reported:?}");
 }

@@ -1,8 +1,8 @@
 //! Readers and writers that fail, that are interrupted, and that take a byte at a time.
 use crate::kinds::KINDS;
 use crate::printing::{beside, printed};
-use crate::table::{Table, assert_row, assert_rows, assert_told, is_told};
-use crate::wire::{spelled, told_of};
+use crate::table::{Table, assert_reported, assert_row, assert_rows, is_reported};
+use crate::wire::{reported_of, spelled};
 use druid_message::WireFault;
 use druid_wire::{read_request, read_response, write_response};
 use http::StatusCode;
@@ -164,7 +164,7 @@ struct ReaderPlans;
 
 impl Table for ReaderPlans {
     fn holds(&self, rt: &impl Abort, alloc: Global, what: &str, wanted: &str) -> bool {
-        is_told(both_over(rt, alloc, Way::of(what)), wanted)
+        is_reported(both_over(rt, alloc, Way::of(what)), wanted)
     }
 }
 
@@ -201,7 +201,7 @@ fn written_over(rt: &impl Abort, alloc: Global, way: Way<'_>) -> String {
         written: Vec::new(alloc),
     };
     let end = write_response(StatusCode::OK, b"true", &mut writer);
-    told_of(rt, alloc, end, written_of(rt, alloc, &writer.written))
+    reported_of(rt, alloc, end, written_of(rt, alloc, &writer.written))
 }
 
 // Plans, and what writing tells.
@@ -209,7 +209,7 @@ struct WriterPlans;
 
 impl Table for WriterPlans {
     fn holds(&self, rt: &impl Abort, alloc: Global, what: &str, wanted: &str) -> bool {
-        is_told(written_over(rt, alloc, Way::of(what)), wanted)
+        is_reported(written_over(rt, alloc, Way::of(what)), wanted)
     }
 }
 
@@ -248,8 +248,8 @@ fn interrupted_calls(rt: HostRuntime) {
     for (interrupts, read, written) in &INTERRUPTS {
         let mut way = Way::of("1");
         way.interrupts = *interrupts;
-        assert_told(&rt, both_over(&rt, rt.alloc(), way), read);
-        assert_told(&rt, written_over(&rt, rt.alloc(), way), written);
+        assert_reported(&rt, both_over(&rt, rt.alloc(), way), read);
+        assert_reported(&rt, written_over(&rt, rt.alloc(), way), written);
     }
 }
 
@@ -270,18 +270,18 @@ fn devices_fail_in_each_way(rt: HostRuntime) {
         let (of_read, of_write) = wanted_of(*kind);
         let mut way = Way::of("11k");
         way.kind = *kind;
-        assert_told(&rt, both_over(&rt, rt.alloc(), way), of_read);
-        assert_told(&rt, written_over(&rt, rt.alloc(), way), of_write);
+        assert_reported(&rt, both_over(&rt, rt.alloc(), way), of_read);
+        assert_reported(&rt, written_over(&rt, rt.alloc(), way), of_write);
         // In the body too.
         way.letters = "aak";
-        assert_told(&rt, both_over(&rt, rt.alloc(), way), of_read);
+        assert_reported(&rt, both_over(&rt, rt.alloc(), way), of_read);
     }
 }
 
 #[test]
 fn faults_print_this(rt: HostRuntime) {
     let connect = printed(&rt, rt.alloc(), &WireFault::Connect);
-    assert_told(&rt, connect, "X8: no connection");
+    assert_reported(&rt, connect, "X8: no connection");
     let memory = printed(&rt, rt.alloc(), &WireFault::Memory);
-    assert_told(&rt, memory, "X9: out of memory");
+    assert_reported(&rt, memory, "X9: out of memory");
 }

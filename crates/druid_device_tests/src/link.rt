@@ -1,6 +1,6 @@
 //! Links in memory.
 use crate::printing::{printed, text_of};
-use crate::table::{Table, assert_rows, assert_told, is_told};
+use crate::table::{Table, assert_reported, assert_rows, is_reported};
 use crate::wire::large;
 use druid_link::{Link, MAX_EXCHANGE, MemoryLink};
 use std::alloc::Global;
@@ -41,19 +41,19 @@ fn exchanged<L: Link>(rt: &impl Abort, alloc: Global, link: &mut L) -> String {
     exchanged_for(rt, alloc, link, REQUEST)
 }
 
-fn push(rt: &impl Abort, told: &mut String, text: String) {
-    told.push_str(text.as_str()).expect(rt, "memory");
+fn push(rt: &impl Abort, reported: &mut String, text: String) {
+    reported.push_str(text.as_str()).expect(rt, "memory");
 }
 
 // What four exchanges give, and how often the device has failed then.
 fn four_exchanges<L: Link>(rt: &impl Abort, alloc: Global, link: &mut L) -> String {
-    let mut told = String::new(alloc);
+    let mut reported = String::new(alloc);
     for _ in 0..4 {
-        push(rt, &mut told, exchanged(rt, alloc, link));
-        push(rt, &mut told, printed(rt, alloc, &", "));
+        push(rt, &mut reported, exchanged(rt, alloc, link));
+        push(rt, &mut reported, printed(rt, alloc, &", "));
     }
-    push(rt, &mut told, printed(rt, alloc, &link.faults()));
-    told
+    push(rt, &mut reported, printed(rt, alloc, &link.faults()));
+    reported
 }
 
 // Before how many exchanges a device fails, and what four give.
@@ -63,7 +63,7 @@ impl Table for Fuses {
     fn holds(&self, rt: &impl Abort, alloc: Global, what: &str, wanted: &str) -> bool {
         let fuse = what.parse().expect(rt, "a number");
         let mut link = link_of(rt, alloc, bytes_of(rt, alloc, "one"), fuse);
-        is_told(four_exchanges(rt, alloc, &mut link), wanted)
+        is_reported(four_exchanges(rt, alloc, &mut link), wanted)
     }
 }
 
@@ -96,7 +96,7 @@ fn large_reply(rt: &impl Abort, alloc: Global, more: usize) -> String {
 
 #[test]
 fn large_replies(rt: HostRuntime) {
-    assert_told(&rt, large_reply(&rt, rt.alloc(), 0), "16793600, two");
-    let told = large_reply(&rt, rt.alloc(), 1);
-    assert_told(&rt, told, "X7: the body is too long, two");
+    assert_reported(&rt, large_reply(&rt, rt.alloc(), 0), "16793600, two");
+    let reported = large_reply(&rt, rt.alloc(), 1);
+    assert_reported(&rt, reported, "X7: the body is too long, two");
 }

@@ -1,6 +1,6 @@
 //! Requests of many sizes: with ample memory each is written, and read as the same request.
 use crate::printing::{beside, printed};
-use crate::table::assert_told;
+use crate::table::assert_reported;
 use crate::wire::patterned;
 use druid_message::Request;
 use druid_wire::{read_request, request_bytes};
@@ -49,7 +49,7 @@ fn read_back(rt: &impl Abort, alloc: Global, request: &Request) -> String {
 
 fn assert_read_back(rt: &impl Abort, alloc: Global, parameters: usize, body: usize, wanted: &str) {
     let request = request(rt, alloc, parameters, body);
-    assert_told(rt, read_back(rt, alloc, &request), wanted);
+    assert_reported(rt, read_back(rt, alloc, &request), wanted);
 }
 
 #[test]

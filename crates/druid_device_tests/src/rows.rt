@@ -146,7 +146,7 @@ fn code(fault: RowFault) -> &'static str {
     }
 }
 
-fn told<T: Drop>(answered: Result<T, RowFault>) -> &'static str {
+fn reported<T: Drop>(answered: Result<T, RowFault>) -> &'static str {
     match answered {
         Ok(_) => "ok",
         Err(fault) => code(fault),
@@ -190,19 +190,19 @@ fn push_first(rt: &impl Abort, alloc: Global, schema: Schema, row: &Row) -> Resu
 }
 
 // Whether a row is reported so, both ways, in a segment of these names.
-fn is_row_told(
+fn is_row_reported(
     rt: &impl Abort,
     alloc: Global,
     (dimensions, metrics): (&str, &str),
     row: Row,
     wanted: &str,
 ) -> bool {
-    told(push_first(rt, alloc, schema(rt, alloc, dimensions, metrics), &row)) == wanted
-        && told(new_segment(rt, alloc, schema(rt, alloc, dimensions, metrics), row)) == wanted
+    reported(push_first(rt, alloc, schema(rt, alloc, dimensions, metrics), &row)) == wanted
+        && reported(new_segment(rt, alloc, schema(rt, alloc, dimensions, metrics), row)) == wanted
 }
 
 // Whether a line of the table is reported so.
-fn is_told(rt: &impl Abort, alloc: Global, line: &str) -> bool {
+fn is_reported(rt: &impl Abort, alloc: Global, line: &str) -> bool {
     let mut parts = line.split(';');
     let dimensions = parts.next().expect(rt, "dimensions");
     let metrics = parts.next().expect(rt, "metrics");
@@ -211,13 +211,13 @@ fn is_told(rt: &impl Abort, alloc: Global, line: &str) -> bool {
     let counts = parts.next().expect(rt, "numbers");
     let wanted = parts.next().expect(rt, "an answer");
     let one = row(rt, alloc, ms, values, counts);
-    is_row_told(rt, alloc, (dimensions, metrics), one, wanted)
+    is_row_reported(rt, alloc, (dimensions, metrics), one, wanted)
 }
 
 #[test]
 fn one_row(rt: HostRuntime) {
     for line in JUDGED.lines() {
-        assert!(rt; is_told(&rt, rt.alloc(), line), "{line}");
+        assert!(rt; is_reported(&rt, rt.alloc(), line), "{line}");
     }
 }
 
@@ -242,7 +242,7 @@ fn tombstones_are_no_segments(rt: HostRuntime) {
     for metric in ["n", "x"] {
         let tombstone = Descriptor::tombstone(segment_id(&rt, alloc)).expect(&rt, "partition 0");
         let built = SegmentBuilder::new(alloc, tombstone, schema(&rt, alloc, "x", metric));
-        assert!(rt; told(built) == "U5");
+        assert!(rt; reported(built) == "U5");
         let tombstone = Descriptor::tombstone(segment_id(&rt, alloc)).expect(&rt, "partition 0");
         let made = Segment::new(
             alloc,
@@ -250,7 +250,7 @@ fn tombstones_are_no_segments(rt: HostRuntime) {
             schema(&rt, alloc, "x", metric),
             Vec::new(alloc),
         );
-        assert!(rt; told(made) == "U5");
+        assert!(rt; reported(made) == "U5");
     }
 }
 
@@ -344,10 +344,10 @@ fn passes(rt: &impl Abort, segment: &Segment, row: usize, filter: &Filter) -> bo
 fn ample_memory(rt: HostRuntime) {
     let segment = three_rows(&rt, rt.alloc());
     let filter = not_null(&rt, rt.alloc());
-    for (row, told) in THREE_ROWS.iter().enumerate() {
-        assert!(rt; is_row(&rt, &segment, row, told), "{row}");
+    for (row, reported) in THREE_ROWS.iter().enumerate() {
+        assert!(rt; is_row(&rt, &segment, row, reported), "{row}");
         assert!(rt;
-            passes(&rt, &segment, row, &filter) == told.1.is_some(),
+            passes(&rt, &segment, row, &filter) == reported.1.is_some(),
             "{row}"
         );
     }
@@ -364,5 +364,5 @@ fn most_rows(rt: HostRuntime) {
     for _ in 0..100_000u32 {
         push_equal(&rt, &mut builder).expect(&rt, "a row");
     }
-    assert!(rt; told(push_equal(&rt, &mut builder)) == "U4");
+    assert!(rt; reported(push_equal(&rt, &mut builder)) == "U4");
 }

@@ -83,7 +83,7 @@ fn answer<T: Drop>(answered: Result<T, FileFault>) -> &'static str {
 }
 
 // The letters of the fault of these bytes, or `ok`.
-fn told(alloc: Global, bytes: &[u8]) -> &'static str {
+fn reported(alloc: Global, bytes: &[u8]) -> &'static str {
     answer(read(alloc, bytes))
 }
 
@@ -103,13 +103,13 @@ fn patched(rt: &impl Abort, alloc: Global, file: &str, place: usize, digits: &st
 }
 
 // Whether the file is reported so once the hexadecimal bytes stand at that place: `4 00 F3`.
-fn is_told(rt: &impl Abort, alloc: Global, file: &str, line: &str) -> bool {
+fn is_reported(rt: &impl Abort, alloc: Global, file: &str, line: &str) -> bool {
     let mut words = line.split(' ');
     let place = words.next().expect(rt, "a place");
     let digits = words.next().expect(rt, "bytes");
     let wanted = words.next().expect(rt, "an answer");
     let place: usize = place.parse().expect(rt, "a place");
-    told(alloc, &patched(rt, alloc, file, place, digits)) == wanted
+    reported(alloc, &patched(rt, alloc, file, place, digits)) == wanted
 }
 
 // F1, F4, and what is not refused.
@@ -229,7 +229,7 @@ fn changed_bytes(rt: HostRuntime) {
     ];
     for (file, table) in tables {
         for line in table.lines() {
-            assert!(rt; is_told(&rt, rt.alloc(), file, line), "{line}");
+            assert!(rt; is_reported(&rt, rt.alloc(), file, line), "{line}");
         }
     }
 }
@@ -237,7 +237,7 @@ fn changed_bytes(rt: HostRuntime) {
 // The first length at which the front of the bytes is not reported as cut.
 fn first_uncut(alloc: Global, bytes: &[u8]) -> usize {
     for len in 0..bytes.len() {
-        if told(alloc, &bytes[..len]) != "F2" {
+        if reported(alloc, &bytes[..len]) != "F2" {
             return len;
         }
     }
@@ -247,11 +247,11 @@ fn first_uncut(alloc: Global, bytes: &[u8]) -> usize {
 // Whether each front is cut, all of it is read, and one byte more is one too many.
 fn ends_there(rt: &impl Abort, alloc: Global, digits: &str) -> bool {
     let mut bytes = bytes_of(rt, alloc, digits);
-    if first_uncut(alloc, &bytes) != bytes.len() || told(alloc, &bytes) != "ok" {
+    if first_uncut(alloc, &bytes) != bytes.len() || reported(alloc, &bytes) != "ok" {
         return false;
     }
     bytes.push(0).expect(rt, "memory");
-    told(alloc, &bytes) == "F6"
+    reported(alloc, &bytes) == "F6"
 }
 
 #[test]
@@ -310,12 +310,17 @@ fn large(rt: &impl Abort, alloc: Global, last: u8) -> Vec<u8> {
 }
 
 // What is reported of such a file, once it has that many bytes more.
-fn told_of_large(rt: &impl Abort, alloc: Global, last: u8, more: usize) -> (usize, &'static str) {
+fn reported_of_large(
+    rt: &impl Abort,
+    alloc: Global,
+    last: u8,
+    more: usize,
+) -> (usize, &'static str) {
     let mut bytes = large(rt, alloc, last);
     for _ in 0..more {
         bytes.push(0).expect(rt, "memory");
     }
-    (bytes.len(), told(alloc, &bytes))
+    (bytes.len(), reported(alloc, &bytes))
 }
 
 // Two parameters of such a file, its length, and what is reported of it.
@@ -330,8 +335,8 @@ const LARGE_FILES: [(u8, usize, usize, &str); 5] = [
 #[test]
 fn files_of_16_mib(rt: HostRuntime) {
     for (last, more, len, answer) in &LARGE_FILES {
-        let told = told_of_large(&rt, rt.alloc(), *last, *more);
-        assert!(rt; told == (*len, *answer), "{told:?}");
+        let reported = reported_of_large(&rt, rt.alloc(), *last, *more);
+        assert!(rt; reported == (*len, *answer), "{reported:?}");
     }
 }
 
@@ -357,7 +362,7 @@ fn repeated(rt: &impl Abort, alloc: Global, rows: u32) -> Vec<u8> {
 #[test]
 fn columns_of_16_mib_in_rows(rt: HostRuntime) {
     for (rows, answer) in [(16_194, "ok"), (16_195, "F5")] {
-        let given = told(rt.alloc(), &repeated(&rt, rt.alloc(), rows));
+        let given = reported(rt.alloc(), &repeated(&rt, rt.alloc(), rows));
         assert!(rt; given == answer, "{rows} {given}");
     }
 }
@@ -504,7 +509,7 @@ fn reader_of(bytes: &[u8], step: usize, fault: Option<ErrorKind>) -> Source<'_> 
 }
 
 // What is reported of a reader of the vector's first bytes that then fails.
-fn told_of_broken(
+fn reported_of_broken(
     rt: &impl Abort,
     alloc: Global,
     len: usize,
@@ -527,8 +532,8 @@ const READS: [(usize, Option<ErrorKind>, &str); 5] = [
 #[test]
 fn readers_fail(rt: HostRuntime) {
     for (len, fault, wanted) in &READS {
-        let told = told_of_broken(&rt, rt.alloc(), *len, *fault);
-        assert!(rt; told == *wanted, "{len} {fault:?}: {told}");
+        let reported = reported_of_broken(&rt, rt.alloc(), *len, *fault);
+        assert!(rt; reported == *wanted, "{len} {fault:?}: {reported}");
     }
 }
 
@@ -570,7 +575,7 @@ impl Write for Narrow {
     }
 }
 
-fn told_of_narrow(
+fn reported_of_narrow(
     rt: &impl Abort,
     alloc: Global,
     room: usize,
@@ -597,8 +602,8 @@ const WRITES: [(usize, Option<ErrorKind>, &str); 5] = [
 #[test]
 fn writers_fail(rt: HostRuntime) {
     for (room, fault, wanted) in &WRITES {
-        let told = told_of_narrow(&rt, rt.alloc(), *room, *fault);
-        assert!(rt; told == *wanted, "{room} {fault:?}: {told}");
+        let reported = reported_of_narrow(&rt, rt.alloc(), *room, *fault);
+        assert!(rt; reported == *wanted, "{room} {fault:?}: {reported}");
     }
 }
 
@@ -614,10 +619,10 @@ fn wanted_of(kind: ErrorKind) -> (&'static str, &'static str) {
 fn devices_fail_in_each_way(rt: HostRuntime) {
     for kind in &KINDS {
         let (of_read, of_write) = wanted_of(*kind);
-        let told = told_of_broken(&rt, rt.alloc(), 66, Some(*kind));
-        assert!(rt; told == of_read, "{kind:?}: {told}");
-        let told = told_of_narrow(&rt, rt.alloc(), 30, Some(*kind));
-        assert!(rt; told == of_write, "{kind:?}: {told}");
+        let reported = reported_of_broken(&rt, rt.alloc(), 66, Some(*kind));
+        assert!(rt; reported == of_read, "{kind:?}: {reported}");
+        let reported = reported_of_narrow(&rt, rt.alloc(), 30, Some(*kind));
+        assert!(rt; reported == of_write, "{kind:?}: {reported}");
     }
 }
 

@@ -1,6 +1,6 @@
 //! Requests, taken apart and refused.
 use crate::printing::{beside, printed, text_of};
-use crate::table::{Table, assert_row, assert_rows, assert_told, halves, is_told};
+use crate::table::{Table, assert_reported, assert_row, assert_rows, halves, is_reported};
 use crate::wire::spelled;
 use druid_message::{Request, WireFault};
 use druid_wire::{read_request, refuse_request};
@@ -42,7 +42,7 @@ fn refused(rt: &impl Abort, alloc: Global, fault: WireFault) -> String {
     }
 }
 
-fn told_of(rt: &impl Abort, alloc: Global, text: &[u8]) -> String {
+fn reported_of(rt: &impl Abort, alloc: Global, text: &[u8]) -> String {
     let mut rest = text;
     match read_request(alloc, &mut rest) {
         Ok(request) => parts_of(rt, alloc, &request),
@@ -55,7 +55,7 @@ struct Parts;
 
 impl Table for Parts {
     fn holds(&self, rt: &impl Abort, alloc: Global, what: &str, wanted: &str) -> bool {
-        is_told(told_of(rt, alloc, &spelled(rt, alloc, what)), wanted)
+        is_reported(reported_of(rt, alloc, &spelled(rt, alloc, what)), wanted)
     }
 }
 
@@ -74,7 +74,7 @@ POST / HTTP/1.1|| = 400 {\"error\":\"X6\"}
 GET / HTTP/1.1|Content-Length: 16777217||a = 400 {\"error\":\"X7\"}";
     assert_rows(&rt, rt.alloc(), &Parts, rows, " = ");
     let long = refused(&rt, rt.alloc(), WireFault::HeadTooLong);
-    assert_told(&rt, long, "400 {\"error\":\"X5\"}");
+    assert_reported(&rt, long, "400 {\"error\":\"X5\"}");
     let memory = refused(&rt, rt.alloc(), WireFault::Memory);
-    assert_told(&rt, memory, "X9: out of memory");
+    assert_reported(&rt, memory, "X9: out of memory");
 }

@@ -1,6 +1,6 @@
 //! Lines and texts over streams: that calls succeed with ample memory, and where a limit lies.
 use crate::printing::text_of;
-use crate::table::{Table, assert_row, assert_rows, is_told};
+use crate::table::{Table, assert_row, assert_rows, is_reported};
 use druid_stream::{Next, Part, next_line, next_part, write_text};
 use std::alloc::Global;
 use std::process::Abort;
@@ -9,31 +9,31 @@ use std::process::Abort;
 const LIMIT: usize = 3;
 
 // What is found after the lines that were returned.
-fn told_behind(rt: &impl Abort, told: String, found: &str) -> String {
-    let mut told = told;
-    told.push_str(found).expect(rt, "memory");
-    told
+fn reported_beyond(rt: &impl Abort, reported: String, found: &str) -> String {
+    let mut reported = reported;
+    reported.push_str(found).expect(rt, "memory");
+    reported
 }
 
 // A line after those that were returned.
-fn line_behind(rt: &impl Abort, alloc: Global, told: String, line: &[u8]) -> String {
-    let told = told_behind(rt, told, text_of(rt, alloc, line).as_str());
-    told_behind(rt, told, ",")
+fn line_beyond(rt: &impl Abort, alloc: Global, reported: String, line: &[u8]) -> String {
+    let reported = reported_beyond(rt, reported, text_of(rt, alloc, line).as_str());
+    reported_beyond(rt, reported, ",")
 }
 
 // The lines of a text, each with a comma after it, and how reading them ends.
 fn lines_in(rt: &impl Abort, alloc: Global, text: &[u8]) -> String {
     let mut rest = text;
     let mut line = Vec::new(alloc);
-    let mut told = String::new(alloc);
+    let mut reported = String::new(alloc);
     for _ in 0..9 {
         match next_line(&mut rest, &mut line, LIMIT).expect(rt, "a line") {
-            Next::Line => told = line_behind(rt, alloc, told, &line),
-            Next::TooLong => return told_behind(rt, told, "too long"),
-            Next::End => return told_behind(rt, told, "end"),
+            Next::Line => reported = line_beyond(rt, alloc, reported, &line),
+            Next::TooLong => return reported_beyond(rt, reported, "too long"),
+            Next::End => return reported_beyond(rt, reported, "end"),
         }
     }
-    told
+    reported
 }
 
 // Texts, with `|` for a line feed, and their lines.
@@ -42,7 +42,7 @@ struct LineTexts;
 impl Table for LineTexts {
     fn holds(&self, rt: &impl Abort, alloc: Global, what: &str, wanted: &str) -> bool {
         let text = what.replace(alloc, "|", "\n").expect(rt, "memory");
-        is_told(lines_in(rt, alloc, text.as_bytes()), wanted)
+        is_reported(lines_in(rt, alloc, text.as_bytes()), wanted)
     }
 }
 

@@ -14,8 +14,8 @@ pub(crate) fn halves<'a>(rt: &impl Abort, row: &'a str, between: &str) -> (&'a s
 }
 
 /// Whether this is the fault.
-pub(crate) fn is_told(told: String, wanted: &str) -> bool {
-    told.as_str() == wanted
+pub(crate) fn is_reported(reported: String, wanted: &str) -> bool {
+    reported.as_str() == wanted
 }
 
 /// Asserts that this holds of a row.
@@ -24,8 +24,8 @@ pub(crate) fn assert_row(rt: &impl Abort, row: &str, holds: bool) {
 }
 
 /// Asserts that this is the fault.
-pub(crate) fn assert_told(rt: &impl Abort, told: String, wanted: &str) {
-    assert!(rt; told.as_str() == wanted, "{told}");
+pub(crate) fn assert_reported(rt: &impl Abort, reported: String, wanted: &str) {
+    assert!(rt; reported.as_str() == wanted, "{reported}");
 }
 
 /// Asserts that each row holds. Its halves stand to both sides of the first such text in it.

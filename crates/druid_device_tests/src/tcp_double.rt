@@ -253,7 +253,7 @@ fn sent_on(rt: &impl Abort, tape: &Tape) -> usize {
 
 // What an exchange gives, how many faults are counted, how much of the request was sent, in how many writes, and how many
 // reads there were.
-fn told(rt: &impl Abort, alloc: Global, link: &mut TcpLink<Double>, tape: &Tape) -> String {
+fn reported(rt: &impl Abort, alloc: Global, link: &mut TcpLink<Double>, tape: &Tape) -> String {
     let came = came_of(rt, alloc, link.exchange(alloc, REQUEST));
     let sent = sent_on(rt, tape);
     let (writes, reads) = (tape.writes.get(), tape.reads.get());
@@ -266,14 +266,14 @@ fn linked(rt: &impl Abort, alloc: Global, network: Double) -> TcpLink<Double> {
     TcpLink::new(network, address).with_limit(Duration::from_secs(10))
 }
 
-fn told_of(rt: &impl Abort, alloc: Global, plan: &Plan) -> String {
+fn reported_of(rt: &impl Abort, alloc: Global, plan: &Plan) -> String {
     let (network, tape) = network(rt, alloc, plan);
-    told(rt, alloc, &mut linked(rt, alloc, network), &tape)
+    reported(rt, alloc, &mut linked(rt, alloc, network), &tape)
 }
 
 fn assert_plan(rt: &impl Abort, alloc: Global, plan: &Plan, wanted: &str) {
-    let told = told_of(rt, alloc, plan);
-    assert!(rt; told.as_str() == wanted, "{told}, and not {wanted}");
+    let reported = reported_of(rt, alloc, plan);
+    assert!(rt; reported.as_str() == wanted, "{reported}, and not {wanted}");
 }
 
 // With calls that fail so before each that succeeds, and take so many bytes then.
@@ -373,8 +373,8 @@ fn time_that_is_left(rt: HostRuntime) {
     plan.step = 1;
     let (network, tape) = network(&rt, rt.alloc(), &plan);
     let mut link = linked(&rt, rt.alloc(), network);
-    let told = told(&rt, rt.alloc(), &mut link, &tape);
-    assert!(rt; told.as_str() == "X2 1 18 1 7", "{told}");
+    let reported = reported(&rt, rt.alloc(), &mut link, &tape);
+    assert!(rt; reported.as_str() == "X2 1 18 1 7", "{reported}");
     assert!(rt;
         has_waits(&rt, &tape, &[9, 8, 7, 6, 5, 4, 3, 2, 1]),
         "other waits"

@@ -1,7 +1,7 @@
 //! Links over sockets of this machine.
 use crate::link::{REQUEST, exchanged_for};
 use crate::printing::printed;
-use crate::table::{assert_row, assert_told, halves, is_told};
+use crate::table::{assert_reported, assert_row, halves, is_reported};
 use crate::wire::{large, patterned};
 use druid_link::{Link, MAX_EXCHANGE, TcpLink};
 use druid_message::WireFault;
@@ -79,47 +79,43 @@ fn request_for(rt: &impl Abort, alloc: Global, row: &str) -> Vec<u8> {
 }
 
 // What an exchange of this request gives, and how often the device has failed then.
-fn told<L: Link>(rt: &impl Abort, alloc: Global, link: &mut L, request: &[u8]) -> String {
+fn reported<L: Link>(rt: &impl Abort, alloc: Global, link: &mut L, request: &[u8]) -> String {
     let came = exchanged_for(rt, alloc, link, request);
     let faults = printed(rt, alloc, &link.faults());
     format!(in alloc; "{came}, {faults}").expect(rt, "memory")
 }
 
 // What an exchange tells with a server that is gone.
-fn told_alone<R: Net<Listener = TcpListener, Stream = TcpStream> + Clock + Abort>(
+fn reported_alone<R: Net<Listener = TcpListener, Stream = TcpStream> + Clock + Abort>(
     rt: &R,
     alloc: Global,
 ) -> String {
     let address = address_of(rt, alloc, &listening(rt));
-    told(rt, alloc, &mut linked(rt, address, "is gone"), REQUEST)
+    reported(rt, alloc, &mut linked(rt, address, "is gone"), REQUEST)
 }
 
 // What an exchange tells with a server that is there.
-fn told_beside<R: Net<Listener = TcpListener, Stream = TcpStream> + Clock + Threads + Abort + Sync>(
-    rt: &R,
-    alloc: Global,
-    row: &str,
-) -> String {
+fn reported_beside<
+    R: Net<Listener = TcpListener, Stream = TcpStream> + Clock + Threads + Abort + Sync,
+>(rt: &R, alloc: Global, row: &str) -> String {
     let listener = listening(rt);
     let mut link = linked(rt, address_of(rt, alloc, &listener), row);
     let request = request_for(rt, alloc, row);
-    let (_served, told) = join(
+    let (_served, reported) = join(
         rt,
         || serve_once(rt, &listener, row).is_ok(),
-        || told(rt, alloc, &mut link, &request),
+        || reported(rt, alloc, &mut link, &request),
     );
-    told
+    reported
 }
 
 // What an exchange tells with a server that does what the row says.
-fn told_with<R: Net<Listener = TcpListener, Stream = TcpStream> + Clock + Threads + Abort + Sync>(
-    rt: &R,
-    alloc: Global,
-    row: &str,
-) -> String {
+fn reported_with<
+    R: Net<Listener = TcpListener, Stream = TcpStream> + Clock + Threads + Abort + Sync,
+>(rt: &R, alloc: Global, row: &str) -> String {
     match row {
-        "is gone" => told_alone(rt, alloc),
-        _ => told_beside(rt, alloc, row),
+        "is gone" => reported_alone(rt, alloc),
+        _ => reported_beside(rt, alloc, row),
     }
 }
 
@@ -136,7 +132,7 @@ is gone = X8: no connection, 1";
         assert_row(
             &rt,
             row,
-            is_told(told_with(&rt, rt.alloc(), server), wanted),
+            is_reported(reported_with(&rt, rt.alloc(), server), wanted),
         );
     }
 }
@@ -144,8 +140,8 @@ is gone = X8: no connection, 1";
 #[test]
 fn an_address_that_is_none(rt: HostRuntime) {
     let address = printed(&rt, rt.alloc(), &"nowhere");
-    let told = told(&rt, rt.alloc(), &mut TcpLink::new(&rt, address), REQUEST);
-    assert_told(&rt, told, "X8: no connection, 1");
+    let reported = reported(&rt, rt.alloc(), &mut TcpLink::new(&rt, address), REQUEST);
+    assert_reported(&rt, reported, "X8: no connection, 1");
 }
 
 fn read_in_pieces(socket: &mut TcpStream, bytes: &mut [u8], piece: usize) -> io::Result<()> {
@@ -189,7 +185,7 @@ fn came_of(
 }
 
 // What an exchange tells of a request and an answer of so many bytes, in pieces of so many.
-fn told_of_sizes<
+fn reported_of_sizes<
     R: Net<Listener = TcpListener, Stream = TcpStream> + Clock + Threads + Abort + Sync,
 >(rt: &R, alloc: Global, sizes: (usize, usize, usize)) -> String {
     let listener = listening(rt);
@@ -223,6 +219,6 @@ const SIZES: [((usize, usize, usize), &str); 7] = [
 #[test]
 fn requests_and_answers_are_whole(rt: HostRuntime) {
     for (sizes, wanted) in &SIZES {
-        assert_told(&rt, told_of_sizes(&rt, rt.alloc(), *sizes), wanted);
+        assert_reported(&rt, reported_of_sizes(&rt, rt.alloc(), *sizes), wanted);
     }
 }

@@ -1,6 +1,6 @@
 //! Messages, read and written.
 use crate::printing::{beside, printed, text_of};
-use crate::table::{Table, assert_row, assert_rows, assert_told, halves, is_told};
+use crate::table::{Table, assert_reported, assert_row, assert_rows, halves, is_reported};
 use druid_message::{Request, WireFault};
 use druid_wire::{
     read_request, read_response, request_bytes, response_of, send_response, write_request,
@@ -154,9 +154,9 @@ fn shown(rt: &impl Abort, alloc: Global, bytes: &[u8]) -> String {
 }
 
 // The result, and what is left after it.
-fn with_rest(rt: &impl Abort, alloc: Global, told: String, rest: &[u8]) -> String {
+fn with_rest(rt: &impl Abort, alloc: Global, reported: String, rest: &[u8]) -> String {
     let left = shown(rt, alloc, rest);
-    format!(in alloc; "{told} [{left}]").expect(rt, "memory")
+    format!(in alloc; "{reported} [{left}]").expect(rt, "memory")
 }
 
 // A request, without what is left after it.
@@ -205,7 +205,7 @@ struct RequestTexts;
 
 impl Table for RequestTexts {
     fn holds(&self, rt: &impl Abort, alloc: Global, what: &str, wanted: &str) -> bool {
-        is_told(request_in(rt, alloc, &spelled(rt, alloc, what)), wanted)
+        is_reported(request_in(rt, alloc, &spelled(rt, alloc, what)), wanted)
     }
 }
 
@@ -214,7 +214,7 @@ struct ResponseTexts;
 
 impl Table for ResponseTexts {
     fn holds(&self, rt: &impl Abort, alloc: Global, what: &str, wanted: &str) -> bool {
-        is_told(response_in(rt, alloc, &spelled(rt, alloc, what)), wanted)
+        is_reported(response_in(rt, alloc, &spelled(rt, alloc, what)), wanted)
     }
 }
 
@@ -223,8 +223,8 @@ struct ResponseBytes;
 
 impl Table for ResponseBytes {
     fn holds(&self, rt: &impl Abort, alloc: Global, what: &str, wanted: &str) -> bool {
-        let told = found_in(rt, alloc, &spelled(rt, alloc, what));
-        wanted.starts_with(told.as_str())
+        let reported = found_in(rt, alloc, &spelled(rt, alloc, what));
+        wanted.starts_with(reported.as_str())
     }
 }
 
@@ -235,8 +235,8 @@ fn ample_memory(rt: HostRuntime) {
     assert_rows(&rt, rt.alloc(), &ResponseBytes, RESPONSES, " = ");
 }
 
-fn is_cut(told: String) -> bool {
-    is_told(told, "X1: the message is cut off")
+fn is_cut(reported: String) -> bool {
+    is_reported(reported, "X1: the message is cut off")
 }
 
 fn is_cut_front(rt: &impl Abort, alloc: Global, front: &[u8], is_response: bool) -> bool {
@@ -310,7 +310,7 @@ struct LargeRequests;
 impl Table for LargeRequests {
     fn holds(&self, rt: &impl Abort, alloc: Global, what: &str, wanted: &str) -> bool {
         let text = large_head(rt, alloc, REQUEST_LINE, what);
-        is_told(request_in(rt, alloc, &text), wanted)
+        is_reported(request_in(rt, alloc, &text), wanted)
     }
 }
 
@@ -322,7 +322,7 @@ impl Table for LargeResponses {
         let text = large_head(rt, alloc, RESPONSE_LINES, what);
         // What is left after a response that is read is reported too.
         let read = response_in(rt, alloc, &text);
-        is_told(found_in(rt, alloc, &text), wanted) && read.as_str().starts_with(wanted)
+        is_reported(found_in(rt, alloc, &text), wanted) && read.as_str().starts_with(wanted)
     }
 }
 
@@ -336,8 +336,8 @@ impl Table for CutHeads {
         request.truncate(count);
         let mut response = large_head(rt, alloc, RESPONSE_LINES, "bytes 20000 0");
         response.truncate(count);
-        is_told(request_in(rt, alloc, &request), wanted)
-            && is_told(found_in(rt, alloc, &response), wanted)
+        is_reported(request_in(rt, alloc, &request), wanted)
+            && is_reported(found_in(rt, alloc, &response), wanted)
     }
 }
 
@@ -375,8 +375,8 @@ impl Table for LineFeeds {
     fn holds(&self, rt: &impl Abort, alloc: Global, what: &str, wanted: &str) -> bool {
         let text = vec![in alloc; b'\n'; number(rt, what)].expect(rt, "memory");
         let found = found_in(rt, alloc, &text);
-        is_told(request_fault(rt, alloc, &text), wanted)
-            && is_told(response_fault(rt, alloc, &text), wanted)
+        is_reported(request_fault(rt, alloc, &text), wanted)
+            && is_reported(response_fault(rt, alloc, &text), wanted)
             && wanted.starts_with(found.as_str())
     }
 }
@@ -565,7 +565,7 @@ fn large_status(rt: &impl Abort, alloc: Global, length: usize) -> u16 {
 }
 
 /// What the end of writing tells, beside how many bytes are written.
-pub(crate) fn told_of(
+pub(crate) fn reported_of(
     rt: &impl Abort,
     alloc: Global,
     end: Result<(), WireFault>,
@@ -580,7 +580,7 @@ pub(crate) fn told_of(
 fn written_of(rt: &impl Abort, alloc: Global, request: &Request) -> String {
     let mut written = Vec::new(alloc);
     let end = write_request(request, &mut written);
-    told_of(rt, alloc, end, written.len())
+    reported_of(rt, alloc, end, written.len())
 }
 
 fn length_of(rt: &impl Abort, alloc: Global, request: &Request) -> usize {
@@ -607,7 +607,7 @@ fn large_bodies(rt: HostRuntime) {
     let status = large_status(&rt, rt.alloc(), 16_777_217);
     assert_row(&rt, "a status with a longer body", status == 500);
     let request = large_request(&rt, rt.alloc(), 16_777_216);
-    assert_told(&rt, request, "ok 16777329 16777329");
+    assert_reported(&rt, request, "ok 16777329 16777329");
     let request = large_request(&rt, rt.alloc(), 16_777_217);
-    assert_told(&rt, request, "X7: the body is too long 0 16777330");
+    assert_reported(&rt, request, "X7: the body is too long 0 16777330");
 }

@@ -32,16 +32,16 @@ asked_of state next (Since m) status body answer = answer
 asked_of state next (asks.Page m page) status body answer = answer
 
 -- what is read of the text of a reply is the reply
-answered : (told reply : Body) → IsReply told → Answers (Some (form_of told)) (Ok reply) → reply ≡ told
+answered : (reported reply : Body) → IsReply reported → Answers (Some (form_of reported)) (Ok reply) → reply ≡ reported
 answered (Delta from to changes) reply valid read = read.0
 answered (Snapshot at segments) reply valid read = snapshot_is at segments reply valid.sorted read
 answered (Page at page of segments) reply valid read = read.0
 answered (Reset cause at) reply valid read = same_ok read
 
-read_is : (told reply : Body) → IsReadBack told → IsReadOf (reply_text told) (Ok reply) → reply ≡ told
-read_is told reply back read =
-    let json : read.0 ≡ reply_data told = same_Some _ _ (sym read.1.1 ∙ back.text) in
-    answered told reply back.valid (subst (λ (f : Option Form). Answers f (Ok reply)) (ap form_at json ∙ back.form) read.2)
+read_is : (reported reply : Body) → IsReadBack reported → IsReadOf (reply_text reported) (Ok reply) → reply ≡ reported
+read_is reported reply back read =
+    let json : read.0 ≡ reply_data reported = same_Some _ _ (sym read.1.1 ∙ back.text) in
+    answered reported reply back.valid (subst (λ (f : Option Form). Answers f (Ok reply)) (ap form_at json ∙ back.form) read.2)
 
 -- a response that is read is what was written of a reply
 of_history : (state next : State) (ask : Ask) (status : ℕ) (body b rest : List ℕ) (reply : Body) → AnswersFound state next (Some ask) status body → IsResponse (wire.answer_text status body) 200 b rest → IsReadOf b (Ok reply)
@@ -54,14 +54,14 @@ of_history state next ask status body b rest reply found response read =
 
 pub answer_of_history : (state next : State) (ask : Ask) (status : ℕ) (body : List ℕ) (reply : Body) → ask_at (parameters_of ask) ≡ Some ask → RespondsInTurn state next (ask_request ask) status body
     → IsAnswerTo (Ok (wire.answer_text status body)) (Ok reply) → IsReplyTo state.history next.history ask reply
-answer_of_history state next ask status body reply back (inl responds) told =
+answer_of_history state next ask status body reply back (inl responds) reported =
     let found = subst (λ (o : Option Ask). AnswersFound state next o status body) back (asked_of state next ask status body responds) in
-    let response = subst (λ (text : List ℕ). IsResponse text 200 told.1 told.3.0) (sym (same_ok told.2)) told.3.1 in
-    of_history state next ask status body told.1 told.3.0 reply found response told.4
-answer_of_history state next ask status body reply back (inr memory) told =
+    let response = subst (λ (text : List ℕ). IsResponse text 200 reported.1 reported.3.0) (sym (same_ok reported.2)) reported.3.1 in
+    of_history state next ask status body reported.1 reported.3.0 reply found response reported.4
+answer_of_history state next ask status body reply back (inr memory) reported =
     let is = memory.status_is in
-    let response = subst (λ (text : List ℕ). IsResponse text 200 told.1 told.3.0) (sym (same_ok told.2)) told.3.1 in
-    let no = (written_is status body told.1 told.3.0 (omega (arith, is)) (omega (arith, is)) response).0 in
+    let response = subst (λ (text : List ℕ). IsResponse text 200 reported.1 reported.3.0) (sym (same_ok reported.2)) reported.3.1 in
+    let no = (written_is status body reported.1 reported.3.0 (omega (arith, is)) (omega (arith, is)) response).0 in
     absurd (omega (arith, is, no))
 
 -- a set that is kept for its pages is that of the life
@@ -72,8 +72,8 @@ has_frozen limit changes (Some f) h = record { within = h.within; set = f.set; t
 pub honest_answer : (life : Life) (state next : State) (ask : Ask) (status : ℕ) (body : List ℕ) (reply : Body) → IsLife life → IsLastOf life state
     → ask_at (parameters_of ask) ≡ Some ask → RespondsInTurn state next (ask_request ask) status body
     → IsAnswerTo (Ok (wire.answer_text status body)) (Ok reply) → IsHonest (eras_of life) reply
-honest_answer life state next ask status body reply valid last back responds told =
-    let is = answer_of_history state next ask status body reply back responds told life.last.changes last.changes in
+honest_answer life state next ask status body reply valid last back responds reported =
+    let is = answer_of_history state next ask status body reply back responds reported life.last.changes last.changes in
     let frozen = subst (HasFrozen life.last.changes) (sym last.frozen) (has_frozen state.history.limit life.last.changes state.history.frozen last.changes.frozen) in
     (answer_true life ask reply (frozen_count next.history.frozen) valid frozen
     (ap (λ (i : ℕ). answer i life.last.changes life.kept life.frozen ask) last.incarnation

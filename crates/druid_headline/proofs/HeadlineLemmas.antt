@@ -82,18 +82,18 @@ some_piece a more e = cc
 
 whole : (query : Query) (missing : List Asked) (groups : List Group) (status : ℕ) (body : List ℕ) → TellsRows query missing groups status body
     → (status ≡ 200) ↔ (missing ≡ [])
-whole query [] groups status body told = ((λ e. refl), (λ e. told.status_is))
-whole query (a ∷ more) groups status body told = ((λ e. let no : 200 ≡ 503 = sym e ∙ told.status_is in absurd (omega (arith, no))), (λ e. absurd (some_piece a more e)))
+whole query [] groups status body reported = ((λ e. refl), (λ e. reported.status_is))
+whole query (a ∷ more) groups status body reported = ((λ e. let no : 200 ≡ 503 = sym e ∙ reported.status_is in absurd (omega (arith, no))), (λ e. absurd (some_piece a more e)))
 
 rows : (query : Query) (missing : List Asked) (groups : List Group) (status : ℕ) (body : List ℕ) → TellsRows query missing groups status body
     → status ≡ 200 → body ≡ result_text query groups
-rows query [] groups status body told e = told.body_is
-rows query (a ∷ more) groups status body told e = let no : 200 ≡ 503 = sym e ∙ told.status_is in absurd (omega (arith, no))
+rows query [] groups status body reported e = reported.body_is
+rows query (a ∷ more) groups status body reported e = let no : 200 ≡ 503 = sym e ∙ reported.status_is in absurd (omega (arith, no))
 
 short : (query : Query) (missing : List Asked) (groups : List Group) (status : ℕ) (body : List ℕ) → TellsRows query missing groups status body
     → (status ≡ 200 → ⊥) → (status ≡ 503) × (body ≡ shortfall_text query missing groups)
-short query [] groups status body told other = absurd (other told.status_is)
-short query (a ∷ more) groups status body told other = (told.status_is, told.body_is)
+short query [] groups status body reported other = absurd (other reported.status_is)
+short query (a ∷ more) groups status body reported other = (reported.status_is, reported.body_is)
 
 -- ---- what was asked
 
@@ -139,9 +139,9 @@ module _ {L : Type 0} (step : L → List ℕ → Came → L → Type 0) (order :
     made = answer.made;
     missing = answer.missing;
     groups = answer.groups;
-    whole = whole asked answer.missing answer.groups status body answer.told;
-    rows = rows asked answer.missing answer.groups status body answer.told;
-    short = short asked answer.missing answer.groups status body answer.told;
+    whole = whole asked answer.missing answer.groups status body answer.reported;
+    rows = rows asked answer.missing answer.groups status body answer.reported;
+    short = short asked answer.missing answer.groups status body answer.reported;
     listed = λ e there. listed order inventory asked answer.pairs answer.exchanges answer.plan answer.gathered.asked e there;
     may_be_asked = λ described e there.
         allowed order inventory asked answer.pairs answer.exchanges answer.plan answer.gathered.asked e there
@@ -156,7 +156,7 @@ module _ {L : Type 0} (step : L → List ℕ → Came → L → Type 0) (order :
       → IsExactAt step world (marks_of inventory) asked old new status body ⊎ AnswersUnread status body
   exact_query bytes read (inl (inl (query, reads, answer))) =
       inl (exact_rows (subst (λ (q : Query). AnswersRows step order inventory q old new status body) (one_query bytes query asked reads read) answer))
-  exact_query bytes read (inl (inr (fault, had, refused, told, same))) = absurd (one_reading bytes asked fault had read refused)
+  exact_query bytes read (inl (inr (fault, had, refused, reported, same))) = absurd (one_reading bytes asked fault had read refused)
   exact_query bytes read (inr (wants, memory)) = inr (inr memory)
 
 pub exact_answer : {L : Type 0} (step : L → List ℕ → Came → L → Type 0) (order : List ℕ → List ℕ) (world : List Life) (opening : List Entry) (seen now : Published) (request : RequestValue) (asked : Query)

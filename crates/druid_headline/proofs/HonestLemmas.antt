@@ -17,7 +17,7 @@ use Rattle.druid_query.specs.SubQuery.{SubQuery, IsAsked, subquery_data, subquer
 use Rattle.druid_query_text.proofs.SubBackLemmas.{sub_back}
 use Rattle.druid_partial.specs.Groups.{Group, IsResult}
 use Rattle.druid_partial.specs.Rows.{kinds_of}
-use Rattle.druid_partial.specs.Once.{segment_named, told_in, told_of, told}
+use Rattle.druid_partial.specs.Once.{segment_named, counted_in, counted_of, counted_groups}
 use Rattle.druid_partial_text.specs.Read.{TellsGroups}
 use Rattle.druid_partial_text.specs.PieceOrder.{same_asked-true}
 use Rattle.druid_partial_text.specs.Answers.{NodeAnswer, TellsAnswer, WereAsked, answer_data, answer_text}
@@ -34,7 +34,7 @@ use Rattle.druid_node.specs.Answers.{is_missing, missing, IsAnswerOf}
 use Rattle.druid_node.specs.Routes.{Responds, RespondsInTurn, AnswersQuery}
 use Rattle.druid_scatter.specs.Gathered.{sub_of, request_for}
 use Rattle.druid_scatter.specs.Exact.{without, IsHonest}
-use Rattle.druid_scatter.proofs.ExactLemmas.{any_found, any_told}
+use Rattle.druid_scatter.proofs.ExactLemmas.{any_found, any_counted}
 use Rattle.druid_headline.specs.Headline.{AreAmong}
 use Rattle.druid_headline.proofs.TextLemmas.{subquery_read, answer_text_read}
 use Rattle.druid_headline.proofs.WordLemmas.{groups_held, all_of_each}
@@ -86,10 +86,10 @@ status_fits held bytes status body (inr t) = let is = t.3.status_is in (omega (a
 -- ---- what is reported
 
 -- what an answer tells is what was written of it
-told_is : (sub : SubQuery) (held : List Segment) (a : NodeAnswer) (json : Data) (missed : List Asked) (groups : List Group)
+reported_is : (sub : SubQuery) (held : List Segment) (a : NodeAnswer) (json : Data) (missed : List Asked) (groups : List Group)
     → IsQuery sub.query → IsAsked sub.query.source sub.asked → All HaveWords held → IsAnswerOf held sub a
     → read (answer_text a) ≡ Some json → TellsAnswer sub json missed groups → (a.missing ≡ missed) × (a.partial.groups ≡ groups)
-told_is sub held a json missed groups is asked words answer reads tells =
+reported_is sub held a json missed groups is asked words answer reads tells =
     let was_asked : WereAsked sub a.missing = λ x there.
     (from_filter (is_missing held) sub.asked x (subst (λ (xs : List Asked). Contains xs x) answer.missed there)).0 in
     let kept = groups_held sub.query held sub.asked a.partial.groups is (λ x there. (asked.valid x there).1) words answer.result in
@@ -100,16 +100,16 @@ told_is sub held a json missed groups is asked words answer reads tells =
     let mine = subst (λ (d : Data). TellsAnswer sub d a.missing a.partial.groups) same back in
     let rows : mine.rows ≡ tells.rows = same_Some _ _ (sym mine.found ∙ tells.found) in (
       same_Some _ _ (sym mine.missed ∙ tells.missed),
-      one_reading sub.query tells.rows a.partial.groups groups (subst (λ (d : Data). TellsGroups sub.query d a.partial.groups) rows mine.told) tells.told,
+      one_reading sub.query tells.rows a.partial.groups groups (subst (λ (d : Data). TellsGroups sub.query d a.partial.groups) rows mine.reported) tells.reported,
     )
 
 -- ---- the pieces that were given
 
 -- each piece tells the same of the segments, where it is given, and else nothing
-piece_told : (query : Query) (held segments : List Segment) (asked : List Asked) (a : Asked) → Contains asked a → AreAmong asked held segments
-    → ((not (list_any (same_asked a) (missing held asked)) ≡ true) × (told_of query held a ≡ told_of query segments a))
-    ⊎ ((not (list_any (same_asked a) (missing held asked)) ≡ false) × (told_of query held a ≡ []))
-piece_told query held segments asked a there among = by (segment_named a.0 held) refl
+piece_counted : (query : Query) (held segments : List Segment) (asked : List Asked) (a : Asked) → Contains asked a → AreAmong asked held segments
+    → ((not (list_any (same_asked a) (missing held asked)) ≡ true) × (counted_of query held a ≡ counted_of query segments a))
+    ⊎ ((not (list_any (same_asked a) (missing held asked)) ≡ false) × (counted_of query held a ≡ []))
+piece_counted query held segments asked a there among = by (segment_named a.0 held) refl
   where
     given : (s : Segment) → segment_named a.0 held ≡ Some s → (b : Bool) → list_any (same_asked a) (missing held asked) ≡ b → not b ≡ true
     given s found false e = refl
@@ -119,13 +119,13 @@ piece_told query held segments asked a there among = by (segment_named a.0 held)
         absurd (false≢true (sym (ap (λ (o : Option Segment). not (is_some o)) found) ∙ absent))
 
     by : (o : Option Segment) → segment_named a.0 held ≡ o
-        → ((not (list_any (same_asked a) (missing held asked)) ≡ true) × (told_of query held a ≡ told_of query segments a))
-        ⊎ ((not (list_any (same_asked a) (missing held asked)) ≡ false) × (told_of query held a ≡ []))
+        → ((not (list_any (same_asked a) (missing held asked)) ≡ true) × (counted_of query held a ≡ counted_of query segments a))
+        ⊎ ((not (list_any (same_asked a) (missing held asked)) ≡ false) × (counted_of query held a ≡ []))
     by None e =
         let absent : is_missing held a ≡ true = ap (λ (o : Option Segment). not (is_some o)) e in
-        inr (ap not (any_told (same_asked a) (missing held asked) a (in_filter (is_missing held) asked a there absent) (same_asked-equiv.refl a)), ap (told_in query a.1) e)
+        inr (ap not (any_counted (same_asked a) (missing held asked) a (in_filter (is_missing held) asked a there absent) (same_asked-equiv.refl a)), ap (counted_in query a.1) e)
     by (Some s) e =
-        inl (given s e (list_any (same_asked a) (missing held asked)) refl, ap (told_in query a.1) (e ∙ sym (among a s there e)))
+        inl (given s e (list_any (same_asked a) (missing held asked)) refl, ap (counted_in query a.1) (e ∙ sym (among a s there e)))
 
 flat_same : {A B : Type 0} (f g : A → List B) (p : A → Bool) (xs : List A) → ((x : A) → Contains xs x → ((p x ≡ true) × (f x ≡ g x)) ⊎ ((p x ≡ false) × (f x ≡ [])))
     → flat_map f xs ≡ flat_map g (filter p xs)
@@ -137,11 +137,11 @@ flat_same f g p (x ∷ xs) each =
     by (inl h) rest = rw (h.0, h.1, rest) refl
     by (inr h) rest = rw (h.0, h.1, rest) refl
 
-pieces_told : (query : Query) (held segments : List Segment) (asked : List Asked) → AreAmong asked held segments
-    → told query held asked ≡ told query segments (without (missing held asked) asked)
-pieces_told query held segments asked among =
-    flat_same (told_of query held) (told_of query segments) (λ a. not (list_any (same_asked a) (missing held asked))) asked
-    (λ a there. piece_told query held segments asked a there among)
+pieces_counted : (query : Query) (held segments : List Segment) (asked : List Asked) → AreAmong asked held segments
+    → counted_groups query held asked ≡ counted_groups query segments (without (missing held asked) asked)
+pieces_counted query held segments asked among =
+    flat_same (counted_of query held) (counted_of query segments) (λ a. not (list_any (same_asked a) (missing held asked))) asked
+    (λ a there. piece_counted query held segments asked a there among)
 
 -- ---- the whole
 
@@ -149,28 +149,28 @@ pub honest : (state next : State) (query : Query) (asked : List Asked) (node sta
     → IsQuery query → IsAsked query.source asked → All HaveWords state.held → Responds state next (request_for query asked) status body
     → AreAmong asked state.held segments
     → IsHonest query segments (record { node = node; asked = asked; came = Ok (wire.answer_text status body) })
-honest state next query asked node status body segments is pieces words responds among missed groups told_so =
+honest state next query asked node status body segments is pieces words responds among missed groups reported_so =
     let answer = routed state next query asked status body responds in
     let fits = status_fits state.held (subquery_text (sub_of query asked)) status body answer in
-    let bytes : wire.answer_text status body ≡ told_so.bytes = same_ok told_so.came in
-    let sent = subst (λ (text : List ℕ). IsResponse text 200 told_so.body told_so.rest) (sym bytes) told_so.response in
-    let written = written_is status body told_so.body told_so.rest fits.0 fits.1 sent in
+    let bytes : wire.answer_text status body ≡ reported_so.bytes = same_ok reported_so.came in
+    let sent = subst (λ (text : List ℕ). IsResponse text 200 reported_so.body reported_so.rest) (sym bytes) reported_so.response in
+    let written = written_is status body reported_so.body reported_so.rest fits.0 fits.1 sent in
     let a = answered state.held (sub_of query asked) status body is pieces written.0 answer in
-    let reads : read (answer_text a.0) ≡ Some told_so.json = ap read (sym a.2 ∙ written.1) ∙ told_so.reads.1 in
-    let same = told_is (sub_of query asked) state.held a.0 told_so.json missed groups is pieces words a.1 reads told_so.told in
+    let reads : read (answer_text a.0) ≡ Some reported_so.json = ap read (sym a.2 ∙ written.1) ∙ reported_so.reads.1 in
+    let same = reported_is (sub_of query asked) state.held a.0 reported_so.json missed groups is pieces words a.1 reads reported_so.reported in
     let listed : missing state.held asked ≡ missed = sym a.1.missed ∙ same.0 in
-    let rows : told query state.held asked ≡ told query segments (without missed asked) =
-    pieces_told query state.held segments asked among ∙ ap (λ (m : List Asked). told query segments (without m asked)) listed in
+    let rows : counted_groups query state.held asked ≡ counted_groups query segments (without missed asked) =
+    pieces_counted query state.held segments asked among ∙ ap (λ (m : List Asked). counted_groups query segments (without m asked)) listed in
     subst (λ (rows : List Group). IsResult (kinds_of query) rows groups) rows
-    (subst (λ (gs : List Group). IsResult (kinds_of query) (told query state.held asked) gs) same.1 a.1.result)
+    (subst (λ (gs : List Group). IsResult (kinds_of query) (counted_groups query state.held asked) gs) same.1 a.1.result)
 
 -- an answer of another status is honest: it tells nothing
 pub other_status : (query : Query) (asked : List Asked) (node status : ℕ) (body : List ℕ) (segments : List Segment) → 100 ≤ status → status < 1000 → (status ≡ 200 → ⊥)
     → IsHonest query segments (record { node = node; asked = asked; came = Ok (wire.answer_text status body) })
-other_status query asked node status body segments low high other missed groups told_so =
-    let bytes : wire.answer_text status body ≡ told_so.bytes = same_ok told_so.came in
-    let sent = subst (λ (text : List ℕ). IsResponse text 200 told_so.body told_so.rest) (sym bytes) told_so.response in
-    absurd (other (written_is status body told_so.body told_so.rest low high sent).0)
+other_status query asked node status body segments low high other missed groups reported_so =
+    let bytes : wire.answer_text status body ≡ reported_so.bytes = same_ok reported_so.came in
+    let sent = subst (λ (text : List ℕ). IsResponse text 200 reported_so.body reported_so.rest) (sym bytes) reported_so.response in
+    absurd (other (written_is status body reported_so.body reported_so.rest low high sent).0)
 
 -- and so is one that may tell out of memory in the place of the answer
 pub honest_in_turn : (state next : State) (query : Query) (asked : List Asked) (node status : ℕ) (body : List ℕ) (segments : List Segment)
@@ -179,5 +179,5 @@ pub honest_in_turn : (state next : State) (query : Query) (asked : List Asked) (
     → IsHonest query segments (record { node = node; asked = asked; came = Ok (wire.answer_text status body) })
 honest_in_turn state next query asked node status body segments is pieces words (inl responds) among = honest state next query asked node status body segments is pieces words responds among
 honest_in_turn state next query asked node status body segments is pieces words (inr memory) among =
-    let told_500 = memory.status_is in
-    other_status query asked node status body segments (omega (arith, told_500)) (omega (arith, told_500)) (λ ok. omega (arith, told_500, ok))
+    let reported_500 = memory.status_is in
+    other_status query asked node status body segments (omega (arith, reported_500)) (omega (arith, reported_500)) (λ ok. omega (arith, reported_500, ok))

@@ -24,9 +24,9 @@ use Rattle.druid_query.specs.Asked.{Asked}
 use Rattle.druid_query.specs.declared.aggregator.AggregatorKind.{AggregatorKind}
 use Rattle.druid_query.specs.declared.aggregator.AggregatorKind.TheVariants.{Count, LongSum, LongMin, LongMax}
 use Rattle.druid_query_text.proofs.QueryBackLemmas.{query_sound}
-use Rattle.druid_partial.specs.Groups.{Key, Group, AreWords, key_cmp, known, column, number_at, IsTold, IsAggregate, IsGroupOf, IsResult}
+use Rattle.druid_partial.specs.Groups.{Key, Group, AreWords, key_cmp, known, column, number_at, IsReported, IsAggregate, IsGroupOf, IsResult}
 use Rattle.druid_partial.specs.Rows.{number_in, earliest, one_or, taken, tells, passes_if, is_asked, kinds_of}
-use Rattle.druid_partial.specs.Once.{segment_named, told_in, told_of, told}
+use Rattle.druid_partial.specs.Once.{segment_named, counted_in, counted_of, counted_groups}
 use Rattle.druid_partial_text.specs.Written.{IsHeld}
 use Rattle.druid_node.proofs.HeldLemmas.{found_each}
 
@@ -94,18 +94,18 @@ row_held query piece s row is valid words there asked = record {
 
 -- ---- what all pieces tell
 
-told_held : (query : Query) (held : List Segment) (asked : List Asked) → IsQuery query → ((a : Asked) → Contains asked a → IsExtent a.1) → All HaveWords held
-    → (row : Group) → Contains (told query held asked) row → IsHeld row
-told_held query held asked is valid words row there =
-    let piece = Contains-flat_map (told_of query held) asked row there in
+counted_held : (query : Query) (held : List Segment) (asked : List Asked) → IsQuery query → ((a : Asked) → Contains asked a → IsExtent a.1) → All HaveWords held
+    → (row : Group) → Contains (counted_groups query held asked) row → IsHeld row
+counted_held query held asked is valid words row there =
+    let piece = Contains-flat_map (counted_of query held) asked row there in
     of_found piece.0 (segment_named piece.0.0 held) refl (valid piece.0 piece.1) piece.2
   where
-    of_found : (a : Asked) (o : Option Segment) → segment_named a.0 held ≡ o → IsExtent a.1 → Contains (told_in query a.1 o) row → IsHeld row
+    of_found : (a : Asked) (o : Option Segment) → segment_named a.0 held ≡ o → IsExtent a.1 → Contains (counted_in query a.1 o) row → IsHeld row
     of_found a None e piece there = absurd (Contains-nil row there)
     of_found a (Some s) e piece there =
-        let told_row = Contains-map (tells query s.fields) _ row there in
-        let passed = from_filter (is_asked query a.1 s.fields) s.rows told_row.0 told_row.1 in
-        subst IsHeld told_row.2 (row_held query a.1 s told_row.0 is piece (found_each HaveWords held a.0 s words e) passed.0 passed.1)
+        let counted_row = Contains-map (tells query s.fields) _ row there in
+        let passed = from_filter (is_asked query a.1 s.fields) s.rows counted_row.0 counted_row.1 in
+        subst IsHeld counted_row.2 (row_held query a.1 s counted_row.0 is piece (found_each HaveWords held a.0 s words e) passed.0 passed.1)
 
 -- ---- aggregates
 
@@ -114,15 +114,15 @@ known_fit [] words = All-nil Fits
 known_fit (None ∷ xs) words = known_fit xs (All-tail IsWord None xs words)
 known_fit (Some x ∷ xs) words = All-cons Fits x (known xs) (All-head IsWord (Some x) xs words) (known_fit xs (All-tail IsWord (Some x) xs words))
 
-told_fits : (kind : AggregatorKind) (xs : List ℤ) (z : ℤ) → All Fits xs → IsTold kind xs z → Fits z
-told_fits Count xs z fit t = subst Fits (sym t) (SFits-int_wrap w64 _)
-told_fits LongSum xs z fit t = subst Fits (sym t) (SFits-int_wrap w64 _)
-told_fits LongMin xs z fit t = All-contains Fits xs z fit t.one
-told_fits LongMax xs z fit t = All-contains Fits xs z fit t.one
+reported_fits : (kind : AggregatorKind) (xs : List ℤ) (z : ℤ) → All Fits xs → IsReported kind xs z → Fits z
+reported_fits Count xs z fit t = subst Fits (sym t) (SFits-int_wrap w64 _)
+reported_fits LongSum xs z fit t = subst Fits (sym t) (SFits-int_wrap w64 _)
+reported_fits LongMin xs z fit t = All-contains Fits xs z fit t.one
+reported_fits LongMax xs z fit t = All-contains Fits xs z fit t.one
 
-aggregate_word : (kind : AggregatorKind) (xs : List ℤ) (told : Option ℤ) → All Fits xs → IsAggregate kind xs told → IsWord told
-aggregate_word kind [] told fit t = subst IsWord (sym t) tt
-aggregate_word kind (x ∷ xs) told fit t = subst IsWord (sym t.1) (told_fits kind (x ∷ xs) t.0 fit t.2)
+aggregate_word : (kind : AggregatorKind) (xs : List ℤ) (reported : Option ℤ) → All Fits xs → IsAggregate kind xs reported → IsWord reported
+aggregate_word kind [] reported fit t = subst IsWord (sym t) tt
+aggregate_word kind (x ∷ xs) reported fit t = subst IsWord (sym t.1) (reported_fits kind (x ∷ xs) t.0 fit t.2)
 
 word_at : (numbers : List (Option ℤ)) (place : ℕ) → AreWords numbers → IsWord (slice_index_or numbers place None)
 word_at [] place words = tt
@@ -160,7 +160,7 @@ result_held kinds rows groups held result =
     })
 
 pub groups_held : (query : Query) (held : List Segment) (asked : List Asked) (groups : List Group) → IsQuery query → ((a : Asked) → Contains asked a → IsExtent a.1) → All HaveWords held
-    → IsResult (kinds_of query) (told query held asked) groups → All IsHeld groups
+    → IsResult (kinds_of query) (counted_groups query held asked) groups → All IsHeld groups
 groups_held query held asked groups is valid words result =
-    result_held (kinds_of query) (told query held asked) groups
-    (all_of_each IsHeld (told query held asked) (told_held query held asked is valid words)) result
+    result_held (kinds_of query) (counted_groups query held asked) groups
+    (all_of_each IsHeld (counted_groups query held asked) (counted_held query held asked is valid words)) result

@@ -21,9 +21,9 @@ use Rattle.druid_link.specs.Links.{Came}
 use Rattle.druid_message.specs.Requests.{RequestValue, path_of}
 use Rattle.druid_node.specs.State.{State}
 use Rattle.druid_scatter.specs.Gathered.{Exchange, AreMade}
-use Rattle.druid_scatter.specs.Exact.{IsHonest, Sees, told_visible}
+use Rattle.druid_scatter.specs.Exact.{IsHonest, Sees, counted_visible}
 use Rattle.druid_broker.specs.Routes.{query, route_of}
-use Rattle.druid_broker.specs.Turns.{IsTold}
+use Rattle.druid_broker.specs.Turns.{IsReported}
 use Rattle.druid_world.specs.World.{Life, eras_of, set_at}
 use Rattle.druid_world.specs.World as replies
 
@@ -67,7 +67,7 @@ pub record IsLastOf (life : Life) (state : State) : Type 0 where
 -- each reply that comes over the link is honest in this life of a node
 abbrev pub RepliesAreHonest : {L : Type 0} → (L → List ℕ → Came → L → Type 0) → Life → Type 0
 RepliesAreHonest {L} step life =
-    (request : RequestValue) (old new : L) (reply : Body) → IsTold step request old new (Ok reply) → replies.IsHonest (eras_of life) reply
+    (request : RequestValue) (old new : L) (reply : Body) → IsReported step request old new (Ok reply) → replies.IsHonest (eras_of life) reply
 
 -- ---- what a broker answers
 
@@ -96,4 +96,4 @@ pub record IsExactAt {L : Type 0} (step : L → List ℕ → Came → L → Type
   pub exact : (segments : List Segment) (held : List Held) (sees : Segment → Row → Bool)
       → AreServedAt world marks asked.source segments → IsHeldAt world marks asked.source held → Sees asked held segments sees
       → ((e : Exchange) → Contains exchanges e → IsHonest asked segments e)
-      → IsResult (kinds_of asked) (told_visible asked sees missing segments) groups
+      → IsResult (kinds_of asked) (counted_visible asked sees missing segments) groups

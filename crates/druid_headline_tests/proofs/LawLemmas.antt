@@ -24,12 +24,12 @@ use Rattle.druid_headline_tests.specs.Nodes.{IsNode}
 use Rattle.druid_headline_tests.specs.Exchanges.{ExchangesWithNode}
 use Rattle.druid_headline_tests.specs.Following.{IsFirstReply, AreFollowed}
 use Rattle.druid_headline_tests.specs.Answers.{IsExactOver}
-use Rattle.druid_headline_tests.proofs.NodeLemmas.{snapshot_of, snapshot_told}
+use Rattle.druid_headline_tests.proofs.NodeLemmas.{snapshot_of, snapshot_reported}
 use Rattle.druid_headline_tests.proofs.WholeLemmas.{NodesAreHonest, both_honest, whole}
 
 -- the laws, of an ask for all
-abbrev pub Told : Type 0
-Told =
+abbrev pub Reported : Type 0
+Reported =
     (state : State) (status : ℕ) (body : List ℕ) (reply : Body) → RespondsInTurn state state (ask_request Whole) status body
     → IsAnswerTo (Ok (answer_text status body)) (Ok reply) → IsReplyTo state.history state.history Whole reply
 
@@ -61,19 +61,19 @@ nodes_honest : (law : HonestPieces) (asked : Query) → IsQuery asked → NodesA
 nodes_honest law asked is state pieces node segments kept may among status body responds =
     law state asked pieces node status body segments kept.holds is may responds among
 
-first_is : (told : Told) (state : State) (reply : Body) → IsNode state → IsFirstReply state reply → reply ≡ snapshot_of state
-first_is told state reply is first = snapshot_told state state reply is.kept is.small (told state first.status first.body reply first.responds first.told)
+first_is : (reported : Reported) (state : State) (reply : Body) → IsNode state → IsFirstReply state reply → reply ≡ snapshot_of state
+first_is reported state reply is first = snapshot_reported state state reply is.kept is.small (reported state first.status first.body reply first.responds first.reported)
 
-first_honest : (told : Told) (honest : Honest) (life : Life) (state : State) (reply : Body) → IsNode state → IsFirstReply state reply → IsLife life → IsLastOf life state
+first_honest : (reported : Reported) (honest : Honest) (life : Life) (state : State) (reply : Body) → IsNode state → IsFirstReply state reply → IsLife life → IsLastOf life state
     → IsHonest (eras_of life) (snapshot_of state)
-first_honest told honest life state reply is first valid last =
-    subst (IsHonest (eras_of life)) (first_is told state reply is first) (honest life state first.status first.body reply valid last first.responds first.told)
+first_honest reported honest life state reply is first valid last =
+    subst (IsHonest (eras_of life)) (first_is reported state reply is first) (honest life state first.status first.body reply valid last first.responds first.reported)
 
-published_is : (told : Told) (left right : State) (now : Published) → IsNode left → IsNode right → AreFollowed left right now
+published_is : (reported : Reported) (left right : State) (now : Published) → IsNode left → IsNode right → AreFollowed left right now
     → now ≡ (0, snapshot_of left) ∷ (1, snapshot_of right) ∷ []
-published_is told left right now is_left is_right f =
-    f.are ∙ ap (λ (r : Body). (0, r) ∷ (1, f.second) ∷ []) (first_is told left f.first is_left f.of_left)
-    ∙ ap (λ (r : Body). (0, snapshot_of left) ∷ (1, r) ∷ []) (first_is told right f.second is_right f.of_right)
+published_is reported left right now is_left is_right f =
+    f.are ∙ ap (λ (r : Body). (0, r) ∷ (1, f.second) ∷ []) (first_is reported left f.first is_left f.of_left)
+    ∙ ap (λ (r : Body). (0, snapshot_of left) ∷ (1, r) ∷ []) (first_is reported right f.second is_right f.of_right)
 
 -- what a broker answers over two nodes
 abbrev pub ExactOverTwo : Type 0
@@ -85,18 +85,18 @@ ExactOverTwo =
     → RespondsBy ExchangesWithNode order (map fresh names) seen now (left ∷ right ∷ []) new request status body
     → IsExactOver (first ∷ second ∷ []) left right asked status body ⊎ AnswersUnread status body
 
-pub exact_answer : (told : Told) (honest : Honest) (honest_pieces : HonestPieces) (exact : Exact) → ExactOverTwo
-exact_answer told honest honest_pieces exact order [] seen now left right new first second request asked status body two is_left is_right followed
+pub exact_answer : (reported : Reported) (honest : Honest) (honest_pieces : HonestPieces) (exact : Exact) → ExactOverTwo
+exact_answer reported honest honest_pieces exact order [] seen now left right new first second request asked status body two is_left is_right followed
     valid_first valid_second last_first last_second posted responds = absurd (omega (arith, two))
-exact_answer told honest honest_pieces exact order (x ∷ []) seen now left right new first second request asked status body two is_left is_right followed
+exact_answer reported honest honest_pieces exact order (x ∷ []) seen now left right new first second request asked status body two is_left is_right followed
     valid_first valid_second last_first last_second posted responds = absurd (omega (arith, two))
-exact_answer told honest honest_pieces exact order (x ∷ y ∷ z ∷ names) seen now left right new first second request asked status body two is_left is_right followed
+exact_answer reported honest honest_pieces exact order (x ∷ y ∷ z ∷ names) seen now left right new first second request asked status body two is_left is_right followed
     valid_first valid_second last_first last_second posted responds = absurd (omega (arith, two))
-exact_answer told honest honest_pieces exact order (x ∷ y ∷ []) seen now left right new first second request asked status body two is_left is_right followed
+exact_answer reported honest honest_pieces exact order (x ∷ y ∷ []) seen now left right new first second request asked status body two is_left is_right followed
     valid_first valid_second last_first last_second posted responds =
-    let now_is = published_is told left right now is_left is_right followed in
-    let at_left = first_honest told honest first left followed.first is_left followed.of_left valid_first last_first in
-    let at_right = first_honest told honest second right followed.second is_right followed.of_right valid_second last_second in
+    let now_is = published_is reported left right now is_left is_right followed in
+    let at_left = first_honest reported honest first left followed.first is_left followed.of_left valid_first last_first in
+    let at_right = first_honest reported honest second right followed.second is_right followed.of_right valid_second last_second in
     let are_honest = subst (AreHonest (first ∷ second ∷ [])) (sym now_is) (both_honest first second (snapshot_of left) (snapshot_of right) at_left at_right) in
     let answer = exact order (first ∷ second ∷ []) (x ∷ y ∷ []) seen now request asked (left ∷ right ∷ []) new status body (valid_first, (valid_second, tt)) refl are_honest posted responds in
     whole first second left right x y asked new status body (AnswersUnread status body) is_left is_right at_left at_right

@@ -13,7 +13,7 @@ use Rattle.druid_shard.specs.declared.reply.Body.TheVariants.{Snapshot}
 use Rattle.druid_shard.specs.Reply.{max_page}
 use Rattle.druid_shard.specs.Replay.{replay}
 use Rattle.druid_changes.specs.Kept.{IsKept, KeepsOrFreezes, frozen_count}
-use Rattle.druid_changes.specs.Answer.{answer, whole_answer, first_page, page_of, mark_behind}
+use Rattle.druid_changes.specs.Answer.{answer, whole_answer, first_page, page_of, mark_after}
 use Rattle.druid_message.specs.Requests.{RequestValue}
 use Rattle.druid_message.specs.declared.fault.WireFault.{WireFault}
 use Rattle.druid_wire.specs.Written.{answer_text}
@@ -33,17 +33,17 @@ snapshot_answer state kept small = by (nat_le (length state.history.set) max_pag
       → answer state.history.incarnation kept.history state.history.limit (frozen_count state.history.frozen) Whole ≡ Some (snapshot_of state, frozen_count state.history.frozen)
   by true e =
       ap (option_and_then (whole_answer state.history.incarnation kept.history (frozen_count state.history.frozen))) kept.stands.set
-      ∙ ap (λ (b : Bool). cond b (Some (Snapshot (mark_behind state.history.incarnation kept.history) state.history.set, frozen_count state.history.frozen))
+      ∙ ap (λ (b : Bool). cond b (Some (Snapshot (mark_after state.history.incarnation kept.history) state.history.set, frozen_count state.history.frozen))
       (first_page state.history.incarnation kept.history (unwrap_or (frozen_count state.history.frozen) (length kept.history)))) e
       ∙ ap (λ (n : ℕ). Some (Snapshot (record { incarnation = state.history.incarnation; count = n }) state.history.set, frozen_count state.history.frozen)) (sym kept.stands.count)
   by false e =
       let long = leb-false (length state.history.set) max_page e in
       absurd (omega (arith, long, small))
 
-pub snapshot_told : (state next : State) (reply : Body) → IsKept state.history → length state.history.set ≤ max_page
+pub snapshot_reported : (state next : State) (reply : Body) → IsKept state.history → length state.history.set ≤ max_page
     → IsReplyTo state.history next.history Whole reply → reply ≡ snapshot_of state
-snapshot_told state next reply kept small told =
-    ap (λ (p : Body × Option ℕ). p.0) (same_Some _ _ (sym (told kept.history kept.stands) ∙ snapshot_answer state kept small))
+snapshot_reported state next reply kept small reported =
+    ap (λ (p : Body × Option ℕ). p.0) (same_Some _ _ (sym (reported kept.history kept.stands) ∙ snapshot_answer state kept small))
 
 -- page 0 is no snapshot
 no_page : (incarnation count : ℕ) (at : Point) (segments : List Described) (reply : Body) (frozen : Option ℕ) (o : Option (List Described))
@@ -56,15 +56,15 @@ no_page incarnation count at segments reply frozen (Some ds) e is =
 -- where a snapshot is answered, one message carries all
 pub small_by : (state next : State) (reply : Body) (at : Point) (segments : List Described) → IsKept state.history
     → IsReplyTo state.history next.history Whole reply → reply ≡ Snapshot at segments → length state.history.set ≤ max_page
-small_by state next reply at segments kept told is = by (nat_le (length state.history.set) max_page) refl where
+small_by state next reply at segments kept reported is = by (nat_le (length state.history.set) max_page) refl where
   by : (b : Bool) → nat_le (length state.history.set) max_page ≡ b → length state.history.set ≤ max_page
   by true e = leb-true (length state.history.set) max_page e
   by false e =
       let paged =
-      sym (ap (λ (b : Bool). cond b (Some (Snapshot (mark_behind state.history.incarnation kept.history) state.history.set, frozen_count state.history.frozen))
+      sym (ap (λ (b : Bool). cond b (Some (Snapshot (mark_after state.history.incarnation kept.history) state.history.set, frozen_count state.history.frozen))
       (first_page state.history.incarnation kept.history (unwrap_or (frozen_count state.history.frozen) (length kept.history)))) e)
       ∙ sym (ap (option_and_then (whole_answer state.history.incarnation kept.history (frozen_count state.history.frozen))) kept.stands.set)
-      ∙ told kept.history kept.stands in
+      ∙ reported kept.history kept.stands in
       absurd (no_page state.history.incarnation (unwrap_or (frozen_count state.history.frozen) (length kept.history)) at segments reply (frozen_count next.history.frozen)
       (replay (take (unwrap_or (frozen_count state.history.frozen) (length kept.history)) kept.history)) paged is)
 
@@ -75,17 +75,17 @@ unfrozen old new small freezes = by freezes.only where
   by (inl same) = λ i. record { history = same i; held = freezes.held i }
   by (inr (none, many, is)) = absurd (omega (arith, many, small))
 
-pub answer_told : (state next : State) (request : RequestValue) (status : ℕ) (body : List ℕ) (r : Result (Vec ℕ Global) WireFault) → length state.history.set ≤ max_page
+pub answer_reported : (state next : State) (request : RequestValue) (status : ℕ) (body : List ℕ) (r : Result (Vec ℕ Global) WireFault) → length state.history.set ≤ max_page
     → Freezes state next → Responds state next request status body → IfOk r (λ text. text.items ≡ answer_text status body)
     → IfOk r (λ text. (status : ℕ) × (body : List ℕ) × RespondsInTurn state state request status body × (text.items ≡ answer_text status body))
-answer_told state next request status body (Ok text) small freezes responds is =
+answer_reported state next request status body (Ok text) small freezes responds is =
     (status, body, inl (subst (λ (s : State). Responds state s request status body) (unfrozen state next small freezes) responds), is)
-answer_told state next request status body (Err fault) small freezes responds is = tt
+answer_reported state next request status body (Err fault) small freezes responds is = tt
 
-pub memory_told : (state : State) (request : RequestValue) (r : Result (Vec ℕ Global) WireFault) → IfOk r (λ text. text.items ≡ answer_text 500 (codes "{\"error\":\"Memory\"}"))
+pub memory_reported : (state : State) (request : RequestValue) (r : Result (Vec ℕ Global) WireFault) → IfOk r (λ text. text.items ≡ answer_text 500 (codes "{\"error\":\"Memory\"}"))
     → IfOk r (λ text. (status : ℕ) × (body : List ℕ) × RespondsInTurn state state request status body × (text.items ≡ answer_text status body))
-memory_told state request (Ok text) is = (500, codes "{\"error\":\"Memory\"}", inr (record { status_is = refl; body_is = refl }), is)
-memory_told state request (Err fault) is = tt
+memory_reported state request (Ok text) is = (500, codes "{\"error\":\"Memory\"}", inr (record { status_is = refl; body_is = refl }), is)
+memory_reported state request (Err fault) is = tt
 
 same_set : (at other : Point) (a b : List Described) → Path Body (Snapshot at a) (Snapshot other b) → a ≡ b
 same_set at other a b e = cc
@@ -93,6 +93,6 @@ same_set at other a b e = cc
 -- the descriptors of its snapshot are those of its set
 pub described_by : (state next : State) (reply : Body) (at : Point) (segments : List Described) → IsKept state.history
     → IsReplyTo state.history next.history Whole reply → reply ≡ Snapshot at segments → All IsDescribed segments → All IsDescribed state.history.set
-described_by state next reply at segments kept told is each =
-    let small = small_by state next reply at segments kept told is in
-    subst (All IsDescribed) (same_set at (mark_of state) segments state.history.set (sym is ∙ snapshot_told state next reply kept small told)) each
+described_by state next reply at segments kept reported is each =
+    let small = small_by state next reply at segments kept reported is in
+    subst (All IsDescribed) (same_set at (mark_of state) segments state.history.set (sym is ∙ snapshot_reported state next reply kept small reported)) each

@@ -64,13 +64,13 @@ served law order names seen now left right new bytes written after sent Stays tw
     by (inr (refused, stays)) = absurd (not_refused bytes request rest done.status done.body is refused)
 
 -- a view that has seen no more than two replies, of which it learned
-pub served_exactly : (law : ExactOverTwo) (order : List ℕ → List ℕ) (opening : List Entry) (names : List (List ℕ)) (told seen now : Published) (left right : State) (links new : List State)
+pub served_exactly : (law : ExactOverTwo) (order : List ℕ → List ℕ) (opening : List Entry) (names : List (List ℕ)) (reported seen now : Published) (left right : State) (links new : List State)
     (bytes start written : List ℕ) (after : Option (List ℕ)) (sent : ℕ) (Stays : Type 0)
-    → length names ≡ 2 → opening ≡ map fresh names → IsPrefix told seen → IsPrefix seen now → length now ≡ 2 → start ≡ []
+    → length names ≡ 2 → opening ≡ map fresh names → IsPrefix reported seen → IsPrefix seen now → length now ≡ 2 → start ≡ []
     → IsServed (RespondsBy ExchangesWithNode order opening seen now links new) Stays (Some bytes) after (Some start) (Some written) sent
-    → links ≡ left ∷ right ∷ [] → IsNode left → IsNode right → AreFollowed left right told → AnswersExactly left right bytes written
-served_exactly law order opening names told seen now left right links new bytes start written after sent Stays two begins learned read count empty done are is_left is_right followed =
-    let same : now ≡ told = same_length told now (prefix_then told seen now learned read) (count ∙ sym (ap length followed.are)) in
+    → links ≡ left ∷ right ∷ [] → IsNode left → IsNode right → AreFollowed left right reported → AnswersExactly left right bytes written
+served_exactly law order opening names reported seen now left right links new bytes start written after sent Stays two begins learned read count empty done are is_left is_right followed =
+    let same : now ≡ reported = same_length reported now (prefix_then reported seen now learned read) (count ∙ sym (ap length followed.are)) in
     served law order names seen now left right new bytes written after sent Stays two is_left is_right (subst (AreFollowed left right) (sym same) followed)
     (subst (λ (l : List State). IsServed (RespondsBy ExchangesWithNode order (map fresh names) seen now l new) Stays (Some bytes) after (Some []) (Some written) sent) are
     (subst (λ (o : List Entry). IsServed (RespondsBy ExchangesWithNode order o seen now links new) Stays (Some bytes) after (Some []) (Some written) sent) begins

@@ -23,7 +23,7 @@ use Rattle.druid_headline.proofs.AskLemmas.{answer_of_history}
 use Rattle.druid_headline.proofs.HonestLemmas.{same_ok}
 use Rattle.druid_headline_tests.specs.Following.{IsFirstReply}
 use Rattle.druid_headline_tests.specs.Nodes.{IsNode}
-use Rattle.druid_headline_tests.proofs.NodeLemmas.{snapshot_of, snapshot_told}
+use Rattle.druid_headline_tests.proofs.NodeLemmas.{snapshot_of, snapshot_reported}
 use Rattle.druid_headline_tests.proofs.RequestLemmas.{ask_read}
 
 no_bytes : (fault : WireFault) (bytes : List ℕ) → Path Came (Err fault) (Ok bytes) → ⊥
@@ -32,18 +32,18 @@ no_bytes fault bytes e = cc
 no_reply : (fault : TurnFault) (reply : Body) → Path (Result Body TurnFault) (Ok reply) (Err fault) → ⊥
 no_reply fault reply e = cc
 
-told_by : (old : State) (came : Came) (reply : Body) → IfOk came (IsAnswered old (request_text (ask_request Whole))) → IsAnswerTo came (Ok reply) → IsFirstReply old reply
-told_by old (Err fault) reply is told = absurd (no_bytes fault told.0 told.2)
-told_by old (Ok text) reply is told = record {
+reported_by : (old : State) (came : Came) (reply : Body) → IfOk came (IsAnswered old (request_text (ask_request Whole))) → IsAnswerTo came (Ok reply) → IsFirstReply old reply
+reported_by old (Err fault) reply is reported = absurd (no_bytes fault reported.0 reported.2)
+reported_by old (Ok text) reply is reported = record {
   status = is.status;
   body = is.body;
   responds = subst (λ (r : RequestValue). RespondsInTurn old old r is.status is.body) (ask_read is.request is.rest is.read) is.responds;
-  told = subst (λ (bytes : List ℕ). IsAnswerTo (Ok bytes) (Ok reply)) is.written told;
+  reported = subst (λ (bytes : List ℕ). IsAnswerTo (Ok bytes) (Ok reply)) is.written reported;
 }
 
 -- one exchange
 fetched_once : (old new : State) (reply : Body) → Fetches ExchangesWithNode (ask_request Whole) old new (Ok reply) → (new ≡ old) × IsFirstReply old reply
-fetched_once old new reply (inl one) = (one.made.0, told_by old one.came reply one.made.1 one.told)
+fetched_once old new reply (inl one) = (one.made.0, reported_by old one.came reply one.made.1 one.reported)
 fetched_once old new reply (inr none) = absurd (no_reply _ reply none.0)
 
 -- what is written of an ask for all is read as that
@@ -53,7 +53,7 @@ IsReadBack = ask_at (parameters_of Whole) ≡ Some Whole
 -- what a node answers first is the snapshot
 first_snapshot : IsReadBack → (state : State) (reply : Body) → IsNode state → IsFirstReply state reply → reply ≡ snapshot_of state
 first_snapshot back state reply is first =
-    snapshot_told state state reply is.kept is.small (answer_of_history state state Whole first.status first.body reply back first.responds first.told)
+    snapshot_reported state state reply is.kept is.small (answer_of_history state state Whole first.status first.body reply back first.responds first.reported)
 
 -- a snapshot is not followed by pages
 ends_there : (between new : State) (first reply : Body) (at : Point) (set : List Described) → first ≡ Snapshot at set

@@ -15,7 +15,7 @@ use Rattle.druid_message.specs.Requests.{RequestValue}
 use Rattle.druid_wire.specs.Messages.{IsRequest}
 use Rattle.druid_wire.specs.Written.{answer_text}
 use Rattle.druid_node.specs.State.{State}
-use Rattle.druid_scatter.specs.Exact.{Sees, told_visible}
+use Rattle.druid_scatter.specs.Exact.{Sees, counted_visible}
 use Rattle.druid_broker.specs.Views.{AnswersUnread}
 use Rattle.druid_world.specs.World.{Life, IsLife}
 use Rattle.druid_headline.specs.Headline.{AreServedAt, IsHeldAt, IsLastOf, IsPosted}
@@ -37,7 +37,7 @@ pub record IsExactOver (world : List Life) (left right : State) (asked : Query) 
       → AreServedAt world (mark_of left ∷ mark_of right ∷ []) asked.source segments
       → IsHeldAt world (mark_of left ∷ mark_of right ∷ []) asked.source held → Sees asked held segments sees
       → HoldsAmong left asked.source segments → HoldsAmong right asked.source segments
-      → IsResult (kinds_of asked) (told_visible asked sees missing segments) groups
+      → IsResult (kinds_of asked) (counted_visible asked sees missing segments) groups
 
 -- what was written answers the query that these bytes post, whatever lives the two nodes had
 abbrev pub AnswersExactly : State → State → List ℕ → List ℕ → Type 0

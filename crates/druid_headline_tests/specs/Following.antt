@@ -13,7 +13,7 @@ pub record IsFirstReply (state : State) (reply : Body) : Type 0 where
   pub status : ℕ
   pub body : List ℕ
   pub responds : RespondsInTurn state state (ask_request Whole) status body
-  pub told : IsAnswerTo (Ok (answer_text status body)) (Ok reply)
+  pub reported : IsAnswerTo (Ok (answer_text status body)) (Ok reply)
 
 -- what was published is the first reply of each of the two
 pub record AreFollowed (left right : State) (published : Published) : Type 0 where

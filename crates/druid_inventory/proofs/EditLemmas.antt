@@ -282,9 +282,9 @@ pub both_ok : {T E : Type 0} (r : Result T E) (P Q : Type 0) → OnOk r P → On
 both_ok (Ok x) P Q p q = (p, q)
 both_ok (Err e) P Q p q = tt
 
-pub lent_timeline : (lent inside now : Serving) → (lent ≡ inside) ⊎ (lent ≡ inside) → inside ≡ now → lent ≡ now
-lent_timeline lent inside now (inl e) f = e ∙ f
-lent_timeline lent inside now (inr e) f = e ∙ f
+pub borrowed_timeline : (borrowed inside now : Serving) → (borrowed ≡ inside) ⊎ (borrowed ≡ inside) → inside ≡ now → borrowed ≡ now
+borrowed_timeline borrowed inside now (inl e) f = e ∙ f
+borrowed_timeline borrowed inside now (inr e) f = e ∙ f
 
 -- ---- a change
 

@@ -22,7 +22,7 @@ use Rattle.druid_inventory.specs.Equality.{same_entry, same_entries, same_entry-
 use Rattle.druid_inventory.specs.Join.{names_of, later, later_each, Conflict, ConflictAt, IsJoin, RefusesJoin, TellsJoin}
 use Rattle.druid_inventory.specs.Judged.{NoneLater}
 use Rattle.druid_inventory.proofs.EntryLemmas.{set-found}
-use Rattle.druid_inventory.proofs.TimelineLemmas.{found_behind}
+use Rattle.druid_inventory.proofs.TimelineLemmas.{found_beyond}
 use Rattle.druid_inventory.specs.declared.fault.JoinFault.{JoinFault}
 use Rattle.druid_inventory.specs.declared.fault.JoinFault.TheVariants as faults
 
@@ -91,7 +91,7 @@ names_more a b n x y h f g e k v w l p q = elim (cases_order k n) [
       let right : w ≡ y = same_Some w y (sym q ∙ ap (slice_get b) at ∙ g) in
       ap (λ (z : Entry). z.name) left ∙ e ∙ sym (ap (λ (z : Entry). z.name) right)
   | inr (inl before) ↦ h k v w before p q
-  | inr (inr behind) ↦ absurd (omega arith)
+  | inr (inr beyond) ↦ absurd (omega arith)
 ]
 
 -- another name at a place
@@ -111,7 +111,7 @@ agree_more a b n x y h f g apart k l c = elim (cases_order k n) [
       let right : c.1 ≡ y = same_Some c.1 y (sym c.3 ∙ ap (slice_get b) at ∙ g) in
       apart (subst (λ (z : Entry). Conflict z y) left (subst (λ (z : Entry). Conflict c.0 z) right c.4))
   | inr (inl before) ↦ h k before c
-  | inr (inr behind) ↦ absurd (omega arith)
+  | inr (inr beyond) ↦ absurd (omega arith)
 ]
 
 within : (a : List Entry) (k : ℕ) (x : Entry) → slice_get a k ≡ Some x → k < length a
@@ -224,17 +224,17 @@ later_first-all (suc n) (x ∷ a) [] e f = absurd (omega arith)
 later_first-all (suc n) (x ∷ a) (y ∷ b) e f = ap (λ (es : List Entry). later x y ∷ es) (later_first-all n a b (omega arith) (omega arith))
 
 pub later_read : {X : Type 0} (f : X → Entry) (xs : List X) (i : ℕ) (x : X) → i < length xs → x ≡ get_or xs i x → slice_get (map f xs) i ≡ Some (f x)
-later_read f xs i x l e = found_behind f xs i x l e
+later_read f xs i x l e = found_beyond f xs i x l e
 
 -- an entry that is not after stays
-pub not_behind : (es : List Entry) (n : ℕ) (x y : Entry) → slice_get es n ≡ Some x → is_lt (mark_cmp x.mark y.mark) ≡ false
+pub not_older : (es : List Entry) (n : ℕ) (x y : Entry) → slice_get es n ≡ Some x → is_lt (mark_cmp x.mark y.mark) ≡ false
     → (e : Entry) × (slice_get es n ≡ Some e) × (es ≡ set es n (later e y))
-not_behind es n x y f e = (x, f, sym (ap (set es n) (ap (λ (t : Bool). if t then y else x) e) ∙ set-found es n x f))
+not_older es n x y f e = (x, f, sym (ap (set es n) (ap (λ (t : Bool). if t then y else x) e) ∙ set-found es n x f))
 
 -- and one that is older is replaced
-pub behind : (es now : List Entry) (n : ℕ) (x y z : Entry) → slice_get es n ≡ Some x → is_lt (mark_cmp x.mark y.mark) ≡ true → now ≡ set es n z → z ≡ y
+pub beyond : (es now : List Entry) (n : ℕ) (x y z : Entry) → slice_get es n ≡ Some x → is_lt (mark_cmp x.mark y.mark) ≡ true → now ≡ set es n z → z ≡ y
     → (e : Entry) × (slice_get es n ≡ Some e) × (now ≡ set es n (later e y))
-behind es now n x y z f e made is = (x, f, made ∙ ap (set es n) (is ∙ sym (ap (λ (t : Bool). if t then y else x) e)))
+beyond es now n x y z f e made is = (x, f, made ∙ ap (set es n) (is ∙ sym (ap (λ (t : Bool). if t then y else x) e)))
 
 -- ---- what an answer tells
 
@@ -273,7 +273,7 @@ one_refusal a b (faults.Conflict node) faults.OtherNodes h k = absurd (k h.0)
 one_refusal a b (faults.Conflict node) (faults.Conflict other) h k = elim (cases_order node other) [
   | inl e ↦ ap (λ (n : ℕ). faults.Conflict n) e
   | inr (inl before) ↦ absurd (k.2 node before h.1)
-  | inr (inr behind) ↦ absurd (h.2 other behind k.1)
+  | inr (inr beyond) ↦ absurd (h.2 other beyond k.1)
 ]
 one_refusal a b faults.Memory g h k = absurd h
 one_refusal a b f faults.Memory h k = absurd k
@@ -289,13 +289,13 @@ what_tells a b faults.Memory h = inr h
 -- two inventories are not joined exactly where the answer says so
 pub join_refused : {X : Type 0} (r : Result X JoinFault) (a b : List Entry) → IfOk r (λ _. SomeJoin a b) → IfErr r (TellsJoin a b)
     → (f : JoinFault) → f ≢ faults.Memory → (r ≡ Err f) ↔ RefusesJoin a b f
-join_refused (Ok x) a b ok told f other = (λ e. absurd (cc), λ h. absurd (refused_or_joined a b ok.0 f h ok.1))
-join_refused {X} (Err g) a b ok told f other = (
-  λ e. elim (what_tells a b g told) [
+join_refused (Ok x) a b ok reported f other = (λ e. absurd (cc), λ h. absurd (refused_or_joined a b ok.0 f h ok.1))
+join_refused {X} (Err g) a b ok reported f other = (
+  λ e. elim (what_tells a b g reported) [
     | inl h ↦ let same : g ≡ f = cc in subst (RefusesJoin a b) same h
-    | inr j ↦ memory_alone g f told j (cc) other
+    | inr j ↦ memory_alone g f reported j (cc) other
   ],
-  λ h. elim (what_tells a b g told) [
+  λ h. elim (what_tells a b g reported) [
     | inl k ↦ let same = one_refusal a b g f k h in (λ i. Err (same i))
     | inr j ↦ absurd (refused_or_joined a b j.0 f h j.1)
   ],
@@ -327,7 +327,7 @@ least_conflict a b (suc n) = by (least_conflict a b n) (slice_get a n) refl (sli
   next h none k l c = elim (cases_order k n) [
     | inl at ↦ none (subst (ConflictAt a b) at c)
     | inr (inl before) ↦ h k before c
-    | inr (inr behind) ↦ absurd (omega arith)
+    | inr (inr beyond) ↦ absurd (omega arith)
   ]
 
   by : AgreeTo a b n ⊎ LeastConflict a b → (o : Option Entry) → slice_get a n ≡ o → (p : Option Entry) → slice_get b n ≡ p

@@ -38,15 +38,15 @@ precedes_itself a before = let tied = tied_itself nat_list_cmp_total a in absurd
 
 pub belongs_absent : (s : List Described) (id : Identifier) (i : ℕ) → BelongsAt s id i → (x : Described) → Contains s x → identifier_text x.id ≡ identifier_text id → ⊥
 belongs_absent s id i at x (k, l, e) same = elim (cases_order k i) [
-  | inl level ↦ precedes_itself (identifier_text id) (behind (at.above k x (omega arith) l))
+  | inl level ↦ precedes_itself (identifier_text id) (beyond (at.above k x (omega arith) l))
   | inr (inl before) ↦ precedes_itself (identifier_text id) (front (at.below k x before))
-  | inr (inr after) ↦ precedes_itself (identifier_text id) (behind (at.above k x (omega arith) l))
+  | inr (inr after) ↦ precedes_itself (identifier_text id) (beyond (at.above k x (omega arith) l))
 ] where
   text_here : identifier_text (get_or s k x).id ≡ identifier_text id
   text_here = ap (λ (z : Described). identifier_text z.id) e ∙ same
 
-  behind : Precedes (identifier_text id) (identifier_text (get_or s k x).id) → Precedes (identifier_text id) (identifier_text id)
-  behind h = subst (Precedes (identifier_text id)) text_here h
+  beyond : Precedes (identifier_text id) (identifier_text (get_or s k x).id) → Precedes (identifier_text id) (identifier_text id)
+  beyond h = subst (Precedes (identifier_text id)) text_here h
 
   front : Precedes (identifier_text (get_or s k x).id) (identifier_text id) → Precedes (identifier_text id) (identifier_text id)
   front h = subst (λ (t : List ℕ). Precedes t (identifier_text id)) text_here h
@@ -86,11 +86,11 @@ untouched s t (c ∷ cs) id h e none x same =
 -- a change among others, and what comes before it and after it
 pub record Replayed (s t : List Described) (cs : List Change) (j : ℕ) (c : Change) : Type 0 where
   pub before : List Described
-  pub behind : List Described
+  pub beyond : List Described
   pub before_set : IsSegmentSet before
-  pub behind_set : IsSegmentSet behind
-  pub change : IsChangedBy before behind c
-  pub rest : replay_from behind (drop (suc j) cs) ≡ Some t
+  pub beyond_set : IsSegmentSet beyond
+  pub change : IsChangedBy before beyond c
+  pub rest : replay_from beyond (drop (suc j) cs) ≡ Some t
 
 split_at : (cs : List Change) (j : ℕ) (c : Change) → j < length cs → c ≡ get_or cs j c → take j cs ++ (c ∷ drop (suc j) cs) ≡ cs
 split_at cs j c l e =
@@ -104,7 +104,7 @@ replayed s t cs j c h e l here =
     let step = and_then-some (λ u. replay_from u (drop (suc j) cs)) (changed parts.0 c) t parts.2 in
     let set = replay_from-set s parts.0 (take j cs) h parts.1 in
     let one = changed-one parts.0 step.0 c set step.1 in
-    record { before = parts.0; behind = step.0; before_set = set; behind_set = one.0; change = one.1; rest = step.2 }
+    record { before = parts.0; beyond = step.0; before_set = set; beyond_set = one.0; change = one.1; rest = step.2 }
 
 drop_none : (cs : List Change) (id : Identifier) (n : ℕ) → NoneOfFrom cs id n → NoneOfFrom (drop n cs) id 0
 drop_none cs id n none k c m l =
@@ -117,15 +117,15 @@ pub holder-loaded : (s t : List Described) (cs : List Change) (id : Identifier) 
     → j < length cs → c ≡ get_or cs j c → c ≡ Load d → NoneOfFrom cs id (suc j) → identifier_text d.id ≡ identifier_text id → IsHolderOf t id (Some d)
 holder-loaded s t cs id j c d h e l here is none same =
     let r = replayed s t cs j (Load d) h e l (sym is ∙ here ∙ get_or_default cs j c (Load d) l) in
-    let there : Contains r.behind d = (r.change.members d).1 (inl refl) in
-    ((untouched r.behind t (drop (suc j) cs) id r.behind_set r.rest (drop_none cs id (suc j) none) d same).1 there, same)
+    let there : Contains r.beyond d = (r.change.members d).1 (inl refl) in
+    ((untouched r.beyond t (drop (suc j) cs) id r.beyond_set r.rest (drop_none cs id (suc j) none) d same).1 there, same)
 
 -- the last change of the identifier drops it
 pub holder-dropped : (s t : List Described) (cs : List Change) (id : Identifier) (j : ℕ) (c : Change) (d : Described) → IsSegmentSet s → replay_from s cs ≡ Some t
     → j < length cs → c ≡ get_or cs j c → c ≡ Drop d → NoneOfFrom cs id (suc j) → identifier_text d.id ≡ identifier_text id → IsHolderOf t id None
 holder-dropped s t cs id j c d h e l here is none same x there text =
     let r = replayed s t cs j (Drop d) h e l (sym is ∙ here ∙ get_or_default cs j c (Drop d) l) in
-    let left = (r.change.members x).0 ((untouched r.behind t (drop (suc j) cs) id r.behind_set r.rest (drop_none cs id (suc j) none) x text).0 there) in
+    let left = (r.change.members x).0 ((untouched r.beyond t (drop (suc j) cs) id r.beyond_set r.rest (drop_none cs id (suc j) none) x text).0 there) in
     left.0 (one_holder r.before r.before_set.sorted x d left.1 r.change.held (text ∙ sym same))
 
 -- no change is of the identifier, which the set has
@@ -150,7 +150,7 @@ NoneOfFrom-more cs id n m c none e is other k d at l = elim (cases_order k m) [
   | inl level ↦
       λ same. other (ap (λ (x : Change). identifier_text (segment_of x).id) (is ∙ get_or_default cs m c d (omega arith) ∙ ap (λ (i : ℕ). get_or cs i d) (sym level)) ∙ same)
   | inr (inl before) ↦ absurd (omega arith)
-  | inr (inr behind) ↦ none k d (omega arith) l
+  | inr (inr beyond) ↦ none k d (omega arith) l
 ]
 
 -- ---- which changes are strict

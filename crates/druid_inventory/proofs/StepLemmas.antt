@@ -64,7 +64,7 @@ stops_once : (s : List Described) (cs : List Change) (k j : ℕ) (t u : List Des
 stops_once s cs k j t u c d a b = elim (cases_order k j) [
   | inl level ↦ level
   | inr (inl before) ↦ absurd (stops_before s cs k j t u c a b.0 before)
-  | inr (inr behind) ↦ absurd (stops_before s cs j k u t d b a.0 behind)
+  | inr (inr beyond) ↦ absurd (stops_before s cs j k u t d b a.0 beyond)
 ]
 
 within : (cs : List Change) (k : ℕ) (c : Change) → slice_get cs k ≡ Some c → k < length cs
@@ -422,16 +422,16 @@ what_tells inventory node body faults.Conflict h = inl h
 what_tells inventory node body faults.PageConflict h = inl h
 what_tells inventory node body faults.Memory h = inr (inl h)
 
-refusal_told : (inventory : List Entry) (node : ℕ) (body : Body) (f : ApplyFault) → f ≢ faults.UnknownNode → f ≢ faults.Memory → Tells inventory node body f
+refusal_reported : (inventory : List Entry) (node : ℕ) (body : Body) (f : ApplyFault) → f ≢ faults.UnknownNode → f ≢ faults.Memory → Tells inventory node body f
     → RefusedAt inventory node body f
-refusal_told inventory node body faults.UnknownNode a b h = absurd (a refl)
-refusal_told inventory node body faults.OtherIncarnation a b h = h
-refusal_told inventory node body faults.Gap a b h = h
-refusal_told inventory node body (faults.NotStrict index) a b h = h
-refusal_told inventory node body faults.TooMany a b h = h
-refusal_told inventory node body faults.Conflict a b h = h
-refusal_told inventory node body faults.PageConflict a b h = h
-refusal_told inventory node body faults.Memory a b h = absurd (b refl)
+refusal_reported inventory node body faults.UnknownNode a b h = absurd (a refl)
+refusal_reported inventory node body faults.OtherIncarnation a b h = h
+refusal_reported inventory node body faults.Gap a b h = h
+refusal_reported inventory node body (faults.NotStrict index) a b h = h
+refusal_reported inventory node body faults.TooMany a b h = h
+refusal_reported inventory node body faults.Conflict a b h = h
+refusal_reported inventory node body faults.PageConflict a b h = h
+refusal_reported inventory node body faults.Memory a b h = absurd (b refl)
 
 is_unknown : (f : ApplyFault) → (f ≡ faults.UnknownNode) ⊎ (f ≡ faults.UnknownNode → ⊥)
 is_unknown faults.UnknownNode = inl refl
@@ -447,11 +447,11 @@ is_unknown faults.Memory = inr (λ e. cc)
 pub unknown_exact : {X : Type 0} (r : Result X ApplyFault) (inventory : List Entry) (node : ℕ) (body : Body)
     → IfOk r (λ _. SomeStep inventory node body) → IfErr r (Tells inventory node body)
     → (r ≡ Err faults.UnknownNode) ↔ (slice_get inventory node ≡ None)
-unknown_exact (Ok x) inventory node body ok told = (λ e. absurd (cc), λ none. absurd (none-some ok.2.0 (sym none ∙ ok.2.1)))
-unknown_exact {X} (Err f) inventory node body ok told = elim (is_unknown f) [
-  | inl is ↦ (λ _. subst (Tells inventory node body) is told, λ _ i. Err (is i))
+unknown_exact (Ok x) inventory node body ok reported = (λ e. absurd (cc), λ none. absurd (none-some ok.2.0 (sym none ∙ ok.2.1)))
+unknown_exact {X} (Err f) inventory node body ok reported = elim (is_unknown f) [
+  | inl is ↦ (λ _. subst (Tells inventory node body) is reported, λ _ i. Err (is i))
   | inr other ↦
-      let found = found_unless inventory node body f other told in
+      let found = found_unless inventory node body f other reported in
       (λ e. absurd (other (cc)), λ none. absurd (none-some found.0 (sym none ∙ found.1)))
 ]
 
@@ -469,11 +469,11 @@ one_fault inventory node body f g a b =
 pub refused_exact : {X : Type 0} (r : Result X ApplyFault) (inventory : List Entry) (node : ℕ) (body : Body)
     → IfOk r (λ _. SomeStep inventory node body) → IfErr r (Tells inventory node body)
     → (fault : ApplyFault) → fault ≢ faults.UnknownNode → fault ≢ faults.Memory → (r ≡ Err fault) ↔ RefusedAt inventory node body fault
-refused_exact (Ok x) inventory node body ok told fault a b =
+refused_exact (Ok x) inventory node body ok reported fault a b =
     (λ e. absurd (cc), λ refused. absurd (refused_or_stepped inventory node body fault refused ok))
-refused_exact {X} (Err f) inventory node body ok told fault a b = (
-  λ e. let same : f ≡ fault = cc in refusal_told inventory node body fault a b (subst (Tells inventory node body) same told),
-  λ refused. elim (what_tells inventory node body f told) [
+refused_exact {X} (Err f) inventory node body ok reported fault a b = (
+  λ e. let same : f ≡ fault = cc in refusal_reported inventory node body fault a b (subst (Tells inventory node body) same reported),
+  λ refused. elim (what_tells inventory node body f reported) [
     | inl other ↦ let same = one_fault inventory node body f fault other refused in (λ i. Err (same i))
     | inr (inl stepped) ↦ absurd (refused_or_stepped inventory node body fault refused stepped)
     | inr (inr none) ↦ absurd (none-some refused.0 (sym none ∙ refused.1))

@@ -193,8 +193,8 @@ AddsSegment-begun m n source key name begun t node d same absent at called new w
     (subst (λ (xs : List Held). AddsHeld xs t.held (held_of node d)) none adds))
 
 -- what a pointer of the list points to
-pub found_behind : {A B : Type 0} (f : A → B) (xs : List A) (i : ℕ) (x : A) → i < length xs → x ≡ get_or xs i x → slice_get (map f xs) i ≡ Some (f x)
-found_behind f xs i x l e = slice_get-map f xs i ∙ ap (option_map f) (slice_get_read xs (length xs) i x refl l e)
+pub found_beyond : {A B : Type 0} (f : A → B) (xs : List A) (i : ℕ) (x : A) → i < length xs → x ≡ get_or xs i x → slice_get (map f xs) i ≡ Some (f x)
+found_beyond f xs i x l e = slice_get-map f xs i ∙ ap (option_map f) (slice_get_read xs (length xs) i x refl l e)
 
 -- ---- what an inventory answers
 

@@ -214,7 +214,7 @@ impl Inventory {
         ensures held { IfSome result (λ timeline. IsHoldingOf self.now source.now timeline.now.held) }
     {
         let timeline = self.timelines.get(source)?;
-        Some(timeline.lent())
+        Some(timeline.borrowed())
     }
 
     /// The data sources of which some node serves a segment, rising, each once.
@@ -235,7 +235,7 @@ impl Inventory {
         ensures unknown { IsErrOf result ApplyFault.UnknownNode ↔ (slice_get self.now node ≡ None) }
         ensures refused { (fault : ApplyFault) → fault ≢ ApplyFault.UnknownNode → fault ≢ ApplyFault.Memory
             → IsErrOf result fault ↔ RefusedAt self.now node reply.now fault }
-        ensures told { IfErr result (Tells self.now node reply.now) }
+        ensures reported { IfErr result (Tells self.now node reply.now) }
     {
         self.stepped(node, reply.body())
     }
@@ -245,7 +245,7 @@ impl Inventory {
         requires { IsReply body.now }
         ensures ok { IfOk result (λ r. (new : Entry) × StepsAt self.now node body.now r.1 new
             × (r.0 ≡ slice_set self.now node new)) }
-        ensures told { IfErr result (Tells self.now node body.now) }
+        ensures reported { IfErr result (Tells self.now node body.now) }
     {
         let outcome = match self.judged(node, body) {
             Ok(outcome) => outcome,
@@ -269,7 +269,7 @@ impl Inventory {
         ensures unknown { IsErrOf result ApplyFault.UnknownNode ↔ (slice_get self.old node ≡ None) }
         ensures refused { (fault : ApplyFault) → fault ≢ ApplyFault.UnknownNode → fault ≢ ApplyFault.Memory
             → IsErrOf result fault ↔ RefusedAt self.old node reply.now fault }
-        ensures told { IfErr result (Tells self.old node reply.now) }
+        ensures reported { IfErr result (Tells self.old node reply.now) }
     {
         self.advanced(node, reply.body())
     }
@@ -280,7 +280,7 @@ impl Inventory {
         ensures ok { IfOk result (λ outcome. (new : Entry) × StepsAt self.old node body.now outcome new
             × (self.new ≡ slice_set self.old node new)) }
         ensures err { OnErr result (self.new ≡ self.old) }
-        ensures told { IfErr result (Tells self.old node body.now) }
+        ensures reported { IfErr result (Tells self.old node body.now) }
     {
         let outcome = match self.judged(node, body) {
             Ok(outcome) => outcome,
@@ -296,7 +296,7 @@ impl Inventory {
     fn judged(&self, node: NodeNo, body: &Body) -> Result<Outcome, ApplyFault>
         requires { IsReply body.now }
         ensures ok { IfOk result (λ outcome. (new : Entry) × StepsAt self.now node body.now outcome new) }
-        ensures told { IfErr result (Tells self.now node body.now) }
+        ensures reported { IfErr result (Tells self.now node body.now) }
     {
         let Some(known) = self.known(node) else {
             return Err(ApplyFault::UnknownNode);
@@ -511,7 +511,7 @@ impl Inventory {
             ↔ RefusesJoin self.now other.now JoinFault.OtherNodes }
         ensures conflict { (node : ℕ) → IsErrOf result (JoinFault.Conflict node)
             ↔ RefusesJoin self.now other.now (JoinFault.Conflict node) }
-        ensures told { IfErr result (TellsJoin self.now other.now) }
+        ensures reported { IfErr result (TellsJoin self.now other.now) }
     {
         self.judged_join(other)
     }
@@ -519,7 +519,7 @@ impl Inventory {
     // What this inventory and another are together, or why there is none.
     fn judged_join(&self, other: &Inventory) -> Result<Inventory, JoinFault>
         ensures ok { IfOk result (IsJoin self.now other.now) }
-        ensures told { IfErr result (TellsJoin self.now other.now) }
+        ensures reported { IfErr result (TellsJoin self.now other.now) }
     {
         let entries = self.entries();
         let others = other.entries();

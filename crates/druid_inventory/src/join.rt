@@ -64,7 +64,7 @@ pub(crate) fn first_conflict(a: &[Arc<Known, Global>], b: &[Arc<Known, Global>])
 }
 
 // Whether the second entry is of a later mark.
-fn is_behind(a: &Known, b: &Known) -> bool
+fn is_older(a: &Known, b: &Known) -> bool
     ensures { result ≡ is_lt (mark_cmp a.now.mark b.now.mark) }
 {
     a.mark() < b.mark()
@@ -76,7 +76,7 @@ pub(crate) fn has_later(a: &[Arc<Known, Global>], b: &[Arc<Known, Global>]) -> b
     ensures { result ≡ false → NoneLater (map arc_value a.now) (map arc_value b.now) }
 {
     for node in 0..a.len() {
-        if is_behind(entry_of(a, node), entry_of(b, node)) {
+        if is_older(entry_of(a, node), entry_of(b, node)) {
             return true;
         }
     }
@@ -101,7 +101,7 @@ pub(crate) fn catch_up(
     ensures long { OnOk result (vec_len entries.new ≡ vec_len entries.old) }
 {
     let known = entry_of(entries, node);
-    if !is_behind(known, entry) {
+    if !is_older(known, entry) {
         return Ok(());
     }
     change_set(timelines, alloc, node as NodeNo, known.set(), entry.set())?;

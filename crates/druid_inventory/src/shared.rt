@@ -14,7 +14,7 @@ use std::sync::Arc;
 // Where a timeline is kept.
 #[derive(Debug, Drop)]
 enum Kept {
-    // Behind a pointer, which copies share.
+    // A pointer, which copies share.
     Shared(Arc<Timeline, Global>),
     // In place, where no memory was left for a pointer.
     Own(Timeline),
@@ -156,7 +156,7 @@ impl SharedTimeline {
     }
 
     // The timeline, borrowed.
-    pub(crate) fn lent(&self) -> &Timeline
+    pub(crate) fn borrowed(&self) -> &Timeline
         ensures { result.now ≡ self.now }
     {
         match &self.kept {

@@ -68,7 +68,7 @@ fn edit_out(
     match timelines.get_mut(source) {
         Some(timeline) => {
             timeline.remove(node, descriptor.id())?;
-            Ok(timeline.lent().is_empty())
+            Ok(timeline.borrowed().is_empty())
         }
         None => unreachable!(),
     }

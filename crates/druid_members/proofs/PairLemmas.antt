@@ -61,9 +61,9 @@ absent_between xs i n up below above there =
           let u = above (omega arith) in
           let same : get_or xs there.0 0 ≡ get_or xs i 0 = ap (λ (m : ℕ). get_or xs m 0) level in omega arith
       | inr (inl before) ↦ let u = below there.0 before in omega arith
-      | inr (inr behind) ↦
+      | inr (inr beyond) ↦
           let u = above (omega arith) in
-          let v = AllPairs-from_increasing xs up i there.0 0 behind there.1 in omega arith
+          let v = AllPairs-from_increasing xs up i there.0 0 beyond there.1 in omega arith
     ]
 
 -- ---- pairs of lists

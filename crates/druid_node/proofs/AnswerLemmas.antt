@@ -6,46 +6,46 @@ use Rattle.druid_rows.specs.Segment.{Segment}
 use Rattle.druid_query.specs.Query.{Query}
 use Rattle.druid_query.specs.Asked.{Asked}
 use Rattle.druid_node.specs.Answers.{missing}
-use Rattle.druid_partial.specs.Once.{segment_named, told_in, told_of, told}
-use Rattle.druid_partial.specs.Rows.{told_by}
-use Rattle.druid_node.specs.Placed.{Placed, told_at}
+use Rattle.druid_partial.specs.Once.{segment_named, counted_in, counted_of, counted_groups}
+use Rattle.druid_partial.specs.Rows.{counted_by}
+use Rattle.druid_node.specs.Placed.{Placed, counted_at}
 use Rattle.std.specs.List.{flat_map}
 
 -- ---- pieces by the places of their segments
 
 -- the segments of the first i pieces that were asked for are looked up
 abbrev pub PlacedSoFar : List Segment → List Placed → List Asked → ℕ → Type 0
-PlacedSoFar held placed asked i = (query : Query) → flat_map (told_at query held) placed ++ told query held (drop i asked) ≡ told query held asked
+PlacedSoFar held placed asked i = (query : Query) → flat_map (counted_at query held) placed ++ counted_groups query held (drop i asked) ≡ counted_groups query held asked
 
-told_next : (query : Query) (held : List Segment) (asked : List Asked) (i : ℕ) (a : Asked) → i < length asked → a ≡ get_or asked i a
-    → told query held (drop i asked) ≡ told_of query held a ++ told query held (drop (suc i) asked)
-told_next query held [] i a below here = absurd (omega arith)
-told_next query held (x ∷ asked) zero a below here = ap (λ y. told_of query held y ++ told query held asked) (sym here)
-told_next query held (x ∷ asked) (suc i) a below here = told_next query held asked i a (omega arith) here
+counted_next : (query : Query) (held : List Segment) (asked : List Asked) (i : ℕ) (a : Asked) → i < length asked → a ≡ get_or asked i a
+    → counted_groups query held (drop i asked) ≡ counted_of query held a ++ counted_groups query held (drop (suc i) asked)
+counted_next query held [] i a below here = absurd (omega arith)
+counted_next query held (x ∷ asked) zero a below here = ap (λ y. counted_of query held y ++ counted_groups query held asked) (sym here)
+counted_next query held (x ∷ asked) (suc i) a below here = counted_next query held asked i a (omega arith) here
 
 pub placed_next : (held : List Segment) (placed : List Placed) (asked : List Asked) (i place : ℕ) (a : Asked) → i < length asked → a ≡ get_or asked i a
     → slice_get held place ≡ segment_named a.0 held → PlacedSoFar held placed asked i → PlacedSoFar held (placed ++ (place, a.1) ∷ []) asked (suc i)
 placed_next held placed asked i place a below here found before query =
-    let mine : told_at query held (place, a.1) ≡ told_of query held a = ap (told_in query a.1) found in
-    let rest = told query held (drop (suc i) asked) in
-    ap (λ rows. rows ++ rest) (flat_map-append (told_at query held) placed ((place, a.1) ∷ []))
-    ∙ append_assoc (flat_map (told_at query held) placed) (told_at query held (place, a.1) ++ []) rest
-    ∙ ap (λ rows. flat_map (told_at query held) placed ++ (rows ++ rest)) (append-nil (told_at query held (place, a.1)) ∙ mine)
-    ∙ ap (λ rows. flat_map (told_at query held) placed ++ rows) (sym (told_next query held asked i a below here))
+    let mine : counted_at query held (place, a.1) ≡ counted_of query held a = ap (counted_in query a.1) found in
+    let rest = counted_groups query held (drop (suc i) asked) in
+    ap (λ rows. rows ++ rest) (flat_map-append (counted_at query held) placed ((place, a.1) ∷ []))
+    ∙ append_assoc (flat_map (counted_at query held) placed) (counted_at query held (place, a.1) ++ []) rest
+    ∙ ap (λ rows. flat_map (counted_at query held) placed ++ (rows ++ rest)) (append-nil (counted_at query held (place, a.1)) ∙ mine)
+    ∙ ap (λ rows. flat_map (counted_at query held) placed ++ rows) (sym (counted_next query held asked i a below here))
     ∙ before query
 
 pub passed_next : (held : List Segment) (placed : List Placed) (asked : List Asked) (i : ℕ) (a : Asked) → i < length asked → a ≡ get_or asked i a
     → segment_named a.0 held ≡ None → PlacedSoFar held placed asked i → PlacedSoFar held placed asked (suc i)
 passed_next held placed asked i a below here none before query =
-    let mine : [] ≡ told_of query held a = ap (told_in query a.1) (sym none) in
-    ap (λ rows. flat_map (told_at query held) placed ++ (rows ++ told query held (drop (suc i) asked))) mine
-    ∙ ap (λ rows. flat_map (told_at query held) placed ++ rows) (sym (told_next query held asked i a below here))
+    let mine : [] ≡ counted_of query held a = ap (counted_in query a.1) (sym none) in
+    ap (λ rows. flat_map (counted_at query held) placed ++ (rows ++ counted_groups query held (drop (suc i) asked))) mine
+    ∙ ap (λ rows. flat_map (counted_at query held) placed ++ rows) (sym (counted_next query held asked i a below here))
     ∙ before query
 
 pub placed_all : (held : List Segment) (placed : List Placed) (asked : List Asked) (i : ℕ) → length asked ≤ i → PlacedSoFar held placed asked i
-    → (query : Query) → flat_map (told_at query held) placed ≡ told query held asked
+    → (query : Query) → flat_map (counted_at query held) placed ≡ counted_groups query held asked
 placed_all held placed asked i end before query =
-    sym (append-nil (flat_map (told_at query held) placed)) ∙ ap (λ left. flat_map (told_at query held) placed ++ told query held left) (sym (nothing_left asked i end)) ∙ before query
+    sym (append-nil (flat_map (counted_at query held) placed)) ∙ ap (λ left. flat_map (counted_at query held) placed ++ counted_groups query held left) (sym (nothing_left asked i end)) ∙ before query
   where
     nothing_left : (asked : List Asked) (i : ℕ) → length asked ≤ i → drop i asked ≡ []
     nothing_left [] zero h = refl
@@ -55,10 +55,10 @@ placed_all held placed asked i end before query =
 
 -- pieces of one segment tell what their intervals tell of it
 pub one_place : (query : Query) (held : List Segment) (place : ℕ) (s : Segment) (pieces : List Placed) → slice_get held place ≡ Some s → All (λ (p : Placed). p.0 ≡ place) pieces
-    → flat_map (told_by query s) (map (λ (p : Placed). p.1) pieces) ≡ flat_map (told_at query held) pieces
+    → flat_map (counted_by query s) (map (λ (p : Placed). p.1) pieces) ≡ flat_map (counted_at query held) pieces
 one_place query held place s [] here one = refl
 one_place query held place s (p ∷ pieces) here one =
-    let first : told_by query s p.1 ≡ told_at query held p = ap (told_in query p.1) (sym here ∙ ap (slice_get held) (sym (All-head (λ (q : Placed). q.0 ≡ place) p pieces one))) in
+    let first : counted_by query s p.1 ≡ counted_at query held p = ap (counted_in query p.1) (sym here ∙ ap (slice_get held) (sym (All-head (λ (q : Placed). q.0 ≡ place) p pieces one))) in
     (λ i. first i ++ one_place query held place s pieces here (All-tail (λ (q : Placed). q.0 ≡ place) p pieces one) i)
 
 -- ---- missing pieces

@@ -12,21 +12,21 @@ use Rattle.druid_folder.specs.declared.fault.StoreFault.{StoreFault}
 use Rattle.druid_folder.specs.declared.fault.StoreFault.TheVariants as store
 use Rattle.druid_shard.specs.Mark.{Point}
 use Rattle.druid_node.specs.Seen.{RefusesLoad}
-use Rattle.druid_node.specs.Files.{file_name, named, file_at, told_as, RefusesFile, IsOfFile, RefusesBytes, RefusesFound, faults_after_load}
+use Rattle.druid_node.specs.Files.{file_name, named, file_at, reported_as, RefusesFile, IsOfFile, RefusesBytes, RefusesFound, faults_after_load}
 use Rattle.druid_node.specs.declared.fault.NodeFault.{NodeFault}
 use Rattle.druid_node.specs.declared.fault.NodeFault.TheVariants as faults
 
 -- bytes that are no segment
-pub told_bytes : (name bytes : List ℕ) (fault : FileFault) → GivesInMemory (Err fault) (segment_at bytes) → RefusesBytes name bytes (told_as fault)
-told_bytes name bytes file.Magic gives = gives
-told_bytes name bytes file.Cut gives = gives
-told_bytes name bytes file.Field gives = gives
-told_bytes name bytes file.RowOutside gives = gives
-told_bytes name bytes file.TooLong gives = gives
-told_bytes name bytes file.Trailing gives = gives
-told_bytes name bytes file.Read gives = gives
-told_bytes name bytes file.Write gives = gives
-told_bytes name bytes file.Memory gives = gives
+pub reported_bytes : (name bytes : List ℕ) (fault : FileFault) → GivesInMemory (Err fault) (segment_at bytes) → RefusesBytes name bytes (reported_as fault)
+reported_bytes name bytes file.Magic gives = gives
+reported_bytes name bytes file.Cut gives = gives
+reported_bytes name bytes file.Field gives = gives
+reported_bytes name bytes file.RowOutside gives = gives
+reported_bytes name bytes file.TooLong gives = gives
+reported_bytes name bytes file.Trailing gives = gives
+reported_bytes name bytes file.Read gives = gives
+reported_bytes name bytes file.Write gives = gives
+reported_bytes name bytes file.Memory gives = gives
 
 -- a segment under its name, and under another
 pub under_name : (name bytes : List ℕ) (s : Segment) → segment_at bytes ≡ Ok s → bytes_eq name (file_name s.descriptor.id) ≡ true → named name (segment_at bytes) ≡ Ok s
@@ -108,10 +108,10 @@ always (Err fault) a = tt
 
 -- ---- how often the device has failed
 
-abbrev pub load_told : NodeFault → Result ⊤ NodeFault
-load_told fault = Err fault
+abbrev pub load_reported : NodeFault → Result ⊤ NodeFault
+load_reported fault = Err fault
 
-bytes_uncounted : (name bytes : List ℕ) (fault : NodeFault) (n : ℕ) → RefusesBytes name bytes fault → faults_after_load (load_told fault) n ≡ n
+bytes_uncounted : (name bytes : List ℕ) (fault : NodeFault) (n : ℕ) → RefusesBytes name bytes fault → faults_after_load (load_reported fault) n ≡ n
 bytes_uncounted name bytes faults.Device n h = absurd h
 bytes_uncounted name bytes (faults.File fault) n h = refl
 bytes_uncounted name bytes faults.NameDiffers n h = refl
@@ -122,8 +122,8 @@ bytes_uncounted name bytes (faults.Behind found) n h = refl
 bytes_uncounted name bytes faults.NotPartitionZero n h = refl
 bytes_uncounted name bytes faults.Memory n h = refl
 
-pub found_uncounted : (name : List ℕ) (found : Option (List ℕ)) (fault : NodeFault) (n : ℕ) → RefusesFound name found fault → faults_after_load (load_told fault) n ≡ n
-found_uncounted name None fault n h = ap (λ (f : NodeFault). faults_after_load (load_told f) n) h
+pub found_uncounted : (name : List ℕ) (found : Option (List ℕ)) (fault : NodeFault) (n : ℕ) → RefusesFound name found fault → faults_after_load (load_reported fault) n ≡ n
+found_uncounted name None fault n h = ap (λ (f : NodeFault). faults_after_load (load_reported f) n) h
 found_uncounted name (Some bytes) fault n h = bytes_uncounted name bytes fault n h
 
 pub load_uncounted : (incarnation : ℕ) (seen : Point) (r : Result ⊤ NodeFault) (n : ℕ) → IfErr r (RefusesLoad incarnation seen) → faults_after_load r n ≡ n
@@ -139,17 +139,17 @@ load_uncounted incarnation seen (Err faults.NotPartitionZero) n h = refl
 load_uncounted incarnation seen (Err faults.Memory) n h = refl
 
 -- the read of the folder failed
-abbrev pub ReadTold : StoreFault → NodeFault → Type 0
-ReadTold fault told = ((fault ≡ store.Device) × (told ≡ faults.Device)) ⊎ ((fault ≡ store.Memory) × (told ≡ faults.Memory))
+abbrev pub ReadReported : StoreFault → NodeFault → Type 0
+ReadReported fault reported = ((fault ≡ store.Device) × (reported ≡ faults.Device)) ⊎ ((fault ≡ store.Memory) × (reported ≡ faults.Memory))
 
-pub read_refuses : (incarnation : ℕ) (given : Result Segment NodeFault) (seen : Point) (fault : StoreFault) (told : NodeFault) → ReadTold fault told → RefusesFile incarnation given seen told
-read_refuses incarnation given seen fault told (inl (e, f)) = subst (RefusesFile incarnation given seen) (sym f) tt
-read_refuses incarnation given seen fault told (inr (e, f)) = subst (RefusesFile incarnation given seen) (sym f) tt
+pub read_refuses : (incarnation : ℕ) (given : Result Segment NodeFault) (seen : Point) (fault : StoreFault) (reported : NodeFault) → ReadReported fault reported → RefusesFile incarnation given seen reported
+read_refuses incarnation given seen fault reported (inl (e, f)) = subst (RefusesFile incarnation given seen) (sym f) tt
+read_refuses incarnation given seen fault reported (inr (e, f)) = subst (RefusesFile incarnation given seen) (sym f) tt
 
-pub read_own : (fault : StoreFault) (told : NodeFault) → ReadTold fault told → IsOfFile told
-read_own fault told (inl (e, f)) = subst IsOfFile (sym f) tt
-read_own fault told (inr (e, f)) = subst IsOfFile (sym f) tt
+pub read_own : (fault : StoreFault) (reported : NodeFault) → ReadReported fault reported → IsOfFile reported
+read_own fault reported (inl (e, f)) = subst IsOfFile (sym f) tt
+read_own fault reported (inr (e, f)) = subst IsOfFile (sym f) tt
 
-pub read_counted : (fault : StoreFault) (told : NodeFault) (n : ℕ) → ReadTold fault told → faults_at fault n ≡ faults_after_load (load_told told) n
-read_counted fault told n (inl (e, f)) = ap (λ (g : StoreFault). faults_at g n) e ∙ ap (λ (g : NodeFault). faults_after_load (load_told g) n) (sym f)
-read_counted fault told n (inr (e, f)) = ap (λ (g : StoreFault). faults_at g n) e ∙ ap (λ (g : NodeFault). faults_after_load (load_told g) n) (sym f)
+pub read_counted : (fault : StoreFault) (reported : NodeFault) (n : ℕ) → ReadReported fault reported → faults_at fault n ≡ faults_after_load (load_reported reported) n
+read_counted fault reported n (inl (e, f)) = ap (λ (g : StoreFault). faults_at g n) e ∙ ap (λ (g : NodeFault). faults_after_load (load_reported g) n) (sym f)
+read_counted fault reported n (inr (e, f)) = ap (λ (g : StoreFault). faults_at g n) e ∙ ap (λ (g : NodeFault). faults_after_load (load_reported g) n) (sym f)

@@ -204,8 +204,8 @@ members-with_held (x ∷ xs) s y none =
       λ either. elim either [ inl same ↦ (0, omega arith, sym same) | inr later ↦ Contains-later s zs y later ],
     )
 
-    behind : Contains (with_held s xs) y ↔ ((y ≡ s) ⊎ Contains xs y) → Contains (x ∷ with_held s xs) y ↔ ((y ≡ s) ⊎ Contains (x ∷ xs) y)
-    behind rest = (
+    beyond : Contains (with_held s xs) y ↔ ((y ≡ s) ⊎ Contains xs y) → Contains (x ∷ with_held s xs) y ↔ ((y ≡ s) ⊎ Contains (x ∷ xs) y)
+    beyond rest = (
       λ there. elim (Contains-cons x (with_held s xs) y there) [
         | inl here ↦ inr (0, omega arith, here)
         | inr later ↦ elim (rest.0 later) [ inl same ↦ inl same | inr old ↦ inr (Contains-later x xs y old) ]
@@ -223,7 +223,7 @@ members-with_held (x ∷ xs) s y none =
         → Contains (match_ordering o (s ∷ x ∷ xs) (s ∷ xs) (x ∷ with_held s xs)) y ↔ ((y ≡ s) ⊎ Contains (x ∷ xs) y)
     by_order rest Less apart same = front (x ∷ xs)
     by_order rest Equal apart same = absurd (apart Equal refl refl)
-    by_order rest Greater apart same = behind rest
+    by_order rest Greater apart same = beyond rest
 
 pub holds_more : (xs : List Segment) (s : Segment) → segment_named s.descriptor.id xs ≡ None → HoldsMore xs (with_held s xs) s
 holds_more xs s none = record { absent = none; members = λ y. members-with_held xs s y none }

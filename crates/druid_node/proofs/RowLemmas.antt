@@ -17,7 +17,7 @@ use Rattle.druid_shard.proofs.SortedLemmas.{not_before_itself}
 use Rattle.druid_segid.specs.Identifier.{identifier_text}
 use Rattle.std.specs.List.{Contains}
 use Rattle.std.proofs.lemmas.List.Elements.{All-contains, All-contains_itself}
-use Rattle.druid_partial.specs.Once.{told, told_once}
+use Rattle.druid_partial.specs.Once.{counted_groups, counted_once}
 
 -- in the order of their identifiers none stands twice
 pub have_own : (held : List Segment) → AreInOrder (descriptors_of held) → HaveOwnSegments held
@@ -30,6 +30,6 @@ have_own (s ∷ more) order = (by_found (segment_named s.descriptor.id more) ref
       let before = All-contains (IsBefore s.descriptor) (descriptors_of more) t.descriptor (first_before s.descriptor (descriptors_of more) order) (Contains-map_back descriptor_of more t there) in
       absurd (not_before_itself s.descriptor t.descriptor before (ap identifier_text (found_id more s.descriptor.id t e)))
 
-pub rows_once : (query : Query) (held : List Segment) (asked : List Asked) (groups : List Group) → IsSegmentSet (descriptors_of held) → StandApart asked → IsResult (kinds_of query) (told query held asked) groups
-    → IsResult (kinds_of query) (told_once query asked held) groups
+pub rows_once : (query : Query) (held : List Segment) (asked : List Asked) (groups : List Group) → IsSegmentSet (descriptors_of held) → StandApart asked → IsResult (kinds_of query) (counted_groups query held asked) groups
+    → IsResult (kinds_of query) (counted_once query asked held) groups
 rows_once query held asked groups set apart result = once.rows_once query held asked groups (have_own held (in_order (descriptors_of held) set.sorted)) apart result

@@ -26,7 +26,7 @@ use Rattle.druid_shard.specs.declared.change.Change.TheVariants.{Load, Drop}
 use Rattle.druid_changes.specs.Kept.{Kept, IsKept, last_count, refusal}
 use Rattle.druid_node.specs.State.{State, IsState, Freezes, Records, tombstone_of, Refuses, RefusesToDrop, RefusesToCover}
 use Rattle.druid_node.proofs.StateLemmas.{freezes-kept, freezes-count}
-use Rattle.druid_node.specs.Seen.{mark_of, AreAtMark, IsBehind, IsAtLeast, IsLoadRefusal, RefusesAsSeen, RefusesLoad, RefusesDrop, RefusesTombstone, AnswersFrom, AnswersSince, IsServedAsSeen, IsPassedBy, IsUnserved}
+use Rattle.druid_node.specs.Seen.{mark_of, AreAtMark, IsStale, IsAtLeast, IsLoadRefusal, RefusesAsSeen, RefusesLoad, RefusesDrop, RefusesTombstone, AnswersFrom, AnswersSince, IsServedAsSeen, IsPassedBy, IsUnserved}
 
 -- a change more is a greater count
 counted : (old new : Kept) (c : Change) → IsKept old → Records old new c → new.count ≡ old.count + 1
@@ -95,20 +95,20 @@ load_refusal kept d f h = elim (set_load (is_strict kept.set (Load d)) (has_room
   | inr some ↦ subst IsLoadRefusal (same_Some some.0 f (sym some.1 ∙ h)) some.2
 ]
 
-load_told : (kept : Kept) (d : Described) (incarnation : ℕ) (seen : Point) (fault : NodeFault) → Refuses kept (Load d) fault → RefusesLoad incarnation seen fault
-load_told kept d incarnation seen faults.Device h = absurd h
-load_told kept d incarnation seen (faults.File fault) h = absurd h
-load_told kept d incarnation seen faults.NameDiffers h = absurd h
-load_told kept d incarnation seen (faults.History fault) h = load_refusal kept d fault h
-load_told kept d incarnation seen (faults.Wire fault) h = absurd h
-load_told kept d incarnation seen faults.NoFile h = absurd h
-load_told kept d incarnation seen (faults.Behind found) h = absurd h
-load_told kept d incarnation seen faults.NotPartitionZero h = absurd h
-load_told kept d incarnation seen faults.Memory h = tt
+load_reported : (kept : Kept) (d : Described) (incarnation : ℕ) (seen : Point) (fault : NodeFault) → Refuses kept (Load d) fault → RefusesLoad incarnation seen fault
+load_reported kept d incarnation seen faults.Device h = absurd h
+load_reported kept d incarnation seen (faults.File fault) h = absurd h
+load_reported kept d incarnation seen faults.NameDiffers h = absurd h
+load_reported kept d incarnation seen (faults.History fault) h = load_refusal kept d fault h
+load_reported kept d incarnation seen (faults.Wire fault) h = absurd h
+load_reported kept d incarnation seen faults.NoFile h = absurd h
+load_reported kept d incarnation seen (faults.Behind found) h = absurd h
+load_reported kept d incarnation seen faults.NotPartitionZero h = absurd h
+load_reported kept d incarnation seen faults.Memory h = tt
 
 pub load_as : (kept : Kept) (d : Described) (incarnation : ℕ) (found seen : Point) (fault : NodeFault) → RefusesAsSeen incarnation (Refuses kept (Load d)) found seen fault → RefusesLoad incarnation seen fault
-load_as kept d incarnation found seen fault (inl (behind, told)) = subst (RefusesLoad incarnation seen) (sym told) behind
-load_as kept d incarnation found seen fault (inr (at, why)) = load_told kept d incarnation seen fault why
+load_as kept d incarnation found seen fault (inl (beyond, reported)) = subst (RefusesLoad incarnation seen) (sym reported) beyond
+load_as kept d incarnation found seen fault (inr (at, why)) = load_reported kept d incarnation seen fault why
 
 set_drop : (strict end : Bool) (room : Bool) → room ≡ true → option_or (if not strict then Some NotServed else (if not room then Some Full else None)) (if end then Some CountAtEnd else None) ≡ None
     ⊎ ((f : HistoryFault) × (option_or (if not strict then Some NotServed else (if not room then Some Full else None)) (if end then Some CountAtEnd else None) ≡ Some f) × ((f ≡ NotServed) ⊎ (f ≡ CountAtEnd)))
@@ -135,29 +135,29 @@ drop_found kept d incarnation seen (faults.Behind found) h = absurd h
 drop_found kept d incarnation seen faults.NotPartitionZero h = absurd h
 drop_found kept d incarnation seen faults.Memory h = tt
 
-drop_told : (kept : Kept) (o : Option Described) (incarnation : ℕ) (seen : Point) (fault : NodeFault) → RefusesToDrop kept o fault → RefusesDrop incarnation seen fault
-drop_told kept None incarnation seen fault h = subst (RefusesDrop incarnation seen) (sym h) (inl refl)
-drop_told kept (Some d) incarnation seen fault h = drop_found kept d incarnation seen fault h
+drop_reported : (kept : Kept) (o : Option Described) (incarnation : ℕ) (seen : Point) (fault : NodeFault) → RefusesToDrop kept o fault → RefusesDrop incarnation seen fault
+drop_reported kept None incarnation seen fault h = subst (RefusesDrop incarnation seen) (sym h) (inl refl)
+drop_reported kept (Some d) incarnation seen fault h = drop_found kept d incarnation seen fault h
 
 pub drop_as : (kept : Kept) (o : Option Described) (incarnation : ℕ) (found seen : Point) (fault : NodeFault) → RefusesAsSeen incarnation (RefusesToDrop kept o) found seen fault → RefusesDrop incarnation seen fault
-drop_as kept o incarnation found seen fault (inl (behind, told)) = subst (RefusesDrop incarnation seen) (sym told) behind
-drop_as kept o incarnation found seen fault (inr (at, why)) = drop_told kept o incarnation seen fault why
+drop_as kept o incarnation found seen fault (inl (beyond, reported)) = subst (RefusesDrop incarnation seen) (sym reported) beyond
+drop_as kept o incarnation found seen fault (inr (at, why)) = drop_reported kept o incarnation seen fault why
 
-cover_told : (kept : Kept) (id : Identifier) (incarnation : ℕ) (seen : Point) (fault : NodeFault) → RefusesToCover kept id fault → RefusesTombstone incarnation id seen fault
-cover_told kept id incarnation seen faults.Device h = absurd h
-cover_told kept id incarnation seen (faults.File fault) h = absurd h
-cover_told kept id incarnation seen faults.NameDiffers h = absurd h
-cover_told kept id incarnation seen (faults.History fault) h = (h.0, load_refusal kept (tombstone_of id) fault h.1)
-cover_told kept id incarnation seen (faults.Wire fault) h = absurd h
-cover_told kept id incarnation seen faults.NoFile h = absurd h
-cover_told kept id incarnation seen (faults.Behind found) h = absurd h
-cover_told kept id incarnation seen faults.NotPartitionZero h = h
-cover_told kept id incarnation seen faults.Memory h = h.0
+cover_reported : (kept : Kept) (id : Identifier) (incarnation : ℕ) (seen : Point) (fault : NodeFault) → RefusesToCover kept id fault → RefusesTombstone incarnation id seen fault
+cover_reported kept id incarnation seen faults.Device h = absurd h
+cover_reported kept id incarnation seen (faults.File fault) h = absurd h
+cover_reported kept id incarnation seen faults.NameDiffers h = absurd h
+cover_reported kept id incarnation seen (faults.History fault) h = (h.0, load_refusal kept (tombstone_of id) fault h.1)
+cover_reported kept id incarnation seen (faults.Wire fault) h = absurd h
+cover_reported kept id incarnation seen faults.NoFile h = absurd h
+cover_reported kept id incarnation seen (faults.Behind found) h = absurd h
+cover_reported kept id incarnation seen faults.NotPartitionZero h = h
+cover_reported kept id incarnation seen faults.Memory h = h.0
 
 pub cover_as : (kept : Kept) (id : Identifier) (incarnation : ℕ) (found seen : Point) (fault : NodeFault) → id.partition ≡ 0 → RefusesAsSeen incarnation (RefusesToCover kept id) found seen fault
     → RefusesTombstone incarnation id seen fault
-cover_as kept id incarnation found seen fault whole (inl (behind, told)) = subst (RefusesTombstone incarnation id seen) (sym told) (whole, behind)
-cover_as kept id incarnation found seen fault whole (inr (at, why)) = cover_told kept id incarnation seen fault why
+cover_as kept id incarnation found seen fault whole (inl (beyond, reported)) = subst (RefusesTombstone incarnation id seen) (sym reported) (whole, beyond)
+cover_as kept id incarnation found seen fault whole (inr (at, why)) = cover_reported kept id incarnation seen fault why
 
 -- ---- what was served
 
@@ -173,39 +173,39 @@ refused_as_seen incarnation seen before after old new fault sent has =
 
 -- ---- what was not served
 
-abbrev pub ServeTold : ℕ → Point → RequestValue → Option (List ℕ) → Option (List ℕ) → NodeFault → Type 0
-ServeTold incarnation seen request old new given =
-    ((found : Point) × IsBehind incarnation found seen × (given ≡ faults.Behind found) × (new ≡ old))
-    ⊎ ((told : WireFault) × (given ≡ faults.Wire told) × (status : ℕ) × (body : List ℕ) × AnswersSince incarnation seen request status body × IsCutShort old new status body told)
+abbrev pub ServeReported : ℕ → Point → RequestValue → Option (List ℕ) → Option (List ℕ) → NodeFault → Type 0
+ServeReported incarnation seen request old new given =
+    ((found : Point) × IsStale incarnation found seen × (given ≡ faults.Behind found) × (new ≡ old))
+    ⊎ ((reported : WireFault) × (given ≡ faults.Wire reported) × (status : ℕ) × (body : List ℕ) × AnswersSince incarnation seen request status body × IsCutShort old new status body reported)
 
 read_some : (before after : Option (List ℕ)) (request : RequestValue) → WasRead before after request
     → IfSome before (λ input. (r : RequestValue) × (rest : List ℕ) × (after ≡ Some rest) × IsRequest input r rest)
 read_some None after request read = tt
 read_some (Some input) after request read = (request, read.0, read.1, read.2)
 
-pub serve_told : (incarnation : ℕ) (seen : Point) (request : RequestValue) (before after old new : Option (List ℕ)) (given : NodeFault) → WasRead before after request → ServeTold incarnation seen request old new given
+pub serve_reported : (incarnation : ℕ) (seen : Point) (request : RequestValue) (before after old new : Option (List ℕ)) (given : NodeFault) → WasRead before after request → ServeReported incarnation seen request old new given
     → IsPassedBy incarnation seen before after old new given ⊎ IsUnserved incarnation seen before after old new given
-serve_told incarnation seen request before after old new given read (inl (found, behind, told, same)) =
-    inl (record { found = found; behind = behind; told = told; read = read_some before after request read; unwritten = same })
-serve_told incarnation seen request before after old new given read (inr (cause, told, status, body, answer, cut)) =
+serve_reported incarnation seen request before after old new given read (inl (found, beyond, reported, same)) =
+    inl (record { found = found; beyond = beyond; reported = reported; read = read_some before after request read; unwritten = same })
+serve_reported incarnation seen request before after old new given read (inr (cause, reported, status, body, answer, cut)) =
     inr (record {
       cause = cause;
-      told = told;
+      reported = reported;
       now = answer.0;
       fails = unsent (AnswersFrom incarnation seen answer.0) (answer.0 ≡ seen) request before after old new read cause (status, body, answer.1, cut);
     })
 
-abbrev pub UnreadTold : WireFault → Option (List ℕ) → Option (List ℕ) → NodeFault → Type 0
-UnreadTold fault old new given =
-    (told : WireFault) × (given ≡ faults.Wire told)
-    × (((told ≡ fault) × (refusal_text fault ≡ None) × Keeps old new) ⊎ ((text : List ℕ) × (refusal_text fault ≡ Some text) × IsCutShort old new 400 text told))
+abbrev pub UnreadReported : WireFault → Option (List ℕ) → Option (List ℕ) → NodeFault → Type 0
+UnreadReported fault old new given =
+    (reported : WireFault) × (given ≡ faults.Wire reported)
+    × (((reported ≡ fault) × (refusal_text fault ≡ None) × Keeps old new) ⊎ ((text : List ℕ) × (refusal_text fault ≡ Some text) × IsCutShort old new 400 text reported))
 
-pub unread_told : (incarnation : ℕ) (seen : Point) (before after old new : Option (List ℕ)) (fault : WireFault) (given : NodeFault) → IfSome before (λ input. HasFault RequestSays input fault) → UnreadTold fault old new given
+pub unread_reported : (incarnation : ℕ) (seen : Point) (before after old new : Option (List ℕ)) (fault : WireFault) (given : NodeFault) → IfSome before (λ input. HasFault RequestSays input fault) → UnreadReported fault old new given
     → IsPassedBy incarnation seen before after old new given ⊎ IsUnserved incarnation seen before after old new given
-unread_told incarnation seen before after old new fault given has (cause, told, why) =
+unread_reported incarnation seen before after old new fault given has (cause, reported, why) =
     inr (record {
       cause = cause;
-      told = told;
+      reported = reported;
       now = seen;
       fails = unanswered (AnswersFrom incarnation seen seen) (seen ≡ seen) before after old new fault has refl cause why;
     })

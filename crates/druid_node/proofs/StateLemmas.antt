@@ -161,13 +161,13 @@ uncovered-leaves state id d new ready named over recorded =
 
 -- ---- drops
 
-abbrev pub recording_told : HistoryFault → Result ⊤ HistoryFault
-recording_told f = Err f
+abbrev pub recording_reported : HistoryFault → Result ⊤ HistoryFault
+recording_reported f = Err f
 
 -- a drop that is not refused is recorded
-pub drop_recorded : (kept : Kept) (c : Change) (f : HistoryFault) → refusal kept c ≡ None → (recording_told f ≡ recording_told Served → refusal kept c ≡ Some Served)
-    → (recording_told f ≡ recording_told NotServed → refusal kept c ≡ Some NotServed) → (recording_told f ≡ recording_told Full → refusal kept c ≡ Some Full)
-    → (recording_told f ≡ recording_told CountAtEnd → refusal kept c ≡ Some CountAtEnd) → (recording_told f ≡ recording_told Memory → ⊥) → ⊥
+pub drop_recorded : (kept : Kept) (c : Change) (f : HistoryFault) → refusal kept c ≡ None → (recording_reported f ≡ recording_reported Served → refusal kept c ≡ Some Served)
+    → (recording_reported f ≡ recording_reported NotServed → refusal kept c ≡ Some NotServed) → (recording_reported f ≡ recording_reported Full → refusal kept c ≡ Some Full)
+    → (recording_reported f ≡ recording_reported CountAtEnd → refusal kept c ≡ Some CountAtEnd) → (recording_reported f ≡ recording_reported Memory → ⊥) → ⊥
 drop_recorded kept c Served none a b d e m = let h = a refl in absurd (cc)
 drop_recorded kept c NotServed none a b d e m = let h = b refl in absurd (cc)
 drop_recorded kept c Full none a b d e m = let h = d refl in absurd (cc)

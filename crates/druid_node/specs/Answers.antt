@@ -6,7 +6,7 @@ use Rattle.druid_query.specs.SubQuery.{SubQuery}
 use Rattle.druid_partial_text.specs.Answers.{NodeAnswer}
 use Rattle.druid_partial.specs.Groups.{IsResult}
 use Rattle.druid_partial.specs.Rows.{kinds_of, IsPartialFor}
-use Rattle.druid_partial.specs.Once.{segment_named, told}
+use Rattle.druid_partial.specs.Once.{segment_named, counted_groups}
 
 -- the segment of the piece is not held
 abbrev pub is_missing : List Segment → Asked → Bool
@@ -19,5 +19,5 @@ missing held asked = filter (is_missing held) asked
 -- the answer to a subquery of a node that holds these segments
 pub record IsAnswerOf (held : List Segment) (sub : SubQuery) (a : NodeAnswer) : Type 0 where
   pub missed : a.missing ≡ missing held sub.asked
-  pub result : IsResult (kinds_of sub.query) (told sub.query held sub.asked) a.partial.groups
+  pub result : IsResult (kinds_of sub.query) (counted_groups sub.query held sub.asked) a.partial.groups
   pub of_query : IsPartialFor sub.query a.partial

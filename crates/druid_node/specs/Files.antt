@@ -8,7 +8,7 @@ use Rattle.druid_segfile.specs.declared.fault.FileFault.{FileFault}
 use Rattle.druid_segfile.specs.declared.fault.FileFault.TheVariants as file
 use Rattle.druid_folder.specs.Folder.{faults_at}
 use Rattle.druid_folder.specs.declared.fault.StoreFault.TheVariants as store
-use Rattle.druid_node.specs.Seen.{IsBehind, IsLoadRefusal}
+use Rattle.druid_node.specs.Seen.{IsStale, IsLoadRefusal}
 use Rattle.druid_node.specs.declared.fault.NodeFault.{NodeFault}
 use Rattle.druid_node.specs.declared.fault.NodeFault.TheVariants as faults
 
@@ -35,7 +35,7 @@ RefusesFile incarnation given seen faults.NameDiffers = given ≡ Err faults.Nam
 RefusesFile incarnation given seen (faults.History fault) = (s : Segment) × (given ≡ Ok s) × IsLoadRefusal fault
 RefusesFile incarnation given seen (faults.Wire fault) = ⊥
 RefusesFile incarnation given seen faults.NoFile = given ≡ Err faults.NoFile
-RefusesFile incarnation given seen (faults.Behind found) = (s : Segment) × (given ≡ Ok s) × IsBehind incarnation found seen
+RefusesFile incarnation given seen (faults.Behind found) = (s : Segment) × (given ≡ Ok s) × IsStale incarnation found seen
 RefusesFile incarnation given seen faults.NotPartitionZero = ⊥
 RefusesFile incarnation given seen faults.Memory = ⊤
 
@@ -49,16 +49,16 @@ IsOfFile faults.NotPartitionZero = ⊥
 IsOfFile other = ⊤
 
 -- the fault that tells what a file's bytes are: out of memory is that
-abbrev pub told_as : FileFault → NodeFault
-told_as file.Magic = faults.File file.Magic
-told_as file.Cut = faults.File file.Cut
-told_as file.Field = faults.File file.Field
-told_as file.RowOutside = faults.File file.RowOutside
-told_as file.TooLong = faults.File file.TooLong
-told_as file.Trailing = faults.File file.Trailing
-told_as file.Read = faults.File file.Read
-told_as file.Write = faults.File file.Write
-told_as file.Memory = faults.Memory
+abbrev pub reported_as : FileFault → NodeFault
+reported_as file.Magic = faults.File file.Magic
+reported_as file.Cut = faults.File file.Cut
+reported_as file.Field = faults.File file.Field
+reported_as file.RowOutside = faults.File file.RowOutside
+reported_as file.TooLong = faults.File file.TooLong
+reported_as file.Trailing = faults.File file.Trailing
+reported_as file.Read = faults.File file.Read
+reported_as file.Write = faults.File file.Write
+reported_as file.Memory = faults.Memory
 
 -- why bytes that were read are not taken; out of memory only where they spell a segment
 abbrev pub RefusesBytes : List ℕ → List ℕ → NodeFault → Type 0

@@ -4,15 +4,15 @@ use Rattle.druid_time.specs.Extent.{Extent}
 use Rattle.druid_rows.specs.Segment.{Segment}
 use Rattle.druid_query.specs.Query.{Query}
 use Rattle.druid_partial.specs.Groups.{Group}
-use Rattle.druid_partial.specs.Once.{told_in}
+use Rattle.druid_partial.specs.Once.{counted_in}
 
 -- a piece of the segment at a place
 abbrev pub Placed : Type 0
 Placed = ℕ × Extent
 
 -- what it tells
-abbrev pub told_at : Query → List Segment → Placed → List Group
-told_at query held p = told_in query p.1 (slice_get held p.0)
+abbrev pub counted_at : Query → List Segment → Placed → List Group
+counted_at query held p = counted_in query p.1 (slice_get held p.0)
 
 -- there is a segment at its place
 abbrev pub IsWithin : List Segment → Placed → Type 0

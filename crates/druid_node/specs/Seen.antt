@@ -22,8 +22,8 @@ abbrev pub mark_of : State → Point
 mark_of state = record { incarnation = state.history.incarnation; count = state.history.count }
 
 -- the mark that was found is of that incarnation, and below the one that was seen
-abbrev pub IsBehind : ℕ → Point → Point → Type 0
-IsBehind incarnation found seen = (found.incarnation ≡ incarnation) × (mark_cmp found seen ≡ Less)
+abbrev pub IsStale : ℕ → Point → Point → Type 0
+IsStale incarnation found seen = (found.incarnation ≡ incarnation) × (mark_cmp found seen ≡ Less)
 
 -- the state is not older than what was seen
 abbrev pub IsAtLeast : Point → Point → Type 0
@@ -32,7 +32,7 @@ IsAtLeast found seen = mark_cmp found seen ≢ Less
 -- N8, exactly where the state is older than what was seen, and else why the state refuses
 abbrev pub RefusesAsSeen : ℕ → (NodeFault → Type 0) → Point → Point → NodeFault → Type 0
 RefusesAsSeen incarnation Why found seen fault =
-    (IsBehind incarnation found seen × (fault ≡ faults.Behind found)) ⊎ (IsAtLeast found seen × Why fault)
+    (IsStale incarnation found seen × (fault ≡ faults.Behind found)) ⊎ (IsAtLeast found seen × Why fault)
 
 -- a load is refused for what is served, or for the count
 abbrev pub IsLoadRefusal : HistoryFault → Type 0
@@ -50,7 +50,7 @@ RefusesLoad incarnation seen faults.NameDiffers = ⊥
 RefusesLoad incarnation seen (faults.History fault) = IsLoadRefusal fault
 RefusesLoad incarnation seen (faults.Wire fault) = ⊥
 RefusesLoad incarnation seen faults.NoFile = ⊥
-RefusesLoad incarnation seen (faults.Behind found) = IsBehind incarnation found seen
+RefusesLoad incarnation seen (faults.Behind found) = IsStale incarnation found seen
 RefusesLoad incarnation seen faults.NotPartitionZero = ⊥
 RefusesLoad incarnation seen faults.Memory = ⊤
 
@@ -62,7 +62,7 @@ RefusesDrop incarnation seen faults.NameDiffers = ⊥
 RefusesDrop incarnation seen (faults.History fault) = (fault ≡ NotServed) ⊎ (fault ≡ CountAtEnd)
 RefusesDrop incarnation seen (faults.Wire fault) = ⊥
 RefusesDrop incarnation seen faults.NoFile = ⊥
-RefusesDrop incarnation seen (faults.Behind found) = IsBehind incarnation found seen
+RefusesDrop incarnation seen (faults.Behind found) = IsStale incarnation found seen
 RefusesDrop incarnation seen faults.NotPartitionZero = ⊥
 RefusesDrop incarnation seen faults.Memory = ⊤
 
@@ -74,7 +74,7 @@ RefusesTombstone incarnation id seen faults.NameDiffers = ⊥
 RefusesTombstone incarnation id seen (faults.History fault) = (id.partition ≡ 0) × IsLoadRefusal fault
 RefusesTombstone incarnation id seen (faults.Wire fault) = ⊥
 RefusesTombstone incarnation id seen faults.NoFile = ⊥
-RefusesTombstone incarnation id seen (faults.Behind found) = (id.partition ≡ 0) × IsBehind incarnation found seen
+RefusesTombstone incarnation id seen (faults.Behind found) = (id.partition ≡ 0) × IsStale incarnation found seen
 RefusesTombstone incarnation id seen faults.NotPartitionZero = id.partition ≢ 0
 RefusesTombstone incarnation id seen faults.Memory = id.partition ≡ 0
 
@@ -112,14 +112,14 @@ IsServedAsSeen incarnation seen now before after old new sent =
 -- N8: a request was read, and the state is older than what was seen; nothing was written
 pub record IsPassedBy (incarnation : ℕ) (seen : Point) (before after old new : Option (List ℕ)) (fault : NodeFault) : Type 0 where
   pub found : Point
-  pub behind : IsBehind incarnation found seen
-  pub told : fault ≡ faults.Behind found
+  pub beyond : IsStale incarnation found seen
+  pub reported : fault ≡ faults.Behind found
   pub read : IfSome before (λ input. (request : RequestValue) × (rest : List ℕ) × (after ≡ Some rest) × IsRequest input request rest)
   pub unwritten : new ≡ old
 
 -- N5: no request was read, or no whole answer was written of a state that is not older than what was seen, or of none
 pub record IsUnserved (incarnation : ℕ) (seen : Point) (before after old new : Option (List ℕ)) (fault : NodeFault) : Type 0 where
   pub cause : WireFault
-  pub told : fault ≡ faults.Wire cause
+  pub reported : fault ≡ faults.Wire cause
   pub now : Point
   pub fails : FailsToServe (AnswersFrom incarnation seen now) (now ≡ seen) before after old new cause

@@ -6,8 +6,8 @@ ghost use Rattle.druid_partial.specs.Groups.{IsResult};
 ghost use Rattle.druid_partial.specs.Rows.{kinds_of, IsPartialFor};
 ghost use Rattle.druid_query.specs.Query.{Query};
 ghost use Rattle.druid_node.specs.Answers.{missing, IsAnswerOf};
-ghost use Rattle.druid_node.specs.Placed.{told_at, IsWithin};
-ghost use Rattle.druid_partial.specs.Once.{told};
+ghost use Rattle.druid_node.specs.Placed.{counted_at, IsWithin};
+ghost use Rattle.druid_partial.specs.Once.{counted_groups};
 
 use crate::held::Held;
 use druid_partial::{Partial, merge, partial_over};
@@ -21,7 +21,7 @@ type Placed = (usize, Interval);
 
 // The pieces whose segment is held, with its place.
 fn placed_in(alloc: Global, held: &Held, asked: &[Asked]) -> Result<Vec<Placed>, AllocError>
-    ensures told { IfOk result (λ placed. (query : Query) → flat_map (told_at query held.now) placed.items ≡ told query held.now asked.now) }
+    ensures reported { IfOk result (λ placed. (query : Query) → flat_map (counted_at query held.now) placed.items ≡ counted_groups query held.now asked.now) }
     ensures within { IfOk result (λ placed. All (IsWithin held.now) placed.items) }
 {
     let mut placed = Vec::new(alloc);
@@ -50,7 +50,7 @@ fn partial_at(
 ) -> Result<Partial, AllocError>
     requires place { place < length held.now }
     requires one { All (λ piece. piece.0 ≡ place) pieces.now }
-    ensures result { IfOk result (λ partial. IsResult (kinds_of query.now) (flat_map (told_at query.now held.now) pieces.now) partial.groups) }
+    ensures result { IfOk result (λ partial. IsResult (kinds_of query.now) (flat_map (counted_at query.now held.now) pieces.now) partial.groups) }
     ensures of_query { IfOk result (IsPartialFor query.now) }
 {
     let mut intervals = Vec::with_capacity(alloc, pieces.len())?;
@@ -69,7 +69,7 @@ fn partial_of_placed(
     pieces: &[Placed],
 ) -> Result<Partial, AllocError>
     requires { All (IsWithin held.now) pieces.now }
-    ensures result { IfOk result (λ partial. IsResult (kinds_of query.now) (flat_map (told_at query.now held.now) pieces.now) partial.groups) }
+    ensures result { IfOk result (λ partial. IsResult (kinds_of query.now) (flat_map (counted_at query.now held.now) pieces.now) partial.groups) }
     ensures of_query { IfOk result (IsPartialFor query.now) }
 {
     if pieces.is_empty() {
@@ -95,7 +95,7 @@ fn partial_of_asked(
     query: &Query,
     asked: &[Asked],
 ) -> Result<Partial, AllocError>
-    ensures result { IfOk result (λ partial. IsResult (kinds_of query.now) (told query.now held.now asked.now) partial.groups) }
+    ensures result { IfOk result (λ partial. IsResult (kinds_of query.now) (counted_groups query.now held.now asked.now) partial.groups) }
     ensures of_query { IfOk result (IsPartialFor query.now) }
 {
     let mut placed = placed_in(alloc, held, asked)?;

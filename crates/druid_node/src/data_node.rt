@@ -4,8 +4,8 @@ ghost use Rattle.druid_shard.specs.Mark.{Point, mark_cmp};
 ghost use Rattle.druid_rows.specs.Segment.{Segment};
 ghost use Rattle.druid_folder.specs.Folder.{IsOwnFault, read_part, bytes_read};
 ghost use Rattle.druid_segfile.specs.Reading.{segment_at};
-ghost use Rattle.druid_node.specs.Files.{file_name, named, file_at, told_as, RefusesFile, IsOfFile, RefusesBytes, RefusesFound, faults_after_load};
-ghost use Rattle.druid_node.specs.Seen.{IsBehind, RefusesLoad, RefusesDrop, RefusesTombstone, AnswersFrom, text_of};
+ghost use Rattle.druid_node.specs.Files.{file_name, named, file_at, reported_as, RefusesFile, IsOfFile, RefusesBytes, RefusesFound, faults_after_load};
+ghost use Rattle.druid_node.specs.Seen.{IsStale, RefusesLoad, RefusesDrop, RefusesTombstone, AnswersFrom, text_of};
 ghost use Rattle.druid_node.specs.Questions.{IsBasisFrom};
 
 use crate::question::{Question, question_of};
@@ -48,7 +48,7 @@ fn read_fault(fault: StoreFault) -> NodeFault
 
 // The fault for the bytes of a file.
 fn file_fault(fault: FileFault) -> NodeFault
-    ensures { result ≡ told_as fault }
+    ensures { result ≡ reported_as fault }
 {
     match fault {
         FileFault::Magic => NodeFault::File(FileFault::Magic),
@@ -124,7 +124,7 @@ impl<I: Incarnation> DataNode<I> {
         seen: Mark,
     ) -> Result<Based, NodeFault>
         ensures ok { IfOk result (λ b. IsBasisFrom I.number seen b.mark question b.basis) }
-        ensures err { IfErr result (λ fault. (found : Point) × IsBehind I.number found seen × (fault ≡ NodeFault.Behind found)) }
+        ensures err { IfErr result (λ fault. (found : Point) × IsStale I.number found seen × (fault ≡ NodeFault.Behind found)) }
     {
         self.state.lock(rt).basis_of(question, seen)
     }
@@ -138,7 +138,7 @@ impl<I: Incarnation> DataNode<I> {
         seen: Mark,
     ) -> Result<Answered, NodeFault>
         ensures ok { IfOk result (λ a. AnswersFrom I.number seen a.mark request.now a.status (text_of a.body)) }
-        ensures err { IfErr result (λ fault. (found : Point) × IsBehind I.number found seen × (fault ≡ NodeFault.Behind found)) }
+        ensures err { IfErr result (λ fault. (found : Point) × IsStale I.number found seen × (fault ≡ NodeFault.Behind found)) }
     {
         let question = question_of(self.alloc, request).ok();
         match self.basis_of(rt, question, seen) {

@@ -7,12 +7,12 @@ ghost use Rattle.druid_partial.specs.Groups.{Group, IsResult};
 ghost use Rattle.druid_partial.specs.Rows.{kinds_of};
 ghost use Rattle.druid_shard.specs.Replay.{IsSegmentSet};
 ghost use Rattle.druid_node.specs.State.{descriptors_of};
-ghost use Rattle.druid_partial.specs.Once.{told, told_once};
+ghost use Rattle.druid_partial.specs.Once.{counted_groups, counted_once};
 
 /// Where no two pieces of one segment overlap, what a node answers is the result over the rows of the segments that it holds
 /// and that lie in some piece, each row once, however the pieces cut the segments.
-pub fn rows_are_told_once()
+pub fn rows_are_counted_once()
     ensures { (query : Query) (held : List Segment) (asked : List Asked) (groups : List Group) → IsSegmentSet (descriptors_of held) → StandApart asked
-        → IsResult (kinds_of query) (told query held asked) groups
-        → IsResult (kinds_of query) (told_once query asked held) groups }
+        → IsResult (kinds_of query) (counted_groups query held asked) groups
+        → IsResult (kinds_of query) (counted_once query asked held) groups }
 {}

@@ -18,5 +18,5 @@ mod state;
 pub use data_node::DataNode;
 pub use fault::NodeFault;
 pub use incarnation::Incarnation;
-pub use laws::rows_are_told_once;
+pub use laws::rows_are_counted_once;
 pub use state::NodeState;

@@ -6,7 +6,7 @@ ghost use Rattle.druid_shard.specs.declared.change.Change.TheVariants.{Load};
 ghost use Rattle.druid_shard.specs.Described.{Described};
 ghost use Rattle.druid_changes.specs.Kept.{IsKept, described_named};
 ghost use Rattle.druid_node.specs.State.{IsState, Freezes, Takes, Leaves, Covers, Refuses, RefusesToDrop, RefusesToCover};
-ghost use Rattle.druid_node.specs.Seen.{mark_of, IsBehind, IsAtLeast, RefusesAsSeen};
+ghost use Rattle.druid_node.specs.Seen.{mark_of, IsStale, IsAtLeast, RefusesAsSeen};
 ghost use Rattle.druid_node.specs.Questions.{IsBasisInTurn, IsBasisFrom, IsMadeInTurn};
 
 use crate::basis::{Basis, answer_from};
@@ -69,7 +69,7 @@ impl<I: Incarnation> StateIn<I> {
     // Its mark, where it is not older than what was seen.
     pub(crate) fn mark_as_seen(&self, seen: Mark) -> Result<Mark, NodeFault>
         ensures ok { IfOk result (λ mark. (mark ≡ mark_of self.now) × IsAtLeast (mark_of self.now) seen) }
-        ensures err { IfErr result (λ fault. IsBehind I.number (mark_of self.now) seen × (fault ≡ NodeFault.Behind (mark_of self.now))) }
+        ensures err { IfErr result (λ fault. IsStale I.number (mark_of self.now) seen × (fault ≡ NodeFault.Behind (mark_of self.now))) }
         ensures own { self.now.history.incarnation ≡ I.number }
         ensures valid { IsState self.now }
         ensures kept { IsKept self.now.history }
@@ -173,7 +173,7 @@ impl<I: Incarnation> StateIn<I> {
             × IsBasisInTurn self.old self.new question b.basis) }
         ensures stays { Freezes self.old self.new }
         ensures from { IfOk result (λ b. IsBasisFrom I.number seen b.mark question b.basis) }
-        ensures err { IfErr result (λ fault. IsBehind I.number (mark_of self.old) seen × (fault ≡ NodeFault.Behind (mark_of self.old))) }
+        ensures err { IfErr result (λ fault. IsStale I.number (mark_of self.old) seen × (fault ≡ NodeFault.Behind (mark_of self.old))) }
         ensures unchanged { OnErr result (self.new ≡ self.old) }
     {
         let mark = match self.mark_as_seen(seen) {

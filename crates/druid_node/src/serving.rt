@@ -5,7 +5,7 @@ ghost use Rattle.std.specs.declared.cmp.Ordering.TheVariants.{Greater};
 ghost use Rattle.druid_shard.specs.Mark.{Point, mark_cmp};
 ghost use Rattle.druid_message.specs.declared.fault.WireFault.{WireFault};
 ghost use Rattle.druid_wire.specs.Served.{refusal_text, IsSent, IsCutShort};
-ghost use Rattle.druid_node.specs.Seen.{IsBehind, AnswersFrom, AnswersSince, IsServedAsSeen, IsPassedBy, IsUnserved, text_of};
+ghost use Rattle.druid_node.specs.Seen.{IsStale, AnswersFrom, AnswersSince, IsServedAsSeen, IsPassedBy, IsUnserved, text_of};
 
 use crate::seen::Answered;
 use crate::{DataNode, Incarnation, NodeFault};
@@ -30,14 +30,14 @@ fn send_answered<W: Write>(answered: &Answered, writer: &mut W) -> Result<u16, W
 fn refuse_unread<W: Write>(fault: WireFault, writer: &mut W) -> Result<u16, NodeFault>
     ensures ok { IfOk result (λ sent. (text : List ℕ) × (refusal_text fault ≡ Some text)
         × IsSent (W.contents writer.old) (W.contents writer.new) 400 text sent) }
-    ensures err { IfErr result (λ given. (told : WireFault) × (given ≡ NodeFault.Wire told)
-        × (((told ≡ fault) × (refusal_text fault ≡ None) × Keeps (W.contents writer.old) (W.contents writer.new))
+    ensures err { IfErr result (λ given. (reported : WireFault) × (given ≡ NodeFault.Wire reported)
+        × (((reported ≡ fault) × (refusal_text fault ≡ None) × Keeps (W.contents writer.old) (W.contents writer.new))
         ⊎ ((text : List ℕ) × (refusal_text fault ≡ Some text)
-        × IsCutShort (W.contents writer.old) (W.contents writer.new) 400 text told))) }
+        × IsCutShort (W.contents writer.old) (W.contents writer.new) 400 text reported))) }
 {
     match refuse_request(fault, writer) {
         Ok(status) => Ok(status),
-        Err(told) => Err(NodeFault::Wire(told)),
+        Err(reported) => Err(NodeFault::Wire(reported)),
     }
 }
 
@@ -54,9 +54,9 @@ impl<I: Incarnation> DataNode<I> {
             × IsSent (W.contents writer.old) (W.contents writer.new) status body sent) }
         ensures risen { OnOk result (mark_cmp seen.old seen.new ≢ Greater) }
         ensures err { IfErr result (λ given.
-            ((found : Point) × IsBehind I.number found seen.old × (given ≡ NodeFault.Behind found) × (W.contents writer.new ≡ W.contents writer.old))
-            ⊎ ((told : WireFault) × (given ≡ NodeFault.Wire told) × (status : ℕ) × (body : List ℕ) × AnswersSince I.number seen.old request.now status body
-            × IsCutShort (W.contents writer.old) (W.contents writer.new) status body told)) }
+            ((found : Point) × IsStale I.number found seen.old × (given ≡ NodeFault.Behind found) × (W.contents writer.new ≡ W.contents writer.old))
+            ⊎ ((reported : WireFault) × (given ≡ NodeFault.Wire reported) × (status : ℕ) × (body : List ℕ) × AnswersSince I.number seen.old request.now status body
+            × IsCutShort (W.contents writer.old) (W.contents writer.new) status body reported)) }
         ensures unseen { OnErr result (seen.new ≡ seen.old) }
     {
         let answered = match self.respond(rt, request, *seen) {

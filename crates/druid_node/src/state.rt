@@ -6,7 +6,7 @@ ghost use Rattle.druid_shard.specs.declared.change.Change.TheVariants.{Load, Dro
 ghost use Rattle.druid_rows.specs.Segment.{Segment};
 ghost use Rattle.druid_shard.specs.Described.{Described};
 ghost use Rattle.druid_changes.specs.Kept.{StandsFor, IsKept, frozen_count, described_named, refusal};
-ghost use Rattle.druid_changes.specs.Answer.{answer, HasCopies, mark_behind};
+ghost use Rattle.druid_changes.specs.Answer.{answer, HasCopies, mark_after};
 ghost use Rattle.druid_node.specs.State.{State, IsState, Records, Takes, Leaves, Covers, Freezes, Refuses, RefusesToDrop, RefusesToCover};
 ghost use Rattle.druid_node.specs.Answers.{IsAnswerOf};
 ghost use Rattle.druid_node.specs.Held.{state_of};
@@ -276,8 +276,8 @@ impl NodeState {
     /// The mark after its changes.
     pub fn mark(&self) -> Mark
         ensures value { result ≡ record { incarnation = self.now.history.incarnation; count = self.now.history.count } }
-        ensures behind { (history : List Event) → StandsFor self.now.history history
-            → result ≡ mark_behind self.now.history.incarnation history }
+        ensures beyond { (history : List Event) → StandsFor self.now.history history
+            → result ≡ mark_after self.now.history.incarnation history }
         ensures valid { IsState self.now }
         ensures kept { IsKept self.now.history }
     {

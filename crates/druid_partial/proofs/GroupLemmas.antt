@@ -16,7 +16,7 @@ use Rattle.druid_query.specs.declared.aggregator.AggregatorKind.{AggregatorKind}
 use Rattle.druid_partial.specs.Groups.{Key, Group, value_cmp, key_cmp, key_of, InOrder, known, number_at, column, Occurs, IsAggregate, IsResult, IsMerge}
 use Rattle.druid_partial.specs.Joined.{joined}
 use Rattle.druid_partial.specs.Orders.{key_cmp-total}
-use Rattle.druid_partial.proofs.NumberLemmas.{contains_here, contains_there, contains_none, contains_cases, told, told-append, told-again, told_is, told_alone, again, joined-none, joined-comm}
+use Rattle.druid_partial.proofs.NumberLemmas.{contains_here, contains_there, contains_none, contains_cases, reported, reported-append, reported-again, counted_is, counted_alone, again, joined-none, joined-comm}
 
 -- ---- keys that tie are one
 
@@ -61,7 +61,7 @@ eq_yes Greater e = absurd (cc)
 -- ---- what is counted at a key
 
 abbrev pub at : AggregatorKind → Key → ℕ → List Group → Option ℤ
-at kind key place rows = told kind (known (column key place rows))
+at kind key place rows = reported kind (known (column key place rows))
 
 -- what one group tells
 abbrev pub one : AggregatorKind → ℕ → Group → Option ℤ
@@ -78,10 +78,10 @@ column-append key place a b =
 
 pub at-append : (kind : AggregatorKind) (key : Key) (place : ℕ) (a b : List Group) → at kind key place (a ++ b) ≡ joined kind (at kind key place a) (at kind key place b)
 at-append kind key place a b =
-    ap (λ l. told kind (known l)) (column-append key place a b) ∙ ap (told kind) (known-append (column key place a) (column key place b))
-    ∙ told-append kind (known (column key place a)) (known (column key place b))
+    ap (λ l. reported kind (known l)) (column-append key place a b) ∙ ap (reported kind) (known-append (column key place a) (column key place b))
+    ∙ reported-append kind (known (column key place a)) (known (column key place b))
 
-alone_if : (kind : AggregatorKind) (place : ℕ) (g : Group) (b : Bool) → told kind (known (map (number_at place) (cond b (g ∷ []) []))) ≡ cond b (one kind place g) None
+alone_if : (kind : AggregatorKind) (place : ℕ) (g : Group) (b : Bool) → reported kind (known (map (number_at place) (cond b (g ∷ []) []))) ≡ cond b (one kind place g) None
 alone_if kind place g true = refl
 alone_if kind place g false = refl
 
@@ -192,7 +192,7 @@ at_group kind place (x ∷ xs) s g c =
 -- ---- a result tells at each key what its rows tell
 
 pub number_of : (kinds : List AggregatorKind) (rows groups : List Group) → IsResult kinds rows groups → (g : Group) → Contains groups g → (place : ℕ) (kind : AggregatorKind) → slice_get kinds place ≡ Some kind → number_at place g ≡ at kind g.key place rows
-number_of kinds rows groups r g c place kind k = told_alone kind _ _ ((r.each g c).aggregates place kind k)
+number_of kinds rows groups r g c place kind k = counted_alone kind _ _ ((r.each g c).aggregates place kind k)
 
 pub result_tells : (kinds : List AggregatorKind) (rows groups : List Group) → IsResult kinds rows groups → (place : ℕ) (kind : AggregatorKind) → slice_get kinds place ≡ Some kind → (key : Key) → at kind key place groups ≡ at kind key place rows
 result_tells kinds rows groups r place kind k key =
@@ -202,7 +202,7 @@ result_tells kinds rows groups r place kind k key =
     let here : at kind g.key place groups ≡ one kind place g = at_group kind place groups r.ordered g o.1 in
     let number : number_at place g ≡ at kind g.key place rows = number_of kinds rows groups r g o.1 place kind k in
     let all : at kind g.key place groups ≡ at kind g.key place rows =
-    here ∙ ap (again kind) number ∙ told-again kind (known (column g.key place rows)) in
+    here ∙ ap (again kind) number ∙ reported-again kind (known (column g.key place rows)) in
     let P : Key → Type 0 = λ q. at kind q place groups ≡ at kind q place rows in subst P o.2 all)
     (λ none. at-absent kind place key groups none
     ∙ sym (at-absent kind place key rows (λ o.
@@ -223,7 +223,7 @@ result_alike kinds a b groups alike r = record {
     one_each = (r.each g c).one_each;
     aggregates = λ place kind k.
         let P : Option ℤ → Type 0 = λ n. IsAggregate kind (known (column g.key place b)) n in
-        subst P (sym (number_of kinds a groups r g c place kind k ∙ alike.same place kind k g.key)) (told_is kind (known (column g.key place b)));
+        subst P (sym (number_of kinds a groups r g c place kind k ∙ alike.same place kind k g.key)) (counted_is kind (known (column g.key place b)));
   };
   whole = λ row c.
       let there = alike.back row.key (row, c, refl) in

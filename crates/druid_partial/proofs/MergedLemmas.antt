@@ -14,7 +14,7 @@ use Rattle.druid_partial.specs.Rows.{HasNumbers}
 use Rattle.druid_partial.specs.Joined.{alone, joined, join_numbers, join_groups, put, merged}
 use Rattle.druid_partial.specs.Orders.{key_cmp-total}
 use Rattle.druid_partial.proofs.OrderLemmas.{no_rows}
-use Rattle.druid_partial.proofs.NumberLemmas.{contains_here, contains_there, contains_none, contains_cases, told_is, again, joined-none}
+use Rattle.druid_partial.proofs.NumberLemmas.{contains_here, contains_there, contains_none, contains_cases, counted_is, again, joined-none}
 use Rattle.druid_partial.proofs.GroupLemmas.{key_same, less_apart, at, one, at-append, at-here, at-absent, occurs_here, occurs_there, occurs_along, occurs_cases, occurs_left, occurs_right, no_occurrence, below_rest, in_order_rest, in_order_more, number_of, Alike, result_alike, alike_append, alike_swap, alike_itself}
 
 abbrev pub AreKept : List AggregatorKind → List Group → Type 0
@@ -61,21 +61,21 @@ joined_length (c ∷ kinds) (x ∷ xs) (y ∷ ys) p q = ap suc (joined_length ki
 -- ---- one group more in front
 
 -- all rows are after a key
-abbrev pub Behind : Key → List Group → Type 0
-Behind key rows = (row : Group) → Contains rows row → key_cmp key row.key ≡ Less
+abbrev pub Beyond : Key → List Group → Type 0
+Beyond key rows = (row : Group) → Contains rows row → key_cmp key row.key ≡ Less
 
-behind_result : (kinds : List AggregatorKind) (key : Key) (rows groups : List Group) → IsResult kinds rows groups → Behind key rows → Behind key groups
-behind_result kinds key rows groups r b g c =
+beyond_result : (kinds : List AggregatorKind) (key : Key) (rows groups : List Group) → IsResult kinds rows groups → Beyond key rows → Beyond key groups
+beyond_result kinds key rows groups r b g c =
     let there = (r.each g c).occurs in
     let P : Key → Type 0 = λ k. key_cmp key k ≡ Less in subst P there.2 (b there.0 there.1)
 
-behind_absent : (key : Key) (rows : List Group) → Behind key rows → Occurs key rows → ⊥
-behind_absent key rows b o = less_apart key o.0.key (b o.0 o.1) (sym o.2)
+beyond_absent : (key : Key) (rows : List Group) → Beyond key rows → Occurs key rows → ⊥
+beyond_absent key rows b o = less_apart key o.0.key (b o.0 o.1) (sym o.2)
 
 -- a group in front that tells what some rows of its key do, which are in front of all others
-pub front_group : (kinds : List AggregatorKind) (g : Group) (front rows groups : List Group) → length g.numbers ≡ length kinds → ((key : Key) → Occurs key front → g.key ≡ key) → Occurs g.key front → ((place : ℕ) (kind : AggregatorKind) → slice_get kinds place ≡ Some kind → number_at place g ≡ at kind g.key place front) → IsResult kinds rows groups → Behind g.key rows → IsResult kinds (front ++ rows) (g ∷ groups)
+pub front_group : (kinds : List AggregatorKind) (g : Group) (front rows groups : List Group) → length g.numbers ≡ length kinds → ((key : Key) → Occurs key front → g.key ≡ key) → Occurs g.key front → ((place : ℕ) (kind : AggregatorKind) → slice_get kinds place ≡ Some kind → number_at place g ≡ at kind g.key place front) → IsResult kinds rows groups → Beyond g.key rows → IsResult kinds (front ++ rows) (g ∷ groups)
 front_group kinds g front rows groups numbers only there tells r b = record {
-  ordered = in_order_more g groups (behind_result kinds g.key rows groups r b) r.ordered;
+  ordered = in_order_more g groups (beyond_result kinds g.key rows groups r b) r.ordered;
   each = λ h c. ⊎_elim (λ e. let P : Group → Type 0 = λ x. IsGroupOf kinds (front ++ rows) x in subst P e first) (λ more. other h more) (contains_cases g groups h c);
   whole = λ row c. ⊎_elim
       (λ l. occurs_along (g ∷ groups) g.key row.key (only row.key (row, l, refl)) (occurs_here g groups))
@@ -88,12 +88,12 @@ front_group kinds g front rows groups numbers only there tells r b = record {
       occurs = occurs_left front rows g.key there;
       one_each = numbers;
       aggregates = λ place kind k.
-          let told_here : number_at place g ≡ at kind g.key place (front ++ rows) =
+          let counted_here : number_at place g ≡ at kind g.key place (front ++ rows) =
           tells place kind k ∙ sym (joined-none kind (at kind g.key place front))
-          ∙ ap (joined kind (at kind g.key place front)) (sym (at-absent kind place g.key rows (behind_absent g.key rows b)))
+          ∙ ap (joined kind (at kind g.key place front)) (sym (at-absent kind place g.key rows (beyond_absent g.key rows b)))
           ∙ sym (at-append kind g.key place front rows) in
           let P : Option ℤ → Type 0 = λ n. IsAggregate kind (known (column g.key place (front ++ rows))) n in
-          subst P (sym told_here) (told_is kind (known (column g.key place (front ++ rows))));
+          subst P (sym counted_here) (counted_is kind (known (column g.key place (front ++ rows))));
     }
 
     other : (h : Group) → Contains groups h → IsGroupOf kinds (front ++ rows) h
@@ -102,17 +102,17 @@ front_group kinds g front rows groups numbers only there tells r b = record {
       one_each = (r.each h c).one_each;
       aggregates = λ place kind k.
           let apart : Occurs h.key front → ⊥ = λ o.
-          less_apart g.key h.key (behind_result kinds g.key rows groups r b h c) (only h.key o) in
-          let told_here : number_at place h ≡ at kind h.key place (front ++ rows) =
+          less_apart g.key h.key (beyond_result kinds g.key rows groups r b h c) (only h.key o) in
+          let counted_here : number_at place h ≡ at kind h.key place (front ++ rows) =
           number_of kinds rows groups r h c place kind k
           ∙ ap (λ x. joined kind x (at kind h.key place rows)) (sym (at-absent kind place h.key front apart))
           ∙ sym (at-append kind h.key place front rows) in
           let P : Option ℤ → Type 0 = λ n. IsAggregate kind (known (column h.key place (front ++ rows))) n in
-          subst P (sym told_here) (told_is kind (known (column h.key place (front ++ rows))));
+          subst P (sym counted_here) (counted_is kind (known (column h.key place (front ++ rows))));
     }
 
 -- a kept group in front
-pub front_one : (kinds : List AggregatorKind) (g : Group) (rows groups : List Group) → HasNumbers kinds g → IsResult kinds rows groups → Behind g.key rows → IsResult kinds (g ∷ rows) (g ∷ groups)
+pub front_one : (kinds : List AggregatorKind) (g : Group) (rows groups : List Group) → HasNumbers kinds g → IsResult kinds rows groups → Beyond g.key rows → IsResult kinds (g ∷ rows) (g ∷ groups)
 front_one kinds g rows groups k r b =
     front_group kinds g (g ∷ []) rows groups k.one_each
     (λ key o. ⊎_elim (λ e. e) (λ none. absurd (no_occurrence key none)) (occurs_cases g [] key o))
@@ -121,7 +121,7 @@ front_one kinds g rows groups k r b =
     r b
 
 -- two of one key in front, as one
-pub front_two : (kinds : List AggregatorKind) (g h : Group) (rows groups : List Group) → HasNumbers kinds g → HasNumbers kinds h → g.key ≡ h.key → IsResult kinds rows groups → Behind g.key rows → IsResult kinds (g ∷ h ∷ rows) (join_groups kinds g h ∷ groups)
+pub front_two : (kinds : List AggregatorKind) (g h : Group) (rows groups : List Group) → HasNumbers kinds g → HasNumbers kinds h → g.key ≡ h.key → IsResult kinds rows groups → Beyond g.key rows → IsResult kinds (g ∷ h ∷ rows) (join_groups kinds g h ∷ groups)
 front_two kinds g h rows groups k l e r b =
     front_group kinds (join_groups kinds g h) (g ∷ h ∷ []) rows groups (joined_length kinds g.numbers h.numbers k.one_each l.one_each)
     (λ key o. ⊎_elim (λ here. here) (λ more. ⊎_elim (λ there. e ∙ there) (λ none. absurd (no_occurrence key none)) (occurs_cases h [] key more)) (occurs_cases g (h ∷ []) key o))
@@ -149,16 +149,16 @@ settled kinds (g ∷ gs) s k =
 
 -- ---- the walk
 
-behind_append : (key : Key) (a b : List Group) → Behind key a → Behind key b → Behind key (a ++ b)
-behind_append key a b p q row c = ⊎_elim (p row) (q row) (Contains-append_cases a b row c)
+beyond_append : (key : Key) (a b : List Group) → Beyond key a → Beyond key b → Beyond key (a ++ b)
+beyond_append key a b p q row c = ⊎_elim (p row) (q row) (Contains-append_cases a b row c)
 
-behind_cons : (key : Key) (g : Group) (gs : List Group) → key_cmp key g.key ≡ Less → InOrder (g ∷ gs) → Behind key (g ∷ gs)
-behind_cons key g gs l s row c =
+beyond_cons : (key : Key) (g : Group) (gs : List Group) → key_cmp key g.key ≡ Less → InOrder (g ∷ gs) → Beyond key (g ∷ gs)
+beyond_cons key g gs l s row c =
     ⊎_elim (λ e. let P : Group → Type 0 = λ x. key_cmp key x.key ≡ Less in subst P e l)
     (λ more. key_cmp-total.trans key g.key row.key l (below_rest g gs s row more)) (contains_cases g gs row c)
 
-behind_same : (a b : Key) (gs : List Group) → a ≡ b → Behind a gs → Behind b gs
-behind_same a b gs e p = let P : Key → Type 0 = λ k. Behind k gs in subst P e p
+beyond_same : (a b : Key) (gs : List Group) → a ≡ b → Beyond a gs → Beyond b gs
+beyond_same a b gs e p = let P : Key → Type 0 = λ k. Beyond k gs in subst P e p
 
 less_back : (a b : Key) → key_cmp a b ≡ Greater → key_cmp b a ≡ Less
 less_back a b e = key_cmp-total.antisymm b a ∙ ap ordering_reverse e
@@ -171,24 +171,24 @@ alike_move kinds g a b =
 
 put_is_merge : (kinds : List AggregatorKind) (x : Group) (xs : List Group) → ((ys : List Group) → InOrder ys → AreKept kinds ys → IsResult kinds (xs ++ ys) (merged kinds xs ys)) → InOrder (x ∷ xs) → HasNumbers kinds x → (ys : List Group) → InOrder ys → AreKept kinds ys → IsResult kinds (x ∷ (xs ++ ys)) (put kinds x (merged kinds xs) ys)
 put_is_merge kinds x xs rest s k [] t l =
-    front_one kinds x (xs ++ []) (merged kinds xs []) k (rest [] t l) (behind_append x.key xs [] (below_rest x xs s) (λ row c. absurd (contains_none row c)))
+    front_one kinds x (xs ++ []) (merged kinds xs []) k (rest [] t l) (beyond_append x.key xs [] (below_rest x xs s) (λ row c. absurd (contains_none row c)))
 put_is_merge kinds x xs rest s k (y ∷ ys) t l =
     by_order (put_is_merge kinds x xs rest s k ys (in_order_rest y ys t) (kept_rest kinds y ys l)) (key_cmp x.key y.key) refl
   where
     by_order : IsResult kinds (x ∷ (xs ++ ys)) (put kinds x (merged kinds xs) ys) → (o : Ordering) → key_cmp x.key y.key ≡ o → IsResult kinds (x ∷ (xs ++ (y ∷ ys))) (match_ordering o (x ∷ merged kinds xs (y ∷ ys)) (join_groups kinds x y ∷ merged kinds xs ys) (y ∷ put kinds x (merged kinds xs) ys))
     by_order later Less e =
         front_one kinds x (xs ++ (y ∷ ys)) _ k (rest (y ∷ ys) t l)
-        (behind_append x.key xs (y ∷ ys) (below_rest x xs s) (behind_cons x.key y ys e t))
+        (beyond_append x.key xs (y ∷ ys) (below_rest x xs s) (beyond_cons x.key y ys e t))
     by_order later Equal e =
         let same : x.key ≡ y.key = key_same x.key y.key e in
         result_alike kinds (x ∷ y ∷ (xs ++ ys)) (x ∷ (xs ++ (y ∷ ys))) _
         (alike_append kinds (x ∷ []) (x ∷ []) (y ∷ (xs ++ ys)) (xs ++ (y ∷ ys)) (alike_itself kinds (x ∷ [])) (alike_move kinds y xs ys))
         (front_two kinds x y (xs ++ ys) (merged kinds xs ys) k (kept_head kinds y ys l) same (rest ys (in_order_rest y ys t) (kept_rest kinds y ys l))
-        (behind_append x.key xs ys (below_rest x xs s) (behind_same y.key x.key ys (sym same) (below_rest y ys t))))
+        (beyond_append x.key xs ys (below_rest x xs s) (beyond_same y.key x.key ys (sym same) (below_rest y ys t))))
     by_order later Greater e =
         result_alike kinds (y ∷ ((x ∷ xs) ++ ys)) ((x ∷ xs) ++ (y ∷ ys)) _ (alike_move kinds y (x ∷ xs) ys)
         (front_one kinds y ((x ∷ xs) ++ ys) _ (kept_head kinds y ys l)
-        later (behind_append y.key (x ∷ xs) ys (behind_cons y.key x xs (less_back x.key y.key e) s) (below_rest y ys t)))
+        later (beyond_append y.key (x ∷ xs) ys (beyond_cons y.key x xs (less_back x.key y.key e) s) (below_rest y ys t)))
 
 -- the walk gives the merge
 pub merged_is_merge : (kinds : List AggregatorKind) (xs ys : List Group) → InOrder xs → AreKept kinds xs → InOrder ys → AreKept kinds ys → IsMerge kinds xs ys (merged kinds xs ys)

@@ -7,7 +7,7 @@ use Rattle.std.proofs.lemmas.Int.{ints, clamps, int_wrap_fits, int_wrap-add_left
 use Rattle.std.proofs.lemmas.List.Elements.{All-contains, All-cons, All-nil, All-weaker, Contains-append_right, Contains-append_cases, Contains-push_cases}
 use Rattle.druid_query.specs.declared.aggregator.AggregatorKind.{AggregatorKind}
 use Rattle.druid_query.specs.declared.aggregator.AggregatorKind.TheVariants.{Count, LongSum, LongMin, LongMax}
-use Rattle.druid_partial.specs.Groups.{known, total, IsLeast, IsGreatest, IsTold, IsAggregate}
+use Rattle.druid_partial.specs.Groups.{known, total, IsLeast, IsGreatest, IsReported, IsAggregate}
 use Rattle.druid_partial.specs.Joined.{alone, join_two, joined}
 
 -- ---- lists
@@ -82,18 +82,18 @@ joined-assoc kind (Some x) (Some y) (Some z) = ap (λ n. Some n) (join_two-assoc
 
 -- ---- what is reported of numbers
 
-abbrev pub told : AggregatorKind → List ℤ → Option ℤ
-told kind [] = None
-told kind (x ∷ xs) = joined kind (Some (alone kind x)) (told kind xs)
+abbrev pub reported : AggregatorKind → List ℤ → Option ℤ
+reported kind [] = None
+reported kind (x ∷ xs) = joined kind (Some (alone kind x)) (reported kind xs)
 
-pub told-append : (kind : AggregatorKind) (xs ys : List ℤ) → told kind (xs ++ ys) ≡ joined kind (told kind xs) (told kind ys)
-told-append kind [] ys = refl
-told-append kind (x ∷ xs) ys =
-    ap (joined kind (Some (alone kind x))) (told-append kind xs ys) ∙ sym (joined-assoc kind (Some (alone kind x)) (told kind xs) (told kind ys))
+pub reported-append : (kind : AggregatorKind) (xs ys : List ℤ) → reported kind (xs ++ ys) ≡ joined kind (reported kind xs) (reported kind ys)
+reported-append kind [] ys = refl
+reported-append kind (x ∷ xs) ys =
+    ap (joined kind (Some (alone kind x))) (reported-append kind xs ys) ∙ sym (joined-assoc kind (Some (alone kind x)) (reported kind xs) (reported kind ys))
 
 -- a number that is counted stands for those after it
 abbrev pub again : AggregatorKind → Option ℤ → Option ℤ
-again kind x = told kind (known (x ∷ []))
+again kind x = reported kind (known (x ∷ []))
 
 alone_again : (kind : AggregatorKind) (x : ℤ) → alone kind (alone kind x) ≡ alone kind x
 alone_again Count x = wrap_again x
@@ -111,9 +111,9 @@ again_after : (kind : AggregatorKind) (x : ℤ) (rest : Option ℤ) → again ki
 again_after kind x None = ap (λ n. Some n) (alone_again kind x)
 again_after kind x (Some y) = ap (λ n. Some n) (alone_two kind x y)
 
-pub told-again : (kind : AggregatorKind) (xs : List ℤ) → again kind (told kind xs) ≡ told kind xs
-told-again kind [] = refl
-told-again kind (x ∷ xs) = again_after kind x (told kind xs)
+pub reported-again : (kind : AggregatorKind) (xs : List ℤ) → again kind (reported kind xs) ≡ reported kind xs
+reported-again kind [] = refl
+reported-again kind (x ∷ xs) = again_after kind x (reported kind xs)
 
 -- ---- it is what the definition says
 
@@ -123,15 +123,15 @@ sum_step x t = int_wrap-add_left w64 x (int_wrap w64 t) ∙ int_wrap-add_right w
 plus_nothing : (x : ℤ) → x ≡ x +ℤ pos 0
 plus_nothing x = omega (arith, ints)
 
-told_count : (x : ℤ) (xs : List ℤ) → told Count (x ∷ xs) ≡ Some (int_wrap w64 (total (x ∷ xs)))
-told_count x [] = ap (λ n. Some (int_wrap w64 n)) (plus_nothing x)
-told_count x (y ∷ ys) =
-    ap (joined Count (Some (int_wrap w64 x))) (told_count y ys) ∙ ap (λ n. Some n) (sum_step x (total (y ∷ ys)))
+counted_count : (x : ℤ) (xs : List ℤ) → reported Count (x ∷ xs) ≡ Some (int_wrap w64 (total (x ∷ xs)))
+counted_count x [] = ap (λ n. Some (int_wrap w64 n)) (plus_nothing x)
+counted_count x (y ∷ ys) =
+    ap (joined Count (Some (int_wrap w64 x))) (counted_count y ys) ∙ ap (λ n. Some n) (sum_step x (total (y ∷ ys)))
 
-told_sum : (x : ℤ) (xs : List ℤ) → told LongSum (x ∷ xs) ≡ Some (int_wrap w64 (total (x ∷ xs)))
-told_sum x [] = ap (λ n. Some (int_wrap w64 n)) (plus_nothing x)
-told_sum x (y ∷ ys) =
-    ap (joined LongSum (Some (int_wrap w64 x))) (told_sum y ys) ∙ ap (λ n. Some n) (sum_step x (total (y ∷ ys)))
+counted_sum : (x : ℤ) (xs : List ℤ) → reported LongSum (x ∷ xs) ≡ Some (int_wrap w64 (total (x ∷ xs)))
+counted_sum x [] = ap (λ n. Some (int_wrap w64 n)) (plus_nothing x)
+counted_sum x (y ∷ ys) =
+    ap (joined LongSum (Some (int_wrap w64 x))) (counted_sum y ys) ∙ ap (λ n. Some n) (sum_step x (total (y ∷ ys)))
 
 min_left : (x y : ℤ) → int_min x y ≤ℤ x
 min_left x y = omega (arith, ints, clamps)
@@ -177,37 +177,37 @@ greatest_more x y xs l = record {
       (All-weaker (λ z. z ≤ℤ y) (λ z. z ≤ℤ int_max x y) (λ z h. le_trans_ℤ z y _ h (max_right x y)) xs l.above);
 }
 
-told_min : (x : ℤ) (xs : List ℤ) → (n : ℤ) × (told LongMin (x ∷ xs) ≡ Some n) × IsLeast (x ∷ xs) n
-told_min x [] = (x, refl, record { one = contains_here x []; below = All-cons (λ z. x ≤ℤ z) x [] (le_refl_ℤ x) (All-nil (λ z. x ≤ℤ z)) })
-told_min x (y ∷ ys) =
-    let rest = told_min y ys in
+counted_min : (x : ℤ) (xs : List ℤ) → (n : ℤ) × (reported LongMin (x ∷ xs) ≡ Some n) × IsLeast (x ∷ xs) n
+counted_min x [] = (x, refl, record { one = contains_here x []; below = All-cons (λ z. x ≤ℤ z) x [] (le_refl_ℤ x) (All-nil (λ z. x ≤ℤ z)) })
+counted_min x (y ∷ ys) =
+    let rest = counted_min y ys in
     (int_min x rest.0, ap (joined LongMin (Some x)) rest.1, least_more x rest.0 (y ∷ ys) rest.2)
 
-told_max : (x : ℤ) (xs : List ℤ) → (n : ℤ) × (told LongMax (x ∷ xs) ≡ Some n) × IsGreatest (x ∷ xs) n
-told_max x [] = (x, refl, record { one = contains_here x []; above = All-cons (λ z. z ≤ℤ x) x [] (le_refl_ℤ x) (All-nil (λ z. z ≤ℤ x)) })
-told_max x (y ∷ ys) =
-    let rest = told_max y ys in
+counted_max : (x : ℤ) (xs : List ℤ) → (n : ℤ) × (reported LongMax (x ∷ xs) ≡ Some n) × IsGreatest (x ∷ xs) n
+counted_max x [] = (x, refl, record { one = contains_here x []; above = All-cons (λ z. z ≤ℤ x) x [] (le_refl_ℤ x) (All-nil (λ z. z ≤ℤ x)) })
+counted_max x (y ∷ ys) =
+    let rest = counted_max y ys in
     (int_max x rest.0, ap (joined LongMax (Some x)) rest.1, greatest_more x rest.0 (y ∷ ys) rest.2)
 
-pub told_is : (kind : AggregatorKind) (xs : List ℤ) → IsAggregate kind xs (told kind xs)
-told_is kind [] = refl
-told_is Count (x ∷ xs) = (_, told_count x xs, refl)
-told_is LongSum (x ∷ xs) = (_, told_sum x xs, refl)
-told_is LongMin (x ∷ xs) = told_min x xs
-told_is LongMax (x ∷ xs) = told_max x xs
+pub counted_is : (kind : AggregatorKind) (xs : List ℤ) → IsAggregate kind xs (reported kind xs)
+counted_is kind [] = refl
+counted_is Count (x ∷ xs) = (_, counted_count x xs, refl)
+counted_is LongSum (x ∷ xs) = (_, counted_sum x xs, refl)
+counted_is LongMin (x ∷ xs) = counted_min x xs
+counted_is LongMax (x ∷ xs) = counted_max x xs
 
-one_told : (kind : AggregatorKind) (xs : List ℤ) (a b : ℤ) → IsTold kind xs a → IsTold kind xs b → a ≡ b
-one_told Count xs a b p q = p ∙ sym q
-one_told LongSum xs a b p q = p ∙ sym q
-one_told LongMin xs a b p q =
+one_counted : (kind : AggregatorKind) (xs : List ℤ) (a b : ℤ) → IsReported kind xs a → IsReported kind xs b → a ≡ b
+one_counted Count xs a b p q = p ∙ sym q
+one_counted LongSum xs a b p q = p ∙ sym q
+one_counted LongMin xs a b p q =
     le_antisymm_ℤ a b (All-contains (λ x. a ≤ℤ x) xs b p.below q.one) (All-contains (λ x. b ≤ℤ x) xs a q.below p.one)
-one_told LongMax xs a b p q =
+one_counted LongMax xs a b p q =
     le_antisymm_ℤ a b (All-contains (λ x. x ≤ℤ b) xs a q.above p.one) (All-contains (λ x. x ≤ℤ a) xs b p.above q.one)
 
 -- an aggregator tells one number of some numbers
 pub one_aggregate : (kind : AggregatorKind) (xs : List ℤ) (a b : Option ℤ) → IsAggregate kind xs a → IsAggregate kind xs b → a ≡ b
 one_aggregate kind [] a b p q = p ∙ sym q
-one_aggregate kind (x ∷ xs) a b p q = p.1 ∙ ap (λ n. Some n) (one_told kind (x ∷ xs) p.0 q.0 p.2 q.2) ∙ sym q.1
+one_aggregate kind (x ∷ xs) a b p q = p.1 ∙ ap (λ n. Some n) (one_counted kind (x ∷ xs) p.0 q.0 p.2 q.2) ∙ sym q.1
 
-pub told_alone : (kind : AggregatorKind) (xs : List ℤ) (a : Option ℤ) → IsAggregate kind xs a → a ≡ told kind xs
-told_alone kind xs a p = one_aggregate kind xs a (told kind xs) p (told_is kind xs)
+pub counted_alone : (kind : AggregatorKind) (xs : List ℤ) (a : Option ℤ) → IsAggregate kind xs a → a ≡ reported kind xs
+counted_alone kind xs a p = one_aggregate kind xs a (reported kind xs) p (counted_is kind xs)

@@ -13,11 +13,11 @@ use Rattle.druid_rows.specs.Segment.{Segment}
 use Rattle.druid_filter.specs.Filters.{value_in}
 use Rattle.druid_query.specs.Query.{Query}
 use Rattle.druid_query.specs.Asked.{Asked, do_overlap, stand_apart, StandApart}
-use Rattle.druid_query.proofs.AskedLemmas.{overlap_told, apart_told}
+use Rattle.druid_query.proofs.AskedLemmas.{overlap_reported, apart_reported}
 use Rattle.druid_query.specs.declared.aggregator.AggregatorKind.{AggregatorKind}
 use Rattle.druid_partial.specs.Groups.{Group, IsResult}
-use Rattle.druid_partial.specs.Rows.{kinds_of, is_asked, tells, told_by, passes_if}
-use Rattle.druid_partial.specs.Once.{segment_named, HaveOwnSegments, told_in, told_of, told, is_told, told_by_some, told_once}
+use Rattle.druid_partial.specs.Rows.{kinds_of, is_asked, tells, counted_by, passes_if}
+use Rattle.druid_partial.specs.Once.{segment_named, HaveOwnSegments, counted_in, counted_of, counted_groups, is_counted, counted_by_some, counted_once}
 use Rattle.druid_partial.proofs.GroupLemmas.{Alike, result_alike, alike_append, alike_swap, alike_itself}
 
 -- ---- rows that tell the same
@@ -61,15 +61,15 @@ module _ (kinds : List AggregatorKind) (f : Row → Group) (p q : Row → Bool) 
 
 -- a row of a segment is not asked for by a piece and by others that stand apart from it
 clash : (query : Query) (a : Asked) (s : Segment) (row : Row) (more : List Asked) → list_any (do_overlap a) more ≡ false → same_identifier a.0 s.descriptor.id ≡ true
-    → is_asked query a.1 s.fields row ≡ true → is_told query more s row ≡ true → ⊥
+    → is_asked query a.1 s.fields row ≡ true → is_counted query more s row ≡ true → ⊥
 clash query a s row [] none here asked some = false≢true some
 clash query a s row (b ∷ more) none here asked some =
-    elim (or_cases (same_identifier b.0 s.descriptor.id && is_asked query b.1 s.fields row) (is_told query more s row) some) [
+    elim (or_cases (same_identifier b.0 s.descriptor.id && is_asked query b.1 s.fields row) (is_counted query more s row) some) [
       | inl first ↦
           let same : a.0 ≡ b.0 = same_identifier-true a.0 s.descriptor.id here ∙ sym (same_identifier-true b.0 s.descriptor.id (first_so _ _ first)) in
           let mine = lies_in a.1 asked in
           let other = lies_in b.1 (second_so _ _ first) in
-          let level = overlap_told a b (same, (row.time, mine, other)) in
+          let level = overlap_reported a b (same, (row.time, mine, other)) in
           false≢true (sym none ∙ ap (λ t. t || list_any (do_overlap a) more) level)
       | inr later ↦ clash query a s row more (none_later (do_overlap a b) none) here asked later
     ]
@@ -87,68 +87,68 @@ rows_same : (query : Query) (s : Segment) (p q : Row → Bool) → ((row : Row) 
 rows_same query s p q agree = ap (λ rows. map (tells query s.fields) rows) (filter_agree p q agree s.rows)
 
 -- a piece of another segment
-other_segment : (query : Query) (a : Asked) (more : List Asked) (s : Segment) → same_identifier a.0 s.descriptor.id ≡ false → told_by_some query more s ≡ told_by_some query (a ∷ more) s
+other_segment : (query : Query) (a : Asked) (more : List Asked) (s : Segment) → same_identifier a.0 s.descriptor.id ≡ false → counted_by_some query more s ≡ counted_by_some query (a ∷ more) s
 other_segment query a more s apart =
-    rows_same query s (is_told query more s) (is_told query (a ∷ more) s) (λ row. sym (ap (λ b. (b && is_asked query a.1 s.fields row) || is_told query more s row) apart))
+    rows_same query s (is_counted query more s) (is_counted query (a ∷ more) s) (λ row. sym (ap (λ b. (b && is_asked query a.1 s.fields row) || is_counted query more s row) apart))
 
-not_held : (query : Query) (a : Asked) (more : List Asked) (segments : List Segment) → segment_named a.0 segments ≡ None → told_once query more segments ≡ told_once query (a ∷ more) segments
+not_held : (query : Query) (a : Asked) (more : List Asked) (segments : List Segment) → segment_named a.0 segments ≡ None → counted_once query more segments ≡ counted_once query (a ∷ more) segments
 not_held query a more [] none = refl
 not_held query a more (s ∷ rest) none = by_test (not_held query a more rest) (same_identifier a.0 s.descriptor.id) refl none where
-  by_test : (segment_named a.0 rest ≡ None → told_once query more rest ≡ told_once query (a ∷ more) rest) → (b : Bool) → same_identifier a.0 s.descriptor.id ≡ b → cond b (Some s) (segment_named a.0 rest) ≡ None
-      → told_once query more (s ∷ rest) ≡ told_once query (a ∷ more) (s ∷ rest)
+  by_test : (segment_named a.0 rest ≡ None → counted_once query more rest ≡ counted_once query (a ∷ more) rest) → (b : Bool) → same_identifier a.0 s.descriptor.id ≡ b → cond b (Some s) (segment_named a.0 rest) ≡ None
+      → counted_once query more (s ∷ rest) ≡ counted_once query (a ∷ more) (s ∷ rest)
   by_test later true e found = absurd (cc)
   by_test later false e found = λ i. other_segment query a more s e i ++ later found i
 
 one_more : (query : Query) (a : Asked) (more : List Asked) (segments : List Segment) → HaveOwnSegments segments → list_any (do_overlap a) more ≡ false
-    → Alike (kinds_of query) (told_of query segments a ++ told_once query more segments) (told_once query (a ∷ more) segments)
+    → Alike (kinds_of query) (counted_of query segments a ++ counted_once query more segments) (counted_once query (a ∷ more) segments)
 one_more query a more [] own none = alike_itself (kinds_of query) []
 one_more query a more (s ∷ rest) own none = by_test (one_more query a more rest own.1 none) (same_identifier a.0 s.descriptor.id) refl where
-  by_test : Alike (kinds_of query) (told_of query rest a ++ told_once query more rest) (told_once query (a ∷ more) rest) → (b : Bool) → same_identifier a.0 s.descriptor.id ≡ b
-      → Alike (kinds_of query) (told_of query (s ∷ rest) a ++ told_once query more (s ∷ rest)) (told_once query (a ∷ more) (s ∷ rest))
+  by_test : Alike (kinds_of query) (counted_of query rest a ++ counted_once query more rest) (counted_once query (a ∷ more) rest) → (b : Bool) → same_identifier a.0 s.descriptor.id ≡ b
+      → Alike (kinds_of query) (counted_of query (s ∷ rest) a ++ counted_once query more (s ∷ rest)) (counted_once query (a ∷ more) (s ∷ rest))
   by_test later true e =
       let kinds = kinds_of query in
-      let x = told_by_some query more s in
-      let y = told_once query more rest in
-      let front : told_of query (s ∷ rest) a ≡ told_by query s a.1 = ap (λ t. told_in query a.1 (cond t (Some s) (segment_named a.0 rest))) e in
+      let x = counted_by_some query more s in
+      let y = counted_once query more rest in
+      let front : counted_of query (s ∷ rest) a ≡ counted_by query s a.1 = ap (λ t. counted_in query a.1 (cond t (Some s) (segment_named a.0 rest))) e in
       let gone : segment_named a.0 rest ≡ None = subst (λ (k : Identifier). segment_named k rest ≡ None) (sym (same_identifier-true a.0 s.descriptor.id e)) own.0 in
-      let either = either_rows kinds (tells query s.fields) (is_asked query a.1 s.fields) (is_told query more s) s.rows (λ row asked some. clash query a s row more none e asked some) in
-      let same = rows_same query s (λ row. is_asked query a.1 s.fields row || is_told query more s row) (is_told query (a ∷ more) s) (λ row. sym (ap (λ b. (b && is_asked query a.1 s.fields row) || is_told query more s row) e)) in
-      let rows = subst (Alike kinds (told_by query s a.1 ++ x)) same either in
-      alike_through kinds (told_of query (s ∷ rest) a ++ (x ++ y)) ((told_by query s a.1 ++ x) ++ y) (told_by_some query (a ∷ more) s ++ told_once query (a ∷ more) rest)
-      (alike_equal kinds (told_of query (s ∷ rest) a ++ (x ++ y)) ((told_by query s a.1 ++ x) ++ y) ((λ i. front i ++ (x ++ y)) ∙ sym (append_assoc (told_by query s a.1) x y)))
-      (alike_append kinds (told_by query s a.1 ++ x) (told_by_some query (a ∷ more) s) y (told_once query (a ∷ more) rest) rows (alike_equal kinds y (told_once query (a ∷ more) rest) (not_held query a more rest gone)))
+      let either = either_rows kinds (tells query s.fields) (is_asked query a.1 s.fields) (is_counted query more s) s.rows (λ row asked some. clash query a s row more none e asked some) in
+      let same = rows_same query s (λ row. is_asked query a.1 s.fields row || is_counted query more s row) (is_counted query (a ∷ more) s) (λ row. sym (ap (λ b. (b && is_asked query a.1 s.fields row) || is_counted query more s row) e)) in
+      let rows = subst (Alike kinds (counted_by query s a.1 ++ x)) same either in
+      alike_through kinds (counted_of query (s ∷ rest) a ++ (x ++ y)) ((counted_by query s a.1 ++ x) ++ y) (counted_by_some query (a ∷ more) s ++ counted_once query (a ∷ more) rest)
+      (alike_equal kinds (counted_of query (s ∷ rest) a ++ (x ++ y)) ((counted_by query s a.1 ++ x) ++ y) ((λ i. front i ++ (x ++ y)) ∙ sym (append_assoc (counted_by query s a.1) x y)))
+      (alike_append kinds (counted_by query s a.1 ++ x) (counted_by_some query (a ∷ more) s) y (counted_once query (a ∷ more) rest) rows (alike_equal kinds y (counted_once query (a ∷ more) rest) (not_held query a more rest gone)))
   by_test later false e =
       let kinds = kinds_of query in
-      let x = told_by_some query more s in
-      let y = told_once query more rest in
-      let t = told_of query rest a in
-      let front : told_of query (s ∷ rest) a ≡ t = ap (λ b. told_in query a.1 (cond b (Some s) (segment_named a.0 rest))) e in
-      alike_through kinds (told_of query (s ∷ rest) a ++ (x ++ y)) (x ++ (t ++ y)) (told_by_some query (a ∷ more) s ++ told_once query (a ∷ more) rest)
-      (alike_through kinds (told_of query (s ∷ rest) a ++ (x ++ y)) (t ++ (x ++ y)) (x ++ (t ++ y)) (alike_equal kinds (told_of query (s ∷ rest) a ++ (x ++ y)) (t ++ (x ++ y)) (λ i. front i ++ (x ++ y))) (second_first kinds t x y))
-      (alike_append kinds x (told_by_some query (a ∷ more) s) (t ++ y) (told_once query (a ∷ more) rest) (alike_equal kinds x (told_by_some query (a ∷ more) s) (other_segment query a more s e)) later)
+      let x = counted_by_some query more s in
+      let y = counted_once query more rest in
+      let t = counted_of query rest a in
+      let front : counted_of query (s ∷ rest) a ≡ t = ap (λ b. counted_in query a.1 (cond b (Some s) (segment_named a.0 rest))) e in
+      alike_through kinds (counted_of query (s ∷ rest) a ++ (x ++ y)) (x ++ (t ++ y)) (counted_by_some query (a ∷ more) s ++ counted_once query (a ∷ more) rest)
+      (alike_through kinds (counted_of query (s ∷ rest) a ++ (x ++ y)) (t ++ (x ++ y)) (x ++ (t ++ y)) (alike_equal kinds (counted_of query (s ∷ rest) a ++ (x ++ y)) (t ++ (x ++ y)) (λ i. front i ++ (x ++ y))) (second_first kinds t x y))
+      (alike_append kinds x (counted_by_some query (a ∷ more) s) (t ++ y) (counted_once query (a ∷ more) rest) (alike_equal kinds x (counted_by_some query (a ∷ more) s) (other_segment query a more s e)) later)
 
 none_pass : (rows : List Row) → filter (λ row. false) rows ≡ []
 none_pass [] = refl
 none_pass (r ∷ rs) = none_pass rs
 
-nothing_told : (query : Query) (segments : List Segment) → [] ≡ told_once query [] segments
-nothing_told query [] = refl
-nothing_told query (s ∷ rest) = nothing_told query rest ∙ (λ i. map (tells query s.fields) (sym (none_pass s.rows) i) ++ told_once query [] rest)
+nothing_counted : (query : Query) (segments : List Segment) → [] ≡ counted_once query [] segments
+nothing_counted query [] = refl
+nothing_counted query (s ∷ rest) = nothing_counted query rest ∙ (λ i. map (tells query s.fields) (sym (none_pass s.rows) i) ++ counted_once query [] rest)
 
 not_on : (b : Bool) → not b ≡ true → b ≡ false
 not_on true e = absurd (false≢true e)
 not_on false e = refl
 
-pub told_alike : (query : Query) (segments : List Segment) (asked : List Asked) → HaveOwnSegments segments → stand_apart asked ≡ true → Alike (kinds_of query) (told query segments asked) (told_once query asked segments)
-told_alike query segments [] own apart = alike_equal (kinds_of query) [] (told_once query [] segments) (nothing_told query segments)
-told_alike query segments (a ∷ more) own apart =
+pub counted_alike : (query : Query) (segments : List Segment) (asked : List Asked) → HaveOwnSegments segments → stand_apart asked ≡ true → Alike (kinds_of query) (counted_groups query segments asked) (counted_once query asked segments)
+counted_alike query segments [] own apart = alike_equal (kinds_of query) [] (counted_once query [] segments) (nothing_counted query segments)
+counted_alike query segments (a ∷ more) own apart =
     let kinds = kinds_of query in
-    alike_through kinds (told_of query segments a ++ told query segments more) (told_of query segments a ++ told_once query more segments) (told_once query (a ∷ more) segments)
-    (alike_append kinds (told_of query segments a) (told_of query segments a) (told query segments more) (told_once query more segments) (alike_itself kinds (told_of query segments a))
-    (told_alike query segments more own (second_so (not (list_any (do_overlap a) more)) (stand_apart more) apart)))
+    alike_through kinds (counted_of query segments a ++ counted_groups query segments more) (counted_of query segments a ++ counted_once query more segments) (counted_once query (a ∷ more) segments)
+    (alike_append kinds (counted_of query segments a) (counted_of query segments a) (counted_groups query segments more) (counted_once query more segments) (alike_itself kinds (counted_of query segments a))
+    (counted_alike query segments more own (second_so (not (list_any (do_overlap a) more)) (stand_apart more) apart)))
     (one_more query a more segments own (not_on (list_any (do_overlap a) more) (first_so (not (list_any (do_overlap a) more)) (stand_apart more) apart)))
 
 pub rows_once : (query : Query) (segments : List Segment) (asked : List Asked) (groups : List Group) → HaveOwnSegments segments → StandApart asked
-    → IsResult (kinds_of query) (told query segments asked) groups → IsResult (kinds_of query) (told_once query asked segments) groups
+    → IsResult (kinds_of query) (counted_groups query segments asked) groups → IsResult (kinds_of query) (counted_once query asked segments) groups
 rows_once query segments asked groups own apart result =
-    result_alike (kinds_of query) (told query segments asked) (told_once query asked segments) groups (told_alike query segments asked own (apart_told asked apart)) result
+    result_alike (kinds_of query) (counted_groups query segments asked) (counted_once query asked segments) groups (counted_alike query segments asked own (apart_reported asked apart)) result

@@ -16,9 +16,9 @@ moved : (p : Option ℕ) (i : ℕ) → option_map (λ k. k + i) (option_map suc 
 moved None i = refl
 moved (Some k) i = ap (λ n. Some n) (omega arith)
 
-behind_one : {X : Type 0} (v : Option X) (values : List (Option X)) (p : Option ℕ) → at_place (v ∷ values) (option_map suc p) ≡ at_place values p
-behind_one v values None = refl
-behind_one v values (Some k) = refl
+beyond_one : {X : Type 0} (v : Option X) (values : List (Option X)) (p : Option ℕ) → at_place (v ∷ values) (option_map suc p) ≡ at_place values p
+beyond_one v values None = refl
+beyond_one v values (Some k) = refl
 
 nothing_at : {X : Type 0} (p : Option ℕ) → at_place {X = X} [] p ≡ None
 nothing_at None = refl
@@ -26,7 +26,7 @@ nothing_at (Some k) = refl
 
 value_step : (b : Bool) (v : Option (List ℕ)) (values : List (Option (List ℕ))) (rest : Option (List ℕ)) (p : Option ℕ) → rest ≡ at_place values p → (if b then v else rest) ≡ at_place (v ∷ values) (if b then Some 0 else option_map suc p)
 value_step true v values rest p e = refl
-value_step false v values rest p e = e ∙ sym (behind_one v values p)
+value_step false v values rest p e = e ∙ sym (beyond_one v values p)
 
 pub value_is : (names : List (List ℕ)) (values : List (Option (List ℕ))) (name : List ℕ) → value_in names values name ≡ at_place values (place_in names name)
 value_is [] values name = refl
@@ -35,7 +35,7 @@ value_is (n ∷ names) (v ∷ values) name = value_step (bytes_eq n name) v valu
 
 number_step : (b : Bool) (v : Option ℤ) (values : List (Option ℤ)) (rest : Option ℤ) (p : Option ℕ) → rest ≡ at_place values p → (if b then v else rest) ≡ at_place (v ∷ values) (if b then Some 0 else option_map suc p)
 number_step true v values rest p e = refl
-number_step false v values rest p e = e ∙ sym (behind_one v values p)
+number_step false v values rest p e = e ∙ sym (beyond_one v values p)
 
 pub number_is : (names : List (List ℕ)) (values : List (Option ℤ)) (name : List ℕ) → number_in names values name ≡ at_place values (place_in names name)
 number_is [] values name = refl
@@ -81,8 +81,8 @@ are_sources query fields = each query.aggregations
     each (a ∷ more) = All-cons (IsSource fields) _ _ (for_inside fields a.kind _ (then_inside fields a.field)) (each more)
 
 -- what is read at the places is what the query gets
-pub values_told : (query : Query) (fields : Schema) (row : Row) → map (at_place row.dimensions) (places_of query fields) ≡ map (value_for fields row) query.dimensions
-values_told query fields row = each query.dimensions
+pub values_counted : (query : Query) (fields : Schema) (row : Row) → map (at_place row.dimensions) (places_of query fields) ≡ map (value_for fields row) query.dimensions
+values_counted query fields row = each query.dimensions
   where
     each : (ds : List Dimension) → map (at_place row.dimensions) (map (λ d. place_in fields.dimensions d.dimension) ds) ≡ map (value_for fields row) ds
     each [] = refl
@@ -104,15 +104,15 @@ for_number row LongSum p = at_source row p
 for_number row LongMin p = at_source row p
 for_number row LongMax p = at_source row p
 
-number_told : (fields : Schema) (row : Row) (a : Aggregator) → source_number row (source_of fields a) ≡ taken fields row a
-number_told fields row a = for_number row a.kind _ ∙ ap (one_or a.kind) (then_number fields row a.field)
+number_counted : (fields : Schema) (row : Row) (a : Aggregator) → source_number row (source_of fields a) ≡ taken fields row a
+number_counted fields row a = for_number row a.kind _ ∙ ap (one_or a.kind) (then_number fields row a.field)
 
-pub numbers_told : (query : Query) (fields : Schema) (row : Row) → map (source_number row) (sources_of query fields) ≡ map (taken fields row) query.aggregations
-numbers_told query fields row = each query.aggregations
+pub numbers_counted : (query : Query) (fields : Schema) (row : Row) → map (source_number row) (sources_of query fields) ≡ map (taken fields row) query.aggregations
+numbers_counted query fields row = each query.aggregations
   where
     each : (as' : List Aggregator) → map (source_number row) (map (source_of fields) as') ≡ map (taken fields row) as'
     each [] = refl
-    each (a ∷ more) = let head = number_told fields row a in let rest = each more in cc
+    each (a ∷ more) = let head = number_counted fields row a in let rest = each more in cc
 
 -- ---- parts put together
 

@@ -18,30 +18,30 @@ use Rattle.druid_partial.specs.Joined.{join_numbers, join_groups, put, merged}
 use Rattle.druid_partial.specs.Rows.{kinds_of, is_asked, HasNumbers}
 use Rattle.druid_partial.specs.Places.{at_place, places_of}
 use Rattle.druid_partial.specs.Cells.{Cell, AreColumns, join_into, with_row}
-use Rattle.druid_partial.specs.Plans.{Plan, told_at, bucket_at, cell_at, group_at, groups_in, IsCell, AreCells, AreUpto, ComeBefore, IsJoined, IsKept}
+use Rattle.druid_partial.specs.Plans.{Plan, counted_at, bucket_at, cell_at, group_at, groups_in, IsCell, AreCells, AreUpto, ComeBefore, IsJoined, IsKept}
 use Rattle.druid_partial.specs.Orders.{key_cmp-total}
 use Rattle.druid_partial.proofs.NumberLemmas.{contains_here, contains_there}
 use Rattle.druid_partial.proofs.GroupLemmas.{key_same}
 use Rattle.druid_partial.proofs.MergedLemmas.{joined_length}
 use Rattle.druid_partial.proofs.JoinLemmas.{joined_words}
-use Rattle.druid_partial.proofs.PlaceLemmas.{values_told}
+use Rattle.druid_partial.proofs.PlaceLemmas.{values_counted}
 use Rattle.druid_partial.proofs.RadixLemmas.{less_is, equal_is, greater_is, cells_order}
 use Rattle.druid_partial.proofs.RankLemmas.{next_rank}
 use Rattle.druid_partial.proofs.IntoLemmas.{into_is}
-use Rattle.druid_partial.proofs.TellLemmas.{told_asked, told_passed, row_numbers}
+use Rattle.druid_partial.proofs.TellLemmas.{counted_asked, counted_passed, row_numbers}
 
 abbrev pub HasColumns : Plan → Type 0
 HasColumns plan = AreColumns plan.segment (places_of plan.query plan.segment.fields) plan.columns
 
 -- keys of one bucket are in the order of their cells
-pub keys_order : (plan : Plan) (a b : ℕ) → HasColumns plan → a < length plan.segment.rows → b < length plan.segment.rows → bucket_at plan a ≡ bucket_at plan b → key_cmp (told_at plan a).key (told_at plan b).key ≡ nat_cmp (cell_at plan a) (cell_at plan b)
+pub keys_order : (plan : Plan) (a b : ℕ) → HasColumns plan → a < length plan.segment.rows → b < length plan.segment.rows → bucket_at plan a ≡ bucket_at plan b → key_cmp (counted_at plan a).key (counted_at plan b).key ≡ nat_cmp (cell_at plan a) (cell_at plan b)
 keys_order plan a b columns p q same =
-    let mine = (told_at plan a).key.values in
-    let theirs = (told_at plan b).key.values in
+    let mine = (counted_at plan a).key.values in
+    let theirs = (counted_at plan b).key.values in
     let places = places_of plan.query plan.segment.fields in
     ap (λ o. ordering_then o (slice_cmp value_cmp mine theirs)) (equal_is (bucket_at plan a) (bucket_at plan b) same)
-    ∙ ap (λ l. slice_cmp value_cmp l theirs) (sym (values_told plan.query plan.segment.fields (row_at plan.segment a)))
-    ∙ ap (slice_cmp value_cmp (map (at_place (row_at plan.segment a).dimensions) places)) (sym (values_told plan.query plan.segment.fields (row_at plan.segment b)))
+    ∙ ap (λ l. slice_cmp value_cmp l theirs) (sym (values_counted plan.query plan.segment.fields (row_at plan.segment a)))
+    ∙ ap (slice_cmp value_cmp (map (at_place (row_at plan.segment a).dimensions) places)) (sym (values_counted plan.query plan.segment.fields (row_at plan.segment b)))
     ∙ sym (cells_order plan.segment places plan.columns a b 0 0 columns p q)
 
 -- a group before all others
@@ -52,14 +52,14 @@ put_first kinds plan g (Some c ∷ cells) each =
     ap (λ o. match_ordering o (g ∷ group_at plan c ∷ groups_in plan cells) (join_groups kinds g (group_at plan c) ∷ groups_in plan cells) (group_at plan c ∷ put kinds g (merged kinds []) (groups_in plan cells))) (each 0 c refl)
 
 -- a group in its cell
-put_cell : (kinds : List AggregatorKind) (plan : Plan) (row : ℕ) (cells : List (Option Cell)) (j : ℕ) → j < length cells → ((i : ℕ) (c : Cell) → slice_get cells i ≡ Some (Some c) → key_cmp (told_at plan row).key (group_at plan c).key ≡ nat_cmp j i) → ((i : ℕ) (c : Cell) → slice_get cells i ≡ Some (Some c) → length c.numbers ≡ length kinds) → length (told_at plan row).numbers ≡ length kinds → groups_in plan (set cells j (Some (with_row kinds row (told_at plan row).numbers (slice_index_or cells j None)))) ≡ put kinds (told_at plan row) (merged kinds []) (groups_in plan cells)
+put_cell : (kinds : List AggregatorKind) (plan : Plan) (row : ℕ) (cells : List (Option Cell)) (j : ℕ) → j < length cells → ((i : ℕ) (c : Cell) → slice_get cells i ≡ Some (Some c) → key_cmp (counted_at plan row).key (group_at plan c).key ≡ nat_cmp j i) → ((i : ℕ) (c : Cell) → slice_get cells i ≡ Some (Some c) → length c.numbers ≡ length kinds) → length (counted_at plan row).numbers ≡ length kinds → groups_in plan (set cells j (Some (with_row kinds row (counted_at plan row).numbers (slice_index_or cells j None)))) ≡ put kinds (counted_at plan row) (merged kinds []) (groups_in plan cells)
 put_cell kinds plan row [] j h each wide mine = absurd (omega arith)
 put_cell kinds plan row (None ∷ cells) zero h each wide mine =
-    sym (put_first kinds plan (told_at plan row) cells (λ i c e. each (suc i) c e ∙ less_is zero (suc i) (omega arith)))
+    sym (put_first kinds plan (counted_at plan row) cells (λ i c e. each (suc i) c e ∙ less_is zero (suc i) (omega arith)))
 put_cell kinds plan row (Some d ∷ cells) zero h each wide mine =
-    let g = told_at plan row in
+    let g = counted_at plan row in
     let tied : key_cmp g.key (group_at plan d).key ≡ Equal = each 0 d refl ∙ equal_is 0 0 refl in
-    let keys : (told_at plan d.row).key ≡ g.key = sym (key_same g.key (group_at plan d).key tied) in
+    let keys : (counted_at plan d.row).key ≡ g.key = sym (key_same g.key (group_at plan d).key tied) in
     let numbers : join_into kinds g.numbers d.numbers ≡ join_numbers kinds g.numbers d.numbers = into_is kinds g.numbers d.numbers mine (wide 0 d refl) in
     let head : group_at plan (with_row kinds row g.numbers (Some d)) ≡ join_groups kinds g (group_at plan d) = (λ i. record { key = keys i; numbers = numbers i }) in
     ap (λ x. x ∷ groups_in plan cells) head
@@ -67,7 +67,7 @@ put_cell kinds plan row (Some d ∷ cells) zero h each wide mine =
 put_cell kinds plan row (None ∷ cells) (suc j) h each wide mine =
     put_cell kinds plan row cells j (omega (arith, h)) (λ i c e. each (suc i) c e ∙ sym (next_rank j i)) (λ i c e. wide (suc i) c e) mine
 put_cell kinds plan row (Some d ∷ cells) (suc j) h each wide mine =
-    let g = told_at plan row in
+    let g = counted_at plan row in
     let later = put_cell kinds plan row cells j (omega (arith, h)) (λ i c e. each (suc i) c e ∙ sym (next_rank j i)) (λ i c e. wide (suc i) c e) mine in
     let after : key_cmp g.key (group_at plan d).key ≡ Greater = each 0 d refl ∙ greater_is (suc j) 0 (omega arith) in
     ap (λ l. group_at plan d ∷ l) later
@@ -81,12 +81,12 @@ set_get (x ∷ xs) zero v (suc place) c e = inl e
 set_get (x ∷ xs) (suc j) v zero c e = inl e
 set_get (x ∷ xs) (suc j) v (suc place) c e = ⊎_elim (λ l. inl l) (λ r. inr (ap suc r.0, r.1)) (set_get xs j v place c e)
 
-pub with_kept : (plan : Plan) (bucket place row : ℕ) (old : Option Cell) → row < length plan.segment.rows → bucket_at plan row ≡ bucket → cell_at plan row ≡ place → HasNumbers (kinds_of plan.query) (told_at plan row) → ((d : Cell) → old ≡ Some d → IsCell plan bucket place d) → IsCell plan bucket place (with_row (kinds_of plan.query) row (told_at plan row).numbers old)
+pub with_kept : (plan : Plan) (bucket place row : ℕ) (old : Option Cell) → row < length plan.segment.rows → bucket_at plan row ≡ bucket → cell_at plan row ≡ place → HasNumbers (kinds_of plan.query) (counted_at plan row) → ((d : Cell) → old ≡ Some d → IsCell plan bucket place d) → IsCell plan bucket place (with_row (kinds_of plan.query) row (counted_at plan row).numbers old)
 with_kept plan bucket place row None h b p n f = record { inside = h; bucket_is = b; place_is = p; numbers = n }
 with_kept plan bucket place row (Some d) h b p n f =
     let k = f d refl in
     let kinds = kinds_of plan.query in
-    let same : join_into kinds (told_at plan row).numbers d.numbers ≡ join_numbers kinds (told_at plan row).numbers d.numbers = into_is kinds (told_at plan row).numbers d.numbers n.one_each k.numbers.one_each in
+    let same : join_into kinds (counted_at plan row).numbers d.numbers ≡ join_numbers kinds (counted_at plan row).numbers d.numbers = into_is kinds (counted_at plan row).numbers d.numbers n.one_each k.numbers.one_each in
     let P : List (Option ℤ) → Type 0 = λ l. length l ≡ length kinds in
     let Q : List (Option ℤ) → Type 0 = AreWords in
     record {
@@ -94,31 +94,31 @@ with_kept plan bucket place row (Some d) h b p n f =
       bucket_is = k.bucket_is;
       place_is = k.place_is;
       numbers = record {
-        one_each = subst P (sym same) (joined_length kinds (told_at plan row).numbers d.numbers n.one_each k.numbers.one_each);
-        words = subst Q (sym same) (joined_words kinds (told_at plan row).numbers d.numbers n.words k.numbers.words);
+        one_each = subst P (sym same) (joined_length kinds (counted_at plan row).numbers d.numbers n.one_each k.numbers.one_each);
+        words = subst Q (sym same) (joined_words kinds (counted_at plan row).numbers d.numbers n.words k.numbers.words);
       };
     }
 
-cells_kept : (plan : Plan) (bucket row : ℕ) (cells : List (Option Cell)) → row < length plan.segment.rows → cell_at plan row < length cells → bucket_at plan row ≡ bucket → HasNumbers (kinds_of plan.query) (told_at plan row) → AreCells plan bucket cells → AreCells plan bucket (set cells (cell_at plan row) (Some (with_row (kinds_of plan.query) row (told_at plan row).numbers (slice_index_or cells (cell_at plan row) None))))
+cells_kept : (plan : Plan) (bucket row : ℕ) (cells : List (Option Cell)) → row < length plan.segment.rows → cell_at plan row < length cells → bucket_at plan row ≡ bucket → HasNumbers (kinds_of plan.query) (counted_at plan row) → AreCells plan bucket cells → AreCells plan bucket (set cells (cell_at plan row) (Some (with_row (kinds_of plan.query) row (counted_at plan row).numbers (slice_index_or cells (cell_at plan row) None))))
 cells_kept plan bucket row cells h k b n are place c e =
     ⊎_elim (λ old. are place c old) (λ r. written r.0 r.1)
-    (set_get cells (cell_at plan row) (Some (with_row (kinds_of plan.query) row (told_at plan row).numbers (slice_index_or cells (cell_at plan row) None))) place (Some c) e)
+    (set_get cells (cell_at plan row) (Some (with_row (kinds_of plan.query) row (counted_at plan row).numbers (slice_index_or cells (cell_at plan row) None))) place (Some c) e)
   where
-    written : place ≡ cell_at plan row → Some (with_row (kinds_of plan.query) row (told_at plan row).numbers (slice_index_or cells (cell_at plan row) None)) ≡ Some c → IsCell plan bucket place c
+    written : place ≡ cell_at plan row → Some (with_row (kinds_of plan.query) row (counted_at plan row).numbers (slice_index_or cells (cell_at plan row) None)) ≡ Some c → IsCell plan bucket place c
     written p v =
-        let same : with_row (kinds_of plan.query) row (told_at plan row).numbers (slice_index_or cells (cell_at plan row) None) ≡ c = cc in
+        let same : with_row (kinds_of plan.query) row (counted_at plan row).numbers (slice_index_or cells (cell_at plan row) None) ≡ c = cc in
         let P : Cell → Type 0 = IsCell plan bucket place in
         let Q : ℕ → Type 0 = λ i. slice_get cells i ≡ Some (slice_index_or cells (cell_at plan row) None) in
         subst P same (with_kept plan bucket place row (slice_index_or cells (cell_at plan row) None) h b (sym p) n
         (λ d f. are place d (subst Q (sym p) (slice_get-get_or cells (cell_at plan row) None k) ∙ ap (λ o. Some o) f)))
 
 -- the row's group is merged
-pub cells_joined : (plan : Plan) (row cell : ℕ) (kinds : List AggregatorKind) (numbers : List (Option ℤ)) (old new : List (Option Cell)) → HasColumns plan → row < length plan.segment.rows → AreWords (told_at plan row).numbers → kinds ≡ kinds_of plan.query → numbers ≡ (told_at plan row).numbers → cell ≡ cell_at plan row → cell < length old → new ≡ set old cell (Some (with_row kinds row numbers (slice_index_or old cell None))) → IsJoined plan row old new
+pub cells_joined : (plan : Plan) (row cell : ℕ) (kinds : List AggregatorKind) (numbers : List (Option ℤ)) (old new : List (Option Cell)) → HasColumns plan → row < length plan.segment.rows → AreWords (counted_at plan row).numbers → kinds ≡ kinds_of plan.query → numbers ≡ (counted_at plan row).numbers → cell ≡ cell_at plan row → cell < length old → new ≡ set old cell (Some (with_row kinds row numbers (slice_index_or old cell None))) → IsJoined plan row old new
 cells_joined plan row cell kinds numbers old new columns h words k ns at inside is =
     let own = kinds_of plan.query in
-    let told = (told_at plan row).numbers in
+    let reported = (counted_at plan row).numbers in
     let own_cell = cell_at plan row in
-    let whole : List (Option Cell) = set old own_cell (Some (with_row own row told (slice_index_or old own_cell None))) in
+    let whole : List (Option Cell) = set old own_cell (Some (with_row own row reported (slice_index_or old own_cell None))) in
     let same : new ≡ whole =
     is ∙ ap (λ i. set old i (Some (with_row kinds row numbers (slice_index_or old i None)))) at
     ∙ ap (λ ks. set old own_cell (Some (with_row ks row numbers (slice_index_or old own_cell None)))) k
@@ -161,14 +161,14 @@ put_after kinds x (b ∷ bs) ys all =
     ∙ ap (λ l. b ∷ l) (put_after kinds x bs ys (λ g c. all g (contains_there b bs g c)))
 
 -- a row that is asked for, after groups that come before it
-pub upto_asked : (plan : Plan) (interval : Extent) (from to row : ℕ) (groups now more : List Group) → from ≤ row → row < to → row < length plan.segment.rows → is_asked plan.query interval plan.segment.fields (row_at plan.segment row) ≡ true → AreWords (told_at plan row).numbers → more ≡ merged (kinds_of plan.query) (told_at plan row ∷ []) now → ComeBefore plan groups from to → AreUpto plan interval row (groups ++ now) → AreUpto plan interval (row + 1) (groups ++ more)
+pub upto_asked : (plan : Plan) (interval : Extent) (from to row : ℕ) (groups now more : List Group) → from ≤ row → row < to → row < length plan.segment.rows → is_asked plan.query interval plan.segment.fields (row_at plan.segment row) ≡ true → AreWords (counted_at plan row).numbers → more ≡ merged (kinds_of plan.query) (counted_at plan row ∷ []) now → ComeBefore plan groups from to → AreUpto plan interval row (groups ++ now) → AreUpto plan interval (row + 1) (groups ++ more)
 upto_asked plan interval from to row groups now more after inside h asked words e before upto =
-    told_asked plan.query plan.segment interval row (groups ++ now) (groups ++ more) h asked words
-    (ap (λ l. groups ++ l) e ∙ sym (put_after (kinds_of plan.query) (told_at plan row) groups now (before row after inside))) upto
+    counted_asked plan.query plan.segment interval row (groups ++ now) (groups ++ more) h asked words
+    (ap (λ l. groups ++ l) e ∙ sym (put_after (kinds_of plan.query) (counted_at plan row) groups now (before row after inside))) upto
 
 -- another row
 pub upto_passed : (plan : Plan) (interval : Extent) (row : ℕ) (groups : List Group) → row < length plan.segment.rows → is_asked plan.query interval plan.segment.fields (row_at plan.segment row) ≡ false → AreUpto plan interval row groups → AreUpto plan interval (row + 1) groups
-upto_passed plan interval row groups h asked upto = told_passed plan.query plan.segment interval row groups h asked upto
+upto_passed plan interval row groups h asked upto = counted_passed plan.query plan.segment interval row groups h asked upto
 
 -- no group more
 pub upto_none : (plan : Plan) (interval : Extent) (row : ℕ) (groups none : List Group) → none ≡ [] → AreUpto plan interval row groups → AreUpto plan interval row (groups ++ none)
@@ -195,8 +195,8 @@ group_skipped plan before whole o left rest l n e =
 pub kept_rest : (plan : Plan) (o : Option Cell) (left rest : List (Option Cell)) → left ≡ o ∷ rest → All (IsKept plan) left → All (IsKept plan) rest
 kept_rest plan o left rest l k = let P : List (Option Cell) → Type 0 = All (IsKept plan) in All-tail (IsKept plan) o rest (subst P l k)
 
-pub group_same : (plan : Plan) (c : Cell) (row : ℕ) (numbers : List (Option ℤ)) (g : Group) → row ≡ c.row → numbers ≡ c.numbers → g ≡ record { key = (told_at plan row).key; numbers = numbers } → g ≡ group_at plan c
-group_same plan c row numbers g r n e = e ∙ (λ i. record { key = (told_at plan (r i)).key; numbers = n i })
+pub group_same : (plan : Plan) (c : Cell) (row : ℕ) (numbers : List (Option ℤ)) (g : Group) → row ≡ c.row → numbers ≡ c.numbers → g ≡ record { key = (counted_at plan row).key; numbers = numbers } → g ≡ group_at plan c
+group_same plan c row numbers g r n e = e ∙ (λ i. record { key = (counted_at plan (r i)).key; numbers = n i })
 
 -- the numbers of groups that were added are of 64 bits
 pub words_after : (plan : Plan) (interval : Extent) (to : ℕ) (groups more : List Group) → AreUpto plan interval to (groups ++ more) → All (λ (g : Group). AreWords g.numbers) more

@@ -18,8 +18,8 @@ use Rattle.druid_rows.specs.Rows.{Row, no_row}
 use Rattle.druid_rows.specs.Segment.{Segment, row_at}
 use Rattle.druid_query.specs.Query.{Query}
 use Rattle.druid_partial.specs.Groups.{Key, Group, Occurs, value_cmp, key_cmp}
-use Rattle.druid_partial.specs.Rows.{bucket_of, is_asked, tells, told_by, kinds_of, HasNumbers, IsGroupFor}
-use Rattle.druid_partial.specs.Plans.{Plan, told_at, bucket_at, AreTold, AreUpto, told_upto, ComeBefore, HaveBucket, BucketsRise, AreApart}
+use Rattle.druid_partial.specs.Rows.{bucket_of, is_asked, tells, counted_by, kinds_of, HasNumbers, IsGroupFor}
+use Rattle.druid_partial.specs.Plans.{Plan, counted_at, bucket_at, AreCounted, AreUpto, counted_upto, ComeBefore, HaveBucket, BucketsRise, AreApart}
 use Rattle.std.specs.Prelude.{unwrap_or}
 use Rattle.druid_partial.proofs.OrderLemmas.{no_rows}
 use Rattle.druid_partial.proofs.GroupLemmas.{occurs_both, occurs_cases, no_occurrence}
@@ -71,28 +71,28 @@ outside plan interval start end row all h side = not_true _ (λ e.
     let low = there.0 in let high = there.1 in
     ⊎_elim (λ l. absurd (omega (arith, l, low))) (λ g. absurd (omega (arith, g, high))) side)
 
-upto_skip : (plan : Plan) (interval : Extent) (i k : ℕ) → i + k ≤ length plan.segment.rows → ((row : ℕ) → i ≤ row → row < i + k → is_asked plan.query interval plan.segment.fields (row_at plan.segment row) ≡ false) → told_upto plan.query plan.segment interval (i + k) ≡ told_upto plan.query plan.segment interval i
-upto_skip plan interval i zero h none = let e : i + 0 ≡ i = omega arith in ap (told_upto plan.query plan.segment interval) e
+upto_skip : (plan : Plan) (interval : Extent) (i k : ℕ) → i + k ≤ length plan.segment.rows → ((row : ℕ) → i ≤ row → row < i + k → is_asked plan.query interval plan.segment.fields (row_at plan.segment row) ≡ false) → counted_upto plan.query plan.segment interval (i + k) ≡ counted_upto plan.query plan.segment interval i
+upto_skip plan interval i zero h none = let e : i + 0 ≡ i = omega arith in ap (counted_upto plan.query plan.segment interval) e
 upto_skip plan interval i (suc k) h none =
     let e : i + suc k ≡ (i + k) + 1 = omega arith in
-    ap (told_upto plan.query plan.segment interval) e
+    ap (counted_upto plan.query plan.segment interval) e
     ∙ upto_more plan.query plan.segment interval (i + k) false (omega (arith, h)) (none (i + k) (omega arith) (omega arith))
     ∙ append-nil _
     ∙ upto_skip plan interval i k (omega (arith, h)) (λ row low high. none row low (omega (arith, high)))
 
-skip_to : (plan : Plan) (interval : Extent) (i m : ℕ) → i ≤ m → m ≤ length plan.segment.rows → ((row : ℕ) → i ≤ row → row < m → is_asked plan.query interval plan.segment.fields (row_at plan.segment row) ≡ false) → told_upto plan.query plan.segment interval m ≡ told_upto plan.query plan.segment interval i
+skip_to : (plan : Plan) (interval : Extent) (i m : ℕ) → i ≤ m → m ≤ length plan.segment.rows → ((row : ℕ) → i ≤ row → row < m → is_asked plan.query interval plan.segment.fields (row_at plan.segment row) ≡ false) → counted_upto plan.query plan.segment interval m ≡ counted_upto plan.query plan.segment interval i
 skip_to plan interval i m h k none =
     let e : m ≡ i + (m - i) = omega (arith, h) in
-    ap (told_upto plan.query plan.segment interval) e
+    ap (counted_upto plan.query plan.segment interval) e
     ∙ upto_skip plan interval i (m - i) (omega (arith, h, k)) (λ row low high. none row low (omega (arith, high, h)))
 
 -- before the first place there is nothing
 pub upto_start : (plan : Plan) (interval : Extent) (start end : ℕ) (groups : List Group) → StandIn plan interval start end → start ≤ length plan.segment.rows → groups ≡ [] → AreUpto plan interval start groups
 upto_start plan interval start end groups all h none =
-    let e : told_upto plan.query plan.segment interval start ≡ [] =
+    let e : counted_upto plan.query plan.segment interval start ≡ [] =
     skip_to plan interval 0 start (omega arith) h (λ row low high. outside plan interval start end row all (omega (arith, high, h)) (inl high)) in
-    let P : List Group → Type 0 = λ rows. AreTold plan.query rows groups in
-    let Q : List Group → Type 0 = λ gs. AreTold plan.query [] gs in
+    let P : List Group → Type 0 = λ rows. AreCounted plan.query rows groups in
+    let Q : List Group → Type 0 = λ gs. AreCounted plan.query [] gs in
     subst P (sym e) (subst Q (sym none) (record {
       result = no_rows (kinds_of plan.query) [] refl;
       numbers = All-nil (HasNumbers (kinds_of plan.query));
@@ -100,13 +100,13 @@ upto_start plan interval start end groups all h none =
     }))
 
 -- and after the last nothing more
-pub upto_end : (plan : Plan) (interval : Extent) (start end at : ℕ) (groups : List Group) → StandIn plan interval start end → at ≡ end → end ≤ length plan.segment.rows → AreUpto plan interval at groups → AreTold plan.query (told_by plan.query plan.segment interval) groups
+pub upto_end : (plan : Plan) (interval : Extent) (start end at : ℕ) (groups : List Group) → StandIn plan interval start end → at ≡ end → end ≤ length plan.segment.rows → AreUpto plan interval at groups → AreCounted plan.query (counted_by plan.query plan.segment interval) groups
 upto_end plan interval start end at groups all last h upto =
-    let whole : told_by plan.query plan.segment interval ≡ told_upto plan.query plan.segment interval (length plan.segment.rows) =
+    let whole : counted_by plan.query plan.segment interval ≡ counted_upto plan.query plan.segment interval (length plan.segment.rows) =
     ap (λ rows. map (tells plan.query plan.segment.fields) (filter (is_asked plan.query interval plan.segment.fields) rows)) (sym (take_all (length plan.segment.rows) plan.segment.rows (omega arith))) in
-    let e : told_by plan.query plan.segment interval ≡ told_upto plan.query plan.segment interval end =
+    let e : counted_by plan.query plan.segment interval ≡ counted_upto plan.query plan.segment interval end =
     whole ∙ skip_to plan interval end (length plan.segment.rows) h (omega arith) (λ row low high. outside plan interval start end row all high (inr low)) in
-    let P : List Group → Type 0 = λ rows. AreTold plan.query rows groups in
+    let P : List Group → Type 0 = λ rows. AreCounted plan.query rows groups in
     let Q : ℕ → Type 0 = λ i. AreUpto plan interval i groups in
     subst P (sym e) (subst Q last upto)
 
@@ -117,9 +117,9 @@ pub record IsOfRow (plan : Plan) (interval : Extent) (i : ℕ) (key : Key) : Typ
   pub row : ℕ
   pub below : row < i
   pub asked : is_asked plan.query interval plan.segment.fields (row_at plan.segment row) ≡ true
-  pub key_is : (told_at plan row).key ≡ key
+  pub key_is : (counted_at plan row).key ≡ key
 
-occurs_upto : (plan : Plan) (interval : Extent) (i : ℕ) (key : Key) → i ≤ length plan.segment.rows → Occurs key (told_upto plan.query plan.segment interval i) → IsOfRow plan interval i key
+occurs_upto : (plan : Plan) (interval : Extent) (i : ℕ) (key : Key) → i ≤ length plan.segment.rows → Occurs key (counted_upto plan.query plan.segment interval i) → IsOfRow plan interval i key
 occurs_upto plan interval zero key h o = absurd (no_occurrence key o)
 occurs_upto plan interval (suc i) key h o =
     let next : suc i ≡ i + 1 = omega arith in
@@ -128,15 +128,15 @@ occurs_upto plan interval (suc i) key h o =
     ⊎_elim
     (λ early. let k = occurs_upto plan interval i key (omega (arith, h)) early in record { row = k.row; below = let m = k.below in omega (arith, m); asked = k.asked; key_is = k.key_is })
     (λ here. last b refl here)
-    (occurs_both (told_upto plan.query plan.segment interval i) (cond b (told_at plan i ∷ []) []) key
-    (subst P (ap (told_upto plan.query plan.segment interval) next ∙ upto_more plan.query plan.segment interval i b (omega (arith, h)) refl) o))
+    (occurs_both (counted_upto plan.query plan.segment interval i) (cond b (counted_at plan i ∷ []) []) key
+    (subst P (ap (counted_upto plan.query plan.segment interval) next ∙ upto_more plan.query plan.segment interval i b (omega (arith, h)) refl) o))
   where
-    last : (b : Bool) → is_asked plan.query interval plan.segment.fields (row_at plan.segment i) ≡ b → Occurs key (cond b (told_at plan i ∷ []) []) → IsOfRow plan interval (suc i) key
+    last : (b : Bool) → is_asked plan.query interval plan.segment.fields (row_at plan.segment i) ≡ b → Occurs key (cond b (counted_at plan i ∷ []) []) → IsOfRow plan interval (suc i) key
     last true e here = record {
       row = i;
       below = omega arith;
       asked = e;
-      key_is = ⊎_elim (λ k. k) (λ none. absurd (no_occurrence key none)) (occurs_cases (told_at plan i) [] key here);
+      key_is = ⊎_elim (λ k. k) (λ none. absurd (no_occurrence key none)) (occurs_cases (counted_at plan i) [] key here);
     }
     last false e here = absurd (no_occurrence key here)
 
@@ -149,8 +149,8 @@ come_before plan interval start at end to groups all p q h apart upto row low hi
     let o = occurs_upto plan interval at g.key (omega (arith, p, h)) ((upto.result.each g c).occurs) in
     let below = o.below in
     let from = (all o.row (omega (arith, below, p, h)) (asked_has plan.query interval plan.segment o.row o.asked)).0 in
-    let P : Key → Type 0 = λ k. key_cmp k (told_at plan row).key ≡ Less in
-    subst P o.key_is (bucket_less (told_at plan o.row).key (told_at plan row).key (apart o.row row from below low (omega (arith, high, q))))
+    let P : Key → Type 0 = λ k. key_cmp k (counted_at plan row).key ≡ Less in
+    subst P o.key_is (bucket_less (counted_at plan o.row).key (counted_at plan row).key (apart o.row row from below low (omega (arith, high, q))))
 
 -- at the first place
 pub apart_start : (plan : Plan) (start end : ℕ) → AreApart plan start start end

@@ -18,7 +18,7 @@ use Rattle.druid_partial.specs.Places.{sources_of, source_number}
 use Rattle.druid_partial.specs.Cells.{Column, IsColumn, AreColumns, HasNumber, number_from}
 use Rattle.druid_partial.specs.Plans.{AreFrom, AreNumbers}
 use Rattle.druid_partial.proofs.RadixLemmas.{columns_more}
-use Rattle.druid_partial.proofs.PlaceLemmas.{numbers_told}
+use Rattle.druid_partial.proofs.PlaceLemmas.{numbers_counted}
 
 numbers_push : (segment : Segment) (ss : List Source) (ns : List Numbers) (s : Source) (n : Numbers) → AreNumbers segment ss ns → AreFrom segment s n → AreNumbers segment (ss ++ s ∷ []) (ns ++ n ∷ [])
 numbers_push segment [] [] s n are one = (one, tt)
@@ -53,7 +53,7 @@ numbers_are segment (s ∷ ss) (n ∷ ns) row are h = let head = are.0.same row 
 
 -- they are what the row tells
 pub row_numbers_are : (query : Query) (segment : Segment) (ns : List Numbers) (row : ℕ) → AreNumbers segment (sources_of query segment.fields) ns → row < length segment.rows → map (number_from row) ns ≡ (tells query segment.fields (row_at segment row)).numbers
-row_numbers_are query segment ns row are h = numbers_are segment (sources_of query segment.fields) ns row are h ∙ numbers_told query segment.fields (row_at segment row)
+row_numbers_are query segment ns row are h = numbers_are segment (sources_of query segment.fields) ns row are h ∙ numbers_counted query segment.fields (row_at segment row)
 
 -- ---- words
 

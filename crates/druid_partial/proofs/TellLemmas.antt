@@ -15,7 +15,7 @@ use Rattle.druid_query.specs.declared.aggregator.AggregatorKind.TheVariants.{Cou
 use Rattle.druid_partial.specs.Groups.{Group, AreWords, IsResult}
 use Rattle.druid_partial.specs.Joined.{merged}
 use Rattle.druid_partial.specs.Rows.{earliest, one_or, taken, tells, is_asked, kinds_of, HasNumbers, IsGroupFor}
-use Rattle.druid_partial.specs.Plans.{AreTold, told_upto}
+use Rattle.druid_partial.specs.Plans.{AreCounted, counted_upto}
 use Rattle.druid_partial.proofs.OrderLemmas.{no_rows}
 use Rattle.druid_partial.proofs.NumberLemmas.{contains_none}
 use Rattle.druid_partial.proofs.GroupLemmas.{merge_of_results, result_swap, in_order_more}
@@ -30,23 +30,23 @@ bucket_again granularity.Minute t e = omega arith
 bucket_again granularity.Hour t e = omega arith
 bucket_again granularity.Day t e = omega arith
 
-count_told : (fields : Schema) (row : Row) (as' : List Aggregator) (place : ℕ) → slice_get (map (λ a. a.kind) as') place ≡ Some Count → IsSome (slice_index_or (map (taken fields row) as') place None)
-count_told fields row [] place k = absurd (cc)
-count_told fields row (a ∷ more) zero k = one_told a.kind _ k
+count_counted : (fields : Schema) (row : Row) (as' : List Aggregator) (place : ℕ) → slice_get (map (λ a. a.kind) as') place ≡ Some Count → IsSome (slice_index_or (map (taken fields row) as') place None)
+count_counted fields row [] place k = absurd (cc)
+count_counted fields row (a ∷ more) zero k = one_counted a.kind _ k
   where
-    one_told : (kind : AggregatorKind) (n : Option ℤ) → Some kind ≡ Some Count → IsSome (one_or kind n)
-    one_told Count n k = refl
-    one_told LongSum n k = absurd (cc)
-    one_told LongMin n k = absurd (cc)
-    one_told LongMax n k = absurd (cc)
-count_told fields row (a ∷ more) (suc place) k = count_told fields row more place k
+    one_counted : (kind : AggregatorKind) (n : Option ℤ) → Some kind ≡ Some Count → IsSome (one_or kind n)
+    one_counted Count n k = refl
+    one_counted LongSum n k = absurd (cc)
+    one_counted LongMin n k = absurd (cc)
+    one_counted LongMax n k = absurd (cc)
+count_counted fields row (a ∷ more) (suc place) k = count_counted fields row more place k
 
 pub row_for : (query : Query) (fields : Schema) (row : Row) → IsGroupFor query (tells query fields row)
 row_for query fields row = record {
   bucket = bucket_again query.granularity row.time (earliest query.intervals);
   values = length-map query.dimensions _;
   numbers = length-map query.aggregations _;
-  counted = λ place k. count_told fields row query.aggregations place k;
+  counted = λ place k. count_counted fields row query.aggregations place k;
 }
 
 pub row_numbers : (query : Query) (fields : Schema) (row : Row) → AreWords (tells query fields row).numbers → HasNumbers (kinds_of query) (tells query fields row)
@@ -56,10 +56,10 @@ row_numbers query fields row w = record {
 }
 
 -- one group more
-pub told_and : (query : Query) (rows groups more : List Group) (g : Group) → AreTold query rows groups → HasNumbers (kinds_of query) g → IsGroupFor query g → more ≡ merged (kinds_of query) (g ∷ []) groups → AreTold query (rows ++ g ∷ []) more
-told_and query rows groups more g t n f e =
+pub counted_and : (query : Query) (rows groups more : List Group) (g : Group) → AreCounted query rows groups → HasNumbers (kinds_of query) g → IsGroupFor query g → more ≡ merged (kinds_of query) (g ∷ []) groups → AreCounted query (rows ++ g ∷ []) more
+counted_and query rows groups more g t n f e =
     let kinds = kinds_of query in
-    let P : List Group → Type 0 = λ gs. AreTold query (rows ++ g ∷ []) gs in
+    let P : List Group → Type 0 = λ gs. AreCounted query (rows ++ g ∷ []) gs in
     subst P (sym e) (record {
       result = result_swap kinds (g ∷ []) rows (merged kinds (g ∷ []) groups)
           (merge_of_results kinds (g ∷ []) rows (g ∷ []) groups (merged kinds (g ∷ []) groups) (alone_settled kinds g n) t.result
@@ -77,11 +77,11 @@ told_and query rows groups more g t n f e =
         settled kinds (g ∷ []) (in_order_more g [] (λ h c. absurd (contains_none h c)) (no_rows kinds [] refl).ordered)
         (λ h c. All-contains (HasNumbers kinds) (g ∷ []) h (All-cons (HasNumbers kinds) g [] n (All-nil (HasNumbers kinds))) c)
 
-pub upto_more : (query : Query) (segment : Segment) (interval : Extent) (i : ℕ) (b : Bool) → i < length segment.rows → is_asked query interval segment.fields (row_at segment i) ≡ b → told_upto query segment interval (i + 1) ≡ told_upto query segment interval i ++ cond b (tells query segment.fields (row_at segment i) ∷ []) []
+pub upto_more : (query : Query) (segment : Segment) (interval : Extent) (i : ℕ) (b : Bool) → i < length segment.rows → is_asked query interval segment.fields (row_at segment i) ≡ b → counted_upto query segment interval (i + 1) ≡ counted_upto query segment interval i ++ cond b (tells query segment.fields (row_at segment i) ∷ []) []
 upto_more query segment interval i b h e =
     ap (map (tells query segment.fields)) (filter_more (is_asked query interval segment.fields) segment.rows i no_row h)
     ∙ map-append (tells query segment.fields) _ _
-    ∙ ap (λ l. told_upto query segment interval i ++ l) (one_if (is_asked query interval segment.fields (row_at segment i)) b e)
+    ∙ ap (λ l. counted_upto query segment interval i ++ l) (one_if (is_asked query interval segment.fields (row_at segment i)) b e)
   where
     one_if : (a b : Bool) → a ≡ b → map (tells query segment.fields) (cond a (row_at segment i ∷ []) []) ≡ cond b (tells query segment.fields (row_at segment i) ∷ []) []
     one_if true true e = refl
@@ -90,15 +90,15 @@ upto_more query segment interval i b h e =
     one_if false false e = refl
 
 -- a row that is asked for
-pub told_asked : (query : Query) (segment : Segment) (interval : Extent) (i : ℕ) (groups more : List Group) → i < length segment.rows → is_asked query interval segment.fields (row_at segment i) ≡ true → AreWords (tells query segment.fields (row_at segment i)).numbers → more ≡ merged (kinds_of query) (tells query segment.fields (row_at segment i) ∷ []) groups → AreTold query (told_upto query segment interval i) groups → AreTold query (told_upto query segment interval (i + 1)) more
-told_asked query segment interval i groups more h asked w e t =
+pub counted_asked : (query : Query) (segment : Segment) (interval : Extent) (i : ℕ) (groups more : List Group) → i < length segment.rows → is_asked query interval segment.fields (row_at segment i) ≡ true → AreWords (tells query segment.fields (row_at segment i)).numbers → more ≡ merged (kinds_of query) (tells query segment.fields (row_at segment i) ∷ []) groups → AreCounted query (counted_upto query segment interval i) groups → AreCounted query (counted_upto query segment interval (i + 1)) more
+counted_asked query segment interval i groups more h asked w e t =
     let row = row_at segment i in
-    let P : List Group → Type 0 = λ rows. AreTold query rows more in
+    let P : List Group → Type 0 = λ rows. AreCounted query rows more in
     subst P (sym (upto_more query segment interval i true h asked))
-    (told_and query (told_upto query segment interval i) groups more (tells query segment.fields row) t (row_numbers query segment.fields row w) (row_for query segment.fields row) e)
+    (counted_and query (counted_upto query segment interval i) groups more (tells query segment.fields row) t (row_numbers query segment.fields row w) (row_for query segment.fields row) e)
 
 -- another row
-pub told_passed : (query : Query) (segment : Segment) (interval : Extent) (i : ℕ) (groups : List Group) → i < length segment.rows → is_asked query interval segment.fields (row_at segment i) ≡ false → AreTold query (told_upto query segment interval i) groups → AreTold query (told_upto query segment interval (i + 1)) groups
-told_passed query segment interval i groups h asked t =
-    let P : List Group → Type 0 = λ rows. AreTold query rows groups in
+pub counted_passed : (query : Query) (segment : Segment) (interval : Extent) (i : ℕ) (groups : List Group) → i < length segment.rows → is_asked query interval segment.fields (row_at segment i) ≡ false → AreCounted query (counted_upto query segment interval i) groups → AreCounted query (counted_upto query segment interval (i + 1)) groups
+counted_passed query segment interval i groups h asked t =
+    let P : List Group → Type 0 = λ rows. AreCounted query rows groups in
     subst P (sym (upto_more query segment interval i false h asked ∙ append-nil _)) t

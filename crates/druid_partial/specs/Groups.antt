@@ -71,16 +71,16 @@ pub record IsGreatest (xs : List ℤ) (greatest : ℤ) : Type 0 where
 
 -- what an aggregator tells of these numbers, one at least. A sum is wrapped to 64 bits once, at its end. To count is to add
 -- the 1 that each row tells
-abbrev pub IsTold : AggregatorKind → List ℤ → ℤ → Type 0
-IsTold Count xs told = told ≡ int_wrap w64 (total xs)
-IsTold LongSum xs told = told ≡ int_wrap w64 (total xs)
-IsTold LongMin xs told = IsLeast xs told
-IsTold LongMax xs told = IsGreatest xs told
+abbrev pub IsReported : AggregatorKind → List ℤ → ℤ → Type 0
+IsReported Count xs reported = reported ≡ int_wrap w64 (total xs)
+IsReported LongSum xs reported = reported ≡ int_wrap w64 (total xs)
+IsReported LongMin xs reported = IsLeast xs reported
+IsReported LongMax xs reported = IsGreatest xs reported
 
 -- the same where there may be none, of which it tells null
 abbrev pub IsAggregate : AggregatorKind → List ℤ → Option ℤ → Type 0
-IsAggregate kind [] told = told ≡ None
-IsAggregate kind (x ∷ xs) told = (number : ℤ) × (told ≡ Some number) × IsTold kind (x ∷ xs) number
+IsAggregate kind [] reported = reported ≡ None
+IsAggregate kind (x ∷ xs) reported = (number : ℤ) × (reported ≡ Some number) × IsReported kind (x ∷ xs) number
 
 -- ---- results
 

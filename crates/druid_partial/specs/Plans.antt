@@ -46,31 +46,31 @@ pub record IsPlan (query : Query) (segment : Segment) (times : List ℕ) (first 
   pub test_is : (row : ℕ) → row < length segment.rows → judge_if test row ≡ passes_if (value_in segment.fields.dimensions (row_at segment row).dimensions) query.filter
 
 -- what the row at a place tells
-abbrev pub told_at : Plan → ℕ → Group
-told_at plan row = tells plan.query plan.segment.fields (row_at plan.segment row)
+abbrev pub counted_at : Plan → ℕ → Group
+counted_at plan row = tells plan.query plan.segment.fields (row_at plan.segment row)
 
 -- the bucket of the row at a place
 abbrev pub bucket_at : Plan → ℕ → ℕ
-bucket_at plan row = (told_at plan row).key.bucket
+bucket_at plan row = (counted_at plan row).key.bucket
 
 -- groups of a query that are the result over rows
-pub record AreTold (query : Query) (rows groups : List Group) : Type 0 where
+pub record AreCounted (query : Query) (rows groups : List Group) : Type 0 where
   pub result : IsResult (kinds_of query) rows groups
   pub numbers : All (HasNumbers (kinds_of query)) groups
   pub each : All (IsGroupFor query) groups
 
 -- what the rows before a place tell that are asked for
-abbrev pub told_upto : Query → Segment → Extent → ℕ → List Group
-told_upto query segment interval i = map (tells query segment.fields) (filter (is_asked query interval segment.fields) (take i segment.rows))
+abbrev pub counted_upto : Query → Segment → Extent → ℕ → List Group
+counted_upto query segment interval i = map (tells query segment.fields) (filter (is_asked query interval segment.fields) (take i segment.rows))
 
 -- these groups are the result over the rows before a place
 abbrev pub AreUpto : Plan → Extent → ℕ → List Group → Type 0
-AreUpto plan interval i groups = AreTold plan.query (told_upto plan.query plan.segment interval i) groups
+AreUpto plan interval i groups = AreCounted plan.query (counted_upto plan.query plan.segment interval i) groups
 
 -- each of these groups is before those of the rows from one place to another
 abbrev pub ComeBefore : Plan → List Group → ℕ → ℕ → Type 0
 ComeBefore plan groups from to =
-    (row : ℕ) → from ≤ row → row < to → (g : Group) → Contains groups g → key_cmp g.key (told_at plan row).key ≡ Less
+    (row : ℕ) → from ≤ row → row < to → (g : Group) → Contains groups g → key_cmp g.key (counted_at plan row).key ≡ Less
 
 -- the rows from one place to another have one bucket
 abbrev pub HaveBucket : Plan → ℕ → ℕ → ℕ → Type 0
@@ -92,7 +92,7 @@ cell_at plan row = cell_from plan.columns row 0
 
 -- the group in a cell has the key of its row
 abbrev pub group_at : Plan → Cell → Group
-group_at plan c = record { key = (told_at plan c.row).key; numbers = c.numbers }
+group_at plan c = record { key = (counted_at plan c.row).key; numbers = c.numbers }
 
 -- the groups that are there, in order
 abbrev pub groups_in : Plan → List (Option Cell) → List Group
@@ -119,7 +119,7 @@ IsKept plan (Some c) = (c.row < length plan.segment.rows) × HasNumbers (kinds_o
 pub record IsJoined (plan : Plan) (row : ℕ) (old new : List (Option Cell)) : Type 0 where
   pub long : length new ≡ length old
   pub groups : (bucket : ℕ) → bucket_at plan row ≡ bucket → AreCells plan bucket old
-      → groups_in plan new ≡ merged (kinds_of plan.query) (told_at plan row ∷ []) (groups_in plan old)
+      → groups_in plan new ≡ merged (kinds_of plan.query) (counted_at plan row ∷ []) (groups_in plan old)
   pub cells : (bucket : ℕ) → bucket_at plan row ≡ bucket → AreCells plan bucket old → AreCells plan bucket new
 
 -- ---- the same in a map by the numbers of cells
@@ -132,7 +132,7 @@ AreEntries plan bucket entries = AllByRecursion (λ e. IsCell plan bucket e.0 e.
 
 pub record IsJoinedBy (plan : Plan) (row : ℕ) (old new : List (ℕ × Cell)) : Type 0 where
   pub groups : (bucket : ℕ) → bucket_at plan row ≡ bucket → AreEntries plan bucket old
-      → groups_by plan new ≡ merged (kinds_of plan.query) (told_at plan row ∷ []) (groups_by plan old)
+      → groups_by plan new ≡ merged (kinds_of plan.query) (counted_at plan row ∷ []) (groups_by plan old)
   pub entries : (bucket : ℕ) → bucket_at plan row ≡ bucket → AreEntries plan bucket old → AreEntries plan bucket new
 
 -- groups in cells, as they are handed out

@@ -64,8 +64,8 @@ is_asked query interval fields row =
     && passes_if (value_in fields.dimensions row.dimensions) query.filter
 
 -- what the rows of a segment in an interval tell a query
-abbrev pub told_by : Query → Segment → Extent → List Group
-told_by query segment interval = map (tells query segment.fields) (filter (is_asked query interval segment.fields) segment.rows)
+abbrev pub counted_by : Query → Segment → Extent → List Group
+counted_by query segment interval = map (tells query segment.fields) (filter (is_asked query interval segment.fields) segment.rows)
 
 -- ---- partials
 

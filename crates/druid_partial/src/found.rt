@@ -4,19 +4,19 @@ ghost use Rattle.druid_partial.specs.Joined.{merged};
 ghost use Rattle.druid_partial.specs.Entries.{groups_of};
 
 use crate::joining::join_numbers;
-use crate::key::LentKey;
+use crate::key::KeyRef;
 use druid_query::AggregatorKind;
 use std::alloc::AllocError;
 use std::collections::BTreeMap;
 
 // The numbers of each key.
-pub(crate) type Found<'a> = BTreeMap<LentKey<'a>, Vec<Option<i64>>>;
+pub(crate) type Found<'a> = BTreeMap<KeyRef<'a>, Vec<Option<i64>>>;
 
 // Joins what a row tells to the group of its key.
 pub(crate) fn add<'a>(
     kinds: &[AggregatorKind],
     found: &mut Found<'a>,
-    key: LentKey<'a>,
+    key: KeyRef<'a>,
     mut numbers: Vec<Option<i64>>,
 ) -> Result<(), AllocError>
     ensures { OnOk result (groups_of found.new.entries

@@ -11,12 +11,12 @@ use std::marker::Model;
 
 // Where a row stands in a result: its bucket, and its values of the query's dimensions, borrowed from the segment.
 #[derive(Drop)]
-pub(crate) struct LentKey<'a> {
+pub(crate) struct KeyRef<'a> {
     bucket: Instant,
     values: Vec<Option<&'a str>>,
 }
 
-impl<'a> Model for LentKey<'a> {
+impl<'a> Model for KeyRef<'a> {
     ghost use Rattle.std.specs.Prelude.{map, option_map};
     ghost use Rattle.druid_partial.specs.Groups.{Key};
 
@@ -28,31 +28,31 @@ impl<'a> Model for LentKey<'a> {
     } };
 }
 
-impl<'a> PartialEq for LentKey<'a> {
+impl<'a> PartialEq for KeyRef<'a> {
     ghost eq = { eq_by_cmp key_cmp };
 
     ghost laws = { order.same_key-per };
 
-    fn eq(&self, other: &LentKey<'a>) -> bool {
+    fn eq(&self, other: &KeyRef<'a>) -> bool {
         self.cmp(other) == Ordering::Equal
     }
 }
 
-impl<'a> Eq for LentKey<'a> {
+impl<'a> Eq for KeyRef<'a> {
     ghost laws = { order.same_key-equiv };
 }
 
-impl<'a> PartialOrd for LentKey<'a> {
+impl<'a> PartialOrd for KeyRef<'a> {
     ghost partial_cmp = { λ a b. Some (key_cmp a b) };
 
     ghost laws = { order.key_cmp-po };
 
-    fn partial_cmp(&self, other: &LentKey<'a>) -> Option<Ordering> {
+    fn partial_cmp(&self, other: &KeyRef<'a>) -> Option<Ordering> {
         Some(self.cmp(other))
     }
 }
 
-impl<'a> Ord for LentKey<'a> {
+impl<'a> Ord for KeyRef<'a> {
     ghost cmp = { key_cmp };
 
     ghost total = { order.key_cmp-total };
@@ -61,7 +61,7 @@ impl<'a> Ord for LentKey<'a> {
 
     ghost matches_eq = { λ a b. refl };
 
-    fn cmp(&self, other: &LentKey<'a>) -> Ordering {
+    fn cmp(&self, other: &KeyRef<'a>) -> Ordering {
         match self.bucket.cmp(&other.bucket) {
             Ordering::Equal => self.values.cmp(&other.values),
             order => order,
@@ -78,12 +78,12 @@ fn copy_of(alloc: Global, text: Option<&str>) -> Result<Option<String>, AllocErr
     }
 }
 
-impl<'a> LentKey<'a> {
+impl<'a> KeyRef<'a> {
     // The key of these parts.
-    pub(crate) fn new(bucket: Instant, values: Vec<Option<&'a str>>) -> LentKey<'a>
+    pub(crate) fn new(bucket: Instant, values: Vec<Option<&'a str>>) -> KeyRef<'a>
         ensures { result ≡ record { bucket = bucket; values = map (option_map (λ text. text.now)) values.entry.items } }
     {
-        LentKey { bucket, values }
+        KeyRef { bucket, values }
     }
 
     pub(crate) fn bucket(&self) -> Instant

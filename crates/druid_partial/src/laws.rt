@@ -6,7 +6,7 @@ ghost use Rattle.druid_rows.specs.Segment.{Segment};
 ghost use Rattle.druid_query.specs.Query.{Query};
 ghost use Rattle.druid_query.specs.Asked.{Asked, StandApart};
 ghost use Rattle.druid_partial.specs.Groups.{Group, IsResult, IsMerge};
-ghost use Rattle.druid_partial.specs.Once.{HaveOwnSegments, told, told_once};
+ghost use Rattle.druid_partial.specs.Once.{HaveOwnSegments, counted_groups, counted_once};
 ghost use Rattle.druid_partial.specs.Rows.{kinds_of};
 
 /// Rows have one result.
@@ -40,8 +40,8 @@ pub fn no_rows_change_nothing()
 
 /// Where no two pieces of one segment overlap, the result over what all pieces tell is that over the rows of these segments that
 /// lie in some piece, each row once, however the pieces cut the segments.
-pub fn rows_are_told_once()
+pub fn rows_are_counted_once()
     ensures { (query : Query) (segments : List Segment) (asked : List Asked) (groups : List Group) → HaveOwnSegments segments → StandApart asked
-        → IsResult (kinds_of query) (told query segments asked) groups
-        → IsResult (kinds_of query) (told_once query asked segments) groups }
+        → IsResult (kinds_of query) (counted_groups query segments asked) groups
+        → IsResult (kinds_of query) (counted_once query asked segments) groups }
 {}

@@ -19,7 +19,7 @@ pub use buckets::{earliest, is_bucket};
 pub use group::Group;
 pub use laws::{
     merge_is_the_result_of_both, merges_commute, merges_regroup, no_rows_change_nothing,
-    one_result, rows_are_told_once,
+    one_result, rows_are_counted_once,
 };
 pub use merging::{MergeRefused, merge};
 pub use partial::{Partial, kinds_of};

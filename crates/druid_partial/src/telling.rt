@@ -5,16 +5,16 @@ ghost use Rattle.druid_query.specs.Query.{Query};
 ghost use Rattle.druid_partial.specs.Groups.{AreWords, Group, IsResult};
 ghost use Rattle.druid_partial.specs.Joined.{merged};
 ghost use Rattle.std.specs.List.{flat_map};
-ghost use Rattle.druid_partial.specs.Rows.{bucket_of, earliest, is_asked, kinds_of, told_by, IsPartialFor};
+ghost use Rattle.druid_partial.specs.Rows.{bucket_of, earliest, is_asked, kinds_of, counted_by, IsPartialFor};
 ghost use Rattle.druid_partial.specs.Entries.{groups_of};
 ghost use Rattle.druid_partial.specs.Cells.{room_from};
-ghost use Rattle.druid_partial.specs.Plans.{told_at, bucket_at, groups_in, groups_by, IsKept, IsJoined, IsJoinedBy, AreEntries, AreKept, AreTold, AreUpto, AreCells, ComeBefore, HaveBucket, BucketsRise};
+ghost use Rattle.druid_partial.specs.Plans.{counted_at, bucket_at, groups_in, groups_by, IsKept, IsJoined, IsJoinedBy, AreEntries, AreKept, AreCounted, AreUpto, AreCells, ComeBefore, HaveBucket, BucketsRise};
 
 use crate::buckets::earliest;
 use crate::cells::{Cell, Numbers, Sparse, add_row, empty_cells, enter_row, numbers_at};
 use crate::column::{Column, cell_of, room_of};
 use crate::found::{Found, add};
-use crate::key::LentKey;
+use crate::key::KeyRef;
 use crate::located::{columns_of, numbers_of, places_of, sources_of, texts_at, values_at};
 use crate::merging::merge;
 use crate::partial::kinds_of;
@@ -183,19 +183,19 @@ impl<'a> Plan<'a> {
     }
 
     // The key that a row tells.
-    fn key(&self, alloc: Global, row: usize) -> Result<LentKey<'a>, AllocError>
+    fn key(&self, alloc: Global, row: usize) -> Result<KeyRef<'a>, AllocError>
         requires { row < length self.now.segment.rows }
-        ensures { IfOk result (λ key. key ≡ (told_at self.now row).key) }
+        ensures { IfOk result (λ key. key ≡ (counted_at self.now row).key) }
     {
         let bucket = self.bucket(row);
         let values = values_at(alloc, self.segment, row, &self.places)?;
-        Ok(LentKey::new(bucket, values))
+        Ok(KeyRef::new(bucket, values))
     }
 
     // The numbers that a row tells.
     fn numbers(&self, alloc: Global, row: usize) -> Result<Vec<Option<i64>>, AllocError>
         requires { row < length self.now.segment.rows }
-        ensures value { IfOk result (λ numbers. numbers.items ≡ (told_at self.now row).numbers) }
+        ensures value { IfOk result (λ numbers. numbers.items ≡ (counted_at self.now row).numbers) }
         ensures words { IfOk result (λ numbers. AreWords numbers.items) }
     {
         numbers_at(alloc, &self.numbers, row)
@@ -204,9 +204,9 @@ impl<'a> Plan<'a> {
     // Joins what a row tells.
     fn tell(&self, alloc: Global, row: usize, found: &mut Found<'a>) -> Result<(), AllocError>
         requires { row < length self.now.segment.rows }
-        ensures told { OnOk result (groups_of found.new.entries
-            ≡ merged (kinds_of self.now.query) (told_at self.now row ∷ []) (groups_of found.old.entries)) }
-        ensures words { OnOk result (AreWords (told_at self.now row).numbers) }
+        ensures reported { OnOk result (groups_of found.new.entries
+            ≡ merged (kinds_of self.now.query) (counted_at self.now row ∷ []) (groups_of found.old.entries)) }
+        ensures words { OnOk result (AreWords (counted_at self.now row).numbers) }
     {
         let key = self.key(alloc, row)?;
         let numbers = self.numbers(alloc, row)?;
@@ -260,7 +260,7 @@ impl<'a> Plan<'a> {
         requires room { length cells.now ≡ room_from self.now.columns 1 }
         requires small { room_from self.now.columns 1 < 2 ^ 64 }
         ensures joined { OnOk result (IsJoined self.now row cells.old cells.new) }
-        ensures words { AreWords (told_at self.now row).numbers }
+        ensures words { AreWords (counted_at self.now row).numbers }
     {
         let cell = cell_of(&self.columns, row);
         add_row(alloc, &self.kinds, &self.numbers, cells, cell, row)
@@ -301,7 +301,7 @@ impl<'a> Plan<'a> {
     ) -> Result<Group, AllocError>
         requires row { row < length self.now.segment.rows }
         requires words { AreWords numbers.items }
-        ensures { IfOk result (λ group. group ≡ record { key = (told_at self.now row).key; numbers = numbers.items }) }
+        ensures { IfOk result (λ group. group ≡ record { key = (counted_at self.now row).key; numbers = numbers.items }) }
     {
         let values = texts_at(alloc, self.segment, row, &self.places)?;
         Ok(Group::new(self.bucket(row), values, numbers))
@@ -353,7 +353,7 @@ impl<'a> Plan<'a> {
         requires row { row < length self.now.segment.rows }
         requires small { room_from self.now.columns 1 < 2 ^ 64 }
         ensures joined { OnOk result (IsJoinedBy self.now row cells.old.entries cells.new.entries) }
-        ensures words { AreWords (told_at self.now row).numbers }
+        ensures words { AreWords (counted_at self.now row).numbers }
     {
         let cell = cell_of(&self.columns, row);
         enter_row(alloc, &self.kinds, &self.numbers, cells, cell, row)
@@ -450,7 +450,7 @@ impl<'a> Plan<'a> {
 
     // The groups of all rows that the query asks for.
     fn tally(&self, alloc: Global, interval: Interval) -> Result<Vec<Group>, AllocError>
-        ensures { IfOk result (λ groups. AreTold self.now.query (told_by self.now.query self.now.segment interval) groups.items) }
+        ensures { IfOk result (λ groups. AreCounted self.now.query (counted_by self.now.query self.now.segment interval) groups.items) }
     {
         let (start, end) = self.segment.places_in(interval);
         let mut groups = Vec::new(alloc);
@@ -470,7 +470,7 @@ impl<'a> Plan<'a> {
     // What the rows that lie in one interval tell.
     fn partial(&self, alloc: Global, interval: Interval) -> Result<Partial, AllocError>
         ensures result { IfOk result (λ partial.
-            IsResult (kinds_of self.now.query) (told_by self.now.query self.now.segment interval) partial.groups) }
+            IsResult (kinds_of self.now.query) (counted_by self.now.query self.now.segment interval) partial.groups) }
         ensures of_query { IfOk result (IsPartialFor self.now.query) }
     {
         let groups = self.tally(alloc, interval)?;
@@ -482,7 +482,7 @@ impl<'a> Plan<'a> {
     // number of times.
     fn partial_of_all(&self, alloc: Global, pieces: &[Interval]) -> Result<Partial, AllocError>
         ensures result { IfOk result (λ partial.
-            IsResult (kinds_of self.now.query) (flat_map (told_by self.now.query self.now.segment) pieces.now) partial.groups) }
+            IsResult (kinds_of self.now.query) (flat_map (counted_by self.now.query self.now.segment) pieces.now) partial.groups) }
         ensures of_query { IfOk result (IsPartialFor self.now.query) }
     {
         if pieces.is_empty() {
@@ -524,7 +524,7 @@ pub fn partial_of(
     interval: Interval,
 ) -> Result<Partial, AllocError>
     ensures result { IfOk result (λ partial.
-        IsResult (kinds_of query.now) (told_by query.now segment.now interval) partial.groups) }
+        IsResult (kinds_of query.now) (counted_by query.now segment.now interval) partial.groups) }
     ensures of_query { IfOk result (IsPartialFor query.now) }
 {
     Plan::new(alloc, query, segment)?.partial(alloc, interval)
@@ -539,7 +539,7 @@ pub fn partial_over(
     pieces: &[Interval],
 ) -> Result<Partial, AllocError>
     ensures result { IfOk result (λ partial.
-        IsResult (kinds_of query.now) (flat_map (told_by query.now segment.now) pieces.now) partial.groups) }
+        IsResult (kinds_of query.now) (flat_map (counted_by query.now segment.now) pieces.now) partial.groups) }
     ensures of_query { IfOk result (IsPartialFor query.now) }
 {
     Plan::new(alloc, query, segment)?.partial_of_all(alloc, pieces)

@@ -25,8 +25,8 @@ use Rattle.druid_partial.specs.Groups.{Key, Group, key_of, key_cmp, InOrder}
 use Rattle.druid_partial.specs.Orders.{key_cmp-total}
 use Rattle.druid_partial.specs.Rows.{IsPartial, IsGroupFor, IsPartialFor, kinds_of}
 use Rattle.druid_partial_text.specs.Read.{number_or_null, Parts, parts_at, group_of, group_at, Lists, TellsGroups}
-use Rattle.druid_partial_text.specs.Lent.{parts_lent, HasWords, AreRows, IsBefore}
-use Rattle.druid_partial_text.specs.declared.reading.Lent.{Lent}
+use Rattle.druid_partial_text.specs.Borrowed.{parts_borrowed, HasWords, AreRows, IsBefore}
+use Rattle.druid_partial_text.specs.declared.reading.Borrowed.{Borrowed}
 
 -- ---- copied item by item
 
@@ -111,11 +111,11 @@ lists_read d parts row reads =
     both_read parts.bucket (each_of value_at parts.values) (each_of number_or_null parts.numbers)
     (subst (λ (o : Option Parts). IsSome (option_and_then group_of o)) (sym row) reads)
 
-pub values_read : (d : Data) (row : Lent) → Some (parts_lent row) ≡ parts_at d → IsSome (group_at d) → IsSome (each_of value_at (items_view row.values.now))
-values_read d row is reads = (lists_read d (parts_lent row) is reads).0
+pub values_read : (d : Data) (row : Borrowed) → Some (parts_borrowed row) ≡ parts_at d → IsSome (group_at d) → IsSome (each_of value_at (items_view row.values.now))
+values_read d row is reads = (lists_read d (parts_borrowed row) is reads).0
 
-pub numbers_read : (d : Data) (row : Lent) → Some (parts_lent row) ≡ parts_at d → IsSome (group_at d) → IsSome (each_of number_or_null (items_view row.numbers.now))
-numbers_read d row is reads = (lists_read d (parts_lent row) is reads).1
+pub numbers_read : (d : Data) (row : Borrowed) → Some (parts_borrowed row) ≡ parts_at d → IsSome (group_at d) → IsSome (each_of number_or_null (items_view row.numbers.now))
+numbers_read d row is reads = (lists_read d (parts_borrowed row) is reads).1
 
 -- a row whose lists were read
 pub group_made : (d : Data) (parts : Parts) (values : List (Option (List ℕ))) (numbers : List (Option ℤ)) → Some parts ≡ parts_at d → each_of value_at parts.values ≡ Some values
@@ -218,11 +218,11 @@ pub rows_listed : (q : Query) (d : Data) (items : Items) → d ≡ array items �
 rows_listed q d items is rows =
     subst (λ (e : Data). (rows : List Group) × Lists q e rows) (sym is) (rows.0, record { read = rows.1; each = rows.2 })
 
-pub not_told : (q : Query) (d : Data) (items : Items) → d ≡ array items → ((groups : List Group) → TellsGroups q (array items) groups → ⊥) → (groups : List Group) → TellsGroups q d groups → ⊥
-not_told q d items is none groups h = none groups (subst (λ (e : Data). TellsGroups q e groups) is h)
+pub not_reported : (q : Query) (d : Data) (items : Items) → d ≡ array items → ((groups : List Group) → TellsGroups q (array items) groups → ⊥) → (groups : List Group) → TellsGroups q d groups → ⊥
+not_reported q d items is none groups h = none groups (subst (λ (e : Data). TellsGroups q e groups) is h)
 
-pub is_told : (q : Query) (d : Data) (items : Items) (groups : List Group) → d ≡ array items → TellsGroups q (array items) groups → TellsGroups q d groups
-is_told q d items groups is told = subst (λ (e : Data). TellsGroups q e groups) (sym is) told
+pub is_reported : (q : Query) (d : Data) (items : Items) (groups : List Group) → d ≡ array items → TellsGroups q (array items) groups → TellsGroups q d groups
+is_reported q d items groups is reported = subst (λ (e : Data). TellsGroups q e groups) (sym is) reported
 
 pub doubled : (q : Query) (items : Items) (made : List Group) → each_of group_at items ≡ Some made
     → ((rows : List Group) → IsPermutation made rows → InOrder rows → ⊥) → (groups : List Group) → TellsGroups q (array items) groups → ⊥
@@ -233,22 +233,22 @@ doubled q items made read none groups h =
 each_for : (q : Query) (items : Items) (made : List Group) → AreRows q items → each_of group_at items ≡ Some made → All (IsGroupFor q) made
 each_for q items made rows read = subst (All (IsGroupFor q)) (same_Some rows.0 made (sym rows.1 ∙ read)) rows.2
 
-pub told : (q : Query) (items : Items) (made groups : List Group) → AreRows q items → each_of group_at items ≡ Some made → IsPermutation made groups → InOrder groups
+pub reported : (q : Query) (items : Items) (made groups : List Group) → AreRows q items → each_of group_at items ≡ Some made → IsPermutation made groups → InOrder groups
     → TellsGroups q (array items) groups
-told q items made groups rows read moved ordered = record {
+reported q items made groups rows read moved ordered = record {
   rows = made;
   listed = record { read = read; each = each_for q items made rows read };
   same = moved;
   ordered = ordered;
 }
 
-pub told_for : (q : Query) (items : Items) (kinds : List AggregatorKind) (made groups : List Group) → AreRows q items → each_of group_at items ≡ Some made → IsPermutation made groups → kinds ≡ kinds_of q
+pub reported_for : (q : Query) (items : Items) (kinds : List AggregatorKind) (made groups : List Group) → AreRows q items → each_of group_at items ≡ Some made → IsPermutation made groups → kinds ≡ kinds_of q
     → IsPartialFor q (record { kinds = kinds; groups = groups })
-told_for q items kinds made groups rows read moved is = record { kinds = is; each = All-permutation (IsGroupFor q) made groups moved (each_for q items made rows read) }
+reported_for q items kinds made groups rows read moved is = record { kinds = is; each = All-permutation (IsGroupFor q) made groups moved (each_for q items made rows read) }
 
-pub told_valid : (q : Query) (items : Items) (kinds : List AggregatorKind) (made groups : List Group) → AreRows q items → each_of group_at items ≡ Some made → IsPermutation made groups → InOrder groups → All HasWords made → kinds ≡ kinds_of q
+pub reported_valid : (q : Query) (items : Items) (kinds : List AggregatorKind) (made groups : List Group) → AreRows q items → each_of group_at items ≡ Some made → IsPermutation made groups → InOrder groups → All HasWords made → kinds ≡ kinds_of q
     → IsPartial (record { kinds = kinds; groups = groups })
-told_valid q items kinds made groups rows read moved ordered words is =
+reported_valid q items kinds made groups rows read moved ordered words is =
     let each = All-permutation (IsGroupFor q) made groups moved (each_for q items made rows read) in
     let held = All-permutation HasWords made groups moved words in
     record {

@@ -17,7 +17,7 @@ use Rattle.druid_query.specs.Asked.{Asked, asked_at}
 use Rattle.druid_query.specs.SubQuery.{SubQuery}
 use Rattle.druid_partial.specs.Groups.{Group}
 use Rattle.druid_partial_text.specs.Read.{Lists, TellsGroups}
-use Rattle.druid_partial_text.specs.Lent.{AreRows}
+use Rattle.druid_partial_text.specs.Borrowed.{AreRows}
 use Rattle.druid_partial_text.specs.PieceOrder.{piece_cmp, piece_cmp-total, piece_cmp-ties, same_asked-true}
 use Rattle.druid_partial_text.specs.Answers.{WereAsked, ListsAnswer, TellsAnswer}
 use Rattle.druid_partial_text.specs.Missed.{AreMissed, AreLists, TellBoth}
@@ -148,8 +148,8 @@ lists_read sub d rows vs rs is reads found list each = record {
 pub none_missed : (sub : SubQuery) (ds rs : Items) → ((missing : List Asked) → AreMissed sub ds missing → ⊥) → (pieces : List Asked) (groups : List Group) → TellBoth sub ds rs pieces groups → ⊥
 none_missed sub ds rs none pieces groups both = none pieces both.0
 
-pub none_told : (sub : SubQuery) (ds rs : Items) → ((groups : List Group) → TellsGroups sub.query (array rs) groups → ⊥) → (pieces : List Asked) (groups : List Group) → TellBoth sub ds rs pieces groups → ⊥
-none_told sub ds rs none pieces groups both = none groups both.1
+pub none_reported : (sub : SubQuery) (ds rs : Items) → ((groups : List Group) → TellsGroups sub.query (array rs) groups → ⊥) → (pieces : List Asked) (groups : List Group) → TellBoth sub ds rs pieces groups → ⊥
+none_reported sub ds rs none pieces groups both = none groups both.1
 
 -- ---- the whole
 
@@ -171,20 +171,20 @@ lists_answer sub d ds rs l =
 
 pub no_lists : (sub : SubQuery) (d : Data) → (ListsAnswer sub d → ⊥) → (missing : List Asked) (groups : List Group) → TellsAnswer sub d missing groups → ⊥
 no_lists sub d none missing groups t =
-    none (record { missing = missing; missed = t.missed; rows = t.rows; found = t.found; groups = t.told.rows; listed = t.told.listed })
+    none (record { missing = missing; missed = t.missed; rows = t.rows; found = t.found; groups = t.reported.rows; listed = t.reported.listed })
 
 pub not_both : (sub : SubQuery) (d : Data) (ds rs : Items) → AreLists sub d ds rs → ((pieces : List Asked) (groups : List Group) → TellBoth sub ds rs pieces groups → ⊥)
     → (missing : List Asked) (groups : List Group) → TellsAnswer sub d missing groups → ⊥
 not_both sub d ds rs l none missing groups t =
     let same : array rs ≡ t.rows = same_Some (array rs) t.rows (sym l.found ∙ t.found) in
     none missing groups
-    ((ap (option_and_then (each_of (asked_at sub.query.source))) (sym l.missed) ∙ t.missed, t.were_asked), subst (λ (r : Data). TellsGroups sub.query r groups) (sym same) t.told)
+    ((ap (option_and_then (each_of (asked_at sub.query.source))) (sym l.missed) ∙ t.missed, t.were_asked), subst (λ (r : Data). TellsGroups sub.query r groups) (sym same) t.reported)
 
-pub both_told : (sub : SubQuery) (d : Data) (ds rs : Items) (missing : List Asked) (groups : List Group) → AreLists sub d ds rs → TellBoth sub ds rs missing groups → TellsAnswer sub d missing groups
-both_told sub d ds rs missing groups l both = record {
+pub both_reported : (sub : SubQuery) (d : Data) (ds rs : Items) (missing : List Asked) (groups : List Group) → AreLists sub d ds rs → TellBoth sub ds rs missing groups → TellsAnswer sub d missing groups
+both_reported sub d ds rs missing groups l both = record {
   missed = ap (option_and_then (each_of (asked_at sub.query.source))) l.missed ∙ both.0.0;
   were_asked = both.0.1;
   rows = array rs;
   found = l.found;
-  told = both.1;
+  reported = both.1;
 }

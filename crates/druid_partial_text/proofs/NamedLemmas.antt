@@ -64,28 +64,28 @@ columns_last front g all is = ap (λ (l : List Entry). front ++ rest_by g l) (sy
 two_joined : (front : List Token) (b k m e : Token) (t l : List Token) → (((((front ++ b ∷ []) ++ k ∷ []) ++ t) ++ m ∷ []) ++ l) ++ e ∷ [] ≡ front ++ b ∷ k ∷ (t ++ m ∷ (l ++ e ∷ []))
 two_joined front b k m e t l = simp append_assoc
 
-pub timeseries_written : (front : List Token) (told : Data) (bucket : ℕ)
-    → (((((front ++ begin_object ∷ []) ++ key (codes "result") ∷ []) ++ tokens_of told) ++ key (codes "timestamp") ∷ []) ++ tokens_of (label_data bucket)) ++ end_object ∷ []
-    ≡ front ++ tokens_of (timeseries_row told bucket)
-timeseries_written front told bucket = two_joined front begin_object (key (codes "result")) (key (codes "timestamp")) end_object (tokens_of told) (tokens_of (label_data bucket))
+pub timeseries_written : (front : List Token) (reported : Data) (bucket : ℕ)
+    → (((((front ++ begin_object ∷ []) ++ key (codes "result") ∷ []) ++ tokens_of reported) ++ key (codes "timestamp") ∷ []) ++ tokens_of (label_data bucket)) ++ end_object ∷ []
+    ≡ front ++ tokens_of (timeseries_row reported bucket)
+timeseries_written front reported bucket = two_joined front begin_object (key (codes "result")) (key (codes "timestamp")) end_object (tokens_of reported) (tokens_of (label_data bucket))
 
 three_joined : (front : List Token) (b k m v w e : Token) (t l : List Token)
     → (((((((front ++ b ∷ []) ++ k ∷ []) ++ t) ++ m ∷ []) ++ l) ++ v ∷ []) ++ w ∷ []) ++ e ∷ [] ≡ front ++ b ∷ k ∷ (t ++ m ∷ (l ++ v ∷ w ∷ e ∷ []))
 three_joined front b k m v w e t l = simp append_assoc
 
-pub group_by_written : (front : List Token) (told : Data) (bucket : ℕ)
-    → (((((((front ++ begin_object ∷ []) ++ key (codes "event") ∷ []) ++ tokens_of told) ++ key (codes "timestamp") ∷ []) ++ tokens_of (label_data bucket)) ++ key (codes "version") ∷ [])
+pub group_by_written : (front : List Token) (reported : Data) (bucket : ℕ)
+    → (((((((front ++ begin_object ∷ []) ++ key (codes "event") ∷ []) ++ tokens_of reported) ++ key (codes "timestamp") ∷ []) ++ tokens_of (label_data bucket)) ++ key (codes "version") ∷ [])
     ++ string (codes "v1") ∷ []) ++ end_object ∷ []
-    ≡ front ++ tokens_of (group_by_row told bucket)
-group_by_written front told bucket =
-    three_joined front begin_object (key (codes "event")) (key (codes "timestamp")) (key (codes "version")) (string (codes "v1")) end_object (tokens_of told) (tokens_of (label_data bucket))
+    ≡ front ++ tokens_of (group_by_row reported bucket)
+group_by_written front reported bucket =
+    three_joined front begin_object (key (codes "event")) (key (codes "timestamp")) (key (codes "version")) (string (codes "v1")) end_object (tokens_of reported) (tokens_of (label_data bucket))
 
 -- step by step
-pub timeseries_steps : (told : Data) (bucket : ℕ) (t0 t1 t2 t3 t4 t5 t6 : List Token) → t1 ≡ t0 ++ begin_object ∷ [] → t2 ≡ t1 ++ key (codes "result") ∷ [] → t3 ≡ t2 ++ tokens_of told
-    → t4 ≡ t3 ++ key (codes "timestamp") ∷ [] → t5 ≡ t4 ++ tokens_of (label_data bucket) → t6 ≡ t5 ++ end_object ∷ [] → t6 ≡ t0 ++ tokens_of (timeseries_row told bucket)
-timeseries_steps told bucket t0 t1 t2 t3 t4 t5 t6 a b c d e f = rw (f, e, d, c, b, a) (timeseries_written t0 told bucket)
+pub timeseries_steps : (reported : Data) (bucket : ℕ) (t0 t1 t2 t3 t4 t5 t6 : List Token) → t1 ≡ t0 ++ begin_object ∷ [] → t2 ≡ t1 ++ key (codes "result") ∷ [] → t3 ≡ t2 ++ tokens_of reported
+    → t4 ≡ t3 ++ key (codes "timestamp") ∷ [] → t5 ≡ t4 ++ tokens_of (label_data bucket) → t6 ≡ t5 ++ end_object ∷ [] → t6 ≡ t0 ++ tokens_of (timeseries_row reported bucket)
+timeseries_steps reported bucket t0 t1 t2 t3 t4 t5 t6 a b c d e f = rw (f, e, d, c, b, a) (timeseries_written t0 reported bucket)
 
-pub group_by_steps : (told : Data) (bucket : ℕ) (t0 t1 t2 t3 t4 t5 t6 t7 t8 : List Token) → t1 ≡ t0 ++ begin_object ∷ [] → t2 ≡ t1 ++ key (codes "event") ∷ [] → t3 ≡ t2 ++ tokens_of told
+pub group_by_steps : (reported : Data) (bucket : ℕ) (t0 t1 t2 t3 t4 t5 t6 t7 t8 : List Token) → t1 ≡ t0 ++ begin_object ∷ [] → t2 ≡ t1 ++ key (codes "event") ∷ [] → t3 ≡ t2 ++ tokens_of reported
     → t4 ≡ t3 ++ key (codes "timestamp") ∷ [] → t5 ≡ t4 ++ tokens_of (label_data bucket) → t6 ≡ t5 ++ key (codes "version") ∷ [] → t7 ≡ t6 ++ string (codes "v1") ∷ []
-    → t8 ≡ t7 ++ end_object ∷ [] → t8 ≡ t0 ++ tokens_of (group_by_row told bucket)
-group_by_steps told bucket t0 t1 t2 t3 t4 t5 t6 t7 t8 a b c d e f g h = rw (h, g, f, e, d, c, b, a) (group_by_written t0 told bucket)
+    → t8 ≡ t7 ++ end_object ∷ [] → t8 ≡ t0 ++ tokens_of (group_by_row reported bucket)
+group_by_steps reported bucket t0 t1 t2 t3 t4 t5 t6 t7 t8 a b c d e f g h = rw (h, g, f, e, d, c, b, a) (group_by_written t0 reported bucket)

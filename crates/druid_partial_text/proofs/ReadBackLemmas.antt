@@ -91,5 +91,5 @@ answer_back sub missing groups asked of ordered each held = record {
   were_asked = asked;
   rows = partial_data groups;
   found = refl;
-  told = partial_back sub.query groups ordered each held;
+  reported = partial_back sub.query groups ordered each held;
 }

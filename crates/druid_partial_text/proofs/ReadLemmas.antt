@@ -5,19 +5,19 @@ use Rattle.std.proofs.lemmas.Bool.Decides.{nat_tests}
 use Rattle.druid_time.specs.Instant.{IsInstant, unix_ms, instant_count, unix_epoch}
 use Rattle.serde_json.specs.View.{view, items_view}
 use Rattle.serde_json.specs.declared.value.Value.{Value}
-use Rattle.druid_partial_text.specs.Read.{instant_of, instant_behind, three_of}
+use Rattle.druid_partial_text.specs.Read.{instant_of, instant_beyond, three_of}
 
 -- ---- instants
 
-behind_epoch : (t : ℕ) → unix_ms t +ℤ pos unix_epoch ≡ pos t
-behind_epoch t = omega (arith, ints)
+beyond_epoch : (t : ℕ) → unix_ms t +ℤ pos unix_epoch ≡ pos t
+beyond_epoch t = omega (arith, ints)
 
-behind : (t : ℕ) → IsInstant t → instant_behind (pos t) ≡ Some t
-behind t h = rw (lt-ltb t instant_count h) refl
+beyond : (t : ℕ) → IsInstant t → instant_beyond (pos t) ≡ Some t
+beyond t h = rw (lt-ltb t instant_count h) refl
 
 pub instant_there : (t : ℕ) (ms : ℤ) → IsInstant t → unix_ms t ≡ ms → Some t ≡ instant_of ms
 unfolding instant_of
-instant_there t ms h is = sym (ap (λ z. instant_behind (z +ℤ pos unix_epoch)) (sym is) ∙ ap instant_behind (behind_epoch t) ∙ behind t h)
+instant_there t ms h is = sym (ap (λ z. instant_beyond (z +ℤ pos unix_epoch)) (sym is) ∙ ap instant_beyond (beyond_epoch t) ∙ beyond t h)
 
 abbrev InRange : ℤ → Type 0
 InRange ms = (neg_ℤ (pos 62167219200000) ≤ℤ ms) × (ms ≤ℤ pos 253402300799999)
@@ -25,10 +25,10 @@ InRange ms = (neg_ℤ (pos 62167219200000) ≤ℤ ms) × (ms ≤ℤ pos 25340230
 in_range : (ms : ℤ) (t : ℕ) → pos t ≡ ms +ℤ pos unix_epoch → t < instant_count → InRange ms
 in_range ms t is h = (omega (arith, ints), omega (arith, ints))
 
-no_instant : (ms z : ℤ) → z ≡ ms +ℤ pos unix_epoch → (InRange ms → ⊥) → None ≡ instant_behind z
+no_instant : (ms z : ℤ) → z ≡ ms +ℤ pos unix_epoch → (InRange ms → ⊥) → None ≡ instant_beyond z
 no_instant ms (pos t) is not = through (nat_lt t instant_count) refl
   where
-    through : (b : Bool) → nat_lt t instant_count ≡ b → None ≡ instant_behind (pos t)
+    through : (b : Bool) → nat_lt t instant_count ≡ b → None ≡ instant_beyond (pos t)
     through true e = let below : t < instant_count = grind (arith, nat_tests) in absurd (not (in_range ms t is below))
     through false e = rw e refl
 no_instant ms (negsuc n) is not = refl

@@ -38,22 +38,22 @@ pub rows_last : (front : List Token) (kind : QueryType) (es : List (String Globa
 rows_last front kind es groups i h = ended front (row_items kind es (drop i groups)) (ap (row_items kind es) (drop_of_length-le groups h))
 
 -- each group is written by name
-row_told : (q : Query) (es : List (String Global × Column)) (g : Group) → TellsBy q es → IsGroupFor q g → row_by q.kind es g ≡ row_data q g
-row_told q es g tells for = ap (λ ms. kinded_row q.kind (object ms) g.key.bucket) (tells g for.values for.numbers)
+row_reported : (q : Query) (es : List (String Global × Column)) (g : Group) → TellsBy q es → IsGroupFor q g → row_by q.kind es g ≡ row_data q g
+row_reported q es g tells for = ap (λ ms. kinded_row q.kind (object ms) g.key.bucket) (tells g for.values for.numbers)
 
-rows_told : (q : Query) (es : List (String Global × Column)) (groups : List Group) → TellsBy q es → All (IsGroupFor q) groups
+rows_reported : (q : Query) (es : List (String Global × Column)) (groups : List Group) → TellsBy q es → All (IsGroupFor q) groups
     → items_of (map (row_by q.kind es) groups) ≡ items_of (map (row_data q) groups)
-rows_told q es [] tells each = refl
-rows_told q es (g ∷ groups) tells each =
-    ap (λ d. item d (items_of (map (row_by q.kind es) groups))) (row_told q es g tells (All-head (IsGroupFor q) g groups each))
-    ∙ ap (item (row_data q g)) (rows_told q es groups tells (All-tail (IsGroupFor q) g groups each))
+rows_reported q es [] tells each = refl
+rows_reported q es (g ∷ groups) tells each =
+    ap (λ d. item d (items_of (map (row_by q.kind es) groups))) (row_reported q es g tells (All-head (IsGroupFor q) g groups each))
+    ∙ ap (item (row_data q g)) (rows_reported q es groups tells (All-tail (IsGroupFor q) g groups each))
 
 pub result_printed : (q : Query) (es : List (String Global × Column)) (groups : List Group) → TellsBy q es → All (IsGroupFor q) groups
     → print (tokens_of (rows_by q.kind es groups)) ≡ result_text q groups
 result_printed q es groups tells each =
-    print-outline (rows_by q.kind es groups) ∙ ap (λ ds. compact_text (array ds)) (rows_told q es groups tells each)
+    print-outline (rows_by q.kind es groups) ∙ ap (λ ds. compact_text (array ds)) (rows_reported q es groups tells each)
 
 pub shortfall_printed : (q : Query) (missing : List Asked) (es : List (String Global × Column)) (groups : List Group) → TellsBy q es → All (IsGroupFor q) groups
     → print (tokens_of (shortfall_of missing (rows_by q.kind es groups))) ≡ shortfall_text q missing groups
 shortfall_printed q missing es groups tells each =
-    print-outline (shortfall_of missing (rows_by q.kind es groups)) ∙ ap (λ ds. compact_text (shortfall_of missing (array ds))) (rows_told q es groups tells each)
+    print-outline (shortfall_of missing (rows_by q.kind es groups)) ∙ ap (λ ds. compact_text (shortfall_of missing (array ds))) (rows_reported q es groups tells each)

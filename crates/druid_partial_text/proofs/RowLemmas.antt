@@ -18,14 +18,14 @@ use Rattle.druid_shard.proofs.EachLemmas.{all_reads, each_of_length}
 use Rattle.druid_partial.specs.Groups.{Group}
 use Rattle.druid_partial.specs.Rows.{IsBucketOf, IsGroupFor, kinds_of}
 use Rattle.druid_partial_text.specs.Read.{number_or_null, group_of, group_at}
-use Rattle.druid_partial_text.specs.Lent.{parts_lent, IsNumberFor, AreNumbersFor, AreRows}
-use Rattle.druid_partial_text.specs.declared.reading.Lent.{Lent}
+use Rattle.druid_partial_text.specs.Borrowed.{parts_borrowed, IsNumberFor, AreNumbersFor, AreRows}
+use Rattle.druid_partial_text.specs.declared.reading.Borrowed.{Borrowed}
 
 -- ---- one number
 
-told : (o : Option (Option ℤ)) (n : Option ℤ) (kind : AggregatorKind) → Some n ≡ o → (kind ≡ Count → IsSome n) → IsSomeAnd o (λ x. kind ≡ Count → IsSome x)
-told None n kind is counts = absurd (cc)
-told (Some x) n kind is counts = λ e. subst IsSome (same_Some n x is) (counts e)
+reported : (o : Option (Option ℤ)) (n : Option ℤ) (kind : AggregatorKind) → Some n ≡ o → (kind ≡ Count → IsSome n) → IsSomeAnd o (λ x. kind ≡ Count → IsSome x)
+reported None n kind is counts = absurd (cc)
+reported (Some x) n kind is counts = λ e. subst IsSome (same_Some n x is) (counts e)
 
 untold : (o : Option (Option ℤ)) (kind : AggregatorKind) → None ≡ o → IsSomeAnd o (λ x. kind ≡ Count → IsSome x) → ⊥
 untold None kind is h = h
@@ -36,17 +36,17 @@ counted None kind is h e = cc
 counted (Some None) kind is h e = let some : IsSome {T = ℤ} None = h e in cc
 counted (Some (Some z)) kind is h e = cc
 
-pub number_told : (kind : AggregatorKind) (d : Data) (z : ℤ) → Some (Some z) ≡ number_or_null d → IsNumberFor kind d
-number_told kind d z is = told (number_or_null d) (Some z) kind is (λ e. refl)
+pub number_reported : (kind : AggregatorKind) (d : Data) (z : ℤ) → Some (Some z) ≡ number_or_null d → IsNumberFor kind d
+number_reported kind d z is = reported (number_or_null d) (Some z) kind is (λ e. refl)
 
-pub null_told : (kind : AggregatorKind) (d : Data) → Some None ≡ number_or_null d → kind ≢ Count → IsNumberFor kind d
-null_told kind d is other = told (number_or_null d) None kind is (λ e. absurd (other e))
+pub null_reported : (kind : AggregatorKind) (d : Data) → Some None ≡ number_or_null d → kind ≢ Count → IsNumberFor kind d
+null_reported kind d is other = reported (number_or_null d) None kind is (λ e. absurd (other e))
 
 pub null_counted : (kind : AggregatorKind) (d : Data) → Some None ≡ number_or_null d → IsNumberFor kind d → kind ≢ Count
 null_counted kind d is h = counted (number_or_null d) kind is h
 
-pub none_told : (kind : AggregatorKind) (d : Data) → None ≡ number_or_null d → IsNumberFor kind d → ⊥
-none_told kind d is h = untold (number_or_null d) kind is h
+pub none_reported : (kind : AggregatorKind) (d : Data) → None ≡ number_or_null d → IsNumberFor kind d → ⊥
+none_reported kind d is h = untold (number_or_null d) kind is h
 
 -- ---- a number for each aggregator
 
@@ -56,27 +56,27 @@ kinds all = map (λ (a : Aggregator). a.kind) all
 abbrev joined : Option (Option ℤ) → Option (List (Option ℤ)) → Option (List (Option ℤ))
 joined o rest = o >>= λ x. rest >>= λ xs. Some (x ∷ xs)
 
-both_told : (o : Option (Option ℤ)) (rest : Option (List (Option ℤ))) (kind : AggregatorKind) (ks : List AggregatorKind)
+both_reported : (o : Option (Option ℤ)) (rest : Option (List (Option ℤ))) (kind : AggregatorKind) (ks : List AggregatorKind)
     → IsSomeAnd o (λ x. kind ≡ Count → IsSome x) → IsSomeAnd rest (AreNumbersFor ks) → IsSomeAnd (joined o rest) (AreNumbersFor (kind ∷ ks))
-both_told None rest kind ks one more = absurd one
-both_told (Some x) None kind ks one more = absurd more
-both_told (Some x) (Some xs) kind ks one more = record { one_each = ap suc more.one_each; counted = at }
+both_reported None rest kind ks one more = absurd one
+both_reported (Some x) None kind ks one more = absurd more
+both_reported (Some x) (Some xs) kind ks one more = record { one_each = ap suc more.one_each; counted = at }
   where
     at : (place : ℕ) → slice_get (kind ∷ ks) place ≡ Some Count → IsSome (slice_index_or (x ∷ xs) place None)
     at zero e = one (same_Some kind Count e)
     at (suc place) e = more.counted place e
 
-first_told : (o : Option (Option ℤ)) (rest : Option (List (Option ℤ))) (kind : AggregatorKind) (ks : List AggregatorKind)
+first_reported : (o : Option (Option ℤ)) (rest : Option (List (Option ℤ))) (kind : AggregatorKind) (ks : List AggregatorKind)
     → IsSomeAnd (joined o rest) (AreNumbersFor (kind ∷ ks)) → IsSomeAnd o (λ x. kind ≡ Count → IsSome x)
-first_told None rest kind ks h = h
-first_told (Some x) None kind ks h = absurd h
-first_told (Some x) (Some xs) kind ks h = λ e. h.counted 0 (ap Some e)
+first_reported None rest kind ks h = h
+first_reported (Some x) None kind ks h = absurd h
+first_reported (Some x) (Some xs) kind ks h = λ e. h.counted 0 (ap Some e)
 
-rest_told : (o : Option (Option ℤ)) (rest : Option (List (Option ℤ))) (kind : AggregatorKind) (ks : List AggregatorKind)
+rest_reported : (o : Option (Option ℤ)) (rest : Option (List (Option ℤ))) (kind : AggregatorKind) (ks : List AggregatorKind)
     → IsSomeAnd (joined o rest) (AreNumbersFor (kind ∷ ks)) → IsSomeAnd rest (AreNumbersFor ks)
-rest_told None rest kind ks h = absurd h
-rest_told (Some x) None kind ks h = absurd h
-rest_told (Some x) (Some xs) kind ks h =
+rest_reported None rest kind ks h = absurd h
+rest_reported (Some x) None kind ks h = absurd h
+rest_reported (Some x) (Some xs) kind ks h =
     let many : suc (length xs) ≡ suc (length ks) = h.one_each in
     record { one_each = omega arith; counted = λ place e. h.counted (suc place) e }
 
@@ -91,27 +91,27 @@ more_none (Some x) (Some xs) h = let many : suc (length xs) ≡ 0 = h.one_each i
 abbrev pub EachNumber : List Aggregator → List Value → ℕ → Type 0
 EachNumber all vs n = (k : ℕ) (a : Aggregator) (v : Value) → k < n → IsNumberFor (get_or all k a).kind (view (get_or vs k v))
 
-pub numbers_told : (all : List Aggregator) (vs : List Value) → length vs ≡ length all → EachNumber all vs (length vs) → IsSomeAnd (each_of number_or_null (items_view vs)) (AreNumbersFor (kinds all))
-numbers_told [] [] many each = record { one_each = refl; counted = λ place e. absurd (cc) }
-numbers_told [] (v ∷ vs) many each = absurd (omega arith)
-numbers_told (a ∷ all) [] many each = absurd (omega arith)
-numbers_told (a ∷ all) (v ∷ vs) many each =
-    both_told (number_or_null (view v)) (each_of number_or_null (items_view vs)) a.kind (kinds all) (each 0 a v (omega arith))
-    (numbers_told all vs (omega arith) (λ k b w h. each (suc k) b w (omega arith)))
+pub numbers_reported : (all : List Aggregator) (vs : List Value) → length vs ≡ length all → EachNumber all vs (length vs) → IsSomeAnd (each_of number_or_null (items_view vs)) (AreNumbersFor (kinds all))
+numbers_reported [] [] many each = record { one_each = refl; counted = λ place e. absurd (cc) }
+numbers_reported [] (v ∷ vs) many each = absurd (omega arith)
+numbers_reported (a ∷ all) [] many each = absurd (omega arith)
+numbers_reported (a ∷ all) (v ∷ vs) many each =
+    both_reported (number_or_null (view v)) (each_of number_or_null (items_view vs)) a.kind (kinds all) (each 0 a v (omega arith))
+    (numbers_reported all vs (omega arith) (λ k b w h. each (suc k) b w (omega arith)))
 
 pub numbers_many : (all : List Aggregator) (vs : List Value) → IsSomeAnd (each_of number_or_null (items_view vs)) (AreNumbersFor (kinds all)) → length vs ≡ length all
 numbers_many [] [] h = refl
 numbers_many [] (v ∷ vs) h = absurd (more_none (number_or_null (view v)) (each_of number_or_null (items_view vs)) h)
 numbers_many (a ∷ all) [] h = absurd (none_more a.kind (kinds all) h)
-numbers_many (a ∷ all) (v ∷ vs) h = ap suc (numbers_many all vs (rest_told (number_or_null (view v)) (each_of number_or_null (items_view vs)) a.kind (kinds all) h))
+numbers_many (a ∷ all) (v ∷ vs) h = ap suc (numbers_many all vs (rest_reported (number_or_null (view v)) (each_of number_or_null (items_view vs)) a.kind (kinds all) h))
 
 pub numbers_at : (all : List Aggregator) (vs : List Value) → IsSomeAnd (each_of number_or_null (items_view vs)) (AreNumbersFor (kinds all)) → EachNumber all vs (length vs)
 numbers_at [] [] h k a v below = absurd (omega arith)
 numbers_at [] (w ∷ vs) h k a v below = absurd (more_none (number_or_null (view w)) (each_of number_or_null (items_view vs)) h)
 numbers_at (b ∷ all) [] h k a v below = absurd (omega arith)
-numbers_at (b ∷ all) (w ∷ vs) h zero a v below = first_told (number_or_null (view w)) (each_of number_or_null (items_view vs)) b.kind (kinds all) h
+numbers_at (b ∷ all) (w ∷ vs) h zero a v below = first_reported (number_or_null (view w)) (each_of number_or_null (items_view vs)) b.kind (kinds all) h
 numbers_at (b ∷ all) (w ∷ vs) h (suc k) a v below =
-    numbers_at all vs (rest_told (number_or_null (view w)) (each_of number_or_null (items_view vs)) b.kind (kinds all) h) k a v (omega arith)
+    numbers_at all vs (rest_reported (number_or_null (view w)) (each_of number_or_null (items_view vs)) b.kind (kinds all) h) k a v (omega arith)
 
 -- ---- a group
 
@@ -129,47 +129,47 @@ group_there q bucket n (Some xs) (Some ys) label len many some numbers = record 
   counted = numbers.counted;
 }
 
-record Told (q : Query) (bucket n : ℕ) (vs : Option (List (Option (List ℕ)))) (ns : Option (List (Option ℤ))) : Type 0 where
+record Reported (q : Query) (bucket n : ℕ) (vs : Option (List (Option (List ℕ)))) (ns : Option (List (Option ℤ))) : Type 0 where
   label : IsBucketOf q bucket
   many : n ≡ length q.dimensions
   values : is_some vs ≡ true
   numbers : IsSomeAnd ns (AreNumbersFor (kinds_of q))
 
-group_told : (q : Query) (bucket n : ℕ) (vs : Option (List (Option (List ℕ)))) (ns : Option (List (Option ℤ))) → ((xs : List (Option (List ℕ))) → vs ≡ Some xs → length xs ≡ n)
-    → IsSomeAnd (of_parts bucket vs ns) (IsGroupFor q) → Told q bucket n vs ns
-group_told q bucket n None ns len h = absurd h
-group_told q bucket n (Some xs) None len h = absurd h
-group_told q bucket n (Some xs) (Some ys) len h = record {
+group_reported : (q : Query) (bucket n : ℕ) (vs : Option (List (Option (List ℕ)))) (ns : Option (List (Option ℤ))) → ((xs : List (Option (List ℕ))) → vs ≡ Some xs → length xs ≡ n)
+    → IsSomeAnd (of_parts bucket vs ns) (IsGroupFor q) → Reported q bucket n vs ns
+group_reported q bucket n None ns len h = absurd h
+group_reported q bucket n (Some xs) None len h = absurd h
+group_reported q bucket n (Some xs) (Some ys) len h = record {
   label = h.bucket;
   many = sym (len xs refl) ∙ h.values;
   values = refl;
   numbers = record { one_each = h.numbers ∙ sym (length-map q.aggregations (λ a. a.kind)); counted = h.counted };
 }
 
-told_of : (q : Query) (row : Lent) → IsSomeAnd (group_of (parts_lent row)) (IsGroupFor q)
-    → Told q row.bucket (length row.values.now) (each_of value_at (items_view row.values.now)) (each_of number_or_null (items_view row.numbers.now))
+reported_of : (q : Query) (row : Borrowed) → IsSomeAnd (group_of (parts_borrowed row)) (IsGroupFor q)
+    → Reported q row.bucket (length row.values.now) (each_of value_at (items_view row.values.now)) (each_of number_or_null (items_view row.numbers.now))
 unfolding group_of
-told_of q row h =
-    group_told q row.bucket (length row.values.now) (each_of value_at (items_view row.values.now)) (each_of number_or_null (items_view row.numbers.now))
+reported_of q row h =
+    group_reported q row.bucket (length row.values.now) (each_of value_at (items_view row.values.now)) (each_of number_or_null (items_view row.numbers.now))
     (λ xs e. each_of_length value_at row.values.now xs e) h
 
 -- a row that is such a group has all four
-pub label_of : (q : Query) (row : Lent) → IsSomeAnd (group_of (parts_lent row)) (IsGroupFor q) → IsBucketOf q row.bucket
-label_of q row h = (told_of q row h).label
+pub label_of : (q : Query) (row : Borrowed) → IsSomeAnd (group_of (parts_borrowed row)) (IsGroupFor q) → IsBucketOf q row.bucket
+label_of q row h = (reported_of q row h).label
 
-pub many_of : (q : Query) (row : Lent) → IsSomeAnd (group_of (parts_lent row)) (IsGroupFor q) → length row.values.now ≡ length q.dimensions
-many_of q row h = (told_of q row h).many
+pub many_of : (q : Query) (row : Borrowed) → IsSomeAnd (group_of (parts_borrowed row)) (IsGroupFor q) → length row.values.now ≡ length q.dimensions
+many_of q row h = (reported_of q row h).many
 
-pub values_of : (q : Query) (row : Lent) → IsSomeAnd (group_of (parts_lent row)) (IsGroupFor q) → list_all (λ v. is_some (value_at (view v))) row.values.now ≡ true
-values_of q row h = all_reads value_at row.values.now ∙ (told_of q row h).values
+pub values_of : (q : Query) (row : Borrowed) → IsSomeAnd (group_of (parts_borrowed row)) (IsGroupFor q) → list_all (λ v. is_some (value_at (view v))) row.values.now ≡ true
+values_of q row h = all_reads value_at row.values.now ∙ (reported_of q row h).values
 
-pub numbers_of : (q : Query) (row : Lent) → IsSomeAnd (group_of (parts_lent row)) (IsGroupFor q)
+pub numbers_of : (q : Query) (row : Borrowed) → IsSomeAnd (group_of (parts_borrowed row)) (IsGroupFor q)
     → IsSomeAnd (each_of number_or_null (items_view row.numbers.now)) (AreNumbersFor (map (λ a. a.kind) q.aggregations))
-numbers_of q row h = (told_of q row h).numbers
+numbers_of q row h = (reported_of q row h).numbers
 
 -- and one that has them is
-pub group_is : (q : Query) (row : Lent) → IsBucketOf q row.bucket → length row.values.now ≡ length q.dimensions → list_all (λ v. is_some (value_at (view v))) row.values.now ≡ true
-    → IsSomeAnd (each_of number_or_null (items_view row.numbers.now)) (AreNumbersFor (map (λ a. a.kind) q.aggregations)) → IsSomeAnd (group_of (parts_lent row)) (IsGroupFor q)
+pub group_is : (q : Query) (row : Borrowed) → IsBucketOf q row.bucket → length row.values.now ≡ length q.dimensions → list_all (λ v. is_some (value_at (view v))) row.values.now ≡ true
+    → IsSomeAnd (each_of number_or_null (items_view row.numbers.now)) (AreNumbersFor (map (λ a. a.kind) q.aggregations)) → IsSomeAnd (group_of (parts_borrowed row)) (IsGroupFor q)
 unfolding group_of
 group_is q row label many values numbers =
     group_there q row.bucket (length row.values.now) (each_of value_at (items_view row.values.now)) (each_of number_or_null (items_view row.numbers.now)) label

@@ -59,7 +59,7 @@ pub record TellsAnswer (sub : SubQuery) (d : Data) (missing : List Asked) (group
   pub were_asked : WereAsked sub missing
   pub rows : Data
   pub found : get (codes "rows") d ≡ Some rows
-  pub told : TellsGroups sub.query rows groups
+  pub reported : TellsGroups sub.query rows groups
 
 -- a value lists pieces as missing, and rows of the query
 pub record ListsAnswer (sub : SubQuery) (d : Data) : Type 0 where

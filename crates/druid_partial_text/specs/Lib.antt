@@ -4,7 +4,7 @@ pub mod Read
 pub mod Answers
 -- words of private contracts
 pub mod Tokens
-pub mod Lent
+pub mod Borrowed
 pub mod Named
 pub mod Missed
 pub mod PieceOrder

@@ -8,7 +8,7 @@ use Rattle.druid_query.specs.Asked.{Asked, asked_at}
 use Rattle.druid_query.specs.SubQuery.{SubQuery}
 use Rattle.druid_partial.specs.Groups.{Group}
 use Rattle.druid_partial_text.specs.Read.{TellsGroups}
-use Rattle.druid_partial_text.specs.Lent.{AreRows}
+use Rattle.druid_partial_text.specs.Borrowed.{AreRows}
 use Rattle.druid_partial_text.specs.Answers.{WereAsked}
 
 -- each item reads as one of these pieces, all of which were asked for

@@ -22,13 +22,13 @@ unfoldable pub number_or_null : Data → Option (Option ℤ)
 number_or_null d = if is_some (as_null d) then Some None else option_map Some (integer_at d)
 
 -- the instant that is so many milliseconds after the year 0, of the years 0000 to 9999
-abbrev pub instant_behind : ℤ → Option ℕ
-instant_behind (pos t) = if nat_lt t instant_count then Some t else None
-instant_behind (negsuc n) = None
+abbrev pub instant_beyond : ℤ → Option ℕ
+instant_beyond (pos t) = if nat_lt t instant_count then Some t else None
+instant_beyond (negsuc n) = None
 
 -- the instant that is so many milliseconds after 1970-01-01T00:00:00.000Z
 unfoldable pub instant_of : ℤ → Option ℕ
-instant_of ms = instant_behind (ms +ℤ pos unix_epoch)
+instant_of ms = instant_beyond (ms +ℤ pos unix_epoch)
 
 -- the three items of a list of three
 pub record Three : Type 0 where

@@ -60,30 +60,30 @@ with_numbers (a ∷ all) [] ms = ms
 with_numbers (a ∷ all) (x ∷ xs) ms = with_numbers all xs (put a.name (number_data x) ms)
 
 -- what a result tells of a group, by name
-abbrev pub told_data : Query → Group → Data
-told_data query g = object (with_numbers query.aggregations g.numbers (with_values query.dimensions g.key.values no_members))
+abbrev pub reported_data : Query → Group → Data
+reported_data query g = object (with_numbers query.aggregations g.numbers (with_values query.dimensions g.key.values no_members))
 
 abbrev pub label_data : ℕ → Data
 label_data t = string (instant_text t)
 
 abbrev pub timeseries_row : Data → ℕ → Data
-timeseries_row told bucket =
-    object (member (codes "result") told
+timeseries_row reported bucket =
+    object (member (codes "result") reported
     (member (codes "timestamp") (label_data bucket) no_members))
 
 abbrev pub group_by_row : Data → ℕ → Data
-group_by_row told bucket =
-    object (member (codes "event") told
+group_by_row reported bucket =
+    object (member (codes "event") reported
     (member (codes "timestamp") (label_data bucket)
     (member (codes "version") (string (codes "v1")) no_members)))
 
 abbrev pub kinded_row : QueryType → Data → ℕ → Data
-kinded_row Timeseries told bucket = timeseries_row told bucket
-kinded_row GroupBy told bucket = group_by_row told bucket
+kinded_row Timeseries reported bucket = timeseries_row reported bucket
+kinded_row GroupBy reported bucket = group_by_row reported bucket
 
 -- a row of a result
 abbrev pub row_data : Query → Group → Data
-row_data query g = kinded_row query.kind (told_data query g) g.key.bucket
+row_data query g = kinded_row query.kind (reported_data query g) g.key.bucket
 
 -- a result: its rows, in order
 abbrev pub result_data : Query → List Group → Data

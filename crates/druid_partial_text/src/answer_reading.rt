@@ -6,7 +6,7 @@ ghost use Rattle.druid_shard.specs.Each.{each_of};
 ghost use Rattle.druid_query.specs.Asked.{Asked, asked_at};
 ghost use Rattle.druid_partial.specs.Groups.{Group};
 ghost use Rattle.druid_partial.specs.Rows.{kinds_of};
-ghost use Rattle.druid_partial_text.specs.Lent.{AreRows};
+ghost use Rattle.druid_partial_text.specs.Borrowed.{AreRows};
 ghost use Rattle.druid_partial_text.specs.Answers.{ListsAnswer, IsAnswer, IsAnswerOf};
 ghost use Rattle.druid_partial_text.specs.Missed.{AreLists, TellBoth};
 
@@ -48,7 +48,7 @@ fn listed_in<'a>(sub: &SubQuery, value: &'a Value) -> Option<Listed<'a>>
 }
 
 // The answer that the lists tell. None where a piece was not asked for, or a key stands twice.
-#[tactic(auto, using(crate::proofs::MissedLemmas::none_missed, crate::proofs::MissedLemmas::none_told))]
+#[tactic(auto, using(crate::proofs::MissedLemmas::none_missed, crate::proofs::MissedLemmas::none_reported))]
 fn answer_in(
     alloc: Global,
     sub: &SubQuery,
@@ -75,7 +75,7 @@ fn answer_in(
 /// The answer of a node that a value is: P2 where it has another shape than `node_answer_text` writes, `read_partial` refuses
 /// its rows as P2, or a piece that it lists as missing was not asked for; P9 where memory runs out, which comes before P2
 /// only where it is for two rows of one key or for a piece that was not asked for.
-#[tactic(auto, using(crate::proofs::MissedLemmas::no_lists, crate::proofs::MissedLemmas::lists_answer, crate::proofs::MissedLemmas::not_both, crate::proofs::MissedLemmas::both_told))]
+#[tactic(auto, using(crate::proofs::MissedLemmas::no_lists, crate::proofs::MissedLemmas::lists_answer, crate::proofs::MissedLemmas::not_both, crate::proofs::MissedLemmas::both_reported))]
 pub fn answer_of(alloc: Global, sub: &SubQuery, value: &Value) -> Result<NodeAnswer, PartialFault>
     ensures { IsAnswer sub.now (view value.now) result }
 {

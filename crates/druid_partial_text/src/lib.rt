@@ -4,9 +4,9 @@
 mod answer_reading;
 mod answer_writing;
 mod fault;
-mod lent_piece;
 mod missing;
 mod node_answer;
+mod piece_ref;
 mod reading;
 mod results;
 mod shortfall;

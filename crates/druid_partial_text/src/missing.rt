@@ -9,7 +9,7 @@ ghost use Rattle.druid_query.specs.SubQuery.{SubQuery};
 ghost use Rattle.druid_partial_text.specs.PieceOrder.{piece_cmp};
 ghost use Rattle.druid_partial_text.specs.Missed.{AreMissed};
 
-use crate::lent_piece::LentPiece;
+use crate::piece_ref::PieceRef;
 use druid_asked_text::{is_asked, read_asked};
 use druid_query::{Asked, SubQuery};
 use druid_segid::Name;
@@ -41,12 +41,12 @@ fn pieces_in(alloc: Global, source: &Name, values: &[Value]) -> Result<Vec<Asked
 }
 
 // These pieces, in order.
-fn in_order<'a>(alloc: Global, asked: &'a [Asked]) -> Result<BTreeSet<LentPiece<'a>>, AllocError>
+fn in_order<'a>(alloc: Global, asked: &'a [Asked]) -> Result<BTreeSet<PieceRef<'a>>, AllocError>
     ensures { IfOk result (λ pieces. (a : Asked) → IsTrue (contains piece_cmp pieces a) ↔ Contains asked.now a) }
 {
     let mut pieces = BTreeSet::new(alloc);
     for piece in asked {
-        pieces.insert(LentPiece::of(piece))?;
+        pieces.insert(PieceRef::of(piece))?;
     }
     Ok(pieces)
 }
@@ -66,7 +66,7 @@ fn were_asked<'a>(
     }
     let pieces = in_order(alloc, asked)?;
     for piece in missing {
-        if !pieces.contains(&LentPiece::of(piece)) {
+        if !pieces.contains(&PieceRef::of(piece)) {
             return Ok(false);
         }
     }

@@ -12,7 +12,7 @@ ghost use Rattle.druid_query.specs.Filters.{value_at};
 ghost use Rattle.druid_partial.specs.Groups.{Group, key_of, key_cmp, InOrder, AreWords};
 ghost use Rattle.druid_partial.specs.Rows.{earliest, kinds_of, IsGroupFor, IsPartialFor};
 ghost use Rattle.druid_partial_text.specs.Read.{integer_at, number_or_null, instant_of, three_of, parts_at, group_of, group_at, Lists, TellsGroups, IsRead};
-ghost use Rattle.druid_partial_text.specs.Lent.{three_lent, parts_lent, IsNumberFor, AreNumbersFor, HasWords, AreRows, IsBefore};
+ghost use Rattle.druid_partial_text.specs.Borrowed.{three_borrowed, parts_borrowed, IsNumberFor, AreNumbersFor, HasWords, AreRows, IsBefore};
 
 use crate::PartialFault;
 use druid_partial::{Group, Partial, earliest, is_bucket, kinds_of};
@@ -68,7 +68,7 @@ struct Three<'a> {
 
 #[tactic(auto, using(crate::proofs::ReadLemmas::not_three, crate::proofs::ReadLemmas::three_there))]
 fn three_of(values: &[Value]) -> Option<Three<'_>>
-    ensures { option_map three_lent result ≡ three_of (items_view values.now) }
+    ensures { option_map three_borrowed result ≡ three_of (items_view values.now) }
 {
     if values.len() != 3 {
         return None;
@@ -82,21 +82,21 @@ fn three_of(values: &[Value]) -> Option<Three<'_>>
 
 // A row, with borrowed lists.
 #[derive(Drop)]
-struct Lent<'a> {
+struct Borrowed<'a> {
     bucket: Instant,
     values: &'a [Value],
     numbers: &'a [Value],
 }
 
 #[tactic(auto, unfolding(crate::specs::Read::parts_at))]
-fn parts_of(value: &Value) -> Option<Lent<'_>>
-    ensures { option_map parts_lent result ≡ parts_at (view value.now) }
+fn parts_of(value: &Value) -> Option<Borrowed<'_>>
+    ensures { option_map parts_borrowed result ≡ parts_at (view value.now) }
 {
     let three = three_of(value.as_array()?.as_slice())?;
     let bucket = instant_at(three.first)?;
     let values = three.second.as_array()?.as_slice();
     let numbers = three.third.as_array()?.as_slice();
-    Some(Lent {
+    Some(Borrowed {
         bucket,
         values,
         numbers,
@@ -111,7 +111,7 @@ fn are_values(values: &[Value]) -> bool
 }
 
 // Whether an aggregator may tell it: to count is never null.
-#[tactic(auto, using(crate::proofs::RowLemmas::number_told, crate::proofs::RowLemmas::null_told, crate::proofs::RowLemmas::null_counted, crate::proofs::RowLemmas::none_told))]
+#[tactic(auto, using(crate::proofs::RowLemmas::number_reported, crate::proofs::RowLemmas::null_reported, crate::proofs::RowLemmas::null_counted, crate::proofs::RowLemmas::none_reported))]
 fn is_number_for(aggregator: &Aggregator, value: &Value) -> bool
     ensures { IsTrue result ↔ IsNumberFor aggregator.now.kind (view value.now) }
 {
@@ -123,7 +123,7 @@ fn is_number_for(aggregator: &Aggregator, value: &Value) -> bool
 }
 
 // Whether each aggregator may tell the number in its place, and there are no more.
-#[tactic(auto, using(crate::proofs::RowLemmas::numbers_told, crate::proofs::RowLemmas::numbers_at, crate::proofs::RowLemmas::numbers_many))]
+#[tactic(auto, using(crate::proofs::RowLemmas::numbers_reported, crate::proofs::RowLemmas::numbers_at, crate::proofs::RowLemmas::numbers_many))]
 fn are_numbers(aggregations: &[Aggregator], values: &[Value]) -> bool
     ensures { IsTrue result
         ↔ IsSomeAnd (each_of number_or_null (items_view values.now)) (AreNumbersFor (map (λ a. a.kind) aggregations.now)) }
@@ -141,9 +141,9 @@ fn are_numbers(aggregations: &[Aggregator], values: &[Value]) -> bool
 
 // Whether what stands in a row is a group for the query, whose earliest instant is given.
 #[tactic(auto, using(crate::proofs::RowLemmas::label_of, crate::proofs::RowLemmas::many_of, crate::proofs::RowLemmas::values_of, crate::proofs::RowLemmas::numbers_of, crate::proofs::RowLemmas::group_is))]
-fn is_group(query: &Query, first: Instant, row: &Lent) -> bool
+fn is_group(query: &Query, first: Instant, row: &Borrowed) -> bool
     requires { first ≡ earliest query.now.intervals }
-    ensures { IsTrue result ↔ IsSomeAnd (group_of (parts_lent row.now)) (IsGroupFor query.now) }
+    ensures { IsTrue result ↔ IsSomeAnd (group_of (parts_borrowed row.now)) (IsGroupFor query.now) }
 {
     if !is_bucket(query, first, row.bucket) {
         return false;
@@ -308,7 +308,7 @@ pub(crate) fn rows_in<'a>(query: &Query, value: &'a Value) -> Option<&'a [Value]
 }
 
 // The partial that rows of the query tell. None where a key stands twice.
-#[tactic(auto, using(crate::proofs::MadeLemmas::rows_read, crate::proofs::MadeLemmas::doubled, crate::proofs::MadeLemmas::told))]
+#[tactic(auto, using(crate::proofs::MadeLemmas::rows_read, crate::proofs::MadeLemmas::doubled, crate::proofs::MadeLemmas::reported))]
 pub(crate) fn partial_in(
     alloc: Global,
     query: &Query,
@@ -333,7 +333,7 @@ pub(crate) fn partial_in(
 /// and numbers as the query asks, its time is no bucket of the query, a number is no whole number of 64 bits, a count is
 /// null, or two rows have one key. The rows may stand in any order. P9 where memory runs out, which comes before P2 only
 /// where it is for two rows of one key.
-#[tactic(auto, using(crate::proofs::MadeLemmas::no_rows, crate::proofs::MadeLemmas::rows_listed, crate::proofs::MadeLemmas::not_told, crate::proofs::MadeLemmas::is_told))]
+#[tactic(auto, using(crate::proofs::MadeLemmas::no_rows, crate::proofs::MadeLemmas::rows_listed, crate::proofs::MadeLemmas::not_reported, crate::proofs::MadeLemmas::is_reported))]
 pub fn read_partial(alloc: Global, query: &Query, value: &Value) -> Result<Partial, PartialFault>
     ensures read { IsRead query.now (view value.now) result }
     ensures of_query { IfOk result (IsPartialFor query.now) }

@@ -22,14 +22,14 @@ use Rattle.druid_query.specs.AskedOrder.{asked_cmp, AreApart}
 
 -- ---- the tests
 
-same_told : (a b : Identifier) → a ≡ b → same_identifier a b ≡ true
-same_told a b same = subst (λ x. same_identifier a x ≡ true) same (same_parts a a ∙ ap is_eq (tied_itself parts_cmp-total a))
+same_reported : (a b : Identifier) → a ≡ b → same_identifier a b ≡ true
+same_reported a b same = subst (λ x. same_identifier a x ≡ true) same (same_parts a a ∙ ap is_eq (tied_itself parts_cmp-total a))
 
 pub overlap_seen : (a b : Asked) → do_overlap a b ≡ true → Overlap a b
 overlap_seen a b h = (same_identifier-true a.0 b.0 (first_so _ _ h), (common-Share a.1 b.1).0 (second_so _ _ h))
 
-pub overlap_told : (a b : Asked) → Overlap a b → do_overlap a b ≡ true
-overlap_told a b (same, shared) = ap (λ t. t && is_some (common a.1 b.1)) (same_told a.0 b.0 same) ∙ (common-Share a.1 b.1).1 shared
+pub overlap_reported : (a b : Asked) → Overlap a b → do_overlap a b ≡ true
+overlap_reported a b (same, shared) = ap (λ t. t && is_some (common a.1 b.1)) (same_reported a.0 b.0 same) ∙ (common-Share a.1 b.1).1 shared
 
 turned : (a b : Asked) → Overlap a b → Overlap b a
 turned a b (same, shared) = (sym same, (shared.0, shared.2, shared.1))
@@ -47,17 +47,17 @@ apart_seen [] h i j a li lj o = absurd (omega (arith, li))
 apart_seen (x ∷ xs) h zero zero a li lj o = refl
 apart_seen (x ∷ xs) h zero (suc j) a li lj o =
     let none = not_true (list_any (do_overlap x) xs) (first_so _ _ h) in
-    absurd (false≢true (sym none ∙ list_any_at (do_overlap x) xs j a (omega arith) (overlap_told x (get_or xs j a) o)))
+    absurd (false≢true (sym none ∙ list_any_at (do_overlap x) xs j a (omega arith) (overlap_reported x (get_or xs j a) o)))
 apart_seen (x ∷ xs) h (suc i) zero a li lj o =
     let none = not_true (list_any (do_overlap x) xs) (first_so _ _ h) in
-    absurd (false≢true (sym none ∙ list_any_at (do_overlap x) xs i a (omega arith) (overlap_told x (get_or xs i a) (turned (get_or xs i a) x o))))
+    absurd (false≢true (sym none ∙ list_any_at (do_overlap x) xs i a (omega arith) (overlap_reported x (get_or xs i a) (turned (get_or xs i a) x o))))
 apart_seen (x ∷ xs) h (suc i) (suc j) a li lj o = ap suc (apart_seen xs (second_so _ _ h) i j a (omega arith) (omega arith) o)
 
-pub apart_told : (xs : List Asked) → StandApart xs → stand_apart xs ≡ true
-apart_told [] alone = refl
-apart_told (x ∷ xs) alone =
+pub apart_reported : (xs : List Asked) → StandApart xs → stand_apart xs ≡ true
+apart_reported [] alone = refl
+apart_reported (x ∷ xs) alone =
     ap (λ b. not b && stand_apart xs) (list_any_none (do_overlap x) xs (λ k a l. not_so (do_overlap x (get_or xs k a)) (λ h. apart_first k a l h)))
-    ∙ apart_told xs (λ i j a li lj o. let same = alone (suc i) (suc j) a (omega arith) (omega arith) o in omega (arith, same))
+    ∙ apart_reported xs (λ i j a li lj o. let same = alone (suc i) (suc j) a (omega arith) (omega arith) o in omega (arith, same))
   where
     apart_first : (k : ℕ) (a : Asked) → k < length xs → do_overlap x (get_or xs k a) ≡ true → ⊥
     apart_first k a l h = let same = alone zero (suc k) a (omega arith) (omega arith) (overlap_seen x (get_or xs k a) h) in omega (arith, same)
@@ -93,11 +93,11 @@ less_start a b same less =
 before_next : (a b : Asked) → IsExtent b.1 → is_lt (asked_cmp b a) ≡ false → AreApart a b → Before a b
 before_next a b valid not_less apart = by_order (parts_cmp a.0 b.0) refl
   where
-    behind : a.0 ≡ b.0 → parts_cmp b.0 a.0 ≡ Equal → a.1.end ≤ b.1.start
-    behind same tied = elim (cases_lt b.1.start a.1.start) [
+    beyond : a.0 ≡ b.0 → parts_cmp b.0 a.0 ≡ Equal → a.1.end ≤ b.1.start
+    beyond same tied = elim (cases_lt b.1.start a.1.start) [
       | inl less ↦ absurd (false≢true (sym not_less ∙ less_start b a tied (nat_cmp-lt b.1.start a.1.start less)))
       | inr level ↦ elim (cases_lt b.1.start a.1.end) [
-        | inl met ↦ absurd (false≢true (sym apart ∙ overlap_told a b (same, (b.1.start, (level, met), (omega arith, valid.0)))))
+        | inl met ↦ absurd (false≢true (sym apart ∙ overlap_reported a b (same, (b.1.start, (level, met), (omega arith, valid.0)))))
         | inr after ↦ after
       ]
     ]
@@ -106,7 +106,7 @@ before_next a b valid not_less apart = by_order (parts_cmp a.0 b.0) refl
     by_order Less e = inl e
     by_order Equal e =
         let same = same_identifier-true a.0 b.0 (same_parts a.0 b.0 ∙ ap is_eq e) in
-        inr (same, behind same (parts_cmp-total.antisymm b.0 a.0 ∙ ap ordering_reverse e))
+        inr (same, beyond same (parts_cmp-total.antisymm b.0 a.0 ∙ ap ordering_reverse e))
     by_order Greater e = absurd (false≢true (sym not_less ∙ less_first b a (parts_cmp-total.antisymm b.0 a.0 ∙ ap ordering_reverse e)))
 
 abbrev AreValid : List Asked → Type 0
@@ -146,11 +146,11 @@ apart_sorted xs alone k d l = not_so (do_overlap (get_or xs k d) (get_or xs (k +
 
 -- the search in order finds whether any two overlap
 pub searched : (all sorted : List Asked) (b : Bool) → AreValid all → IsPermutation all sorted → IsSorted asked_cmp sorted → (IsTrue b ↔ AllAdjacentBelow AreApart sorted (length sorted)) → b ≡ stand_apart all
-searched all sorted true valid moved order told =
-    let apart = sorted_apart sorted (All-permutation (λ a. IsExtent a.1) all sorted moved valid) order (told.0 refl) in
-    sym (apart_told all (alone-permutation Overlap sorted all (IsPermutation-sym all sorted moved) apart))
-searched all sorted false valid moved order told =
-    sym (not_so (stand_apart all) (λ h. absurd (false≢true (told.1 (apart_sorted sorted (alone-permutation Overlap all sorted moved (apart_seen all h)))))))
+searched all sorted true valid moved order reported =
+    let apart = sorted_apart sorted (All-permutation (λ a. IsExtent a.1) all sorted moved valid) order (reported.0 refl) in
+    sym (apart_reported all (alone-permutation Overlap sorted all (IsPermutation-sym all sorted moved) apart))
+searched all sorted false valid moved order reported =
+    sym (not_so (stand_apart all) (λ h. absurd (false≢true (reported.1 (apart_sorted sorted (alone-permutation Overlap all sorted moved (apart_seen all h)))))))
 
 -- what holds of each element
 pub all_of_each : {A : Type 0} (P : A → Type 0) (xs : List A) → ((x : A) → Contains xs x → P x) → All P xs

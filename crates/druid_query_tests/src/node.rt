@@ -389,7 +389,7 @@ fn with_changes(rt: &impl Abort, alloc: Global, text: &str) -> String {
 }
 
 // Whether the node answers an ask so.
-fn is_told<R: Abort + Wait>(
+fn is_reported<R: Abort + Wait>(
     rt: &R,
     alloc: Global,
     node: &DataNode<First>,
@@ -404,7 +404,7 @@ fn is_told<R: Abort + Wait>(
 }
 
 // Asserts that the node answers each ask so.
-fn assert_told<R: Abort + Wait>(
+fn assert_reported<R: Abort + Wait>(
     rt: &R,
     alloc: Global,
     node: &DataNode<First>,
@@ -412,7 +412,7 @@ fn assert_told<R: Abort + Wait>(
     seen: &mut Mark,
 ) {
     for row in rows.lines() {
-        assert!(rt; is_told(rt, alloc, node, row, seen), "{row}");
+        assert!(rt; is_reported(rt, alloc, node, row, seen), "{row}");
     }
 }
 
@@ -424,7 +424,7 @@ const FRESH: &str =
 #[test]
 fn fresh_node(rt: HostRuntime) {
     let node = empty_node(&rt, rt.alloc());
-    assert_told(&rt, rt.alloc(), &node, FRESH, &mut Mark::never());
+    assert_reported(&rt, rt.alloc(), &node, FRESH, &mut Mark::never());
 }
 
 const AFTER_LOAD: &str =
@@ -506,13 +506,13 @@ fn assert_goes_on<R: Abort + Wait>(
     alloc: Global,
     layout: Layout,
     node: &DataNode<First>,
-    (steps, told): &(&str, &str),
+    (steps, reported): &(&str, &str),
     seen: &mut Mark,
 ) {
     for row in steps.lines() {
         assert!(rt; is_done(rt, alloc, layout, node, row, seen), "{row}");
     }
-    assert_told(rt, alloc, node, told, seen);
+    assert_reported(rt, alloc, node, reported, seen);
 }
 
 // What is done one after the other, and what is answered then.
@@ -531,7 +531,7 @@ fn assert_steps<R: Abort + Wait>(rt: &R, alloc: Global, layout: Layout) {
         assert_goes_on(rt, alloc, layout, &node, rows, &mut seen);
     }
     let mut ahead = Mark::new(9, 0);
-    assert_told(rt, alloc, &node, " = N8: behind what was seen", &mut ahead);
+    assert_reported(rt, alloc, &node, " = N8: behind what was seen", &mut ahead);
     assert!(rt; seen == Mark::new(1, 3) && ahead == Mark::new(9, 0));
 }
 

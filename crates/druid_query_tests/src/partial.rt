@@ -161,7 +161,7 @@ fn both(rt: &impl Abort, alloc: Global, query: &Query, first: Partial, second: P
 }
 
 /// What the segments tell, each put after those before it or in front of them.
-pub(crate) fn told(
+pub(crate) fn reported(
     rt: &impl Abort,
     alloc: Global,
     query: &Query,
@@ -186,7 +186,7 @@ fn is_result(rt: &impl Abort, alloc: Global, line: &str, in_front: bool) -> bool
     let (asked, rest) = line.split_once(" => ").expect(rt, "a query");
     let (segments, wanted) = rest.split_once(" = ").expect(rt, "a result");
     let query = query(rt, alloc, asked);
-    let partial = told(rt, alloc, &query, segments, in_front);
+    let partial = reported(rt, alloc, &query, segments, in_front);
     let text = result_text(alloc, &query, &partial).expect(rt, "memory");
     text.as_str() == wanted
 }

@@ -68,7 +68,7 @@ fn written(rt: &impl Abort, alloc: Global, query: &Query, text: &str) -> String 
     }
 }
 
-fn told(rt: &impl Abort, alloc: Global, query: &Query, text: &str) -> String {
+fn reported(rt: &impl Abort, alloc: Global, query: &Query, text: &str) -> String {
     match read_partial(alloc, query, &value(rt, alloc, text)) {
         Ok(partial) => result_text(alloc, query, &partial).expect(rt, "memory"),
         Err(fault) => printed(rt, alloc, &fault),
@@ -86,7 +86,7 @@ fn missed(rt: &impl Abort, alloc: Global) -> Asked {
 }
 
 // What is reported of a partial where that piece is missing.
-fn told_short(rt: &impl Abort, alloc: Global, query: &Query, text: &str) -> String {
+fn reported_short(rt: &impl Abort, alloc: Global, query: &Query, text: &str) -> String {
     let partial = read_partial(alloc, query, &value(rt, alloc, text)).expect(rt, "a partial");
     let missing = [missed(rt, alloc)];
     shortfall_text(alloc, query, &missing, &partial).expect(rt, "memory")
@@ -104,17 +104,17 @@ fn is_written(rt: &impl Abort, alloc: Global, row: &str) -> bool {
     written(rt, alloc, &query, text).as_str() == wanted
 }
 
-fn is_told(rt: &impl Abort, alloc: Global, row: &str) -> bool {
+fn is_reported(rt: &impl Abort, alloc: Global, row: &str) -> bool {
     let (query, text, wanted) = columns(rt, alloc, row);
-    told(rt, alloc, &query, text).as_str() == wanted
+    reported(rt, alloc, &query, text).as_str() == wanted
 }
 
-fn is_told_short(rt: &impl Abort, alloc: Global, row: &str) -> bool {
+fn is_reported_short(rt: &impl Abort, alloc: Global, row: &str) -> bool {
     let (query, text, rows) = columns(rt, alloc, row);
     let wanted = format!(in alloc;
         "{{\"error\":\"SegmentsMissing\",\"missing\":[{MISSED}],\"partial\":{rows}}}"
     );
-    told_short(rt, alloc, &query, text) == wanted.expect(rt, "memory")
+    reported_short(rt, alloc, &query, text) == wanted.expect(rt, "memory")
 }
 
 #[test]
@@ -123,8 +123,8 @@ fn ample_memory(rt: HostRuntime) {
         assert!(rt; is_written(&rt, rt.alloc(), row), "{row}");
     }
     for row in RESULTS.lines() {
-        assert!(rt; is_told(&rt, rt.alloc(), row), "{row}");
-        assert!(rt; is_told_short(&rt, rt.alloc(), row), "{row}");
+        assert!(rt; is_reported(&rt, rt.alloc(), row), "{row}");
+        assert!(rt; is_reported_short(&rt, rt.alloc(), row), "{row}");
     }
 }
 

@@ -11,8 +11,8 @@ pub(crate) fn printed<T: Display>(rt: &impl Abort, alloc: Global, value: &T) -> 
 /// Asserts that each value prints the text beside it.
 pub(crate) fn assert_prints<T: Display>(rt: &impl Abort, alloc: Global, values: &[(T, &str)]) {
     for (value, text) in values {
-        let told = printed(rt, alloc, value);
-        assert!(rt; told.as_str() == *text, "{told}");
+        let reported = printed(rt, alloc, value);
+        assert!(rt; reported.as_str() == *text, "{reported}");
     }
 }
 

@@ -71,7 +71,7 @@ w;1 00:00:00 1970-01-02T00:00:00;1 00:00:00 1970-01-02T00:00:00;[]
 x;0 00:00:00 1970-01-02T00:00:00;0 00:00:00 1970-01-02T00:00:00;[]";
 
 // The answer that a row has: the pieces that are missing, and the rows.
-fn told(rt: &impl Abort, alloc: Global, missing: &str, rows: &str) -> String {
+fn reported(rt: &impl Abort, alloc: Global, missing: &str, rows: &str) -> String {
     let missing = pieces(rt, alloc, missing);
     format!(in alloc; "200 {{\"missing\":[{missing}],\"rows\":{rows}}}").expect(rt, "memory")
 }
@@ -83,7 +83,7 @@ fn is_asked<R: Abort + Wait>(rt: &R, alloc: Global, node: &DataNode<First>, row:
     let missing = columns.next().expect(rt, "what is missing");
     let rows = columns.next().expect(rt, "rows");
     let body = query(rt, alloc, source, "", pieces(rt, alloc, asked).as_str());
-    let wanted = told(rt, alloc, missing, rows);
+    let wanted = reported(rt, alloc, missing, rows);
     is_answered(rt, alloc, node, body.as_str(), wanted.as_str())
 }
 
@@ -136,7 +136,7 @@ const OTHERS: &str =
 const COMMON: &str =
     "\"dataSource\":\"w\",\"granularity\":\"all\",\"intervals\":{\"type\":\"segments\",\"segments\":[{\"chunk\":\"1970-01-01/1970-01-02\",\"itvl\":\"1970-01-01/1970-01-02\",\"part\":0,\"ver\":\"v\"}]},\"queryIntervals\":[\"1970-01-01/1970-01-02\"]";
 
-fn is_told<R: Abort + Wait>(rt: &R, alloc: Global, node: &DataNode<First>, row: &str) -> bool {
+fn is_reported<R: Abort + Wait>(rt: &R, alloc: Global, node: &DataNode<First>, row: &str) -> bool {
     let (text, wanted) = row.split_once(" = ").expect(rt, "a row");
     let text = filled(rt, alloc, text, '@', COMMON);
     let body = format!(in alloc; "{{\"queryType\":{text}").expect(rt, "memory");
@@ -147,6 +147,6 @@ fn is_told<R: Abort + Wait>(rt: &R, alloc: Global, node: &DataNode<First>, row: 
 fn other_queries(rt: HostRuntime) {
     let node = node(&rt, rt.alloc(), Layout::ByRows);
     for row in OTHERS.lines() {
-        assert!(rt; is_told(&rt, rt.alloc(), &node, row), "{row}");
+        assert!(rt; is_reported(&rt, rt.alloc(), &node, row), "{row}");
     }
 }

@@ -24,8 +24,8 @@ const REFUSALS: [(QueryFault, &str); 7] = [
 
 fn assert_refusals(rt: &impl Abort, alloc: Global) {
     for (fault, text) in &REFUSALS {
-        let told = refusal_text(alloc, *fault).expect(rt, "memory");
-        assert!(rt; told.as_str() == *text, "{told}");
+        let reported = refusal_text(alloc, *fault).expect(rt, "memory");
+        assert!(rt; reported.as_str() == *text, "{reported}");
     }
 }
 

@@ -96,7 +96,7 @@ const DEEP: &str = "49 taken
 const COMMON: &str =
     "{\"dataSource\":\"w\",\"granularity\":\"all\",\"intervals\":\"2024-01-01/2024-01-02\",\"queryType\":";
 
-fn told(rt: &impl Abort, alloc: Global, text: &str) -> String {
+fn reported(rt: &impl Abort, alloc: Global, text: &str) -> String {
     match read_query(alloc, text.as_bytes()) {
         Ok(query) => query_text(alloc, &query).expect(rt, "memory"),
         Err(fault) => printed(rt, alloc, &fault),
@@ -104,7 +104,7 @@ fn told(rt: &impl Abort, alloc: Global, text: &str) -> String {
 }
 
 // The same of JSON that was read before.
-fn told_of(rt: &impl Abort, alloc: Global, text: &str) -> String {
+fn reported_of(rt: &impl Abort, alloc: Global, text: &str) -> String {
     let value = Value::from_str(alloc, text).expect(rt, "JSON");
     match query_of(alloc, &value) {
         Ok(query) => query_text(alloc, &query).expect(rt, "memory"),
@@ -128,26 +128,26 @@ fn spelled(rt: &impl Abort, alloc: Global, text: &str) -> String {
     }
 }
 
-fn is_told(rt: &impl Abort, alloc: Global, row: &str) -> bool {
+fn is_reported(rt: &impl Abort, alloc: Global, row: &str) -> bool {
     let (text, wanted) = row.split_once(" = ").expect(rt, "a row");
     let text = spelled(rt, alloc, text);
-    told(rt, alloc, text.as_str()).as_str() == wanted
+    reported(rt, alloc, text.as_str()).as_str() == wanted
 }
 
 // The same of a row whose text is JSON.
-fn is_told_of(rt: &impl Abort, alloc: Global, row: &str) -> bool {
+fn is_reported_of(rt: &impl Abort, alloc: Global, row: &str) -> bool {
     let (text, wanted) = row.split_once(" = ").expect(rt, "a row");
     let text = spelled(rt, alloc, text);
-    told_of(rt, alloc, text.as_str()).as_str() == wanted
+    reported_of(rt, alloc, text.as_str()).as_str() == wanted
 }
 
 // What is reported of a text: `taken`, where it is a query that is written and read again, or its fault.
 fn is_taken(rt: &impl Abort, alloc: Global, text: &str, wanted: &str) -> bool {
-    let once = told(rt, alloc, text);
+    let once = reported(rt, alloc, text);
     if wanted != "taken" {
         return once.as_str() == wanted;
     }
-    once.starts_with("{") && told(rt, alloc, once.as_str()) == once
+    once.starts_with("{") && reported(rt, alloc, once.as_str()) == once
 }
 
 fn repeated(rt: &impl Abort, alloc: Global, item: &str, count: u64, between: &str) -> String {
@@ -204,11 +204,11 @@ fn is_deep(rt: &impl Abort, alloc: Global, row: &str) -> bool {
 #[test]
 fn ample_memory(rt: HostRuntime) {
     for row in QUERIES.lines() {
-        assert!(rt; is_told(&rt, rt.alloc(), row), "{row}");
+        assert!(rt; is_reported(&rt, rt.alloc(), row), "{row}");
     }
     // Of the first two the text is no JSON.
     for row in QUERIES.lines().skip(2) {
-        assert!(rt; is_told_of(&rt, rt.alloc(), row), "{row}");
+        assert!(rt; is_reported_of(&rt, rt.alloc(), row), "{row}");
     }
 }
 

@@ -1,5 +1,5 @@
 //! Queries of each size up to the limits are read, copied, written and answered where memory serves.
-use crate::partial::{query, told};
+use crate::partial::{query, reported};
 use druid_partial_text::result_text;
 use druid_query::Query;
 use druid_query_text::{query_text, read_query};
@@ -71,7 +71,7 @@ fn is_kept(rt: &impl Abort, alloc: Global, query: &Query) -> bool {
 
 // How often the aggregator `n` counted one row.
 fn ones(rt: &impl Abort, alloc: Global, query: &Query, rows: &str) -> usize {
-    let partial = told(rt, alloc, query, rows, false);
+    let partial = reported(rt, alloc, query, rows, false);
     let text = result_text(alloc, query, &partial).expect(rt, "memory");
     text.as_str().split("\"n\":1").count().saturating_sub(1)
 }

@@ -77,7 +77,7 @@ const MIDDLE: &str = "],\"type\":\"segments\"},\"queryIntervals\":[";
 
 const BACK: &str = "],\"queryType\":\"timeseries\"";
 
-fn told(rt: &impl Abort, alloc: Global, text: &str) -> String {
+fn reported(rt: &impl Abort, alloc: Global, text: &str) -> String {
     match read_subquery(alloc, text.as_bytes()) {
         Ok(subquery) => subquery_text(alloc, &subquery).expect(rt, "memory"),
         Err(fault) => printed(rt, alloc, &fault),
@@ -95,23 +95,23 @@ fn asking(rt: &impl Abort, alloc: Global, pieces: &str, intervals: &str, back: &
 }
 
 // Whether a text is reported so: `taken`, where it is written as it stands, or its fault.
-fn is_told(rt: &impl Abort, alloc: Global, text: &str, wanted: &str) -> bool {
+fn is_reported(rt: &impl Abort, alloc: Global, text: &str, wanted: &str) -> bool {
     let wanted = if wanted == "taken" { text } else { wanted };
-    told(rt, alloc, text).as_str() == wanted
+    reported(rt, alloc, text).as_str() == wanted
 }
 
-fn are_pieces_told(rt: &impl Abort, alloc: Global, row: &str) -> bool {
+fn are_pieces_reported(rt: &impl Abort, alloc: Global, row: &str) -> bool {
     let (pieces, wanted) = row.split_once(" = ").expect(rt, "a row");
     let pieces = if pieces == "#" { "" } else { pieces };
     let text = asking(rt, alloc, pieces, "\"~\"", "}");
-    is_told(rt, alloc, text.as_str(), wanted)
+    is_reported(rt, alloc, text.as_str(), wanted)
 }
 
-fn is_row_told(rt: &impl Abort, alloc: Global, row: &str) -> bool {
+fn is_row_reported(rt: &impl Abort, alloc: Global, row: &str) -> bool {
     let (back, wanted) = row.split_once(" = ").expect(rt, "a row");
     let text = asking(rt, alloc, ONE, "\"~\"", back);
     let wanted = spelled(rt, alloc, wanted);
-    is_told(rt, alloc, text.as_str(), wanted.as_str())
+    is_reported(rt, alloc, text.as_str(), wanted.as_str())
 }
 
 // A piece of a segment of that partition.
@@ -142,7 +142,7 @@ fn intervals(rt: &impl Abort, alloc: Global, count: u64) -> String {
     text
 }
 
-fn are_many_told(
+fn are_many_reported(
     rt: &impl Abort,
     alloc: Global,
     pieces: u64,
@@ -154,7 +154,7 @@ fn are_many_told(
     asked.push_str(back).expect(rt, "memory");
     let own = intervals(rt, alloc, count);
     let text = asking(rt, alloc, asked.as_str(), own.as_str(), "}");
-    is_told(rt, alloc, text.as_str(), wanted)
+    is_reported(rt, alloc, text.as_str(), wanted)
 }
 
 pub(crate) fn subquery(rt: &impl Abort, alloc: Global) -> SubQuery {
@@ -174,30 +174,30 @@ fn is_made_again(rt: &impl Abort, alloc: Global) -> bool {
 #[test]
 fn ample_memory(rt: HostRuntime) {
     for row in PIECES.lines() {
-        assert!(rt; are_pieces_told(&rt, rt.alloc(), row), "{row}");
+        assert!(rt; are_pieces_reported(&rt, rt.alloc(), row), "{row}");
     }
     for table in [REFUSED, WRITTEN] {
         for row in table.lines() {
-            assert!(rt; is_row_told(&rt, rt.alloc(), row), "{row}");
+            assert!(rt; is_row_reported(&rt, rt.alloc(), row), "{row}");
         }
     }
 }
 
 #[test]
 fn ample_memory_for_other_calls(rt: HostRuntime) {
-    assert!(rt; is_told(&rt, rt.alloc(), "[", "Q1: not JSON"));
-    assert!(rt; is_told(&rt, rt.alloc(), "[]", "Q2: no query of a known type"));
+    assert!(rt; is_reported(&rt, rt.alloc(), "[", "Q1: not JSON"));
+    assert!(rt; is_reported(&rt, rt.alloc(), "[]", "Q2: no query of a known type"));
     assert!(rt; is_made_again(&rt, rt.alloc()));
 }
 
 #[test]
 fn limits(rt: HostRuntime) {
     // Pieces are not counted against the limit of intervals.
-    assert!(rt; are_many_told(&rt, rt.alloc(), 1_001, "", 1_000, "taken"));
-    assert!(rt; are_many_told(&rt, rt.alloc(), 1, "", 1_001, "Q5: a limit is passed"));
+    assert!(rt; are_many_reported(&rt, rt.alloc(), 1_001, "", 1_000, "taken"));
+    assert!(rt; are_many_reported(&rt, rt.alloc(), 1, "", 1_001, "Q5: a limit is passed"));
     let doubled = ",{\"chunk\":\"~\",\"itvl\":\"~\",\"part\":500,\"ver\":\"v\"}";
     assert!(rt;
-        are_many_told(
+        are_many_reported(
             &rt,
             rt.alloc(),
             1_001,

@@ -251,8 +251,8 @@ map_some f None = refl
 map_some f (Some x) = refl
 
 -- the layer of a level, by the level's case
-pub told : (l m : Level) (d : Data) → l ≡ m → Some (layer_of l) ≡ layer_at d → Some (layer_of m) ≡ layer_at d
-told l m d e h = sym (ap (λ (k : Level). Some (layer_of k)) e) ∙ h
+pub reported : (l m : Level) (d : Data) → l ≡ m → Some (layer_of l) ≡ layer_at d → Some (layer_of m) ≡ layer_at d
+reported l m d e h = sym (ap (λ (k : Level). Some (layer_of k)) e) ∙ h
 
 -- ---- filters built one by one
 
@@ -260,7 +260,7 @@ abbrev pub before : List Condition → Conditions → Conditions
 before [] cs = cs
 before (x ∷ xs) cs = condition x (before xs cs)
 
--- readings that were read, and then what the rest reads as
+-- those that were read, and then what the rest reads as
 abbrev pub joined : List Condition → Option Conditions → Option Conditions
 joined done rest = option_map (before done) rest
 

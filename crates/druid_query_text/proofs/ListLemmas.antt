@@ -29,7 +29,7 @@ next_reading None rest xs h more = absurd (cc)
 next_reading (Some y) None xs h more = absurd (cc)
 next_reading (Some y) (Some ys) xs h more = ap (λ r. options.◌>>=◌ r (λ zs. Some (y ∷ zs))) (more refl)
 
--- where each reads, readings that read are all
+-- where each reads, the readings are all
 pub each_reading : {A : Type 0} (f : Data → Option A) (vs : List Value) → EachReads f vs → each_of f (items_view vs) ≡ Some (readings f vs)
 each_reading f [] h = refl
 each_reading f (v ∷ vs) h = next_reading (f (view v)) (each_of f (items_view vs)) (readings f vs) h (each_reading f vs)

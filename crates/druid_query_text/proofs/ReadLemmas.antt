@@ -144,7 +144,7 @@ after_head r d h = r.timed h.source d >>= λ t. after_times r d h t
 abbrev pub by_parts : {T S : Type 0} → Reading T S → Data → Result S Refusal
 by_parts r d = head_at d >>= λ h. after_head r d h
 
--- the names of what is whole_of are readings of its parts
+-- the names of the whole are those of its parts
 abbrev pub IsNamed : {T S : Type 0} → Reading T S → Type 0
 IsNamed {T} r = (k : QueryType) (s : List ℕ) (g : Granularity) (t : T) (f : Option Condition) (ds : List Dimension) (all : List Aggregator) → distinct_in r (r.make k s g t f ds all) ≡ are_distinct (result_names ds all)
 

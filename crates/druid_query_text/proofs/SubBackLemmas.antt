@@ -1,5 +1,5 @@
 -- Subqueries as JSON: what is written is read back.
-use Rattle.std.proofs.Common.{◌≡◌, ℕ, List, [], ◌∷◌, map, codes, Contains, Option, Some, None, Result, Ok, is_some, option_and_then, true, Bool, refl, sym, ap, ◌∙◌, subst, arith}
+use Rattle.std.proofs.Common.{◌≡◌, ℕ, List, [], ◌∷◌, map, codes, Contains, Option, Some, None, Ok, is_some, option_and_then, true, Bool, refl, sym, ap, ◌∙◌, subst, arith}
 use Rattle.serde_json.specs.Data.{Data, array, Items}
 use Rattle.serde_json.specs.Find.{get}
 use Rattle.serde_json.specs.View.{items_of}
@@ -12,21 +12,19 @@ use Rattle.druid_shard.proofs.EachLemmas.{each_back}
 use Rattle.druid_shard.proofs.MemberLemmas.{Contains-later, Contains-nil}
 use Rattle.druid_query.specs.Query.{Query, query_of, are_distinct, result_names}
 use Rattle.druid_query.specs.Asked.{Asked, StandApart, stand_apart, asked_data, spelled_at, inside_at, asked_items}
-use Rattle.druid_query.specs.Refusal.{Refusal, bad_field, bad_interval, or_refuse, when}
-use Rattle.druid_query.specs.Fields.{kind_at, listed_texts, interval_of}
-use Rattle.druid_query.specs.Read.{list_of, fit_intervals, no_more_at, IsQuery}
-use Rattle.druid_query.specs.SubQuery.{SubQuery, Span, IsAsked, pieces_at, apart_at, query_intervals_at, span_at, subquery_at, sub_timeseries_data, sub_group_by_data, pieces_data, segments_data, kinded_sub_data, subquery_data}
-use Rattle.druid_query.specs.Written.{intervals_data, interval_data}
+use Rattle.druid_query.specs.Refusal.{bad_field, bad_interval, or_refuse, when}
+use Rattle.druid_query.specs.Fields.{kind_at, listed_texts}
+use Rattle.druid_query.specs.Read.{no_more_at, IsQuery}
+use Rattle.druid_query.specs.SubQuery.{SubQuery, IsAsked, pieces_at, apart_at, query_intervals_at, span_at, subquery_at, sub_timeseries_data, sub_group_by_data, pieces_data, segments_data, kinded_sub_data, subquery_data}
+use Rattle.druid_query.specs.Written.{intervals_data}
 use Rattle.druid_query.specs.declared.query_type.QueryType.{QueryType}
 use Rattle.druid_query.specs.declared.query_type.QueryType.TheVariants.{Timeseries, GroupBy}
-use Rattle.druid_query.proofs.AskedLemmas.{apart_told}
-use Rattle.druid_query.proofs.StepLemmas.{bound}
+use Rattle.druid_query.proofs.AskedLemmas.{apart_reported}
 use Rattle.druid_query.proofs.ChainLemmas.{parts_made, whole_read, whole_bound, steps_of}
 use Rattle.druid_asked_text.proofs.BackLemmas.{spelled_some, inside_back}
 use Rattle.druid_query_text.proofs.SubLemmas.{subs, of_sub, span_bound}
-use Rattle.druid_query.proofs.BackLemmas.{texts_back, interval_back}
-use Rattle.druid_query.proofs.SoundLemmas.{HasItem, bound_item, read_some, interval_sound, IsSomeList}
-use Rattle.druid_shard.proofs.EachLemmas.{each_sound}
+use Rattle.druid_query.proofs.BackLemmas.{texts_back}
+use Rattle.druid_query.proofs.SoundLemmas.{HasItem, bound_item, IsSomeList}
 use Rattle.serde_json.specs.Find.{as_array}
 use Rattle.druid_query_text.proofs.QueryBackLemmas.{Timed, Keys, keys_back, query_sound, sound_of, sound_back, times_tell, times_read, no_both}
 
@@ -61,7 +59,7 @@ pieces_read source d asked h is =
 
 apart_read : (source : List ℕ) (d : Data) (asked : List Asked) → pieces_at source d ≡ Ok asked → StandApart asked → apart_at source d ≡ Ok asked
 unfolding apart_at
-apart_read source d asked h apart = ap (λ r. r >>= λ all. when (stand_apart all) all bad_interval) h ∙ ap (λ (b : Bool). when b asked bad_interval) (apart_told asked apart)
+apart_read source d asked h apart = ap (λ r. r >>= λ all. when (stand_apart all) all bad_interval) h ∙ ap (λ (b : Bool). when b asked bad_interval) (apart_reported asked apart)
 
 -- ---- the query's own intervals
 

@@ -112,7 +112,7 @@ sub_head d e h = after (before_search d) e (subquery_at d) (subst (Refuses e) (o
 pub sub_times : (d : Data) (h : Head) (e : QueryFault) → head_at d ≡ Ok h → TellsAfter (pieces_at h.source d) e (span_at h.source d) → TellsAfter (before_search d) e (subquery_at d)
 sub_times d h e is t =
     carried (pieces_at h.source d) (span_at h.source d) (before_search d) (subquery_at d) e (subst (λ r. IsOk r) (sym (before_is d h is)))
-    (λ other told. tells e (subquery_at d) (subst (Refuses e) (of_sub_parts d) (at_times subs d (Refuses e) h is (stop (span_at h.source d) (λ i. after_times subs d h i) e (refuses e (span_at h.source d) other told))))) t
+    (λ other reported. tells e (subquery_at d) (subst (Refuses e) (of_sub_parts d) (at_times subs d (Refuses e) h is (stop (span_at h.source d) (λ i. after_times subs d h i) e (refuses e (span_at h.source d) other reported))))) t
 
 pub sub_tail : (d : Data) (h : Head) (t : Span) (e : QueryFault) → head_at d ≡ Ok h → span_at h.source d ≡ Ok t → Refuses e (tail_at h.kind d) → TellsAfter (before_search d) e (subquery_at d)
 sub_tail d h t e is read l =

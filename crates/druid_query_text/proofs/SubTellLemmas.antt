@@ -1,5 +1,5 @@
 -- What reads as a subquery asks for pieces of segments of its source, each inside its segment and apart from the others.
-use Rattle.std.proofs.Common.{◌≡◌, ℕ, List, [], ◌∷◌, codes, Contains, Option, Some, None, Result, Ok, option_and_then, true, refl, sym, ap, ◌∙◌, subst, arith}
+use Rattle.std.proofs.Common.{◌≡◌, ℕ, List, [], ◌∷◌, codes, Contains, Option, Some, None, Ok, option_and_then, true, refl, sym, ap, ◌∙◌, subst, arith}
 use Rattle.serde_json.specs.Data.{Data, Items}
 use Rattle.serde_json.specs.Find.{get}
 use Rattle.druid_time.specs.Results.{◌>>=◌}
@@ -7,8 +7,8 @@ use Rattle.druid_segid.specs.Names.{IsName}
 use Rattle.druid_shard.specs.Each.{each_of}
 use Rattle.druid_shard.proofs.EachLemmas.{each_sound}
 use Rattle.druid_query.specs.Asked.{Asked, stand_apart, inside_at, asked_items}
-use Rattle.druid_query.specs.Refusal.{Refusal, bad_field, bad_interval, or_refuse, when}
-use Rattle.druid_query.specs.SubQuery.{SubQuery, Span, IsAsked, pieces_at, apart_at, query_intervals_at, span_at, subquery_at}
+use Rattle.druid_query.specs.Refusal.{bad_field, bad_interval, or_refuse, when}
+use Rattle.druid_query.specs.SubQuery.{SubQuery, IsAsked, pieces_at, apart_at, subquery_at}
 use Rattle.druid_query.proofs.StepLemmas.{bound}
 use Rattle.druid_query.proofs.AskedLemmas.{apart_seen}
 use Rattle.druid_query.proofs.ChainLemmas.{whole_bound, steps_of}

@@ -43,6 +43,6 @@ abbrev pub holds_in : {A : Type 0} → (A → Bool) → Option A → Bool
 holds_in p None = false
 holds_in p (Some x) = p x
 
--- what is read of the values, without readings that do not read
+-- what the values read as, without those that do not read
 abbrev pub readings : {A : Type 0} → (Data → Option A) → List Value → List A
 readings f vs = filter_map (λ v. f (view v)) vs

@@ -80,19 +80,13 @@ fn is_label_if(text: Option<&str>) -> bool
 fn aggregator_named(text: &str) -> Option<AggregatorKind>
     ensures { result ≡ aggregator_named text.now }
 {
-    if text == "count" {
-        return Some(AggregatorKind::Count);
+    match text {
+        "count" => Some(AggregatorKind::Count),
+        "longSum" => Some(AggregatorKind::LongSum),
+        "longMin" => Some(AggregatorKind::LongMin),
+        "longMax" => Some(AggregatorKind::LongMax),
+        _ => None,
     }
-    if text == "longSum" {
-        return Some(AggregatorKind::LongSum);
-    }
-    if text == "longMin" {
-        return Some(AggregatorKind::LongMin);
-    }
-    if text == "longMax" {
-        return Some(AggregatorKind::LongMax);
-    }
-    None
 }
 
 // The field of an aggregator of that kind. None where it lacks one.
@@ -133,7 +127,7 @@ pub(crate) fn aggregator_items(value: &Value) -> Result<&[Value], QueryFault>
     }
 }
 
-// The aggregators that items are.
+// The aggregators that the items are; each was judged to be one.
 pub(crate) fn aggregator_list(alloc: Global, items: &[Value]) -> Result<Vec<Aggregator>, AllocError>
     ensures { IfOk result (λ all. all.items ≡ readings aggregator_at items.now) }
 {

@@ -124,7 +124,7 @@ pub(crate) fn dimension_items(kind: QueryType, value: &Value) -> Result<&[Value]
     }
 }
 
-// The dimensions that items are.
+// The dimensions that the items are; each was judged to be one.
 pub(crate) fn dimension_list(alloc: Global, items: &[Value]) -> Result<Vec<Dimension>, AllocError>
     ensures { IfOk result (λ all. all.items ≡ readings dimension_at items.now) }
 {

@@ -18,14 +18,11 @@ use serde_json::Value;
 pub(crate) fn kind_of(value: &Value) -> Option<QueryType>
     ensures { result ≡ kind_at (view value.now) }
 {
-    let text = text_field(value, "queryType")?;
-    if text == "timeseries" {
-        return Some(QueryType::Timeseries);
+    match text_field(value, "queryType")? {
+        "timeseries" => Some(QueryType::Timeseries),
+        "groupBy" => Some(QueryType::GroupBy),
+        _ => None,
     }
-    if text == "groupBy" {
-        return Some(QueryType::GroupBy);
-    }
-    None
 }
 
 // The text at a key, where the value has that type.

@@ -69,22 +69,14 @@ fn among_level(value: &Value) -> Option<Level<'_>>
 fn level_named<'a>(kind: &str, value: &'a Value) -> Option<Level<'a>>
     ensures { option_map layer_of result ≡ layer_named kind.now (view value.now) }
 {
-    if kind == "selector" {
-        return selector_level(value);
+    match kind {
+        "selector" => selector_level(value),
+        "in" => among_level(value),
+        "and" => Some(Level::All(list_at(value, "fields")?)),
+        "or" => Some(Level::Any(list_at(value, "fields")?)),
+        "not" => Some(Level::Not(value.get("field")?)),
+        _ => None,
     }
-    if kind == "in" {
-        return among_level(value);
-    }
-    if kind == "and" {
-        return Some(Level::All(list_at(value, "fields")?));
-    }
-    if kind == "or" {
-        return Some(Level::Any(list_at(value, "fields")?));
-    }
-    if kind == "not" {
-        return Some(Level::Not(value.get("field")?));
-    }
-    None
 }
 
 #[tactic(auto, unfolding(crate::specs::Levels::layer_at))]

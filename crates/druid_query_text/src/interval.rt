@@ -114,7 +114,7 @@ pub(crate) fn interval_items<'a>(
     }
 }
 
-// The intervals that texts name.
+// The intervals that the texts name; each was judged to name one.
 pub(crate) fn interval_list(alloc: Global, texts: &[Value]) -> Result<Vec<Interval>, AllocError>
     ensures { IfOk result (λ all. all.items ≡ readings interval_of texts.now) }
 {

@@ -38,7 +38,7 @@ impl<'a> Model for Head<'a> {
 }
 
 impl<'a> Head<'a> {
-    // The first refusal before the intervals.
+    // What stands before the intervals of a value, or the first refusal.
     pub(crate) fn of(value: &'a Value) -> Result<Head<'a>, QueryFault>
         ensures { Finds result (head_at (view value.now)) }
     {
@@ -109,7 +109,7 @@ impl<'a> Model for Tail<'a> {
 }
 
 impl<'a> Tail<'a> {
-    // The first refusal after the intervals.
+    // What stands after the intervals of a value, or the first refusal.
     pub(crate) fn of(kind: QueryType, value: &'a Value) -> Result<Tail<'a>, QueryFault>
         ensures { Finds result (tail_at kind (view value.now)) }
     {
@@ -127,6 +127,7 @@ impl<'a> Tail<'a> {
         })
     }
 
+    // The filter, built.
     fn filter(&self, alloc: Global) -> Result<Option<Filter>, AllocError>
         ensures { IfOk result (λ filter. option_map says filter ≡ self.now.filter) }
     {

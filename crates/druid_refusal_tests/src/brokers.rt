@@ -173,11 +173,11 @@ fn fetches(rt: &impl Abort, alloc: Global, inventory: &Inventory) {
 
 // Whether a turn moved the node to a count, or was refused memory and left it at the one before.
 fn moves<R: Handle, J: Publication>(
-    told: &Result<(Outcome, Receipt<J>), TurnFault>,
+    reported: &Result<(Outcome, Receipt<J>), TurnFault>,
     publisher: &Publisher<J, R>,
     count: u64,
 ) -> bool {
-    match told {
+    match reported {
         Ok((outcome, _)) => *outcome == Outcome::Moved && is_at(publisher.inventory(), count),
         Err(fault) => *fault == TurnFault::Memory
             && is_at(publisher.inventory(), count.saturating_sub(1)),
@@ -190,8 +190,8 @@ fn syncs<R: Handle, J: Publication>(rt: R, alloc: Global, publisher: &mut Publis
     }
     let mut node = node_link(&rt, alloc, "1");
     begin(&rt, alloc);
-    let told = end(&rt, alloc, sync_turn(alloc, 0, &mut node, publisher));
-    assert_call(&rt, "sync_turn", moves(&told, publisher, 1));
+    let reported = end(&rt, alloc, sync_turn(alloc, 0, &mut node, publisher));
+    assert_call(&rt, "sync_turn", moves(&reported, publisher, 1));
 }
 
 fn seeds<R: Handle, J: Publication>(rt: R, alloc: Global, publisher: &mut Publisher<J, R>) {
@@ -202,8 +202,8 @@ fn seeds<R: Handle, J: Publication>(rt: R, alloc: Global, publisher: &mut Publis
     let _ = sync_turn(alloc, 0, &mut first, publisher);
     let mut peer = node_link(&rt, alloc, "2");
     begin(&rt, alloc);
-    let told = end(&rt, alloc, seed_turn(alloc, 0, &mut peer, publisher));
-    assert_call(&rt, "seed_turn", moves(&told, publisher, 2));
+    let reported = end(&rt, alloc, seed_turn(alloc, 0, &mut peer, publisher));
+    assert_call(&rt, "seed_turn", moves(&reported, publisher, 2));
 }
 
 fn turns_of_broker<R: Handle, J: Publication>(
@@ -254,7 +254,7 @@ fn shares<R: Handle, J: Publication>(
     }
     let mut node = node_link(&rt, alloc, "3");
     begin(&rt, alloc);
-    let told = end(
+    let reported = end(
         &rt,
         alloc,
         shared_turn(&rt, alloc, 0, view, &mut node, publisher),
@@ -262,7 +262,7 @@ fn shares<R: Handle, J: Publication>(
     assert_call(
         &rt,
         "shared_turn",
-        match &told {
+        match &reported {
             Ok(outcome) => *outcome == Outcome::Moved,
             Err(fault) => *fault == TurnFault::Memory,
         },
@@ -270,8 +270,8 @@ fn shares<R: Handle, J: Publication>(
 }
 
 // Whether a broker answered, or wrote that it had no memory, or wrote nothing since it had none to read the request.
-fn is_served(told: Result<u16, WireFault>, written: &[u8]) -> bool {
-    match told {
+fn is_served(reported: Result<u16, WireFault>, written: &[u8]) -> bool {
+    match reported {
         Ok(code) => match response_of(written) {
             Ok((_, body)) => code == 200
                 || code == 500 && body == b"{\"error\":\"Memory\"}".as_slice(),
@@ -295,7 +295,7 @@ fn serves<R: Handle, J: Publication>(rt: R, alloc: Global, view: &mut View<J>) {
     }
     let mut reader = message.as_bytes();
     begin(&rt, alloc);
-    let told = serve_one(
+    let reported = serve_one(
         &rt,
         alloc,
         &routes,
@@ -306,8 +306,8 @@ fn serves<R: Handle, J: Publication>(rt: R, alloc: Global, view: &mut View<J>) {
         &Rotate,
         &mut links,
     );
-    let told = end(&rt, alloc, told);
-    assert_call(&rt, "serve_one", is_served(told, &written));
+    let reported = end(&rt, alloc, reported);
+    assert_call(&rt, "serve_one", is_served(reported, &written));
 }
 
 fn of_broker<R: Handle>(rt: R, alloc: Global) {

@@ -75,21 +75,21 @@ fn pushes(rt: &impl Abort, alloc: Global, builder: &mut SegmentBuilder, value: &
     let time = Instant::parse("2024-01-01T10:00").expect(rt, "an instant");
     let row = row(rt, alloc, value);
     begin(rt, alloc);
-    let told = end(rt, alloc, builder.push(&row));
+    let reported = end(rt, alloc, builder.push(&row));
     assert_call(
         rt,
         "SegmentBuilder::push",
-        match told {
+        match reported {
             Ok(()) => true,
             Err(fault) => fault == RowFault::Memory && builder.push(&row).is_ok(),
         },
     );
     begin(rt, alloc);
-    let told = end(rt, alloc, builder.push_values(time, &[Some("x")], &[None]));
+    let reported = end(rt, alloc, builder.push_values(time, &[Some("x")], &[None]));
     assert_call(
         rt,
         "SegmentBuilder::push_values",
-        match told {
+        match reported {
             Ok(()) => true,
             Err(fault) => fault == RowFault::Memory
                 && builder.push_values(time, &[Some("x")], &[None]).is_ok(),
@@ -170,12 +170,12 @@ fn partials(rt: &impl Abort, alloc: Global, query: &Query, segment: &Segment) {
     );
     let day = day(rt);
     begin(rt, alloc);
-    let told = end(rt, alloc, partial_of(alloc, query, segment, day));
+    let reported = end(rt, alloc, partial_of(alloc, query, segment, day));
     assert_call(
         rt,
         "partial_of",
-        match &told {
-            Ok(told) => told.groups().len() == 2,
+        match &reported {
+            Ok(reported) => reported.groups().len() == 2,
             Err(_) => segment.len() == 2,
         },
     );

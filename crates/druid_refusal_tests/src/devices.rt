@@ -15,8 +15,8 @@ fn length<F: Folder>(rt: &impl Abort, alloc: Global, folder: &mut F, name: &str)
 }
 
 // Whether a call was done, or was refused memory.
-fn is_done(told: Result<(), StoreFault>, done: bool, undone: bool) -> bool {
-    match told {
+fn is_done(reported: Result<(), StoreFault>, done: bool, undone: bool) -> bool {
+    match reported {
         Ok(()) => done,
         Err(fault) => fault == StoreFault::Memory && undone,
     }
@@ -24,12 +24,12 @@ fn is_done(told: Result<(), StoreFault>, done: bool, undone: bool) -> bool {
 
 fn write<F: Folder>(rt: &impl Abort, alloc: Global, folder: &mut F) {
     begin(rt, alloc);
-    let told = end(rt, alloc, folder.write("a", b"12"));
+    let reported = end(rt, alloc, folder.write("a", b"12"));
     let found = length(rt, alloc, folder, "a");
     assert_call(
         rt,
         "MemoryFolder::write",
-        is_done(told, found == Some(2), found.is_none()),
+        is_done(reported, found == Some(2), found.is_none()),
     );
     folder.write("a", b"12").expect(rt, "memory");
 }
@@ -60,39 +60,39 @@ fn reads<F: Folder>(rt: &impl Abort, alloc: Global, folder: &mut F) {
 
 fn renames<F: Folder>(rt: &impl Abort, alloc: Global, folder: &mut F) {
     begin(rt, alloc);
-    let told = end(rt, alloc, folder.rename("a", "b"));
+    let reported = end(rt, alloc, folder.rename("a", "b"));
     let found = length(rt, alloc, folder, "b");
     assert_call(
         rt,
         "MemoryFolder::rename",
-        is_done(told, found == Some(2), found.is_none()),
+        is_done(reported, found == Some(2), found.is_none()),
     );
     let _ = folder.rename("a", "b");
 }
 
 fn removes<F: Folder>(rt: &impl Abort, alloc: Global, folder: &mut F) {
     begin(rt, alloc);
-    let told = end(rt, alloc, folder.remove("b"));
+    let reported = end(rt, alloc, folder.remove("b"));
     let found = length(rt, alloc, folder, "b");
     assert_call(
         rt,
         "MemoryFolder::remove",
-        is_done(told, found.is_none(), found == Some(3)),
+        is_done(reported, found.is_none(), found == Some(3)),
     );
 }
 
 fn syncs(rt: &impl Abort, alloc: Global, folder: &mut MemoryFolder) {
     begin(rt, alloc);
-    let told = end(rt, alloc, folder.sync());
-    assert_call(rt, "MemoryFolder::sync", is_done(told, true, true));
+    let reported = end(rt, alloc, folder.sync());
+    assert_call(rt, "MemoryFolder::sync", is_done(reported, true, true));
     folder.write("b", b"123").expect(rt, "memory");
     begin(rt, alloc);
-    let told = end(rt, alloc, folder.stop(true));
+    let reported = end(rt, alloc, folder.stop(true));
     let found = length(rt, alloc, folder, "b");
     assert_call(
         rt,
         "MemoryFolder::stop",
-        found == Some(3) && is_done(told, true, true),
+        found == Some(3) && is_done(reported, true, true),
     );
 }
 

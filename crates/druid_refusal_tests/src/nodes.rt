@@ -25,8 +25,8 @@ impl Incarnation for First {
 const FILE: &str = "w_2024-01-01T00:00:00.000Z_2024-01-02T00:00:00.000Z_v1.seg";
 
 // Whether a call moved the node to a count, or was refused memory and left it at the one before.
-fn moves(told: Result<(), NodeFault>, state: &NodeState, count: u64) -> bool {
-    match told {
+fn moves(reported: Result<(), NodeFault>, state: &NodeState, count: u64) -> bool {
+    match reported {
         Ok(()) => state.mark() == Mark::new(1, count),
         Err(fault) => fault == NodeFault::Memory
             && state.mark() == Mark::new(1, count.saturating_sub(1)),
@@ -36,12 +36,12 @@ fn moves(told: Result<(), NodeFault>, state: &NodeState, count: u64) -> bool {
 fn edits(rt: &impl Abort, alloc: Global, state: &mut NodeState, id: &SegmentId) {
     let one = segment(rt, alloc);
     begin(rt, alloc);
-    let told = end(rt, alloc, state.load(one));
-    assert_call(rt, "NodeState::load", moves(told, state, 1));
+    let reported = end(rt, alloc, state.load(one));
+    assert_call(rt, "NodeState::load", moves(reported, state, 1));
     let _ = state.load(segment(rt, alloc));
     begin(rt, alloc);
-    let told = end(rt, alloc, state.drop_segment(id));
-    assert_call(rt, "NodeState::drop_segment", moves(told, state, 2));
+    let reported = end(rt, alloc, state.drop_segment(id));
+    assert_call(rt, "NodeState::drop_segment", moves(reported, state, 2));
     let _ = state.drop_segment(id);
     state.load(segment(rt, alloc)).expect(rt, "a load");
 }
@@ -50,8 +50,8 @@ fn edits(rt: &impl Abort, alloc: Global, state: &mut NodeState, id: &SegmentId) 
 fn places(rt: &impl Abort, alloc: Global, state: &mut NodeState, id: &SegmentId) {
     let id = id.clone().expect(rt, "memory");
     begin(rt, alloc);
-    let told = end(rt, alloc, state.place_tombstone(id));
-    assert_call(rt, "NodeState::place_tombstone", moves(told, state, 1));
+    let reported = end(rt, alloc, state.place_tombstone(id));
+    assert_call(rt, "NodeState::place_tombstone", moves(reported, state, 1));
 }
 
 fn make_state(rt: &impl Abort, alloc: Global) {
@@ -112,8 +112,8 @@ fn folder(rt: &impl Abort, alloc: Global) -> MemoryFolder {
 }
 
 // Whether a call moved a node to a count, or was refused memory.
-fn is_seen(told: Result<(), NodeFault>, seen: Mark, count: u64) -> bool {
-    match told {
+fn is_seen(reported: Result<(), NodeFault>, seen: Mark, count: u64) -> bool {
+    match reported {
         Ok(()) => seen == Mark::new(1, count),
         Err(fault) => fault == NodeFault::Memory && seen.count() < count,
     }
@@ -123,17 +123,17 @@ fn loads<R: Abort + Wait>(rt: &R, alloc: Global, node: &DataNode<First>, id: &Se
     let mut seen = Mark::never();
     let mut folder = folder(rt, alloc);
     begin(rt, alloc);
-    let told = end(rt, alloc, node.load_file(rt, &mut folder, FILE, &mut seen));
-    assert_call(rt, "DataNode::load_file", is_seen(told, seen, 1));
+    let reported = end(rt, alloc, node.load_file(rt, &mut folder, FILE, &mut seen));
+    assert_call(rt, "DataNode::load_file", is_seen(reported, seen, 1));
     let _ = node.load_file(rt, &mut folder, FILE, &mut seen);
     begin(rt, alloc);
-    let told = end(rt, alloc, node.drop_segment(rt, id, &mut seen));
-    assert_call(rt, "DataNode::drop_segment", is_seen(told, seen, 2));
+    let reported = end(rt, alloc, node.drop_segment(rt, id, &mut seen));
+    assert_call(rt, "DataNode::drop_segment", is_seen(reported, seen, 2));
     let _ = node.drop_segment(rt, id, &mut seen);
     let id = id.clone().expect(rt, "memory");
     begin(rt, alloc);
-    let told = end(rt, alloc, node.place_tombstone(rt, id, &mut seen));
-    assert_call(rt, "DataNode::place_tombstone", is_seen(told, seen, 3));
+    let reported = end(rt, alloc, node.place_tombstone(rt, id, &mut seen));
+    assert_call(rt, "DataNode::place_tombstone", is_seen(reported, seen, 3));
 }
 
 fn serves<R: Abort + Wait>(rt: &R, alloc: Global, node: &DataNode<First>) {
@@ -141,7 +141,7 @@ fn serves<R: Abort + Wait>(rt: &R, alloc: Global, node: &DataNode<First>) {
     let mut seen = Mark::never();
     let mut reader = b"GET /druid-internal/v1/segments HTTP/1.1\r\n\r\n".as_slice();
     begin(rt, alloc);
-    let told = end(
+    let reported = end(
         rt,
         alloc,
         node.serve_one(rt, &mut reader, &mut written, &mut seen),
@@ -150,7 +150,7 @@ fn serves<R: Abort + Wait>(rt: &R, alloc: Global, node: &DataNode<First>) {
     assert_call(
         rt,
         "DataNode::serve_one",
-        match told {
+        match reported {
             Ok(500) => text.ends_with("{\"error\":\"Memory\"}"),
             Ok(status) => status == 200 && text.ends_with("\"resetCounter\":false}"),
             Err(fault) => fault == NodeFault::Wire(WireFault::Memory) && text.is_empty(),

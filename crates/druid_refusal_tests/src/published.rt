@@ -21,14 +21,14 @@ fn publish<R: Abort + Wait + Drop, J: Publication>(
     count: u64,
 ) {
     begin(rt, alloc);
-    let told = end(rt, alloc, publisher.publish(0, reply));
-    let holds = match &told {
+    let reported = end(rt, alloc, publisher.publish(0, reply));
+    let holds = match &reported {
         Ok((outcome, _)) => *outcome == Outcome::Moved && is_at(publisher.inventory(), count),
         Err(fault) => *fault == PublishFault::Memory
             && is_at(publisher.inventory(), count.saturating_sub(1)),
     };
     assert_call(rt, "Publisher::publish", holds);
-    let receipt = match told {
+    let receipt = match reported {
         Ok((_, receipt)) => receipt,
         Err(_) => publisher.publish(0, reply).expect(rt, "a receipt").1,
     };

@@ -145,7 +145,7 @@ fn chunks(rt: &impl Abort, alloc: Global, descriptor: &Descriptor) {
     remove_from(rt, alloc, &mut chunks, descriptor);
 }
 
-// How many replicas of a segment a timeline has; where memory is refused, none is told.
+// How many replicas of a segment a timeline has; where memory is refused, none is reported.
 fn count(timeline: &Timeline, descriptor: &Descriptor) -> usize {
     match timeline.replicas(descriptor.id()) {
         Ok(nodes) => nodes.len(),

@@ -2,7 +2,7 @@ ghost use Rattle.std.specs.Prelude.{◌≡◌, ◌↔◌, ◌-◌, [], true, fal
 ghost use Rattle.druid_rows.specs.Rows.{texts_by, row_of, IsSchema, HasShape, IsInside, HasWords};
 ghost use Rattle.druid_rows.specs.Segment.{Segment, IsWithinLimits, HaveWords, IsSegment, segment_of, with_row, text_length, max_text};
 
-use crate::lent::LentRow;
+use crate::borrowed::RowRef;
 use crate::segment::judge;
 use crate::table_builder::TableBuilder;
 use crate::{MAX_ROWS, Row, RowFault, Schema, Segment};
@@ -85,7 +85,7 @@ impl SegmentBuilder {
     }
 
     // The room that is left after one more row. None where a limit would be passed.
-    fn room_behind<T: AsStr>(&self, row: &LentRow<'_, T>) -> Option<usize>
+    fn room_beyond<T: AsStr>(&self, row: &RowRef<'_, T>) -> Option<usize>
         ensures value { SomeIff result (IsWithinLimits (with_row self.now row.now))
             (max_text - text_length (with_row self.now row.now)) }
         ensures words { OnSome result (HasWords row.now) }
@@ -112,7 +112,7 @@ impl SegmentBuilder {
             ↔ (IsWithinLimits (with_row self.old row.now) × HasShape self.old.fields row.now
             × (¬ IsInside self.old.descriptor.id.interval row.now)) }
     {
-        self.push_lent(&row.lend())
+        self.push_borrowed(&row.lend())
     }
 
     /// Adds a row of these values after the others, as `push` does. Each text is copied once, to where it stays.
@@ -132,10 +132,10 @@ impl SegmentBuilder {
             ↔ (IsWithinLimits (with_row self.old (row_of time (texts_by T.text dimensions.entry.now) metrics.now)) × HasShape self.old.fields (row_of time (texts_by T.text dimensions.entry.now) metrics.now)
             × (¬ IsInside self.old.descriptor.id.interval (row_of time (texts_by T.text dimensions.entry.now) metrics.now))) }
     {
-        self.push_lent(&LentRow::new(time, dimensions, metrics))
+        self.push_borrowed(&RowRef::new(time, dimensions, metrics))
     }
 
-    fn push_lent<T: AsStr>(&mut self, row: &LentRow<'_, T>) -> Result<(), RowFault>
+    fn push_borrowed<T: AsStr>(&mut self, row: &RowRef<'_, T>) -> Result<(), RowFault>
         ensures ok { OnOk result (self.new ≡ with_row self.old row.now) }
         ensures err { OnErr result (self.new ≡ self.old) }
         ensures accepts { IsSegment (with_row self.old row.now) → IsOkUnless result RowFault.Memory }
@@ -146,7 +146,7 @@ impl SegmentBuilder {
             ↔ (IsWithinLimits (with_row self.old row.now) × HasShape self.old.fields row.now
             × (¬ IsInside self.old.descriptor.id.interval row.now)) }
     {
-        let Some(room) = self.room_behind(row) else {
+        let Some(room) = self.room_beyond(row) else {
             return Err(RowFault::TooLong);
         };
         if !self.schema.fits(row) {

@@ -1,13 +1,13 @@
 //! Rows of segments.
 #![tactic(auto)]
 
+mod borrowed;
 mod builder;
 mod column;
 mod column_builder;
 mod fault;
 mod filter;
 mod laws;
-mod lent;
 mod number_cache;
 mod numbering;
 mod numbers;
@@ -17,13 +17,13 @@ mod segment;
 mod table;
 mod table_builder;
 
+pub use borrowed::MAX_VALUE;
 pub use builder::SegmentBuilder;
 pub use column::Column;
 pub use druid_filter::Filter;
 pub use fault::RowFault;
 pub use filter::matches;
 pub use laws::values_have_one_dictionary;
-pub use lent::MAX_VALUE;
 pub use numbers::Numbers;
 pub use row::Row;
 pub use schema::{MAX_NAME, Schema};

@@ -1,7 +1,7 @@
 ghost use Rattle.std.specs.Prelude.{◌≡◌};
 ghost use Rattle.druid_rows.specs.Rows.{nullable_texts_of};
 
-use crate::lent::LentRow;
+use crate::borrowed::RowRef;
 use druid_time::Instant;
 use std::marker::Model;
 
@@ -63,9 +63,9 @@ impl Row {
     }
 
     // Its values, borrowed.
-    pub(crate) fn lend(&self) -> LentRow<'_, String>
+    pub(crate) fn lend(&self) -> RowRef<'_, String>
         ensures { result ≡ self.now }
     {
-        LentRow::new(self.time, &self.dimensions, &self.metrics)
+        RowRef::new(self.time, &self.dimensions, &self.metrics)
     }
 }

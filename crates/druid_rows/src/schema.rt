@@ -4,7 +4,7 @@ ghost use Rattle.druid_rows.specs.Names.{is_field_byte, is_field_name, IsFieldNa
 ghost use Rattle.druid_rows.specs.Rows.{texts_of, IsSchema, HasShape};
 ghost use Rattle.druid_rows.specs.Segment.{names_length};
 
-use crate::lent::LentRow;
+use crate::borrowed::RowRef;
 use std::convert::AsStr;
 use std::marker::Model;
 
@@ -97,7 +97,7 @@ impl Schema {
     }
 
     // Whether the row has a value for each field.
-    pub(crate) fn fits<T: AsStr>(&self, row: &LentRow<'_, T>) -> bool
+    pub(crate) fn fits<T: AsStr>(&self, row: &RowRef<'_, T>) -> bool
         ensures { IsTrue result ↔ HasShape self.now row.now }
     {
         row.dimensions().len() == self.dimensions.len() && row.metrics().len() == self.metrics.len()

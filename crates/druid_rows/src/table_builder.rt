@@ -5,9 +5,9 @@ ghost use Rattle.druid_rows.specs.Columns.{AreLong};
 ghost use Rattle.druid_rows.specs.Table.{HasWidths, with_values, with_one_more};
 
 use crate::Row;
+use crate::borrowed::RowRef;
 use crate::column::Column;
 use crate::column_builder::ColumnBuilder;
-use crate::lent::LentRow;
 use crate::numbers::Numbers;
 use crate::table::Table;
 use druid_time::Instant;
@@ -155,7 +155,7 @@ fn extend_numbers(
 fn extend<T: AsStr>(
     dimensions: &mut [ColumnBuilder],
     metrics: &mut [Numbers],
-    row: &LentRow<'_, T>,
+    row: &RowRef<'_, T>,
     rows: usize,
 ) -> Result<(), AllocError>
     requires widths { HasWidths (length dimensions.old) (length metrics.old) row.now }
@@ -219,7 +219,7 @@ impl TableBuilder {
     }
 
     // Adds a row after the others, or nothing.
-    pub(crate) fn push<T: AsStr>(&mut self, row: &LentRow<'_, T>) -> Result<(), AllocError>
+    pub(crate) fn push<T: AsStr>(&mut self, row: &RowRef<'_, T>) -> Result<(), AllocError>
         requires { HasWidths self.old.dimensions self.old.metrics row.now }
         ensures ok { OnOk result (self.new ≡ with_one_more self.old row.now) }
         ensures err { OnErr result (self.new ≡ self.old) }

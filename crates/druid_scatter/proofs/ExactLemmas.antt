@@ -24,7 +24,7 @@ use Rattle.druid_timeline.specs.Visible.{IsVisible}
 use Rattle.druid_timeline.specs.Pieces.{Shown, AreRuns, Shows}
 use Rattle.druid_timeline.proofs.HoldingLemmas.{in_filter, from_filter, IsVisible-same}
 use Rattle.druid_chunks.proofs.ChunkLemmas.{same_group-same}
-use Rattle.druid_timeline.proofs.RunsLemmas.{AreRuns-rest, Shows-behind}
+use Rattle.druid_timeline.proofs.RunsLemmas.{AreRuns-rest, Shows-beyond}
 use Rattle.druid_rows.specs.Rows.{Row}
 use Rattle.druid_filter.specs.Filters.{value_in}
 use Rattle.druid_rows.specs.Segment.{Segment}
@@ -34,19 +34,19 @@ use Rattle.druid_query.specs.Query.{Query}
 use Rattle.druid_query.specs.Asked.{Asked, Overlap, do_overlap, stand_apart}
 use Rattle.druid_query.specs.AskedOrder.{same_asked, same_asked-equiv}
 use Rattle.druid_query.proofs.AskedLemmas.{overlap_seen}
-use Rattle.druid_partial.specs.Groups.{Group as Told, IsResult}
+use Rattle.druid_partial.specs.Groups.{Group as Reported, IsResult}
 use Rattle.druid_partial.specs.Rows.{kinds_of, is_asked, passes_if, tells}
-use Rattle.druid_partial.specs.Once.{told, told_of, told_once, is_told}
+use Rattle.druid_partial.specs.Once.{counted_groups, counted_of, counted_once, is_counted}
 use Rattle.druid_partial_text.specs.Answers.{missing_at}
 use Rattle.druid_partial_text.specs.PieceOrder.{same_asked-true}
 use Rattle.serde_json.specs.Read.{read}
 use Rattle.druid_wire.specs.Messages.{IsResponse}
 use Rattle.druid_wire.proofs.OnceLemmas.{one_response}
 use Rattle.druid_partial.proofs.GroupLemmas.{Alike, result_alike, result_is_alike, alike_append}
-use Rattle.druid_partial.proofs.OnceLemmas.{alike_through, alike_equal, told_alike}
+use Rattle.druid_partial.proofs.OnceLemmas.{alike_through, alike_equal, counted_alike}
 use Rattle.druid_scatter.specs.Plan.{Pair, asked_of, place_cmp, IsWanted, IsPlanOf}
 use Rattle.druid_scatter.specs.Gathered.{Exchange, Answers, IsLost, Gives, TellAll, AtOnePlace, IsGathered}
-use Rattle.druid_scatter.specs.Exact.{without, IsHonest, AreServed, Sees, counts, told_visible}
+use Rattle.druid_scatter.specs.Exact.{without, IsHonest, AreServed, Sees, counts, counted_visible}
 
 -- ---- tests over pieces
 
@@ -75,12 +75,12 @@ any_found p (x ∷ xs) h =
       | inr later ↦ let f = any_found p xs later in (f.0, Contains-later x xs f.0 f.1, f.2)
     ]
 
-pub any_told : (p : Asked → Bool) (xs : List Asked) (a : Asked) → Contains xs a → p a ≡ true → list_any p xs ≡ true
-any_told p [] a there h = absurd (Contains-nil a there)
-any_told p (x ∷ xs) a there h =
+pub any_counted : (p : Asked → Bool) (xs : List Asked) (a : Asked) → Contains xs a → p a ≡ true → list_any p xs ≡ true
+any_counted p [] a there h = absurd (Contains-nil a there)
+any_counted p (x ∷ xs) a there h =
     elim (Contains-cons x xs a there) [
       | inl same ↦ ap (λ b. b || list_any p xs) (ap p same ∙ h)
-      | inr later ↦ ap (λ b. p x || b) (any_told p xs a later h) ∙ or_true (p x)
+      | inr later ↦ ap (λ b. p x || b) (any_counted p xs a later h) ∙ or_true (p x)
     ]
 
 -- ---- pieces that stand apart
@@ -138,33 +138,33 @@ apart_sorted (x ∷ xs) sorted one = (
 
 -- ---- the pieces that were given
 
-abbrev pub pieces_given : (query : Query) (es : List Exchange) (rows : List Told) → TellAll query es rows → List Asked
+abbrev pub pieces_given : (query : Query) (es : List Exchange) (rows : List Reported) → TellAll query es rows → List Asked
 pieces_given query [] rows tell = []
 pieces_given query (e ∷ more) rows (inl t) = without t.0 e.asked ++ pieces_given query more t.2 t.4
 pieces_given query (e ∷ more) rows (inr t) = pieces_given query more rows t.1
 
-given_alike : (query : Query) (segments : List Segment) (es : List Exchange) (rows : List Told) (tell : TellAll query es rows)
-    → ((e : Exchange) → Contains es e → IsHonest query segments e) → Alike (kinds_of query) rows (told query segments (pieces_given query es rows tell))
+given_alike : (query : Query) (segments : List Segment) (es : List Exchange) (rows : List Reported) (tell : TellAll query es rows)
+    → ((e : Exchange) → Contains es e → IsHonest query segments e) → Alike (kinds_of query) rows (counted_groups query segments (pieces_given query es rows tell))
 given_alike query segments [] rows tell honest = alike_equal (kinds_of query) rows [] tell
 given_alike query segments (e ∷ more) rows (inl t) honest =
     let kinds = kinds_of query in
     let front = without t.0 e.asked in
     let back = pieces_given query more t.2 t.4 in
-    let first = result_is_alike kinds (told query segments front) t.1 (honest e (0, omega arith, refl) t.0 t.1 t.3) in
+    let first = result_is_alike kinds (counted_groups query segments front) t.1 (honest e (0, omega arith, refl) t.0 t.1 t.3) in
     let later = given_alike query segments more t.2 t.4 (λ x there. honest x (Contains-later e more x there)) in
-    alike_through kinds rows (t.1 ++ t.2) (told query segments (front ++ back)) (alike_equal kinds rows (t.1 ++ t.2) t.5)
-    (alike_through kinds (t.1 ++ t.2) (told query segments front ++ told query segments back) (told query segments (front ++ back))
-    (alike_append kinds t.1 (told query segments front) t.2 (told query segments back) first later)
-    (alike_equal kinds (told query segments front ++ told query segments back) (told query segments (front ++ back)) (sym (flat_map-append (told_of query segments) front back))))
+    alike_through kinds rows (t.1 ++ t.2) (counted_groups query segments (front ++ back)) (alike_equal kinds rows (t.1 ++ t.2) t.5)
+    (alike_through kinds (t.1 ++ t.2) (counted_groups query segments front ++ counted_groups query segments back) (counted_groups query segments (front ++ back))
+    (alike_append kinds t.1 (counted_groups query segments front) t.2 (counted_groups query segments back) first later)
+    (alike_equal kinds (counted_groups query segments front ++ counted_groups query segments back) (counted_groups query segments (front ++ back)) (sym (flat_map-append (counted_of query segments) front back))))
 given_alike query segments (e ∷ more) rows (inr t) honest = given_alike query segments more rows t.1 (λ x there. honest x (Contains-later e more x there))
 
 -- an exchange has one answer
-answers_once : (query : Query) (e : Exchange) (m n : List Asked) (g h : List Told) → Answers query e m g → Answers query e n h → m ≡ n
+answers_once : (query : Query) (e : Exchange) (m n : List Asked) (g h : List Reported) → Answers query e m g → Answers query e n h → m ≡ n
 answers_once query e m n g h a b =
     let bytes : a.bytes ≡ b.bytes = same_Ok (sym a.came ∙ b.came) in
     let body : a.body ≡ b.body = (one_response b.bytes 200 200 a.body b.body a.rest b.rest (subst (λ (x : List ℕ). IsResponse x 200 a.body a.rest) bytes a.response) b.response).1 in
     let json : a.json ≡ b.json = same_Some (sym a.reads.1 ∙ ap read body ∙ b.reads.1) in
-    same_Some (sym a.told.missed ∙ ap (missing_at query.source) json ∙ b.told.missed)
+    same_Some (sym a.reported.missed ∙ ap (missing_at query.source) json ∙ b.reported.missed)
   where
     same_Ok : {A E : Type 0} {x y : A} → Path (Result A E) (Ok x) (Ok y) → x ≡ y
     same_Ok e = cc
@@ -176,14 +176,14 @@ itself : (a : Asked) → same_asked a a ≡ true
 itself a = same_asked-equiv.refl a
 
 not_listed : (a : Asked) (missing : List Asked) → not (list_any (same_asked a) missing) ≡ true → Contains missing a → ⊥
-not_listed a missing free there = false≢true (sym (not_true _ free) ∙ any_told (same_asked a) missing a there (itself a))
+not_listed a missing free there = false≢true (sym (not_true _ free) ∙ any_counted (same_asked a) missing a there (itself a))
 
 free : (a : Asked) (missing : List Asked) → (Contains missing a → ⊥) → not (list_any (same_asked a) missing) ≡ true
 free a missing absent =
     ap not (not_so (list_any (same_asked a) missing) (λ h. let f = any_found (same_asked a) missing h in absent (subst (Contains missing) (sym (same_asked-true a f.0 f.2)) f.1)))
 
 -- each of them was given by an exchange
-in_given : (query : Query) (es : List Exchange) (rows : List Told) (tell : TellAll query es rows) (a : Asked) → Contains (pieces_given query es rows tell) a
+in_given : (query : Query) (es : List Exchange) (rows : List Reported) (tell : TellAll query es rows) (a : Asked) → Contains (pieces_given query es rows tell) a
     → (e : Exchange) × Contains es e × Gives query e a
 in_given query [] rows tell a there = absurd (Contains-nil a there)
 in_given query (e ∷ more) rows (inl t) a there =
@@ -196,7 +196,7 @@ in_given query (e ∷ more) rows (inl t) a there =
 in_given query (e ∷ more) rows (inr t) a there = let f = in_given query more rows t.1 a there in (f.0, Contains-later e more f.0 f.1, f.2)
 
 -- what an exchange gave is among them
-to_given : (query : Query) (es : List Exchange) (rows : List Told) (tell : TellAll query es rows) (e : Exchange) (a : Asked) → Contains es e → Gives query e a
+to_given : (query : Query) (es : List Exchange) (rows : List Reported) (tell : TellAll query es rows) (e : Exchange) (a : Asked) → Contains es e → Gives query e a
     → Contains (pieces_given query es rows tell) a
 to_given query [] rows tell e a there gives = absurd (Contains-nil e there)
 to_given query (x ∷ more) rows (inl t) e a there gives =
@@ -222,7 +222,7 @@ at_place es e there = (there.0, slice_get-get_or es there.0 e there.1 ∙ ap (λ
 later_places : (e : Exchange) (more : List Exchange) (P : Exchange → Exchange → Type 0) → AtOnePlace (e ∷ more) P → AtOnePlace more P
 later_places e more P once i j x y at_i at_j h = let same = once (suc i) (suc j) x y at_i at_j h in omega (arith, same)
 
-given_apart : (query : Query) (es : List Exchange) (rows : List Told) (tell : TellAll query es rows)
+given_apart : (query : Query) (es : List Exchange) (rows : List Reported) (tell : TellAll query es rows)
     → ((e : Exchange) → Contains es e → IsStrictlySortedBy place_cmp e.asked)
     → ((e f : Exchange) (a b : Asked) → Contains es e → Contains es f → Contains e.asked a → Contains f.asked b → Overlap a b → a ≡ b)
     → ((a : Asked) → AtOnePlace es (λ x y. Gives query x a × Gives query y a))
@@ -268,13 +268,13 @@ piece_of (p ∷ ps) t g (inr later) = let f = piece_of ps t g later in (f.0, Con
 shown_one : (pieces : List Shown) → AreRuns pieces → (x y : Shown) (t : ℕ) → Contains pieces x → Contains pieces y → Has x.interval t → Has y.interval t → x ≡ y
 shown_one [] runs x y t in_x in_y hx hy = absurd (Contains-nil x in_x)
 shown_one (p ∷ ps) runs x y t in_x in_y hx hy = by (Contains-cons p ps x in_x) (Contains-cons p ps y in_y) (shown_one ps (AreRuns-rest p ps runs) x y t) where
-  behind : (z : Shown) → Contains ps z → Has z.interval t → p.interval.end ≤ t
-  behind z there has = Shows-behind p ps t z.group runs (shows_of ps z t there has)
+  beyond : (z : Shown) → Contains ps z → Has z.interval t → p.interval.end ≤ t
+  beyond z there has = Shows-beyond p ps t z.group runs (shows_of ps z t there has)
 
   by : (p ≡ x) ⊎ Contains ps x → (p ≡ y) ⊎ Contains ps y → (Contains ps x → Contains ps y → Has x.interval t → Has y.interval t → x ≡ y) → x ≡ y
   by (inl a) (inl b) rest = sym a ∙ b
-  by (inl a) (inr b) rest = let stops : t < p.interval.end = (subst (λ (z : Shown). Has z.interval t) (sym a) hx).1 in let from = behind y b hy in absurd (omega arith)
-  by (inr a) (inl b) rest = let stops : t < p.interval.end = (subst (λ (z : Shown). Has z.interval t) (sym b) hy).1 in let from = behind x a hx in absurd (omega arith)
+  by (inl a) (inr b) rest = let stops : t < p.interval.end = (subst (λ (z : Shown). Has z.interval t) (sym a) hx).1 in let from = beyond y b hy in absurd (omega arith)
+  by (inr a) (inl b) rest = let stops : t < p.interval.end = (subst (λ (z : Shown). Has z.interval t) (sym b) hy).1 in let from = beyond x a hx in absurd (omega arith)
   by (inr a) (inr b) rest = rest a b hx hy
 
 -- two pieces of a plan that overlap are one
@@ -310,19 +310,19 @@ both_true : (a b : Bool) → a ≡ true → b ≡ true → (a && b) ≡ true
 both_true a b ha hb = ap (λ x. x && b) ha ∙ hb
 
 -- a row is counted by some of these pieces
-told_found : (query : Query) (xs : List Asked) (s : Segment) (row : Row) → is_told query xs s row ≡ true
+reported_found : (query : Query) (xs : List Asked) (s : Segment) (row : Row) → is_counted query xs s row ≡ true
     → (a : Asked) × Contains xs a × (a.0 ≡ s.descriptor.id) × (is_asked query a.1 s.fields row ≡ true)
-told_found query xs s row h =
+reported_found query xs s row h =
     let f = any_found (λ a. same_identifier a.0 s.descriptor.id && is_asked query a.1 s.fields row) xs h in
     (f.0, f.1, same_identifier-true f.0.0 s.descriptor.id (first_so _ _ f.2), second_so _ _ f.2)
 
-told_seen : (query : Query) (xs : List Asked) (s : Segment) (row : Row) (a : Asked) → Contains xs a → a.0 ≡ s.descriptor.id → is_asked query a.1 s.fields row ≡ true
-    → is_told query xs s row ≡ true
-told_seen query xs s row a there same asked =
-    any_told (λ x. same_identifier x.0 s.descriptor.id && is_asked query x.1 s.fields row) xs a there
+reported_seen : (query : Query) (xs : List Asked) (s : Segment) (row : Row) (a : Asked) → Contains xs a → a.0 ≡ s.descriptor.id → is_asked query a.1 s.fields row ≡ true
+    → is_counted query xs s row ≡ true
+reported_seen query xs s row a there same asked =
+    any_counted (λ x. same_identifier x.0 s.descriptor.id && is_asked query x.1 s.fields row) xs a there
     (both_true (same_identifier a.0 s.descriptor.id) (is_asked query a.1 s.fields row) (ap (λ (x : Identifier). same_identifier x s.descriptor.id) same ∙ same_identifier-equiv.refl s.descriptor.id) asked)
 
-module _ (order : List ℕ → List ℕ) (inventory : List Entry) (query : Query) (pairs : List Pair) (exchanges : List Exchange) (missing : List Asked) (groups : List Told)
+module _ (order : List ℕ → List ℕ) (inventory : List Entry) (query : Query) (pairs : List Pair) (exchanges : List Exchange) (missing : List Asked) (groups : List Reported)
     (segments : List Segment) (held : List Held) (sees : Segment → Row → Bool)
     (plan : IsPlanOf inventory query pairs) (gathered : IsGathered order query pairs exchanges missing groups) (served : AreServed inventory query.source segments)
     (holding : IsHoldingOf inventory query.source held) (seen : Sees query held segments sees) where
@@ -341,13 +341,13 @@ module _ (order : List ℕ → List ℕ) (inventory : List Entry) (query : Query
   same_held x = ((λ h. (plan.holding x).1 ((holding x).0 h)), (λ h. (holding x).1 ((plan.holding x).0 h)))
 
   abbrev given : List Asked
-  given = pieces_given query exchanges gathered.rows gathered.told
+  given = pieces_given query exchanges gathered.rows gathered.reported
 
   given_planned : (a : Asked) → Contains given a → Contains (asked_of pairs) a
-  given_planned a there = let f = in_given query exchanges gathered.rows gathered.told a there in planned f.0 a f.1 f.2.0
+  given_planned a there = let f = in_given query exchanges gathered.rows gathered.reported a there in planned f.0 a f.1 f.2.0
 
   given_not_missing : (a : Asked) → Contains given a → Contains missing a → ⊥
-  given_not_missing a there lost = let f = in_given query exchanges gathered.rows gathered.told a there in ((gathered.missing_is a).0 lost).1 f.0 f.1 f.2
+  given_not_missing a there lost = let f = in_given query exchanges gathered.rows gathered.reported a there in ((gathered.missing_is a).0 lost).1 f.0 f.1 f.2
 
   -- a piece of the plan was given, or is missing
   given_or_missing : (a : Asked) → Contains (asked_of pairs) a → Contains given a ⊎ Contains missing a
@@ -358,7 +358,7 @@ module _ (order : List ℕ → List ℕ) (inventory : List Entry) (query : Query
             inr ((gathered.missing_is a).1 (
               there,
               (λ e in_e gives.
-                  false≢true (sym none ∙ any_told (same_asked a) given a (to_given query exchanges gathered.rows gathered.told e a in_e gives) (itself a))),
+                  false≢true (sym none ∙ any_counted (same_asked a) given a (to_given query exchanges gathered.rows gathered.reported e a in_e gives) (itself a))),
             ))
       ]
 
@@ -396,48 +396,48 @@ module _ (order : List ℕ → List ℕ) (inventory : List Entry) (query : Query
         p.3,
       )
 
-  no_miss : (s : Segment) (row : Row) (a : Asked) → Contains given a → a.0 ≡ s.descriptor.id → Has a.1 row.time → is_told query missing s row ≡ true → ⊥
+  no_miss : (s : Segment) (row : Row) (a : Asked) → Contains given a → a.0 ≡ s.descriptor.id → Has a.1 row.time → is_counted query missing s row ≡ true → ⊥
   no_miss s row a there same has h =
-      let m = told_found query missing s row h in
+      let m = reported_found query missing s row h in
       let parts = asked_parts query m.0.1 s row m.3 in
       let in_plan = ((gathered.missing_is m.0).0 m.1).0 in
       let equal : a ≡ m.0 = one a m.0 (given_planned a there) in_plan (same ∙ sym m.2, (row.time, has, parts.0)) in
       given_not_missing a there (subst (Contains missing) (sym equal) m.1)
 
-  counted_to : (s : Segment) → Contains segments s → (row : Row) → is_told query given s row ≡ true → counts query sees missing s row ≡ true
+  counted_to : (s : Segment) → Contains segments s → (row : Row) → is_counted query given s row ≡ true → counts query sees missing s row ≡ true
   counted_to s in_s row h =
-      let f = told_found query given s row h in
+      let f = reported_found query given s row h in
       let parts = asked_parts query f.0.1 s row f.3 in
-      both_true (sees s row && passes_row query s row) (not (is_told query missing s row))
+      both_true (sees s row && passes_row query s row) (not (is_counted query missing s row))
       (both_true (sees s row) (passes_row query s row) (seen_by f.0 s row in_s (given_planned f.0 f.1) f.2 parts.0) parts.1)
-      (ap not (not_so (is_told query missing s row) (no_miss s row f.0 f.1 f.2 parts.0)))
+      (ap not (not_so (is_counted query missing s row) (no_miss s row f.0 f.1 f.2 parts.0)))
 
-  counted_back : (s : Segment) → Contains segments s → (row : Row) → counts query sees missing s row ≡ true → is_told query given s row ≡ true
+  counted_back : (s : Segment) → Contains segments s → (row : Row) → counts query sees missing s row ≡ true → is_counted query given s row ≡ true
   counted_back s in_s row h =
-      let front = first_so (sees s row && passes_row query s row) (not (is_told query missing s row)) h in
+      let front = first_so (sees s row && passes_row query s row) (not (is_counted query missing s row)) h in
       let p = piece_at s row in_s (first_so (sees s row) (passes_row query s row) front) in
       let asked = asked_whole query p.0.1 s row p.3 (second_so (sees s row) (passes_row query s row) front) in
       elim (given_or_missing p.0 p.1) [
-        | inl here ↦ told_seen query given s row p.0 here p.2 asked
+        | inl here ↦ reported_seen query given s row p.0 here p.2 asked
         | inr lost ↦
-            absurd (false≢true (sym (not_true (is_told query missing s row) (second_so (sees s row && passes_row query s row) (not (is_told query missing s row)) h))
-            ∙ told_seen query missing s row p.0 lost p.2 asked))
+            absurd (false≢true (sym (not_true (is_counted query missing s row) (second_so (sees s row && passes_row query s row) (not (is_counted query missing s row)) h))
+            ∙ reported_seen query missing s row p.0 lost p.2 asked))
       ]
 
-  counted : (s : Segment) → Contains segments s → (row : Row) → is_told query given s row ≡ counts query sees missing s row
-  counted s in_s row = bool_same (is_told query given s row) (counts query sees missing s row) (counted_to s in_s row) (counted_back s in_s row)
+  counted : (s : Segment) → Contains segments s → (row : Row) → is_counted query given s row ≡ counts query sees missing s row
+  counted s in_s row = bool_same (is_counted query given s row) (counts query sees missing s row) (counted_to s in_s row) (counted_back s in_s row)
 
-  once_visible : (ss : List Segment) → ((s : Segment) → Contains ss s → Contains segments s) → told_once query given ss ≡ told_visible query sees missing ss
+  once_visible : (ss : List Segment) → ((s : Segment) → Contains ss s → Contains segments s) → counted_once query given ss ≡ counted_visible query sees missing ss
   once_visible [] among = refl
   once_visible (s ∷ more) among =
-      λ i. map (tells query s.fields) (filter_agree (is_told query given s) (counts query sees missing s) (counted s (among s (0, omega arith, refl))) s.rows i)
+      λ i. map (tells query s.fields) (filter_agree (is_counted query given s) (counts query sees missing s) (counted s (among s (0, omega arith, refl))) s.rows i)
       ++ once_visible more (λ x there. among x (Contains-later s more x there)) i
 
-  pub exact : ((e : Exchange) → Contains exchanges e → IsHonest query segments e) → IsResult (kinds_of query) (told_visible query sees missing segments) groups
+  pub exact : ((e : Exchange) → Contains exchanges e → IsHonest query segments e) → IsResult (kinds_of query) (counted_visible query sees missing segments) groups
   exact honest =
       let kinds = kinds_of query in
-      let apart = apart_tested given (given_apart query exchanges gathered.rows gathered.told gathered.asked.in_order
+      let apart = apart_tested given (given_apart query exchanges gathered.rows gathered.reported gathered.asked.in_order
       (λ e f a b in_e in_f in_a in_b. one a b (planned e a in_e in_a) (planned f b in_f in_b)) gathered.given_once) in
-      let told_each = result_alike kinds gathered.rows (told query segments given) groups (given_alike query segments exchanges gathered.rows gathered.told honest) gathered.merged in
-      let once = result_alike kinds (told query segments given) (told_once query given segments) groups (told_alike query segments given served.own apart) told_each in
-      subst (λ (rows : List Told). IsResult kinds rows groups) (once_visible segments (λ s there. there)) once
+      let reported_each = result_alike kinds gathered.rows (counted_groups query segments given) groups (given_alike query segments exchanges gathered.rows gathered.reported honest) gathered.merged in
+      let once = result_alike kinds (counted_groups query segments given) (counted_once query given segments) groups (counted_alike query segments given served.own apart) reported_each in
+      subst (λ (rows : List Reported). IsResult kinds rows groups) (once_visible segments (λ s there. there)) once

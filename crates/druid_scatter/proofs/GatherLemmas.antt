@@ -48,7 +48,7 @@ leading_more step order query pairs first state after round old mid new linked l
       record {
         holds = next_round (Gives query) waits after.waiting round (length mid) (l.0 ++ m.0) (below order (length mid) pairs waits (subst (λ (n : ℕ). AreLinked n pairs) (sym count) linked) o) next.holds;
         rows = next.rows;
-        told = next.told;
+        reported = next.reported;
         merged = next.merged;
       },
 )
@@ -56,7 +56,7 @@ leading_more step order query pairs first state after round old mid new linked l
 -- nothing was asked yet
 opened : (query : Query) (waits : List Waiting) (partial : Partial) → IsStrictlySortedBy place_cmp (pieces_of waits) → IsResult (kinds_of query) [] partial.groups
     → IsState query waits (record { waiting = waits; partial = partial }) 0 0 []
-opened query waits partial s r = record { holds = start (Gives query) waits s; rows = []; told = refl; merged = r }
+opened query waits partial s r = record { holds = start (Gives query) waits s; rows = []; reported = refl; merged = r }
 
 -- what was asked up to a state
 asked_so_far : (query : Query) (order : List ℕ → List ℕ) (pairs : List Pair) (waits : List Waiting) (state : State) (round : ℕ) (exchanges : List Exchange) → AreOrdered order pairs waits
@@ -73,7 +73,7 @@ gathered query order pairs waits state round exchanges o s over = record {
   missing_asked = missing_were_asked (Gives query) order pairs waits state.waiting round exchanges o s.holds over;
   ordered = s.holds.ordered;
   rows = s.rows;
-  told = s.told;
+  reported = s.reported;
   merged = s.merged;
 }
 
@@ -87,8 +87,8 @@ pub gathered_all : {L : Type 0} (step : L → List ℕ → Came → L → Type 0
     → ((w : Waiting) → Contains seen w → length w.order ≤ rounds) → rounds ≤ round → Leading step order query pairs first round state old new
     → IfOk r (λ answer. answer.missing ≡ pieces_of state.waiting) → IfOk r (λ answer. answer.partial ≡ state.partial)
     → IfOk r (λ answer. (exchanges : List Exchange) × AreMade step query exchanges old new × IsGathered order query pairs exchanges answer.missing answer.partial.groups)
-gathered_all step order query pairs waits seen partial first state rounds round old new (Err f) e o none same most over l missing told = tt
-gathered_all step order query pairs waits seen partial first state rounds round old new (Ok answer) e o none same most over l missing told =
+gathered_all step order query pairs waits seen partial first state rounds round old new (Err f) e o none same most over l missing reported = tt
+gathered_all step order query pairs waits seen partial first state rounds round old new (Ok answer) e o none same most over l missing reported =
     let s = l.2 waits o (begun query order pairs waits partial first e o none) in
     let ended : IsOver state.waiting round = record {
       each = λ w c.
@@ -99,7 +99,7 @@ gathered_all step order query pairs waits seen partial first state rounds round 
     let g = gathered query order pairs waits state round l.0 o s ended in (
       l.0,
       l.1,
-      subst (λ (p : Partial). IsGathered order query pairs l.0 answer.missing p.groups) (sym told)
+      subst (λ (p : Partial). IsGathered order query pairs l.0 answer.missing p.groups) (sym reported)
           (subst (λ (m : List Asked). IsGathered order query pairs l.0 m state.partial.groups) (sym missing) g),
     )
 

@@ -25,7 +25,7 @@ use Rattle.druid_query.specs.Query.{Query}
 use Rattle.druid_query.specs.Asked.{Asked, LiesInside, Overlap}
 use Rattle.druid_query.specs.SubQuery.{IsAsked}
 use Rattle.druid_scatter.specs.Plan.{Pair, asked_of, place_cmp, IsWanted, AreReplicas, IsPlanOf}
-use Rattle.druid_scatter.proofs.PlanLemmas.{each_less, less_each, is_less_nat, rest_rises, first_below, runs_behind, same_id}
+use Rattle.druid_scatter.proofs.PlanLemmas.{each_less, less_each, is_less_nat, rest_rises, first_below, runs_beyond, same_id}
 use Rattle.druid_scatter.proofs.StepLemmas.{place_cmp-total}
 
 -- ---- one list
@@ -64,9 +64,9 @@ one_list {K} R o (x ∷ xs) (y ∷ ys) s t to back =
     first : x ≡ y
     first = elim (Contains-cons y ys x (to x (0, omega arith, refl))) [
       | inl same ↦ sym same
-      | inr behind ↦ elim (Contains-cons x xs y (back y (0, omega arith, refl))) [
+      | inr beyond ↦ elim (Contains-cons x xs y (back y (0, omega arith, refl))) [
         | inl same ↦ same
-        | inr later ↦ absurd (apart R o x x (o.trans x y x (sorted_first R x xs s y later) (sorted_first R y ys t x behind)) refl)
+        | inr later ↦ absurd (apart R o x x (o.trans x y x (sorted_first R x xs s y later) (sorted_first R y ys t x beyond)) refl)
       ]
     ]
 
@@ -137,11 +137,11 @@ one_run [] r a b t c d h k = absurd (Contains-nil a c)
 one_run (x ∷ more) r a b t c d h k = elim (Contains-cons x more a c) [
   | inl first ↦ elim (Contains-cons x more b d) [
     | inl second ↦ sym first ∙ second
-    | inr there ↦ let behind = runs_behind x more r b there in
+    | inr there ↦ let beyond = runs_beyond x more r b there in
         let inside = subst (λ (y : Shown). Has y.interval t) (sym first) h in absurd (omega arith)
   ]
   | inr here ↦ elim (Contains-cons x more b d) [
-    | inl second ↦ let behind = runs_behind x more r a here in
+    | inl second ↦ let beyond = runs_beyond x more r a here in
         let inside = subst (λ (y : Shown). Has y.interval t) (sym second) k in absurd (omega arith)
     | inr there ↦ one_run more (AreRuns-rest x more r) a b t here there h k
   ]
@@ -207,4 +207,4 @@ may_be_asked inventory query pairs asked p described some among sorted = record 
     places : (i j : ℕ) (a : Asked) → i < length asked → j < length asked → (i < j) ⊎ ((i ≡ j) ⊎ (j < i)) → get_or asked i a ≡ get_or asked j a → i ≡ j
     places i j a li lj (inl before) same = absurd (apart place_cmp place_cmp-total _ _ (sorted_later place_cmp asked sorted i j a before lj) same)
     places i j a li lj (inr (inl is)) same = is
-    places i j a li lj (inr (inr behind)) same = absurd (apart place_cmp place_cmp-total _ _ (sorted_later place_cmp asked sorted j i a behind li) (sym same))
+    places i j a li lj (inr (inr beyond)) same = absurd (apart place_cmp place_cmp-total _ _ (sorted_later place_cmp asked sorted j i a beyond li) (sym same))

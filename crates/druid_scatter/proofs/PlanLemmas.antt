@@ -20,7 +20,7 @@ use Rattle.druid_shard.proofs.MemberLemmas.{Contains-map, Contains-map_back, Con
 use Rattle.druid_timeline.specs.Holding.{Held, Serving, held_of, members_of, HasRows, ServesRows}
 use Rattle.druid_timeline.proofs.HoldingLemmas.{in_filter, from_filter}
 use Rattle.druid_chunks.proofs.ChunkLemmas.{same_group-same, same_group-exact}
-use Rattle.druid_timeline.specs.Pieces.{Shown, Told, shown_of, AreRuns, ArePiecesIn, ArePartitions}
+use Rattle.druid_timeline.specs.Pieces.{Shown, Reported, shown_of, AreRuns, ArePiecesIn, ArePartitions}
 use Rattle.druid_timeline.specs.Visible.{IsVisible}
 use Rattle.druid_timeline.proofs.RunsLemmas.{AreRuns-first, AreRuns-rest}
 use Rattle.druid_inventory.specs.Entry.{Entry}
@@ -82,7 +82,7 @@ first_below p parts h q c =
     subst (λ (n : ℕ). p < n) c.2 up
 
 -- the partitions of a piece
-part_order : (source : List ℕ) (t : Told) (parts : List ℕ) → IsStrictlyIncreasing parts → IsStrictlySortedBy place_cmp (map (asked_at source t) parts)
+part_order : (source : List ℕ) (t : Reported) (parts : List ℕ) → IsStrictlyIncreasing parts → IsStrictlySortedBy place_cmp (map (asked_at source t) parts)
 unfolding IsStrictlySortedBy
 part_order source t [] h = tt
 part_order source t (p ∷ parts) h = (
@@ -93,57 +93,57 @@ part_order source t (p ∷ parts) h = (
 )
 
 -- each run after the first starts where that ends, or later
-pub runs_behind : (a : Shown) (more : List Shown) → AreRuns (a ∷ more) → (s : Shown) → Contains more s → a.interval.end ≤ s.interval.start
-runs_behind a [] r s c = absurd (Contains-nil s c)
-runs_behind a (b ∷ more) r s c =
+pub runs_beyond : (a : Shown) (more : List Shown) → AreRuns (a ∷ more) → (s : Shown) → Contains more s → a.interval.end ≤ s.interval.start
+runs_beyond a [] r s c = absurd (Contains-nil s c)
+runs_beyond a (b ∷ more) r s c =
     elim (Contains-cons b more s c) [
       | inl same ↦ subst (λ (x : Shown). a.interval.end ≤ x.interval.start) same r.1
-      | inr there ↦ let first = AreRuns-first b more r.3 in let behind = runs_behind b more r.3 s there in omega arith
+      | inr there ↦ let first = AreRuns-first b more r.3 in let beyond = runs_beyond b more r.3 s there in omega arith
     ]
 
 -- what stands in a plan starts with its piece
-starts_at : (source : List ℕ) (told : List Told) (a : Asked) → Contains (asked_in source told) a → (t : Told) × Contains told t × Contains (asked_for source t) a × (a.1 ≡ t.interval)
-starts_at source told a c =
-    let of = Contains-flat_map (asked_for source) told a c in
+starts_at : (source : List ℕ) (reported : List Reported) (a : Asked) → Contains (asked_in source reported) a → (t : Reported) × Contains reported t × Contains (asked_for source t) a × (a.1 ≡ t.interval)
+starts_at source reported a c =
+    let of = Contains-flat_map (asked_for source) reported a c in
     let at = Contains-map (asked_at source of.0) of.0.parts a of.2 in
     (of.0, of.1, of.2, ap (λ (b : Asked). b.1) (sym at.2))
 
-pub in_order : (source : List ℕ) (told : List Told) → AreRuns (map shown_of told) → All (λ t. IsStrictlyIncreasing t.parts) told → IsStrictlySortedBy place_cmp (asked_in source told)
+pub in_order : (source : List ℕ) (reported : List Reported) → AreRuns (map shown_of reported) → All (λ t. IsStrictlyIncreasing t.parts) reported → IsStrictlySortedBy place_cmp (asked_in source reported)
 unfolding IsStrictlySortedBy
 in_order source [] r up = tt
-in_order source (t ∷ told) r up =
-    sorted_append place_cmp (asked_for source t) (asked_in source told) (part_order source t t.parts (All-head (λ t. IsStrictlyIncreasing t.parts) t told up))
-    (in_order source told (AreRuns-rest (shown_of t) (map shown_of told) r) (All-tail (λ t. IsStrictlyIncreasing t.parts) t told up))
+in_order source (t ∷ reported) r up =
+    sorted_append place_cmp (asked_for source t) (asked_in source reported) (part_order source t t.parts (All-head (λ t. IsStrictlyIncreasing t.parts) t reported up))
+    (in_order source reported (AreRuns-rest (shown_of t) (map shown_of reported) r) (All-tail (λ t. IsStrictlyIncreasing t.parts) t reported up))
     (λ x y c d.
     let at = Contains-map (asked_at source t) t.parts x c in
-    let of = starts_at source told y d in
-    let behind = runs_behind (shown_of t) (map shown_of told) r (shown_of of.0) (Contains-map_back shown_of told of.0 of.1) in
-    let stretch = AreRuns-first (shown_of t) (map shown_of told) r in
+    let of = starts_at source reported y d in
+    let beyond = runs_beyond (shown_of t) (map shown_of reported) r (shown_of of.0) (Contains-map_back shown_of reported of.0 of.1) in
+    let stretch = AreRuns-first (shown_of t) (map shown_of reported) r in
     let from : x.1.start ≡ t.interval.start = ap (λ (b : Asked). b.1.start) (sym at.2) in
     let to : y.1.start ≡ of.0.interval.start = ap (λ (e : Extent). e.start) of.3 in
     starts_before x y (omega arith))
 
 -- ---- what is wanted
 
-pub part_of : (source : List ℕ) (held : List Held) (told : List Told) → All (λ t. ArePartitions (members_of held t.group) t.parts) told → (a : Asked)
-    → Contains (asked_in source told) a ↔ IsPart source held (map shown_of told) a
-part_of source held told parts a = (
-  λ c. let of = Contains-flat_map (asked_for source) told a c in
+pub part_of : (source : List ℕ) (held : List Held) (reported : List Reported) → All (λ t. ArePartitions (members_of held t.group) t.parts) reported → (a : Asked)
+    → Contains (asked_in source reported) a ↔ IsPart source held (map shown_of reported) a
+part_of source held reported parts a = (
+  λ c. let of = Contains-flat_map (asked_for source) reported a c in
       let at = Contains-map (asked_at source of.0) of.0.parts a of.2 in
-      subst (IsPart source held (map shown_of told)) at.2 (record {
+      subst (IsPart source held (map shown_of reported)) at.2 (record {
         of_source = refl;
-        shown = Contains-map_back shown_of told of.0 of.1;
-        member = ((All-contains (λ t. ArePartitions (members_of held t.group) t.parts) told of.0 parts of.1).all at.0).0 at.1;
+        shown = Contains-map_back shown_of reported of.0 of.1;
+        member = ((All-contains (λ t. ArePartitions (members_of held t.group) t.parts) reported of.0 parts of.1).all at.0).0 at.1;
       }),
-  λ w. let of = Contains-map shown_of told (record { interval = a.1; group = group_of a.0 }) w.shown in
+  λ w. let of = Contains-map shown_of reported (record { interval = a.1; group = group_of a.0 }) w.shown in
       let group : of.0.group ≡ group_of a.0 = ap (λ (s : Shown). s.group) of.2 in
       let interval : of.0.interval ≡ a.1 = ap (λ (s : Shown). s.interval) of.2 in
-      let there = ((All-contains (λ t. ArePartitions (members_of held t.group) t.parts) told of.0 parts of.1).all a.0.partition).1
+      let there = ((All-contains (λ t. ArePartitions (members_of held t.group) t.parts) reported of.0 parts of.1).all a.0.partition).1
       (subst (λ (g : Group). HasPartition (members_of held g) a.0.partition) (sym group) w.member) in
       let same : asked_at source of.0 a.0.partition ≡ a =
       λ i. (record { source = sym w.of_source i; interval = (group i).interval; version = (group i).version; partition = a.0.partition }, interval i) in
-      subst (Contains (asked_in source told)) same
-      (Contains-flat_map_back (asked_for source) told of.0 (asked_at source of.0 a.0.partition) of.1
+      subst (Contains (asked_in source reported)) same
+      (Contains-flat_map_back (asked_for source) reported of.0 (asked_at source of.0 a.0.partition) of.1
       (Contains-map_back (asked_at source of.0) of.0.parts a.0.partition there)),
 )
 
@@ -192,11 +192,11 @@ pub nothing_sorted : (pairs : List Pair) → pairs ≡ [] → IsStrictlySortedBy
 unfolding IsStrictlySortedBy
 nothing_sorted pairs e = subst (λ (ps : List Pair). IsStrictlySortedBy place_cmp (asked_of ps)) (sym e) tt
 
-pub pairs_sorted : (source : List ℕ) (held : List Held) (set : ℕ → Type 0) (told : List Told) (pairs : List Pair) → asked_of pairs ≡ asked_in source told → ArePiecesIn set held (map shown_of told)
-    → All (λ t. ArePartitions (members_of held t.group) t.parts) told → IsStrictlySortedBy place_cmp (asked_of pairs)
-pairs_sorted source held set told pairs e pieces parts =
+pub pairs_sorted : (source : List ℕ) (held : List Held) (set : ℕ → Type 0) (reported : List Reported) (pairs : List Pair) → asked_of pairs ≡ asked_in source reported → ArePiecesIn set held (map shown_of reported)
+    → All (λ t. ArePartitions (members_of held t.group) t.parts) reported → IsStrictlySortedBy place_cmp (asked_of pairs)
+pairs_sorted source held set reported pairs e pieces parts =
     subst (IsStrictlySortedBy place_cmp) (sym e)
-    (in_order source told pieces.runs (All-weaker (λ (t : Told). ArePartitions (members_of held t.group) t.parts) (λ t. IsStrictlyIncreasing t.parts) (λ t h. h.rising) told parts))
+    (in_order source reported pieces.runs (All-weaker (λ (t : Reported). ArePartitions (members_of held t.group) t.parts) (λ t. IsStrictlyIncreasing t.parts) (λ t h. h.rising) reported parts))
 
 nothing_visible : (t : ℕ) (g : Group) → IsVisible [] t g → ⊥
 nothing_visible t g v = Contains-nil v.candidate.complete.some.0 v.candidate.complete.some.1
@@ -273,43 +273,43 @@ served_rows held id (m, there, partition, serves) =
       ),
     )
 
-pub planned : (inventory : List Entry) (query : Query) (serving : Serving) (source : List ℕ) (set : List Extent) (told : List Told) (all pairs : List Pair) → source ≡ query.source → serving.source ≡ source
-    → IsHoldingOf inventory source serving.held → SameInstants set query.intervals → ArePiecesIn (AnyHas set) serving.held (map shown_of told)
-    → All (λ t. ArePartitions (members_of serving.held t.group) t.parts) told → asked_of all ≡ asked_in source told → All (IsServedBy serving) all → pairs ≡ filter has_nodes all → IsPlanOf inventory query pairs
-planned inventory query serving source set told all pairs s e holding instants pieces parts asked served kept = subst (IsPlanOf inventory query) (sym kept) (record {
+pub planned : (inventory : List Entry) (query : Query) (serving : Serving) (source : List ℕ) (set : List Extent) (reported : List Reported) (all pairs : List Pair) → source ≡ query.source → serving.source ≡ source
+    → IsHoldingOf inventory source serving.held → SameInstants set query.intervals → ArePiecesIn (AnyHas set) serving.held (map shown_of reported)
+    → All (λ t. ArePartitions (members_of serving.held t.group) t.parts) reported → asked_of all ≡ asked_in source reported → All (IsServedBy serving) all → pairs ≡ filter has_nodes all → IsPlanOf inventory query pairs
+planned inventory query serving source set reported all pairs s e holding instants pieces parts asked served kept = subst (IsPlanOf inventory query) (sym kept) (record {
   held = serving.held;
-  pieces = map shown_of told;
+  pieces = map shown_of reported;
   holding = subst (λ (n : _). IsHoldingOf inventory n serving.held) s holding;
-  visible = any_same set query.intervals serving.held (map shown_of told) instants pieces;
+  visible = any_same set query.intervals serving.held (map shown_of reported) instants pieces;
   paired = record {
-    all = λ a. subst (λ (n : _). Contains (asked_of (filter has_nodes all)) a ↔ IsWanted n serving.held (map shown_of told) a) s (forth a, back a);
+    all = λ a. subst (λ (n : _). Contains (asked_of (filter has_nodes all)) a ↔ IsWanted n serving.held (map shown_of reported) a) s (forth a, back a);
     replicas = each_replica;
-    ordered = filter_sorted has_nodes all (pairs_sorted source serving.held (AnyHas set) told all asked pieces parts);
+    ordered = filter_sorted has_nodes all (pairs_sorted source serving.held (AnyHas set) reported all asked pieces parts);
   };
 })
   where
-    part : (a : Asked) → Contains (asked_of all) a → IsPart source serving.held (map shown_of told) a
-    part a there = (part_of source serving.held told parts a).0 (subst (λ (xs : _). Contains xs a) asked there)
+    part : (a : Asked) → Contains (asked_of all) a → IsPart source serving.held (map shown_of reported) a
+    part a there = (part_of source serving.held reported parts a).0 (subst (λ (xs : _). Contains xs a) asked there)
 
     in_all : (p : Pair) → Contains all p → Contains (asked_of all) p.asked
     in_all p there = Contains-map_back (λ (q : Pair). q.asked) all p there
 
-    forth : (a : Asked) → Contains (asked_of (filter has_nodes all)) a → IsWanted source serving.held (map shown_of told) a
+    forth : (a : Asked) → Contains (asked_of (filter has_nodes all)) a → IsWanted source serving.held (map shown_of reported) a
     forth a there =
         let of = Contains-map (λ (q : Pair). q.asked) (filter has_nodes all) a there in
         let is = from_filter has_nodes all of.0 of.1 in
         let node = some_node of.0.nodes is.1 in
         let serves = ((All-contains (IsServedBy serving) all of.0 served is.0).all node.0).0 node.1 in
         let mine = part of.0.asked (in_all of.0 is.0) in
-        subst (IsWanted source serving.held (map shown_of told)) of.2 (record {
+        subst (IsWanted source serving.held (map shown_of reported)) of.2 (record {
           of_source = mine.of_source;
           shown = mine.shown;
           served = rows_served serving.held node.0 of.0.asked.0 serves.1;
         })
 
-    back : (a : Asked) → IsWanted source serving.held (map shown_of told) a → Contains (asked_of (filter has_nodes all)) a
+    back : (a : Asked) → IsWanted source serving.held (map shown_of reported) a → Contains (asked_of (filter has_nodes all)) a
     back a w =
-        let in_it = (part_of source serving.held told parts a).1 (record { of_source = w.of_source; shown = w.shown; member = (w.served.0, w.served.1, w.served.2) }) in
+        let in_it = (part_of source serving.held reported parts a).1 (record { of_source = w.of_source; shown = w.shown; member = (w.served.0, w.served.1, w.served.2) }) in
         let of = Contains-map (λ (q : Pair). q.asked) all a (subst (λ (xs : _). Contains xs a) (sym asked) in_it) in
         let rows = served_rows serving.held a.0 w.served in
         let serves : ServesRows serving rows.0 of.0.asked.0 = subst (λ (b : Asked). ServesRows serving rows.0 b.0) (sym of.2) (w.of_source ∙ sym e, rows.1) in
@@ -325,7 +325,7 @@ planned inventory query serving source set told all pairs s e holding instants p
 
 -- ---- loops
 
-pub one_more_asked : (source : List ℕ) (t : Told) (old new : List Pair) (p : Pair) (front : List Asked) (k part d : ℕ) (parts : List ℕ) → parts ≡ t.parts → new ≡ old ++ p ∷ [] → p.asked ≡ asked_at source t part → k < length parts
+pub one_more_asked : (source : List ℕ) (t : Reported) (old new : List Pair) (p : Pair) (front : List Asked) (k part d : ℕ) (parts : List ℕ) → parts ≡ t.parts → new ≡ old ++ p ∷ [] → p.asked ≡ asked_at source t part → k < length parts
     → part ≡ get_or parts k d → asked_of old ≡ front ++ map (asked_at source t) (take k t.parts) → asked_of new ≡ front ++ map (asked_at source t) (take (k + 1) t.parts)
 one_more_asked source t old new p front k part d parts same e is within at so_far =
     let there : part ≡ get_or t.parts k d = at ∙ ap (λ (ps : List ℕ). get_or ps k d) same in
@@ -334,16 +334,16 @@ one_more_asked source t old new p front k part d parts same e is within at so_fa
     ∙ ap (λ xs. front ++ xs) (ap (λ (a : Asked). map (asked_at source t) (take k t.parts) ++ a ∷ []) (is ∙ ap (asked_at source t) there)
     ∙ sym (map_more (asked_at source t) t.parts k d below))
 
-pub one_more_piece : (source : List ℕ) (told : List Told) (old new : List Pair) (t : Told) (k : ℕ) → k < length told → t ≡ get_or told k t → asked_of new ≡ asked_of old ++ asked_for source t
-    → asked_of old ≡ asked_in source (take k told) → asked_of new ≡ asked_in source (take (k + 1) told)
-one_more_piece source told old new t k within at e so_far =
-    e ∙ ap (λ xs. xs ++ asked_for source t) so_far ∙ ap (λ (u : Told). asked_in source (take k told) ++ asked_for source u) at
-    ∙ more (get_or told k t) ∙ ap (asked_in source) (sym (take_more told k t within))
+pub one_more_piece : (source : List ℕ) (reported : List Reported) (old new : List Pair) (t : Reported) (k : ℕ) → k < length reported → t ≡ get_or reported k t → asked_of new ≡ asked_of old ++ asked_for source t
+    → asked_of old ≡ asked_in source (take k reported) → asked_of new ≡ asked_in source (take (k + 1) reported)
+one_more_piece source reported old new t k within at e so_far =
+    e ∙ ap (λ xs. xs ++ asked_for source t) so_far ∙ ap (λ (u : Reported). asked_in source (take k reported) ++ asked_for source u) at
+    ∙ more (get_or reported k t) ∙ ap (asked_in source) (sym (take_more reported k t within))
   where
-    more : (u : Told) → asked_in source (take k told) ++ asked_for source u ≡ asked_in source (take k told ++ u ∷ [])
-    more u = flat_map_more (asked_for source) [] (take k told) u
+    more : (u : Reported) → asked_in source (take k reported) ++ asked_for source u ≡ asked_in source (take k reported ++ u ∷ [])
+    more u = flat_map_more (asked_for source) [] (take k reported) u
 
-pub all_asked : (source : List ℕ) (t : Told) (old : List Pair) (front : List Asked) (k : ℕ) (parts : List ℕ) → parts ≡ t.parts → length parts ≤ k
+pub all_asked : (source : List ℕ) (t : Reported) (old : List Pair) (front : List Asked) (k : ℕ) (parts : List ℕ) → parts ≡ t.parts → length parts ≤ k
     → asked_of old ≡ front ++ map (asked_at source t) (take k t.parts) → asked_of old ≡ front ++ asked_for source t
 all_asked source t old front k parts same within so_far =
     so_far ∙ ap (λ (ps : List ℕ). front ++ map (asked_at source t) ps) (take_all k t.parts (subst (λ (ps : List ℕ). length ps ≤ k) same within))

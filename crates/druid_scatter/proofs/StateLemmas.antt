@@ -39,10 +39,10 @@ pub tells_itself : (p : Partial) → IsPartial p → IsResult p.kinds p.groups p
 tells_itself p valid = settled p.kinds p.groups valid.ordered (λ g c. All-contains (HasNumbers p.kinds) p.groups g valid.numbers c)
 
 -- an answer's groups are groups of the query
-pub partial_told : (query : Query) (e : Exchange) (missing : List Asked) (p : Partial) → Answers query e missing p.groups → p.kinds ≡ kinds_of query → IsPartialFor query p
-partial_told query e missing p a kinds = record {
+pub partial_reported : (query : Query) (e : Exchange) (missing : List Asked) (p : Partial) → Answers query e missing p.groups → p.kinds ≡ kinds_of query → IsPartialFor query p
+partial_reported query e missing p a kinds = record {
   kinds = kinds;
-  each = All-permutation (IsGroupFor query) a.told.told.rows p.groups a.told.told.same a.told.told.listed.each;
+  each = All-permutation (IsGroupFor query) a.reported.reported.rows p.groups a.reported.reported.same a.reported.reported.listed.each;
 }
 
 pub taken : (query : Query) (round node : ℕ) (old new : State) (e : Exchange) (missing : List Asked) (kinds : List AggregatorKind) (groups : List Group) → old.partial.kinds ≡ kinds_of query → kinds ≡ kinds_of query
@@ -127,7 +127,7 @@ kept_by query order pairs waits round node old new e exchanges o h asked sorted 
         let same : v.0 ≡ w = o.own v.0 w ((h.left_are v.0).0 v.1).0 ((h.left_are w).0 is.0).0 v.2 in
         let turn = is_node-same (slice_get w.order round) node (subst (λ (u : Waiting). slice_get u.order round ≡ Some node) same v.3) in
         let stands = (t.kept.meaning w).0 is.1 turn in
-        let piece : stands.0 ≡ w.asked = one_piece e.asked sorted stands.0 w.asked (t.answers.told.were_asked stands.0 stands.1) g.0 stands.2 in
+        let piece : stands.0 ≡ w.asked = one_piece e.asked sorted stands.0 w.asked (t.answers.reported.were_asked stands.0 stands.1) g.0 stands.2 in
         let missed : t.missing ≡ g.1 = (answers_same query e t.missing g.1 t.groups g.2 t.answers g.3).0 in
         g.4 (subst (λ (m : _). Contains m w.asked) missed (subst (Contains t.missing) piece stands.1)),
   ),
@@ -177,7 +177,7 @@ state_step query order pairs waits round node old new exchanges e o s of_node as
     ordered = subst (λ (ws : _). IsStrictlySortedBy place_cmp (pieces_of ws)) (sym t.kept.kept) (sorted_filter place_cmp (λ (w : Waiting). w.asked) t.kept.test old.waiting s.holds.ordered);
   });
   rows = s.rows ++ t.groups;
-  told = tell_more query exchanges s.rows e t.missing t.groups s.told t.answers;
+  reported = tell_more query exchanges s.rows e t.missing t.groups s.reported t.answers;
   merged = merge_of_results (kinds_of query) s.rows t.groups old.partial.groups t.groups new.partial.groups s.merged t.itself t.merged;
 }
   where
@@ -194,7 +194,7 @@ state_step query order pairs waits round node old new exchanges e o s of_node as
     ordered = s.holds.ordered;
   });
   rows = s.rows;
-  told = tell_lost query exchanges s.rows e s.told t.0;
+  reported = tell_lost query exchanges s.rows e s.reported t.0;
   merged = s.merged;
 })
 
@@ -233,7 +233,7 @@ node_step query round node wanted old new None None e m w t = λ order pairs wai
     let none : wanted_of round old.waiting node ≡ [] = sym w ∙ sub_none query (wanted node) e in
     subst (λ (es : List Exchange). IsState query waits new round (node + 1) es) (sym (append-nil exchanges))
     (subst (λ (x : State). IsState query waits x round (node + 1) exchanges) (sym t)
-    (record { holds = skip (Gives query) waits old.waiting round node exchanges s.holds none; rows = s.rows; told = s.told; merged = s.merged }))
+    (record { holds = skip (Gives query) waits old.waiting round node exchanges s.holds none; rows = s.rows; reported = s.reported; merged = s.merged }))
 node_step query round node wanted old new (Some sub) (Some c) e m w t = λ order pairs waits exchanges o s.
     let of = sub_some query (wanted node) sub e in
     let x : Exchange = record { node = node; asked = wanted node; came = c } in
@@ -282,17 +282,17 @@ pub settled_step : (query : Query) (round : ℕ) (first old new : State) (subs :
     → s ≡ get_or subs k s → c ≡ get_or came k c → ((n : ℕ) → k ≤ n → wanted_of round old.waiting n ≡ wanted_of round first.waiting n) → TookIf round k old new s c
     → Goes query round 0 k first old (made_from (wanted_of round first.waiting) 0 (take k came))
     → Goes query round 0 (k + 1) first new (made_from (wanted_of round first.waiting) 0 (take (k + 1) came))
-settled_step query round first old new subs came k s c e m within at there behind t g =
+settled_step query round first old new subs came k s c e m within at there beyond t g =
     let wanted = wanted_of round first.waiting in
     let match : is_some s ≡ is_some c = ap is_some at ∙ matched_at subs came k s c m within ∙ ap is_some (sym there) in
-    let one = node_step query round k wanted old new s c (sub_at query wanted subs k s e within at) match (sym (behind k (omega arith))) t in
+    let one = node_step query round k wanted old new s c (sub_at query wanted subs k s e within at) match (sym (beyond k (omega arith))) t in
     let inside : k < length came = subst (λ (n : ℕ). k < n) (as_many subs came m) within in
     subst (λ (es : List Exchange). Goes query round 0 (k + 1) first new es) (sym (made_more wanted came k c inside there))
     (goes_on query round 0 k (k + 1) first old new (made_from wanted 0 (take k came)) (made_from wanted k (c ∷ [])) g one)
 
-pub behind_step : (round : ℕ) (first old new : State) (k : ℕ) (s : Option SubQuery) (c : Option Came) → ((n : ℕ) → k ≤ n → wanted_of round old.waiting n ≡ wanted_of round first.waiting n) → TookIf round k old new s c
+pub beyond_step : (round : ℕ) (first old new : State) (k : ℕ) (s : Option SubQuery) (c : Option Came) → ((n : ℕ) → k ≤ n → wanted_of round old.waiting n ≡ wanted_of round first.waiting n) → TookIf round k old new s c
     → (n : ℕ) → k + 1 ≤ n → wanted_of round new.waiting n ≡ wanted_of round first.waiting n
-behind_step round first old new k s c behind t n h = still_wanted round k old new s c t n (omega arith) ∙ behind n (omega arith)
+beyond_step round first old new k s c beyond t n h = still_wanted round k old new s c t n (omega arith) ∙ beyond n (omega arith)
 
 pub settled_all : (query : Query) (round : ℕ) (first last : State) (subs : List (Option SubQuery)) (came : List (Option Came)) (k : ℕ) → AllZip (λ s c. is_some s ≡ is_some c) subs came → k ≡ length subs
     → Goes query round 0 k first last (made_from (wanted_of round first.waiting) 0 (take k came)) → Goes query round 0 (length subs) first last (made_from (wanted_of round first.waiting) 0 came)

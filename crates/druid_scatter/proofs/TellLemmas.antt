@@ -51,25 +51,25 @@ pub other_shape : (sub : SubQuery) (bytes : List ℕ) (status : ℕ) (body rest 
     → ((m : List Asked) (g : List Group) → TellsAnswer sub d m g → ⊥) → TellsNothing sub bytes
 other_shape sub bytes status body rest d r reads none m g t =
     let there = subst (λ (b : List ℕ). ReadsAs b t.json) (body_same sub bytes status body rest m g r t) t.reads in
-    none m g (subst (λ (e : Data). TellsAnswer sub e m g) (data_same body t.json d there reads) t.told)
+    none m g (subst (λ (e : Data). TellsAnswer sub e m g) (data_same body t.json d there reads) t.reported)
 
-pub told_no_json : (sub : SubQuery) (bytes : List ℕ) (status : ℕ) (body rest : List ℕ) (fault : PartialFault) → IsResponse bytes status body rest → IsAnswerOf sub body (Err fault) → fault ≡ NotJson → TellsNothing sub bytes
-told_no_json sub bytes status body rest fault r a e = no_json sub bytes status body rest r (subst (λ (f : PartialFault). IsAnswerOf sub body (Err f)) e a)
+pub reported_no_json : (sub : SubQuery) (bytes : List ℕ) (status : ℕ) (body rest : List ℕ) (fault : PartialFault) → IsResponse bytes status body rest → IsAnswerOf sub body (Err fault) → fault ≡ NotJson → TellsNothing sub bytes
+reported_no_json sub bytes status body rest fault r a e = no_json sub bytes status body rest r (subst (λ (f : PartialFault). IsAnswerOf sub body (Err f)) e a)
 
-pub told_other_shape : (sub : SubQuery) (bytes : List ℕ) (status : ℕ) (body rest : List ℕ) (fault : PartialFault) → IsResponse bytes status body rest → IsAnswerOf sub body (Err fault) → fault ≡ Shape → TellsNothing sub bytes
-told_other_shape sub bytes status body rest fault r a e =
+pub reported_other_shape : (sub : SubQuery) (bytes : List ℕ) (status : ℕ) (body rest : List ℕ) (fault : PartialFault) → IsResponse bytes status body rest → IsAnswerOf sub body (Err fault) → fault ≡ Shape → TellsNothing sub bytes
+reported_other_shape sub bytes status body rest fault r a e =
     let b = subst (λ (f : PartialFault). IsAnswerOf sub body (Err f)) e a in
     other_shape sub bytes status body rest b.0 r b.1 b.2
 
-told_same : (sub : SubQuery) (d : Data) (m n : List Asked) (g h : List Group) → TellsAnswer sub d m g → TellsAnswer sub d n h → (m ≡ n) × (g ≡ h)
-told_same sub d m n g h t u =
+reported_same : (sub : SubQuery) (d : Data) (m n : List Asked) (g h : List Group) → TellsAnswer sub d m g → TellsAnswer sub d n h → (m ≡ n) × (g ≡ h)
+reported_same sub d m n g h t u =
     let rows : t.rows ≡ u.rows = same_Some t.rows u.rows (sym t.found ∙ u.found) in
-    (same_Some m n (sym t.missed ∙ u.missed), back.one_reading sub.query u.rows g h (subst (λ (r : Data). TellsGroups sub.query r g) rows t.told) u.told)
+    (same_Some m n (sym t.missed ∙ u.missed), back.one_reading sub.query u.rows g h (subst (λ (r : Data). TellsGroups sub.query r g) rows t.reported) u.reported)
 
 pub tells_same : (sub : SubQuery) (bytes : List ℕ) (m n : List Asked) (g h : List Group) → Tells sub bytes m g → Tells sub bytes n h → (m ≡ n) × (g ≡ h)
 tells_same sub bytes m n g h t u =
     let there = subst (λ (b : List ℕ). ReadsAs b u.json) (body_same sub bytes 200 t.body t.rest n h t.response u) u.reads in
-    told_same sub t.json m n g h t.told (subst (λ (e : Data). TellsAnswer sub e n h) (data_same t.body u.json t.json there t.reads) u.told)
+    reported_same sub t.json m n g h t.reported (subst (λ (e : Data). TellsAnswer sub e n h) (data_same t.body u.json t.json there t.reads) u.reported)
 
 -- ---- exchanges
 
@@ -79,7 +79,7 @@ same_bytes a b came e f = cc
 pub answer_tells : (query : Query) (e : Exchange) (bytes : List ℕ) (m : List Asked) (g : List Group) → e.came ≡ Ok bytes → Answers query e m g → Tells (record { query = query; asked = e.asked }) bytes m g
 answer_tells query e bytes m g came a =
     let same : a.bytes ≡ bytes = same_bytes a.bytes bytes e.came a.came came in
-    record { body = a.body; rest = a.rest; response = subst (λ (b : List ℕ). IsResponse b 200 a.body a.rest) same a.response; json = a.json; reads = a.reads; told = a.told }
+    record { body = a.body; rest = a.rest; response = subst (λ (b : List ℕ). IsResponse b 200 a.body a.rest) same a.response; json = a.json; reads = a.reads; reported = a.reported }
 
 pub answers_same : (query : Query) (e : Exchange) (m n : List Asked) (g h : List Group) → Answers query e m g → Answers query e n h → (m ≡ n) × (g ≡ h)
 answers_same query e m n g h a b =

@@ -26,7 +26,7 @@ rising_alone xs up i j d li lj e = both (trichotomy i j)
     both : (i < j) ⊎ ((i ≡ j) ⊎ (j < i)) → i ≡ j
     both (inl before) = let below = AllPairs-from_increasing xs up i j d before lj in absurd (omega arith)
     both (inr (inl same)) = same
-    both (inr (inr behind)) = let below = AllPairs-from_increasing xs up j i d behind li in absurd (omega arith)
+    both (inr (inr beyond)) = let below = AllPairs-from_increasing xs up j i d beyond li in absurd (omega arith)
 
 -- nodes that rise stand once, in whatever order they are picked
 pub once_picked : (nodes order : List ℕ) → IsPermutation nodes order → IsStrictlyIncreasing nodes → StandsOnce order

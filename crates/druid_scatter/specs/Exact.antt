@@ -15,7 +15,7 @@ use Rattle.druid_query.specs.Query.{Query}
 use Rattle.druid_query.specs.Asked.{Asked}
 use Rattle.druid_query.specs.AskedOrder.{same_asked}
 use Rattle.druid_partial.specs.Groups.{Group, IsResult}
-use Rattle.druid_partial.specs.Once.{HaveOwnSegments, told, is_told}
+use Rattle.druid_partial.specs.Once.{HaveOwnSegments, counted_groups, is_counted}
 use Rattle.druid_partial.specs.Rows.{kinds_of, tells, passes_if}
 use Rattle.druid_scatter.specs.Gathered.{Exchange, Answers}
 
@@ -27,7 +27,7 @@ without missing asked = filter (λ a. not (list_any (same_asked a) missing)) ask
 abbrev pub IsHonest : Query → List Segment → Exchange → Type 0
 IsHonest query segments e =
     (missing : List Asked) (groups : List Group) → Answers query e missing groups
-    → IsResult (kinds_of query) (told query segments (without missing e.asked)) groups
+    → IsResult (kinds_of query) (counted_groups query segments (without missing e.asked)) groups
 
 -- these are the segments of the source whose rows nodes serve, one of each identifier: a tombstone has none
 pub record AreServed (inventory : List Entry) (source : List ℕ) (segments : List Segment) : Type 0 where
@@ -48,8 +48,8 @@ Sees query held segments sees =
 -- of these the rows that pass the query's filter, and lie in none of the missing pieces
 abbrev pub counts : Query → (Segment → Row → Bool) → List Asked → Segment → Row → Bool
 counts query sees missing s row =
-    (sees s row && passes_if (value_in s.fields.dimensions row.dimensions) query.filter) && not (is_told query missing s row)
+    (sees s row && passes_if (value_in s.fields.dimensions row.dimensions) query.filter) && not (is_counted query missing s row)
 
 -- what they tell
-abbrev pub told_visible : Query → (Segment → Row → Bool) → List Asked → List Segment → List Group
-told_visible query sees missing segments = flat_map (λ s. map (tells query s.fields) (filter (counts query sees missing s) s.rows)) segments
+abbrev pub counted_visible : Query → (Segment → Row → Bool) → List Asked → List Segment → List Group
+counted_visible query sees missing segments = flat_map (λ s. map (tells query s.fields) (filter (counts query sees missing s) s.rows)) segments

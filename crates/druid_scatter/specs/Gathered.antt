@@ -54,7 +54,7 @@ pub record Answers (query : Query) (e : Exchange) (missing : List Asked) (groups
   pub response : IsResponse bytes 200 body rest
   pub json : Data
   pub reads : ReadsAs body json
-  pub told : TellsAnswer (sub_of query e.asked) json missing groups
+  pub reported : TellsAnswer (sub_of query e.asked) json missing groups
 
 -- it is no answer, and the link did not lack memory: it failed otherwise, or the bytes are no response, or its status is another,
 -- or its body does not read
@@ -114,5 +114,5 @@ pub record IsGathered (order : List ℕ → List ℕ) (query : Query) (pairs : L
       → (e : Exchange) × Contains exchanges e × Asks e p.asked node
   pub ordered : IsStrictlySortedBy place_cmp missing
   pub rows : List Group
-  pub told : TellAll query exchanges rows
+  pub reported : TellAll query exchanges rows
   pub merged : IsResult (kinds_of query) rows groups

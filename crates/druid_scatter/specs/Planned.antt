@@ -5,20 +5,20 @@ use Rattle.std.specs.List.Sorted.{IsStrictlyIncreasing}
 use Rattle.druid_segid.specs.Group.{group_of}
 use Rattle.druid_members.specs.Members.{HasPartition}
 use Rattle.druid_timeline.specs.Holding.{Held, Serving, members_of, ServesRows}
-use Rattle.druid_timeline.specs.Pieces.{Shown, Told}
+use Rattle.druid_timeline.specs.Pieces.{Shown, Reported}
 use Rattle.druid_query.specs.Asked.{Asked}
 use Rattle.druid_scatter.specs.Plan.{Pair}
 
 -- a partition of a chunk of the source, in the piece
-abbrev pub asked_at : List ℕ → Told → ℕ → Asked
+abbrev pub asked_at : List ℕ → Reported → ℕ → Asked
 asked_at source t p = (record { source = source; interval = t.group.interval; version = t.group.version; partition = p }, t.interval)
 
 -- each partition of the chunk
-abbrev pub asked_for : List ℕ → Told → List Asked
+abbrev pub asked_for : List ℕ → Reported → List Asked
 asked_for source t = map (asked_at source t) t.parts
 
-abbrev pub asked_in : List ℕ → List Told → List Asked
-asked_in source told = flat_map (asked_for source) told
+abbrev pub asked_in : List ℕ → List Reported → List Asked
+asked_in source reported = flat_map (asked_for source) reported
 
 -- the piece is one of a partition of the chunk that is visible in just that piece, whether or not a node serves rows of it
 pub record IsPart (source : List ℕ) (held : List Held) (pieces : List Shown) (a : Asked) : Type 0 where

@@ -59,7 +59,7 @@ pub record Tells (sub : SubQuery) (bytes : List ℕ) (missing : List Asked) (gro
   pub response : IsResponse bytes 200 body rest
   pub json : Data
   pub reads : ReadsAs body json
-  pub told : TellsAnswer sub json missing groups
+  pub reported : TellsAnswer sub json missing groups
 
 -- reading them may lack memory: they are a response of status 200, whose body is read
 abbrev pub ReadingLacksMemory : SubQuery → List ℕ → Type 0
@@ -177,7 +177,7 @@ TookIf round node old new (Some sub) (Some came) = Took sub.query round node old
 pub record IsState (query : Query) (waits : List Waiting) (state : State) (round node : ℕ) (exchanges : List Exchange) : Type 0 where
   pub holds : Holds (Gives query) waits state.waiting round node exchanges
   pub rows : List Group
-  pub told : TellAll query exchanges rows
+  pub reported : TellAll query exchanges rows
   pub merged : IsResult (kinds_of query) rows state.partial.groups
 
 -- by these exchanges one state became the other, whatever came before

@@ -45,7 +45,7 @@ impl Gathering {
     }
 
     // After an answer of a node.
-    fn told(
+    fn reported(
         self,
         alloc: Global,
         round: usize,
@@ -59,11 +59,11 @@ impl Gathering {
         ensures of_query { (query : Query) → IsPartialFor query self.partial → IsPartialFor query answer.partial
             → IfOk result (λ new. IsPartialFor query new.partial) }
     {
-        let (told, missing) = answer.into_parts();
+        let (reported, missing) = answer.into_parts();
         // For the proof: reading it exposes the invariant of its type.
-        let _ = told.groups();
+        let _ = reported.groups();
         let waiting = keep_missing(alloc, self.waiting, round, node, &missing)?;
-        match merge(alloc, self.partial, told) {
+        match merge(alloc, self.partial, reported) {
             Ok(partial) => Ok(Gathering { waiting, partial }),
             Err(_) => Err(GatherFault::Memory),
         }
@@ -84,7 +84,7 @@ impl Gathering {
         ensures err { OnErr result (MayLackMemory (came_of came.now)) }
     {
         match answer_of(alloc, sub, came)? {
-            Some(answer) => self.told(alloc, round, node, answer),
+            Some(answer) => self.reported(alloc, round, node, answer),
             None => Ok(self),
         }
     }

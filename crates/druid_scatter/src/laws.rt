@@ -12,7 +12,7 @@ ghost use Rattle.druid_query.specs.Asked.{Asked};
 ghost use Rattle.druid_query.specs.SubQuery.{IsAsked};
 ghost use Rattle.druid_partial.specs.Groups.{Group, IsResult};
 ghost use Rattle.druid_partial.specs.Rows.{kinds_of};
-ghost use Rattle.druid_scatter.specs.Exact.{IsHonest, AreServed, Sees, told_visible};
+ghost use Rattle.druid_scatter.specs.Exact.{IsHonest, AreServed, Sees, counted_visible};
 ghost use Rattle.druid_scatter.specs.Gathered.{Exchange, IsGathered};
 ghost use Rattle.druid_scatter.specs.Plan.{Pair, asked_of, place_cmp, IsPlanOf};
 
@@ -38,5 +38,5 @@ pub fn gathered_rows_are_exact()
         → IsPlanOf inventory query pairs → IsGathered order query pairs exchanges missing groups
         → AreServed inventory query.source segments → IsHoldingOf inventory query.source held → Sees query held segments sees
         → ((e : Exchange) → Contains exchanges e → IsHonest query segments e)
-        → IsResult (kinds_of query) (told_visible query sees missing segments) groups }
+        → IsResult (kinds_of query) (counted_visible query sees missing segments) groups }
 {}

@@ -20,7 +20,7 @@ use Rattle.druid_segfile.specs.Judging.{columns_length}
 use Rattle.druid_segfile.specs.Parts.{number_at, at_most, Shape, shape_of, each_at, values_at, rows_at, row_count_at}
 use Rattle.druid_segfile.specs.Reading.{Cursor, row_content_at, content_at}
 use Rattle.druid_segfile.specs.Building.{content_of, IsHead, IsWhole, IsWholeByColumns, IsWholeIn, IsJudged, HasRoom, with_read, CanBuild, IsBuilt}
-use Rattle.druid_segfile.specs.Lent.{bytes_of, texts_lent, values_lent}
+use Rattle.druid_segfile.specs.Borrowed.{bytes_of, texts_borrowed, values_borrowed}
 use Rattle.std.specs.Borrow.{Bor}
 use Rattle.druid_segfile.proofs.PartLemmas.{IsBytes, IsBytes-take, IsBytes-drop, ok_is}
 use Rattle.druid_segfile.proofs.HeadLemmas.{descriptor_read, IsAnnounced}
@@ -101,9 +101,9 @@ head_takes short bytes d fields count rest fits h =
     let len = length_head d fields (magic ++ bytes) bytes h.after_descriptor h.after_fields rest (to_be_bytes w32 count) refl refl t1.0.parts t2.0.parts t3.0.parts in
     record { described = t1.1; fields_are = t2.1; few = t3.1; len = omega (arith, len, length-append magic bytes); rest_fits = t3.0.rest_fits }
 
-room_behind_head : (short : FileFault) (bytes : List ℕ) (d : Described) (fields : Schema) (count : ℕ) (rest : List ℕ) → IsBytes bytes → 4 + length bytes ≤ max_text → IsHead short bytes d fields count rest
+room_beyond_head : (short : FileFault) (bytes : List ℕ) (d : Described) (fields : Schema) (count : ℕ) (rest : List ℕ) → IsBytes bytes → 4 + length bytes ≤ max_text → IsHead short bytes d fields count rest
     → HasRoom (segment_of d fields []) (shape_of d fields) count (length rest)
-room_behind_head short bytes d fields count rest fits small h =
+room_beyond_head short bytes d fields count rest fits small h =
     let t = head_takes short bytes d fields count rest fits h in
     record {
       valid = none_yet d fields t.described.ordinary t.fields_are (omega (arith, t.len, small));
@@ -112,8 +112,8 @@ room_behind_head short bytes d fields count rest fits small h =
       text = omega (arith, t.len, small);
     }
 
-pub length_lent : (texts : List (Bor (List ℕ))) (names : List (List ℕ)) → texts_lent texts ≡ names → length texts ≡ length names
-length_lent texts names e = sym (length-map texts bytes_of) ∙ ap length e
+pub length_borrowed : (texts : List (Bor (List ℕ))) (names : List (List ℕ)) → texts_borrowed texts ≡ names → length texts ≡ length names
+length_borrowed texts names e = sym (length-map texts bytes_of) ∙ ap length e
 
 -- ---- what was judged
 
@@ -188,7 +188,7 @@ is_ok_from r x e = subst IsOk (sym e) refl
 
 -- what was judged can be built
 can_build : (layout : Layout) (short : FileFault) (bytes : List ℕ) (d : Described) (fields : Schema) (count : ℕ) (rest after : List ℕ) → IsBytes bytes → 4 + length bytes ≤ max_text → IsWholeIn layout short bytes d fields count rest after → CanBuild layout short d fields count rest
-can_build ByRows short bytes d fields count rest after fits small w = (room_behind_head short bytes d fields count rest fits small w.head, is_ok_from (each_at (values_at short (shape_of d fields)) count rest) (w.rows, after) w.read)
+can_build ByRows short bytes d fields count rest after fits small w = (room_beyond_head short bytes d fields count rest fits small w.head, is_ok_from (each_at (values_at short (shape_of d fields)) count rest) (w.rows, after) w.read)
 can_build ByColumns short bytes d fields count rest after fits small w = (
   (head_takes short bytes d fields count rest fits w.head).few,
   is_ok_from (columns_at short (shape_of d fields) count rest) (w.columns, after) w.read,
@@ -216,20 +216,20 @@ is_built ByColumns short bytes d fields count rest after s w b =
 
 pub content_found : (short : FileFault) (bytes : List ℕ) (layout : Layout) (d : Described) (fields : Schema) (count : ℕ) (rest after : List ℕ) → IsJudged short bytes layout d fields count rest after → (s : Segment) × (content_at short bytes ≡ Ok (s, after))
 content_found short bytes layout d fields count rest after j =
-    let c = judged_content layout short j.behind d fields count rest after j.whole in
+    let c = judged_content layout short j.beyond d fields count rest after j.whole in
     (c.0, j.content ∙ c.1)
 
 pub content_built : (short : FileFault) (bytes : List ℕ) (layout : Layout) (d : Described) (fields : Schema) (count : ℕ) (rest after : List ℕ) (s : Segment) → IsJudged short bytes layout d fields count rest after → IsBuilt layout short d fields count rest s → content_at short bytes ≡ Ok (s, after)
 content_built short bytes layout d fields count rest after s j b =
-    j.content ∙ is_built layout short j.behind d fields count rest after s j.whole b
+    j.content ∙ is_built layout short j.beyond d fields count rest after s j.whole b
 
 pub room_at_cursor : (n : ℕ) (bytes : List ℕ) (short : FileFault) (cursor : Cursor) (layout : Layout) (d : Described) (fields : Schema) (count : ℕ) (rest after : List ℕ) → n ≤ max_text → IsBytes bytes → cursor ≡ record { rest = take n bytes; short = short } → IsJudged cursor.short cursor.rest layout d fields count rest after → CanBuild layout short d fields count rest
 room_at_cursor n bytes short cursor layout d fields count rest after few fits at j =
     let window : cursor.rest ≡ take n bytes = ap (λ (c : Cursor). c.rest) at in
     let bytes_fit : IsBytes cursor.rest = subst IsBytes (sym window) (IsBytes-take n bytes fits) in
-    let behind_fits : IsBytes j.behind = subst IsBytes (sym j.named) (IsBytes-drop 4 cursor.rest bytes_fit) in
-    let small : 4 + length j.behind ≤ max_text = omega (arith, j.len, ap length window, length-take n bytes, few) in
-    subst (λ (s : FileFault). CanBuild layout s d fields count rest) (ap (λ (c : Cursor). c.short) at) (can_build layout cursor.short j.behind d fields count rest after behind_fits small j.whole)
+    let beyond_fits : IsBytes j.beyond = subst IsBytes (sym j.named) (IsBytes-drop 4 cursor.rest bytes_fit) in
+    let small : 4 + length j.beyond ≤ max_text = omega (arith, j.len, ap length window, length-take n bytes, few) in
+    subst (λ (s : FileFault). CanBuild layout s d fields count rest) (ap (λ (c : Cursor). c.short) at) (can_build layout cursor.short j.beyond d fields count rest after beyond_fits small j.whole)
 
-pub lent_row : (time : ℕ) (texts others : List (Option (Bor (List ℕ)))) (numbers others_numbers : List (Option ℤ)) → others ≡ texts → others_numbers ≡ numbers → row_of time (values_lent others) others_numbers ≡ row_of time (values_lent texts) numbers
-lent_row time texts others numbers others_numbers e f = rw (e, f) refl
+pub borrowed_row : (time : ℕ) (texts others : List (Option (Bor (List ℕ)))) (numbers others_numbers : List (Option ℤ)) → others ≡ texts → others_numbers ≡ numbers → row_of time (values_borrowed others) others_numbers ≡ row_of time (values_borrowed texts) numbers
+borrowed_row time texts others numbers others_numbers e f = rw (e, f) refl

@@ -28,8 +28,8 @@ front_longer a b text more p =
     (p.0, p.1 ++ more, ap (λ (t : List ℕ). t ++ more) p.2 ∙ append_assoc p.0 p.1 more, omega (arith, p.3, length-append p.1 more), p.4)
 
 -- the writer fails in what follows
-pub front_behind : (a b c : Option (List ℕ)) (text rest more : List ℕ) → AppendsUpTo a b text rest → AppendsFront b c (rest ++ more) → AppendsFront a c (text ++ more)
-front_behind a b c text rest more p q =
+pub front_beyond : (a b c : Option (List ℕ)) (text rest more : List ℕ) → AppendsUpTo a b text rest → AppendsFront b c (rest ++ more) → AppendsFront a c (text ++ more)
+front_beyond a b c text rest more p q =
     subst (AppendsFront a c) (append-nil (text ++ more)) (front_then a b c (text ++ more) (rest ++ more) [] (up_to_more a b text rest more p) q)
 
 -- ---- a dimension
@@ -115,7 +115,7 @@ dimensions_failed segment dimensions a b start e p =
 
 pub metrics_failed : (segment : Segment) (dimensions : List Coded) (a b c : Option (List ℕ)) (start rest : List ℕ) → start ≡ column_front segment → AppendsUpTo a b (start ++ flat_map dimension dimensions) rest → AppendsFront b c (rest ++ metrics_of segment) → AppendsFront a c (column_spelling segment dimensions)
 metrics_failed segment dimensions a b c start rest e p q =
-    front_behind a b c (column_front segment ++ flat_map dimension dimensions) rest (metrics_of segment) (subst (λ (s : List ℕ). AppendsUpTo a b (s ++ flat_map dimension dimensions) rest) e p) q
+    front_beyond a b c (column_front segment ++ flat_map dimension dimensions) rest (metrics_of segment) (subst (λ (s : List ℕ). AppendsUpTo a b (s ++ flat_map dimension dimensions) rest) e p) q
 
 -- all is spelled, and the rest waits
 pub all_spelled : (segment : Segment) (dimensions : List Coded) (a b c : Option (List ℕ)) (start rest more : List ℕ) → start ≡ column_front segment → AppendsUpTo a b (start ++ flat_map dimension dimensions) rest → AppendsUpTo b c (rest ++ metrics_of segment) more → AppendsUpTo a c (column_spelling segment dimensions) more

@@ -4,7 +4,7 @@ use Rattle.std.specs.Prelude.{bytes_eq, All}
 use Rattle.std.specs.List.{flat_map, list_any}
 use Rattle.std.specs.Str.{IsUtf8}
 use Rattle.std.specs.Borrow.{Bor}
-use Rattle.druid_segfile.specs.Lent.{bytes_of, texts_lent}
+use Rattle.druid_segfile.specs.Borrowed.{bytes_of, texts_borrowed}
 use Rattle.std.specs.Cmp.Lexicographic.{bytes_decides}
 use Rattle.std.proofs.lemmas.Bool.{and_parts, and_from, not-true, not_from_false, false_from_ne_true, false≢true, cases_order}
 use Rattle.std.proofs.lemmas.List.{append-nil, length-append, length_push, get_or_append_left, get_or_push, get_or_at}
@@ -193,9 +193,9 @@ among_both test xs ys = list_any-append test xs ys
 pub no_new_name : (before : List (List ℕ)) (text : List ℕ) → ¬ (IsUtf8 text) → is_new_name before text ≡ false
 no_new_name before text not = rw (no_field_name text not) refl
 
-any_of_texts : (test : List ℕ → Bool) (names : List (Bor (List ℕ))) → list_any test (texts_lent names) ≡ list_any (λ name. test (bytes_of name)) names
+any_of_texts : (test : List ℕ → Bool) (names : List (Bor (List ℕ))) → list_any test (texts_borrowed names) ≡ list_any (λ name. test (bytes_of name)) names
 any_of_texts test [] = refl
 any_of_texts test (name ∷ names) = ap (λ b. test (bytes_of name) || b) (any_of_texts test names)
 
-pub any_text : (test : List ℕ → Bool) (names : List (Bor (List ℕ))) (answer : Bool) → answer ≡ list_any (λ name. test (bytes_of name)) names → answer ≡ list_any test (texts_lent names)
+pub any_text : (test : List ℕ → Bool) (names : List (Bor (List ℕ))) (answer : Bool) → answer ≡ list_any (λ name. test (bytes_of name)) names → answer ≡ list_any test (texts_borrowed names)
 any_text test names answer e = e ∙ sym (any_of_texts test names)

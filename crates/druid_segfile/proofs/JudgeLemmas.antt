@@ -46,10 +46,10 @@ too_few short fault false x e = absurd cc
 short_text : (short : FileFault) (bytes : List ℕ) (x : List ℕ × List ℕ) → text_at short bytes ≡ Ok x → length x.0 ≤ max_value
 unfolding text_at bytes_at
 short_text short bytes x e =
-    let s = bind_ok (number_at short w16 bytes) (λ part. at_most max_value part.0 >>= λ len. bytes_at short len part.1 >>= λ behind. accepted is_utf8 behind.0 >>= λ value. Ok (value, behind.1)) x e in
-    let m = bind_ok (at_most max_value s.0.0) (λ len. bytes_at short len s.0.1 >>= λ behind. accepted is_utf8 behind.0 >>= λ value. Ok (value, behind.1)) x s.2 in
+    let s = bind_ok (number_at short w16 bytes) (λ part. at_most max_value part.0 >>= λ len. bytes_at short len part.1 >>= λ beyond. accepted is_utf8 beyond.0 >>= λ value. Ok (value, beyond.1)) x e in
+    let m = bind_ok (at_most max_value s.0.0) (λ len. bytes_at short len s.0.1 >>= λ beyond. accepted is_utf8 beyond.0 >>= λ value. Ok (value, beyond.1)) x s.2 in
     let a = at_most_ok max_value s.0.0 m.0 m.1 in
-    let t = bind_ok (bytes_at short m.0 s.0.1) (λ behind. accepted is_utf8 behind.0 >>= λ value. Ok (value, behind.1)) x m.2 in
+    let t = bind_ok (bytes_at short m.0 s.0.1) (λ beyond. accepted is_utf8 beyond.0 >>= λ value. Ok (value, beyond.1)) x m.2 in
     let g = guard_ok (ltb (length s.0.1) m.0) short (take m.0 s.0.1, drop m.0 s.0.1) t.0 t.1 in
     let u = bind_ok (accepted is_utf8 t.0.0) (λ value. Ok (value, t.0.1)) x t.2 in
     let same : take m.0 s.0.1 ≡ x.0 = ap (λ (p : List ℕ × List ℕ). p.0) g.1 ∙ (accepted_ok is_utf8 t.0.0 u.0 u.1).0 ∙ ap (λ (p : List ℕ × List ℕ). p.0) (ok_is (u.0, t.0.1) x u.2) in

@@ -59,9 +59,9 @@ pub names_go_on : (short : FileFault) (others front : List (List ℕ)) (count i 
 unfolding field_names_at
 names_go_on short others front count i bytes name after total lt h so_far =
     let k : count - i ≡ suc (count - (i + 1)) = omega arith in
-    let behind : (others ++ front) ++ name ∷ [] ≡ others ++ (front ++ name ∷ []) = append_assoc others front (name ∷ []) in
+    let beyond : (others ++ front) ++ name ∷ [] ≡ others ++ (front ++ name ∷ []) = append_assoc others front (name ∷ []) in
     let one : with_front front (field_names_at short (count - i) (others ++ front) bytes) ≡ with_front (front ++ name ∷ []) (field_names_at short (count - (i + 1)) ((others ++ front) ++ name ∷ []) after) = rw (k, h) (regroup (λ (xs : List (List ℕ)). xs) front name (field_names_at short (count - (i + 1)) ((others ++ front) ++ name ∷ []) after)) in
-    ap (λ (before : List (List ℕ)). with_front (front ++ name ∷ []) (field_names_at short (count - (i + 1)) before after)) (sym behind) ∙ sym one ∙ so_far
+    ap (λ (before : List (List ℕ)). with_front (front ++ name ∷ []) (field_names_at short (count - (i + 1)) before after)) (sym beyond) ∙ sym one ∙ so_far
 
 pub names_end : (short fault : FileFault) (others front : List (List ℕ)) (count i : ℕ) (bytes : List ℕ) (total : Result (List (List ℕ) × List ℕ) FileFault) → i < count → field_name_at short (others ++ front) bytes ≡ Err fault
     → with_front front (field_names_at short (count - i) (others ++ front) bytes) ≡ total → total ≡ Err fault

@@ -236,10 +236,10 @@ pub text_read : (short : FileFault) → Reads (List ℕ) (text_at short) text Is
 unfolding text_at
 text_read short = record {
   takes = λ bytes x fits e.
-      let s = step_takes (number_read short w16 (2 ^ 16) wide16) (λ part. at_most max_value part.0 >>= λ len. bytes_at short len part.1 >>= λ behind. accepted is_utf8 behind.0 >>= λ value. Ok (value, behind.1)) bytes x fits e in
-      let m = bind_ok (at_most max_value s.0.0) (λ len. bytes_at short len s.0.1 >>= λ behind. accepted is_utf8 behind.0 >>= λ value. Ok (value, behind.1)) x s.3 in
+      let s = step_takes (number_read short w16 (2 ^ 16) wide16) (λ part. at_most max_value part.0 >>= λ len. bytes_at short len part.1 >>= λ beyond. accepted is_utf8 beyond.0 >>= λ value. Ok (value, beyond.1)) bytes x fits e in
+      let m = bind_ok (at_most max_value s.0.0) (λ len. bytes_at short len s.0.1 >>= λ beyond. accepted is_utf8 beyond.0 >>= λ value. Ok (value, beyond.1)) x s.3 in
       let a = at_most_ok max_value s.0.0 m.0 m.1 in
-      let t = step_takes (bytes_read short m.0) (λ behind. accepted is_utf8 behind.0 >>= λ value. Ok (value, behind.1)) s.0.1 x s.1.rest_fits m.2 in
+      let t = step_takes (bytes_read short m.0) (λ beyond. accepted is_utf8 beyond.0 >>= λ value. Ok (value, beyond.1)) s.0.1 x s.1.rest_fits m.2 in
       let u = bind_ok (accepted is_utf8 t.0.0) (λ value. Ok (value, t.0.1)) x t.3 in
       let g = accepted_ok is_utf8 t.0.0 u.0 u.1 in
       let both = Takes-then bytes (to_be_bytes w16 s.0.0) s.0.1 t.0.0 t.0.1 s.1 t.1 in
@@ -249,9 +249,9 @@ text_read short = record {
       subst (λ (p : List ℕ × List ℕ). Takes bytes (text p.0) p.1 × IsText p.0) (ap (λ (v : List ℕ). (v, t.0.1)) g.0 ∙ ok_is (u.0, t.0.1) x u.2) (whole, (len, utf8));
   again = λ value rest h.
       ap (text_at short) (append_assoc (to_be_bytes w16 (length value)) value rest)
-      ∙ step_again (number_read short w16 (2 ^ 16) wide16) (λ part. at_most max_value part.0 >>= λ len. bytes_at short len part.1 >>= λ behind. accepted is_utf8 behind.0 >>= λ value. Ok (value, behind.1)) (length value) (value ++ rest) (omega (arith, h.0))
-      ∙ ap (λ r. r >>= λ len. bytes_at short len (value ++ rest) >>= λ behind. accepted is_utf8 behind.0 >>= λ value. Ok (value, behind.1)) (at_most_within max_value (length value) h.0)
-      ∙ step_again (bytes_read short (length value)) (λ behind. accepted is_utf8 behind.0 >>= λ value. Ok (value, behind.1)) value rest refl
+      ∙ step_again (number_read short w16 (2 ^ 16) wide16) (λ part. at_most max_value part.0 >>= λ len. bytes_at short len part.1 >>= λ beyond. accepted is_utf8 beyond.0 >>= λ value. Ok (value, beyond.1)) (length value) (value ++ rest) (omega (arith, h.0))
+      ∙ ap (λ r. r >>= λ len. bytes_at short len (value ++ rest) >>= λ beyond. accepted is_utf8 beyond.0 >>= λ value. Ok (value, beyond.1)) (at_most_within max_value (length value) h.0)
+      ∙ step_again (bytes_read short (length value)) (λ beyond. accepted is_utf8 beyond.0 >>= λ value. Ok (value, beyond.1)) value rest refl
       ∙ ap (λ r. r >>= λ v. Ok (v, rest)) (accepted_true is_utf8 value (is_utf8-from_IsUtf8 value h.1));
 }
 

@@ -287,22 +287,22 @@ pub is_all : (limit n : ℕ) (bytes : List ℕ) (short : FileFault) (x : Segment
 is_all limit n bytes short x s e is none fits =
     content_judged limit n bytes short x s e is ∙ cond-true _ (Ok x.0) (Err Trailing) (and_from (eqb (length x.1) 0) (leb (length bytes) limit) none (le-leb (length bytes) limit fits))
 
-told_err : {X : Type 0} (fault : FileFault) (read : Result X FileFault) → IsOfBytes fault → read ≡ Err fault → GivesInMemory (Err fault) read
-told_err Magic read own e = e
-told_err Cut read own e = e
-told_err Field read own e = e
-told_err RowOutside read own e = e
-told_err TooLong read own e = e
-told_err Trailing read own e = e
-told_err Read read own e = e
-told_err Write read own e = e
-told_err Memory read own e = absurd own
+reported_err : {X : Type 0} (fault : FileFault) (read : Result X FileFault) → IsOfBytes fault → read ≡ Err fault → GivesInMemory (Err fault) read
+reported_err Magic read own e = e
+reported_err Cut read own e = e
+reported_err Field read own e = e
+reported_err RowOutside read own e = e
+reported_err TooLong read own e = e
+reported_err Trailing read own e = e
+reported_err Read read own e = e
+reported_err Write read own e = e
+reported_err Memory read own e = absurd own
 
 -- a fault of the bytes
 pub judged_err : (limit n : ℕ) (bytes : List ℕ) (short fault : FileFault) (cursor : Cursor) → short ≡ short_of limit bytes → n ≡ min (length bytes) limit → cursor ≡ record { rest = take n bytes; short = short } → content_at cursor.short cursor.rest ≡ Err fault → GivesInMemory (Err fault) (segment_within limit bytes)
 judged_err limit n bytes short fault cursor s e at h =
     let fails = content_fails limit n bytes short fault s e (subst (λ (c : Cursor). content_at c.short c.rest ≡ Err fault) at h) in
-    told_err fault (segment_within limit bytes) (within_own limit bytes fault fails) fails
+    reported_err fault (segment_within limit bytes) (within_own limit bytes fault fails) fails
 
 -- the bytes are all read
 pub judged_ok : (limit n : ℕ) (bytes : List ℕ) (short : FileFault) (cursor : Cursor) (s : Segment) (after : List ℕ) → short ≡ short_of limit bytes → n ≡ min (length bytes) limit → cursor ≡ record { rest = take n bytes; short = short } → content_at cursor.short cursor.rest ≡ Ok (s, after) → eqb (length after) 0 ≡ true → length bytes ≤ limit → segment_within limit bytes ≡ Ok s
@@ -317,8 +317,8 @@ pub judged_passes : (limit n : ℕ) (bytes : List ℕ) (short : FileFault) (curs
 judged_passes limit n bytes short cursor s after is e at h long =
     passes_limit limit n bytes short (s, after) is e (subst (λ (c : Cursor). content_at c.short c.rest ≡ Ok (s, after)) at h) long
 
-pub may_lack_memory : {X : Type 0} (read : Result X FileFault) (x : X) (told : FileFault) → read ≡ Ok x → told ≡ Memory → GivesInMemory (Err told) read
-may_lack_memory read x told e is = rw (is, e) (search rules)
+pub may_lack_memory : {X : Type 0} (read : Result X FileFault) (x : X) (reported : FileFault) → read ≡ Ok x → reported ≡ Memory → GivesInMemory (Err reported) read
+may_lack_memory read x reported e is = rw (is, e) (search rules)
 
 -- ---- cut files and long ones
 

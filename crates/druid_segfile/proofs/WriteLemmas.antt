@@ -40,8 +40,8 @@ wrote_rest a b c text rest p q = subst (λ (t : List ℕ). Appends a c t) (sym p
 
 -- ---- parts that are spelled one by one after a text
 
-pub parts_behind : {A : Type 0} (spell : A → List ℕ) (head : List ℕ) (parts : List A) (i : ℕ) → (head ++ flat_map spell (take i parts)) ++ flat_map spell (drop i parts) ≡ head ++ flat_map spell parts
-parts_behind spell head parts i =
+pub parts_beyond : {A : Type 0} (spell : A → List ℕ) (head : List ℕ) (parts : List A) (i : ℕ) → (head ++ flat_map spell (take i parts)) ++ flat_map spell (drop i parts) ≡ head ++ flat_map spell parts
+parts_beyond spell head parts i =
     append_assoc head (flat_map spell (take i parts)) (flat_map spell (drop i parts))
     ∙ ap (λ (t : List ℕ). head ++ t) (sym (flat_map-append spell (take i parts) (drop i parts)) ∙ ap (flat_map spell) (take-append-drop i parts))
 
@@ -52,7 +52,7 @@ no_parts a head = ([], append-nil head, Appends-nil a)
 -- the writer fails before a part is spelled
 pub part_unwritten : {A : Type 0} (spell : A → List ℕ) (head : List ℕ) (parts : List A) (i : ℕ) (a b c : Option (List ℕ)) (rest : List ℕ) → AppendsUpTo a b (head ++ flat_map spell (take i parts)) rest → AppendsFront b c rest → AppendsFront a c (head ++ flat_map spell parts)
 part_unwritten spell head parts i a b c rest p q =
-    subst (AppendsFront a c) (parts_behind spell head parts i) (front_then a b c (head ++ flat_map spell (take i parts)) rest (flat_map spell (drop i parts)) p q)
+    subst (AppendsFront a c) (parts_beyond spell head parts i) (front_then a b c (head ++ flat_map spell (take i parts)) rest (flat_map spell (drop i parts)) p q)
 
 some_left : {A : Type 0} (spell : A → List ℕ) (parts : List A) (i : ℕ) (d : A) → i < length parts → 0 < length (spell (get_or parts i d)) → 0 < length (flat_map spell (drop i parts))
 some_left spell parts i d lt some =
@@ -64,7 +64,7 @@ part_unspelled spell head parts i d a b rest lt some p =
     let left = flat_map spell (drop i parts) in (
       p.0,
       rest ++ left,
-      sym (parts_behind spell head parts i) ∙ ap (λ (t : List ℕ). t ++ left) p.1 ∙ append_assoc p.0 rest left,
+      sym (parts_beyond spell head parts i) ∙ ap (λ (t : List ℕ). t ++ left) p.1 ∙ append_assoc p.0 rest left,
       omega (arith, some_left spell parts i d lt some, length-append rest left),
       p.2,
     )
@@ -122,8 +122,8 @@ text_at P texts i item text each lt is e =
 
 -- ---- a descriptor, part by part
 
-six_behind : (o a b c d e f : List ℕ) → (((((o ++ a) ++ b) ++ c) ++ d) ++ e) ++ f ≡ o ++ (((((a ++ b) ++ c) ++ d) ++ e) ++ f)
-six_behind o a b c d e f = simp append_assoc
+six_beyond : (o a b c d e f : List ℕ) → (((((o ++ a) ++ b) ++ c) ++ d) ++ e) ++ f ≡ o ++ (((((a ++ b) ++ c) ++ d) ++ e) ++ f)
+six_beyond o a b c d e f = simp append_assoc
 
 same_descriptor : (d : Described) (source : List ℕ) (extent : Extent) (version : List ℕ) (partition core size : ℕ) → source ≡ d.id.source → extent ≡ d.id.interval → version ≡ d.id.version → partition ≡ d.id.partition → core ≡ d.core → size ≡ d.size
     → descriptor (described source extent version partition core size) ≡ descriptor d
@@ -137,7 +137,7 @@ descriptor_grown d o0 o1 o2 o3 o4 o5 o6 source extent version partition core siz
     let f4 : o4 ≡ (((o0 ++ short_text source) ++ interval extent) ++ short_text version) ++ to_be_bytes w16 partition = e4 ∙ ap (λ (x : List ℕ). x ++ to_be_bytes w16 partition) f3 in
     let f5 : o5 ≡ ((((o0 ++ short_text source) ++ interval extent) ++ short_text version) ++ to_be_bytes w16 partition) ++ to_be_bytes w16 core = e5 ∙ ap (λ (x : List ℕ). x ++ to_be_bytes w16 core) f4 in
     e6 ∙ ap (λ (x : List ℕ). x ++ to_be_bytes w64 size) f5
-    ∙ six_behind o0 (short_text source) (interval extent) (short_text version) (to_be_bytes w16 partition) (to_be_bytes w16 core) (to_be_bytes w64 size)
+    ∙ six_beyond o0 (short_text source) (interval extent) (short_text version) (to_be_bytes w16 partition) (to_be_bytes w16 core) (to_be_bytes w64 size)
     ∙ ap (λ (x : List ℕ). o0 ++ x) (same_descriptor d source extent version partition core size p q r s t u)
 
 pub interval_grown : (extent : Extent) (o0 o1 o2 : List ℕ) (start end : ℕ) → start ≡ extent.start → end ≡ extent.end → o1 ≡ o0 ++ instant start → o2 ≡ o1 ++ instant end → o2 ≡ o0 ++ interval extent

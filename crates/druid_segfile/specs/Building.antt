@@ -59,11 +59,11 @@ IsWholeIn ByColumns short bytes d fields count rest after = IsWholeByColumns sho
 
 -- all was read, from the name of the layout on
 pub record IsJudged (short : FileFault) (bytes : List ℕ) (layout : Layout) (d : Described) (fields : Schema) (count : ℕ) (rest after : List ℕ) : Type 0 where
-  pub behind : List ℕ
-  pub named : behind ≡ drop 4 bytes
-  pub len : length bytes ≡ 4 + length behind
-  pub content : content_at short bytes ≡ content_of layout short behind
-  pub whole : IsWholeIn layout short behind d fields count rest after
+  pub beyond : List ℕ
+  pub named : beyond ≡ drop 4 bytes
+  pub len : length bytes ≡ 4 + length beyond
+  pub content : content_at short bytes ≡ content_of layout short beyond
+  pub whole : IsWholeIn layout short beyond d fields count rest after
 
 -- a segment whose rows have this shape, and that takes so many more, spelled in so many bytes
 pub record HasRoom (segment : Segment) (shape : Shape) (count len : ℕ) : Type 0 where

@@ -10,4 +10,4 @@ pub mod Written
 pub mod Building
 pub mod Judging
 pub mod Heading
-pub mod Lent
+pub mod Borrowed

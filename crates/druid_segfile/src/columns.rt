@@ -8,7 +8,7 @@ ghost use Rattle.druid_segfile.specs.ColumnReading.{is_above, value_text_at, val
 ghost use Rattle.druid_segfile.specs.Reading.{TakesAs};
 ghost use Rattle.druid_segfile.specs.Building.{Skips};
 ghost use Rattle.druid_segfile.specs.Judging.{Finds, code_length, AreMarked, ones, texts_length, numbers_length, columns_length};
-ghost use Rattle.druid_segfile.specs.Lent.{bytes_of};
+ghost use Rattle.druid_segfile.specs.Borrowed.{bytes_of};
 
 use crate::FileFault;
 use crate::cursor::{Cursor, at_most};

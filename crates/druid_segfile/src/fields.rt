@@ -5,7 +5,7 @@ ghost use Rattle.druid_rows.specs.Rows.{texts_of};
 ghost use Rattle.druid_rows.specs.Segment.{max_fields};
 ghost use Rattle.druid_segfile.specs.Parts.{accepted, is_new_name, field_name_at, field_names_at, names_at, fields_at};
 ghost use Rattle.druid_segfile.specs.Reading.{GivesAs, TakesAs};
-ghost use Rattle.druid_segfile.specs.Lent.{texts_lent};
+ghost use Rattle.druid_segfile.specs.Borrowed.{texts_borrowed};
 
 use crate::FileFault;
 use crate::cursor::{Cursor, at_most};
@@ -27,18 +27,18 @@ pub(crate) struct FieldNames<'a> {
 
 impl<'a> Model for FieldNames<'a> {
     ghost use Rattle.druid_rows.specs.Rows.{Schema};
-    ghost use Rattle.druid_segfile.specs.Lent.{texts_lent};
+    ghost use Rattle.druid_segfile.specs.Borrowed.{texts_borrowed};
 
     ghost Value = { Schema };
 
     ghost view = { λ a. record {
-      dimensions = texts_lent a.dimensions.items;
-      metrics = texts_lent a.metrics.items;
+      dimensions = texts_borrowed a.dimensions.items;
+      metrics = texts_borrowed a.metrics.items;
     } };
 }
 
 fn is_among(name: &str, names: &[&str]) -> bool
-    ensures { result ≡ list_any (bytes_eq name.now) (texts_lent names.now) }
+    ensures { result ≡ list_any (bytes_eq name.now) (texts_borrowed names.now) }
 {
     names.iter().any(|other| name == *other)
 }
@@ -46,7 +46,7 @@ fn is_among(name: &str, names: &[&str]) -> bool
 // Whether it is a field name, and none of the names before it: first the others, and then these.
 #[tactic(auto, using(crate::proofs::FieldLemmas::among_both))]
 fn is_new_name(name: &str, others: &[&str], names: &[&str]) -> bool
-    ensures { result ≡ is_new_name (texts_lent others.now ++ texts_lent names.now) name.now }
+    ensures { result ≡ is_new_name (texts_borrowed others.now ++ texts_borrowed names.now) name.now }
 {
     if !Schema::accepts(name) {
         return false;
@@ -57,7 +57,7 @@ fn is_new_name(name: &str, others: &[&str], names: &[&str]) -> bool
 #[tactic(auto, using(crate::proofs::FieldLemmas::no_new_name), unfolding(crate::specs::Parts::accepted))]
 fn field_name_of<'a>(text: &'a [u8], others: &[&str], names: &[&str]) -> Result<&'a str, FileFault>
     ensures { GivesAs (λ name. name.now) result
-        (accepted (is_new_name (texts_lent others.now ++ texts_lent names.now)) text.now) }
+        (accepted (is_new_name (texts_borrowed others.now ++ texts_borrowed names.now)) text.now) }
 {
     let Ok(text) = str::from_utf8(text) else {
         return Err(FileFault::Field);
@@ -69,7 +69,7 @@ fn field_name_of<'a>(text: &'a [u8], others: &[&str], names: &[&str]) -> Result<
 }
 
 fn strings(alloc: Global, names: &[&str]) -> Result<Vec<String>, AllocError>
-    ensures { IfOk result (λ strings. texts_of strings.items ≡ texts_lent names.now) }
+    ensures { IfOk result (λ strings. texts_of strings.items ≡ texts_borrowed names.now) }
 {
     let mut strings = Vec::with_capacity(alloc, names.len())?;
     for name in names {
@@ -82,15 +82,15 @@ impl<'a> Cursor<'a> {
     #[tactic(auto, unfolding(crate::specs::Parts::field_name_at))]
     fn field_name(&mut self, others: &[&str], names: &[&str]) -> Result<&'a str, FileFault>
         ensures { TakesAs (λ name. name.now) self.old self.new result
-            (field_name_at self.old.short (texts_lent others.now ++ texts_lent names.now) self.old.rest) }
+            (field_name_at self.old.short (texts_borrowed others.now ++ texts_borrowed names.now) self.old.rest) }
     {
         field_name_of(self.short_text(MAX_NAME)?, others, names)
     }
 
     fn field_names(&mut self, count: usize, others: &[&str]) -> Result<Names<'a>, FileFault>
         requires { count ≤ max_fields }
-        ensures { TakesAs (λ names. texts_lent names.items) self.old self.new result
-            (field_names_at self.old.short count (texts_lent others.now) self.old.rest) }
+        ensures { TakesAs (λ names. texts_borrowed names.items) self.old self.new result
+            (field_names_at self.old.short count (texts_borrowed others.now) self.old.rest) }
     {
         let mut names = Names::new();
         for _ in 0..count {
@@ -103,8 +103,8 @@ impl<'a> Cursor<'a> {
     // Names after their number, which is one byte. None of them is one of the others.
     #[tactic(auto, unfolding(crate::specs::Parts::names_at, crate::specs::Parts::at_most))]
     fn names(&mut self, others: &[&str]) -> Result<Names<'a>, FileFault>
-        ensures { TakesAs (λ names. texts_lent names.items) self.old self.new result
-            (names_at self.old.short (texts_lent others.now) self.old.rest) }
+        ensures { TakesAs (λ names. texts_borrowed names.items) self.old self.new result
+            (names_at self.old.short (texts_borrowed others.now) self.old.rest) }
     {
         let count = usize::from(self.byte()?);
         if count > MAX_FIELDS {
@@ -129,7 +129,7 @@ impl<'a> Cursor<'a> {
 impl FieldNames<'_> {
     // The names of the dimensions.
     pub(crate) fn dimensions(&self) -> &[&str]
-        ensures value { texts_lent result.now ≡ self.now.dimensions }
+        ensures value { texts_borrowed result.now ≡ self.now.dimensions }
         ensures few { length result.now ≤ max_fields }
     {
         &self.dimensions
@@ -137,7 +137,7 @@ impl FieldNames<'_> {
 
     // The names of the metrics.
     pub(crate) fn metrics(&self) -> &[&str]
-        ensures value { texts_lent result.now ≡ self.now.metrics }
+        ensures value { texts_borrowed result.now ≡ self.now.metrics }
         ensures few { length result.now ≤ max_fields }
     {
         &self.metrics

@@ -101,7 +101,7 @@ fn are_bytes(bytes: &[u8])
 }
 
 // How the rows of a segment are read.
-#[tactic(auto, using(crate::proofs::BuildLemmas::length_lent))]
+#[tactic(auto, using(crate::proofs::BuildLemmas::length_borrowed))]
 fn shape_of(announced: &Announced<'_>, fields: &FieldNames<'_>) -> Shape
     ensures { result ≡ shape_of announced.now fields.now }
 {
@@ -264,7 +264,7 @@ pub fn segment_of(alloc: Global, bytes: &[u8]) -> Result<Segment, FileFault>
 /// where the input ends inside a part, `Field` where a part breaks a rule, `RowOutside` where a row's instant lies
 /// outside the interval, `TooLong` where a count or a length passes its limit or more than 16,777,216 bytes are needed,
 /// and `Trailing` where a byte follows the last part. By columns a part breaks a rule also where a text does not stand
-/// above the one before it, where a code is above the number of texts, where a text has no row, which is told after
+/// above the one before it, where a code is above the number of texts, where a text has no row, which is reported after
 /// the last code of its dimension, and where a mark is neither 0 nor 1; a dimension with more texts than rows is
 /// `TooLong`, and so is, once the last part is read, a segment that takes more than 16,777,216 bytes in `DSG1`. `Read`
 /// where the reader fails, and `Memory` where memory runs out: for the bytes as they come, before they are judged, and

@@ -6,7 +6,7 @@ ghost use Rattle.druid_rows.specs.Segment.{max_fields};
 ghost use Rattle.druid_segfile.specs.Parts.{instant_of, instant_in, row_time_at, text_value_at, number_value_at, each_at, values_at};
 ghost use Rattle.druid_segfile.specs.Reading.{Gives, TakesAs};
 ghost use Rattle.druid_segfile.specs.Building.{Skips, HasRoom, with_read};
-ghost use Rattle.druid_segfile.specs.Lent.{bytes_of, values_lent};
+ghost use Rattle.druid_segfile.specs.Borrowed.{bytes_of, values_borrowed};
 
 use crate::FileFault;
 use crate::cursor::Cursor;
@@ -109,7 +109,7 @@ impl<'a> Cursor<'a> {
 
     fn texts(&mut self, count: usize, texts: &mut Texts<'a>) -> Result<(), FileFault>
         requires { count ≤ max_fields }
-        ensures { TakesAs (λ _. values_lent texts.new.items) self.old self.new result
+        ensures { TakesAs (λ _. values_borrowed texts.new.items) self.old self.new result
             (each_at (text_value_at self.old.short) count self.old.rest) }
     {
         texts.clear();
@@ -136,7 +136,7 @@ impl<'a> Cursor<'a> {
     // The instant of a row. Its values are put into the place for them.
     #[tactic(auto, unfolding(crate::specs::Parts::values_at))]
     fn row(&mut self, shape: Shape, values: &mut RowValues<'a>) -> Result<Instant, FileFault>
-        ensures { TakesAs (λ time. row_of time (values_lent values.new.texts.items) values.new.numbers.items)
+        ensures { TakesAs (λ time. row_of time (values_borrowed values.new.texts.items) values.new.numbers.items)
             self.old self.new result (values_at self.old.short shape self.old.rest) }
     {
         let time = match self.row_time(shape.interval) {

@@ -29,13 +29,13 @@ length-partition_suffix p h =
     ]
 
 -- what follows the source
-abbrev pub behind_source : Identifier → List ℕ
-behind_source id =
+abbrev pub beyond_source : Identifier → List ℕ
+beyond_source id =
     codes "_" ++ (instant_text id.interval.start ++ (codes "_" ++ (instant_text id.interval.end ++ (codes "_" ++ (id.version ++ partition_suffix id.partition)))))
 
-pub identifier_text-behind : (id : Identifier) → identifier_text id ≡ id.source ++ behind_source id
+pub identifier_text-beyond : (id : Identifier) → identifier_text id ≡ id.source ++ beyond_source id
 unfolding identifier_text
-identifier_text-behind id = simp append_assoc
+identifier_text-beyond id = simp append_assoc
 
 pub length-identifier_text : (id : Identifier) → IsIdentifier id → length (identifier_text id) ≤ 221
 unfolding identifier_text
@@ -67,7 +67,7 @@ IsAscii-identifier_text id h =
     let last_ascii = IsAscii-append id.version (partition_suffix id.partition) (IsAscii-version id.version h.version) (IsAscii-partition_suffix id.partition h.partition) in
     let ending_ascii = IsAscii-append (instant_text id.interval.end) (codes "_" ++ last) (IsAscii-instant_text id.interval.end) (IsAscii-append (codes "_") last IsAscii-line last_ascii) in
     let starting_ascii = IsAscii-append (instant_text id.interval.start) (codes "_" ++ ending) (IsAscii-instant_text id.interval.start) (IsAscii-append (codes "_") ending IsAscii-line ending_ascii) in
-    rw (identifier_text-behind id)
+    rw (identifier_text-beyond id)
     (IsAscii-append id.source (codes "_" ++ starting) (IsAscii-name id.source h.source) (IsAscii-append (codes "_") starting IsAscii-line starting_ascii))
 
 pub IsUtf8-identifier_text : (id : Identifier) → IsIdentifier id → IsUtf8 (identifier_text id)
@@ -174,17 +174,17 @@ suffix_same p q h k e =
     ]
 
 -- what follows the start
-behind_start : Identifier → List ℕ
-behind_start id = codes "_" ++ (instant_text id.interval.end ++ (codes "_" ++ (id.version ++ partition_suffix id.partition)))
+beyond_start : Identifier → List ℕ
+beyond_start id = codes "_" ++ (instant_text id.interval.end ++ (codes "_" ++ (id.version ++ partition_suffix id.partition)))
 
 -- the text, cut at its first `:`
-text_at_colon : (id : Identifier) → identifier_text id ≡ (id.source ++ (95 ∷ hour_of id.interval.start)) ++ (minutes_of id.interval.start ++ behind_start id)
-unfolding behind_start
+text_at_colon : (id : Identifier) → identifier_text id ≡ (id.source ++ (95 ∷ hour_of id.interval.start)) ++ (minutes_of id.interval.start ++ beyond_start id)
+unfolding beyond_start
 text_at_colon id =
-    identifier_text-behind id
-    ∙ ap (λ t. id.source ++ (95 ∷ (t ++ behind_start id))) (sym (hour_minutes id.interval.start))
-    ∙ ap (λ t. id.source ++ (95 ∷ t)) (append_assoc (hour_of id.interval.start) (minutes_of id.interval.start) (behind_start id))
-    ∙ sym (append_assoc id.source (95 ∷ hour_of id.interval.start) (minutes_of id.interval.start ++ behind_start id))
+    identifier_text-beyond id
+    ∙ ap (λ t. id.source ++ (95 ∷ (t ++ beyond_start id))) (sym (hour_minutes id.interval.start))
+    ∙ ap (λ t. id.source ++ (95 ∷ t)) (append_assoc (hour_of id.interval.start) (minutes_of id.interval.start) (beyond_start id))
+    ∙ sym (append_assoc id.source (95 ∷ hour_of id.interval.start) (minutes_of id.interval.start ++ beyond_start id))
 
 front_lacks : (id : Identifier) → IsIdentifier id → Lacks 58 (id.source ++ (95 ∷ hour_of id.interval.start))
 front_lacks id h =
@@ -194,7 +194,7 @@ front_lacks id h =
 length-source : (a b : Identifier) → IsIdentifier a → IsIdentifier b → identifier_text a ≡ identifier_text b → length a.source ≡ length b.source
 length-source a b h k e =
     let cut = cut_same 58 (a.source ++ (95 ∷ hour_of a.interval.start)) (b.source ++ (95 ∷ hour_of b.interval.start)) _ _
-    (front_lacks a h) (front_lacks b k) (minutes_begin a.interval.start (behind_start a)) (minutes_begin b.interval.start (behind_start b))
+    (front_lacks a h) (front_lacks b k) (minutes_begin a.interval.start (beyond_start a)) (minutes_begin b.interval.start (beyond_start b))
     (sym (text_at_colon a) ∙ e ∙ text_at_colon b) in
     let long = simp length-append at (ap length cut.0) in
     omega (arith, long, length-hour_of a.interval.start, length-hour_of b.interval.start)
@@ -204,7 +204,7 @@ pub identifier_text_injective : (a b : Identifier) → IsIdentifier a → IsIden
 identifier_text_injective a b h k e =
     let alike : (xs ys us vs : List ℕ) → length xs ≡ length ys → xs ++ us ≡ ys ++ vs → (xs ≡ ys) × (us ≡ vs) = front_same in
     let long = λ (s t : ℕ). length-instant_text s ∙ sym (length-instant_text t) in
-    let sources = alike a.source b.source (behind_source a) (behind_source b) (length-source a b h k e) (sym (identifier_text-behind a) ∙ e ∙ identifier_text-behind b) in
+    let sources = alike a.source b.source (beyond_source a) (beyond_source b) (length-source a b h k e) (sym (identifier_text-beyond a) ∙ e ∙ identifier_text-beyond b) in
     let first = alike (95 ∷ []) (95 ∷ []) _ _ refl sources.1 in
     let starts = alike (instant_text a.interval.start) (instant_text b.interval.start) _ _ (long a.interval.start b.interval.start) first.1 in
     let second = alike (95 ∷ []) (95 ∷ []) _ _ refl starts.1 in
@@ -227,8 +227,8 @@ pub identifier_text-order : (a b : Identifier) → IsIdentifier a → IsIdentifi
 identifier_text-order a b h k same =
     let long = λ (s t : ℕ). length-instant_text s ∙ sym (length-instant_text t) in
     let tail = slice_cmp nat_cmp (a.version ++ partition_suffix a.partition) (b.version ++ partition_suffix b.partition) in
-    (λ i. slice_cmp nat_cmp (identifier_text-behind a i) ((identifier_text-behind b ∙ ap (λ s. s ++ behind_source b) (sym same)) i))
-    ∙ slice_cmp-front a.source (behind_source a) (behind_source b)
+    (λ i. slice_cmp nat_cmp (identifier_text-beyond a i) ((identifier_text-beyond b ∙ ap (λ s. s ++ beyond_source b) (sym same)) i))
+    ∙ slice_cmp-front a.source (beyond_source a) (beyond_source b)
     ∙ slice_cmp-append (instant_text a.interval.start) (instant_text b.interval.start) _ _ (long a.interval.start b.interval.start)
     ∙ (λ i. ordering_then (slice_cmp-instant_text a.interval.start b.interval.start (omega (arith, h.interval)) (omega (arith, k.interval)) i)
     (slice_cmp-append (instant_text a.interval.end) (instant_text b.interval.end) (95 ∷ (a.version ++ partition_suffix a.partition)) (95 ∷ (b.version ++ partition_suffix b.partition)) (long a.interval.end b.interval.end) i))
@@ -250,13 +250,13 @@ pub identifier_text-sources : (a b : Identifier) (n : ℕ) (mine theirs : List �
     → o ≡ slice_cmp nat_cmp (identifier_text a) (identifier_text b)
 identifier_text-sources a b n mine theirs o e f least answer apart =
     let whole = λ (id : Identifier) (source : List ℕ) (same : source ≡ id.source).
-    identifier_text-behind id ∙ ap (λ l. l ++ behind_source id) (sym (take-append-drop n source ∙ same)) ∙ append_assoc (take n source) (drop n source) (behind_source id) in
+    identifier_text-beyond id ∙ ap (λ l. l ++ beyond_source id) (sym (take-append-drop n source ∙ same)) ∙ append_assoc (take n source) (drop n source) (beyond_source id) in
     let long = length-take-le n mine (omega arith) ∙ sym (length-take-le n theirs (omega arith)) in
     sym (
     (λ i. slice_cmp nat_cmp (whole a mine e i) (whole b theirs f i))
-    ∙ slice_cmp-append (take n mine) (take n theirs) (drop n mine ++ behind_source a) (drop n theirs ++ behind_source b) long
-    ∙ ap (λ p. ordering_then p (slice_cmp nat_cmp (drop n mine ++ behind_source a) (drop n theirs ++ behind_source b))) (sym answer)
-    ∙ first_decides o (slice_cmp nat_cmp (drop n mine ++ behind_source a) (drop n theirs ++ behind_source b)) apart
+    ∙ slice_cmp-append (take n mine) (take n theirs) (drop n mine ++ beyond_source a) (drop n theirs ++ beyond_source b) long
+    ∙ ap (λ p. ordering_then p (slice_cmp nat_cmp (drop n mine ++ beyond_source a) (drop n theirs ++ beyond_source b))) (sym answer)
+    ∙ first_decides o (slice_cmp nat_cmp (drop n mine ++ beyond_source a) (drop n theirs ++ beyond_source b)) apart
     )
 
 -- for the attribute `using`

@@ -19,9 +19,9 @@ use Rattle.druid_time.proofs.TextLemmas.{length-instant_text, instant_at-instant
 use Rattle.druid_time.proofs.PrintedLemmas.{instant_text-instant_at}
 use Rattle.druid_segid.specs.Names.{IsName, IsVersion, is_version}
 use Rattle.druid_segid.specs.Identifier.{Identifier, Spells, partition_suffix}
-use Rattle.druid_segid.specs.Parsed.{Refusal, other_source, bad_parts, bad_interval, bad_version, bad_partition, is_underscore, behind, rest_at, tail_at, printed_at, interval_at, version_at, partition_number, partition_at, identifier_at}
+use Rattle.druid_segid.specs.Parsed.{Refusal, other_source, bad_parts, bad_interval, bad_version, bad_partition, is_underscore, beyond, rest_at, tail_at, printed_at, interval_at, version_at, partition_number, partition_at, identifier_at}
 use Rattle.druid_segid.specs.Numbers.{number_at}
-use Rattle.druid_segid.proofs.IdentifierLemmas.{identifier_text-behind}
+use Rattle.druid_segid.proofs.IdentifierLemmas.{identifier_text-beyond}
 use Rattle.druid_segid.proofs.NameLemmas.{is_version-true, is_version-to}
 use Rattle.druid_segid.proofs.ParsedLemmas.{any_underscore, no_underscore}
 use Rattle.druid_segid.proofs.NumberLemmas.{number_at-found, number_at-to}
@@ -102,8 +102,8 @@ read_whole source text id r =
 
 -- ---- what follows the source
 
-behind-to : (front text rest : List ℕ) → behind front text ≡ Some rest → text ≡ front ++ rest
-behind-to front text rest h =
+beyond-to : (front text rest : List ℕ) → beyond front text ≡ Some rest → text ≡ front ++ rest
+beyond-to front text rest h =
     elim (cases_Bool (bytes_eq (take (length front) text) front)) [
       | inl begins ↦
           let same : drop (length front) text ≡ rest = some_same _ _ (rw begins at h) in
@@ -111,19 +111,19 @@ behind-to front text rest h =
       | inr other ↦ let none = rw other at h in absurd (cc)
     ]
 
-behind-made : (front rest : List ℕ) → behind front (front ++ rest) ≡ Some rest
-behind-made front rest =
+beyond-made : (front rest : List ℕ) → beyond front (front ++ rest) ≡ Some rest
+beyond-made front rest =
     rw ((bytes_eq-Decides (take (length front) (front ++ rest)) front).1 (take-append_seam front rest)) (ap Some (drop-append_seam front rest))
 
 rest_at-to : (source text rest : List ℕ) → rest_at source text ≡ Some rest → text ≡ source ++ (95 ∷ rest)
 unfolding rest_at
 rest_at-to source text rest h =
-    let both = and_next (behind source text) (behind (codes "_")) rest h in
-    behind-to source text both.0 both.1 ∙ ap (λ r. source ++ r) (behind-to (codes "_") both.0 rest both.2)
+    let both = and_next (beyond source text) (beyond (codes "_")) rest h in
+    beyond-to source text both.0 both.1 ∙ ap (λ r. source ++ r) (beyond-to (codes "_") both.0 rest both.2)
 
 rest_at-made : (source rest : List ℕ) → rest_at source (source ++ (95 ∷ rest)) ≡ Some rest
 unfolding rest_at
-rest_at-made source rest = rw (behind-made source (95 ∷ rest)) (behind-made (codes "_") rest)
+rest_at-made source rest = rw (beyond-made source (95 ∷ rest)) (beyond-made (codes "_") rest)
 
 -- ---- the places of the parts
 
@@ -140,8 +140,8 @@ placed rest tail pass same =
     let line : get_or rest 24 0 ≡ 95 = eqb-true (get_or rest 24 0) 95 first.1 in
     let far_line : get_or rest 49 0 ≡ 95 = eqb-true (get_or rest 49 0) 95 last.1 in
     let to_tail : drop 24 (drop 25 rest) ≡ 95 ∷ tail = drop-drop 24 25 rest ∙ drop-cons rest 49 0 (omega arith) ∙ (λ i. far_line i ∷ same i) in
-    let behind_first : drop 25 rest ≡ take 24 (drop 25 rest) ++ (95 ∷ tail) = sym (take-append-drop 24 (drop 25 rest)) ∙ ap (λ l. take 24 (drop 25 rest) ++ l) to_tail in
-    let to_first : drop 24 rest ≡ 95 ∷ (take 24 (drop 25 rest) ++ (95 ∷ tail)) = drop-cons rest 24 0 (omega arith) ∙ (λ i. line i ∷ behind_first i) in
+    let beyond_first : drop 25 rest ≡ take 24 (drop 25 rest) ++ (95 ∷ tail) = sym (take-append-drop 24 (drop 25 rest)) ∙ ap (λ l. take 24 (drop 25 rest) ++ l) to_tail in
+    let to_first : drop 24 rest ≡ 95 ∷ (take 24 (drop 25 rest) ++ (95 ∷ tail)) = drop-cons rest 24 0 (omega arith) ∙ (λ i. line i ∷ beyond_first i) in
     record { long = omega arith; whole = sym (take-append-drop 24 rest) ∙ ap (λ l. take 24 rest ++ l) to_first }
 
 tail_at-to : (rest tail : List ℕ) → tail_at rest ≡ Some tail → Placed rest tail
@@ -156,14 +156,14 @@ tail_at-made : (first second tail : List ℕ) → length first ≡ 24 → length
     → tail_at (first ++ (95 ∷ (second ++ (95 ∷ tail)))) ≡ Some tail
 unfolding tail_at
 tail_at-made first second tail h k more =
-    let behind_first = second ++ (95 ∷ tail) in
-    let rest = first ++ (95 ∷ behind_first) in
-    let long : 51 ≤ length rest = omega (arith, length-append first (95 ∷ behind_first), length-append second (95 ∷ tail)) in
-    let line : get_or rest 24 0 ≡ 95 = subst (λ n. get_or rest n 0 ≡ 95) h (get_or-append_seam first 95 behind_first 0) in
-    let second_line : get_or behind_first 24 0 ≡ 95 = subst (λ n. get_or behind_first n 0 ≡ 95) k (get_or-append_seam second 95 tail 0) in
-    let far_line : get_or rest 49 0 ≡ 95 = subst (λ n. get_or rest (n + 25) 0 ≡ get_or behind_first 24 0) h (get_or-append-add first (95 ∷ behind_first) 25 0) ∙ second_line in
-    let behind_second : drop 25 behind_first ≡ tail = subst (λ n. drop (n + 1) behind_first ≡ tail) k (drop-append-add second (95 ∷ tail) 1) in
-    let left : drop 50 rest ≡ tail = subst (λ n. drop (n + 26) rest ≡ drop 25 behind_first) h (drop-append-add first (95 ∷ behind_first) 26) ∙ behind_second in
+    let beyond_first = second ++ (95 ∷ tail) in
+    let rest = first ++ (95 ∷ beyond_first) in
+    let long : 51 ≤ length rest = omega (arith, length-append first (95 ∷ beyond_first), length-append second (95 ∷ tail)) in
+    let line : get_or rest 24 0 ≡ 95 = subst (λ n. get_or rest n 0 ≡ 95) h (get_or-append_seam first 95 beyond_first 0) in
+    let second_line : get_or beyond_first 24 0 ≡ 95 = subst (λ n. get_or beyond_first n 0 ≡ 95) k (get_or-append_seam second 95 tail 0) in
+    let far_line : get_or rest 49 0 ≡ 95 = subst (λ n. get_or rest (n + 25) 0 ≡ get_or beyond_first 24 0) h (get_or-append-add first (95 ∷ beyond_first) 25 0) ∙ second_line in
+    let beyond_second : drop 25 beyond_first ≡ tail = subst (λ n. drop (n + 1) beyond_first ≡ tail) k (drop-append-add second (95 ∷ tail) 1) in
+    let left : drop 50 rest ≡ tail = subst (λ n. drop (n + 26) rest ≡ drop 25 beyond_first) h (drop-append-add first (95 ∷ beyond_first) 26) ∙ beyond_second in
     let pass = and_from _ _ (and_from _ _ (le-leb 51 (length rest) long) (eq-eqb (get_or rest 24 0) 95 line)) (eq-eqb (get_or rest 49 0) 95 far_line) in
     rw pass (ap Some left)
 
@@ -275,8 +275,8 @@ underscore_place-alone : (version : List ℕ) → IsVersion version → position
 underscore_place-alone version h =
     position_or_len_is is_underscore version (length version) 0 (omega arith) (no_underscore_in version h) (λ l. absurd (omega arith))
 
-underscore_place-behind : (version digits : List ℕ) → IsVersion version → position_or_len is_underscore (version ++ (95 ∷ digits)) ≡ length version
-underscore_place-behind version digits h =
+underscore_place-beyond : (version digits : List ℕ) → IsVersion version → position_or_len is_underscore (version ++ (95 ∷ digits)) ≡ length version
+underscore_place-beyond version digits h =
     position_or_len_is is_underscore (version ++ (95 ∷ digits)) (length version) 0
     (omega (arith, length-append version (95 ∷ digits)))
     (λ k l. rw (get_or_append_left version (95 ∷ digits) 0 k l) (no_underscore_in version h k l))
@@ -298,11 +298,11 @@ tail-alone version h =
     let place = underscore_place-alone version h in
     tail_made version version 0 h (take_all _ version (omega (arith, place))) (rw (no_underscore version place) refl)
 
-tail-behind : (version : List ℕ) (p : ℕ) → IsVersion version → 1 ≤ p → p < 65536 → ReadTail (version ++ (95 ∷ decimal p)) version p
+tail-beyond : (version : List ℕ) (p : ℕ) → IsVersion version → 1 ≤ p → p < 65536 → ReadTail (version ++ (95 ∷ decimal p)) version p
 unfolding partition_at
-tail-behind version p h low high =
+tail-beyond version p h low high =
     let tail = version ++ (95 ∷ decimal p) in
-    let place = underscore_place-behind version (decimal p) h in
+    let place = underscore_place-beyond version (decimal p) h in
     let here : list_any is_underscore tail ≡ true = any_underscore tail (omega (arith, place, length-append version (95 ∷ decimal p))) in
     let front : before_first is_underscore tail ≡ version = ap (λ n. take n tail) place ∙ take-append_seam version (95 ∷ decimal p) in
     let back : after_first is_underscore tail ≡ decimal p = ap (λ n. drop (n + 1) tail) place ∙ drop-append-add version (95 ∷ decimal p) 1 in
@@ -316,7 +316,7 @@ tail-made version p h high =
           subst (λ t. ReadTail t version p) (sym alone) (subst (λ n. ReadTail version version n) (sym none) (tail-alone version h))
       | inr some ↦
           let suffix : partition_suffix p ≡ 95 ∷ decimal p = rw (ne_eqb p 0 some) refl in
-          subst (λ t. ReadTail t version p) (ap (λ s. version ++ s) (sym suffix)) (tail-behind version p h (omega arith) high)
+          subst (λ t. ReadTail t version p) (ap (λ s. version ++ s) (sym suffix)) (tail-beyond version p h (omega arith) high)
     ]
 
 -- ---- the whole
@@ -331,7 +331,7 @@ read_spells source text id name r =
     record {
       valid = record { source = subst IsName (sym r.of_source) name; interval = printed.valid; version = version.1; partition = partition.1 };
       of_source = r.of_source;
-      spelled = identifier_text-behind id
+      spelled = identifier_text-beyond id
           ∙ (λ i. r.of_source i ++ (95 ∷ (printed.start i ++ (95 ∷ (printed.end i ++ (95 ∷ tail_same i))))))
           ∙ ap (λ rest. source ++ (95 ∷ rest)) (sym places.whole)
           ∙ sym (rest_at-to source text r.rest r.rest_is);
@@ -342,14 +342,14 @@ spelled_reads source text id h =
     let first = instant_text id.interval.start in
     let second = instant_text id.interval.end in
     let tail = id.version ++ partition_suffix id.partition in
-    let behind_first = second ++ (95 ∷ tail) in
-    let rest = first ++ (95 ∷ behind_first) in
+    let beyond_first = second ++ (95 ∷ tail) in
+    let rest = first ++ (95 ∷ beyond_first) in
     let long = length-instant_text id.interval.start in
     let long_too = length-instant_text id.interval.end in
-    let text_is : text ≡ source ++ (95 ∷ rest) = sym h.spelled ∙ identifier_text-behind id ∙ ap (λ s. s ++ (95 ∷ rest)) h.of_source in
-    let start : take 24 rest ≡ first = subst (λ n. take n rest ≡ first) long (take-append_seam first (95 ∷ behind_first)) in
-    let left : drop 25 rest ≡ behind_first = subst (λ n. drop (n + 1) rest ≡ behind_first) long (drop-append-add first (95 ∷ behind_first) 1) in
-    let end : take 24 (drop 25 rest) ≡ second = ap (take 24) left ∙ subst (λ n. take n behind_first ≡ second) long_too (take-append_seam second (95 ∷ tail)) in
+    let text_is : text ≡ source ++ (95 ∷ rest) = sym h.spelled ∙ identifier_text-beyond id ∙ ap (λ s. s ++ (95 ∷ rest)) h.of_source in
+    let start : take 24 rest ≡ first = subst (λ n. take n rest ≡ first) long (take-append_seam first (95 ∷ beyond_first)) in
+    let left : drop 25 rest ≡ beyond_first = subst (λ n. drop (n + 1) rest ≡ beyond_first) long (drop-append-add first (95 ∷ beyond_first) 1) in
+    let end : take 24 (drop 25 rest) ≡ second = ap (take 24) left ∙ subst (λ n. take n beyond_first ≡ second) long_too (take-append_seam second (95 ∷ tail)) in
     let read = tail-made id.version id.partition h.valid.version h.valid.partition in
     let more : 1 ≤ length tail = omega (arith, h.valid.version.not_empty, length-append id.version (partition_suffix id.partition)) in
     record {

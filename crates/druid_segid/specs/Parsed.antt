@@ -25,12 +25,12 @@ abbrev pub is_underscore : ℕ → Bool
 is_underscore b = b == 95
 
 -- what follows a front
-abbrev pub behind : List ℕ → List ℕ → Option (List ℕ)
-behind front text = if bytes_eq (take (length front) text) front then Some (drop (length front) text) else None
+abbrev pub beyond : List ℕ → List ℕ → Option (List ℕ)
+beyond front text = if bytes_eq (take (length front) text) front then Some (drop (length front) text) else None
 
 -- what follows the source and `_`
 unfoldable pub rest_at : List ℕ → List ℕ → Option (List ℕ)
-rest_at source text = option_and_then (behind (codes "_")) (behind source text)
+rest_at source text = option_and_then (beyond (codes "_")) (beyond source text)
 
 -- what follows the interval: each of the two instants takes 24 bytes, and `_` stands after each
 unfoldable pub tail_at : List ℕ → Option (List ℕ)

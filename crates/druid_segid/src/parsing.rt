@@ -22,8 +22,8 @@ const VERSION: usize = 50;
 fn rest_of<'a>(source: &str, text: &'a [u8]) -> Option<&'a [u8]>
     ensures { option_map (λ rest. rest.now) result ≡ rest_at source.now text.now }
 {
-    let behind = text.strip_prefix(source.as_bytes())?;
-    behind.strip_prefix(b"_")
+    let beyond = text.strip_prefix(source.as_bytes())?;
+    beyond.strip_prefix(b"_")
 }
 
 // What follows the interval.

@@ -45,9 +45,9 @@ pub(crate) fn append_suffix(out: &mut [u8], at: usize, partition: u16) -> usize
     if partition == 0 {
         return at;
     }
-    let behind = append(out, at, b"_");
+    let beyond = append(out, at, b"_");
     let mut digits = itoa::Buffer::new();
-    append(out, behind, digits.format(partition).as_bytes())
+    append(out, beyond, digits.format(partition).as_bytes())
 }
 
 impl SegmentId {

@@ -1,7 +1,7 @@
 -- How a cluster is served.
 use Rattle.std.specs.Prelude.{◌≡◌, ℕ, List, [], ◌∷◌, ◌++◌, ⊤, Some, Result, Ok, Err}
 use Rattle.serde_json.specs.Data.{Data}
-use Rattle.druid_config.specs.Configs.{Told, config_at}
+use Rattle.druid_config.specs.Configs.{Reported, config_at}
 use Rattle.druid_config.specs.Read.{ReadsAs}
 use Rattle.druid_serve.specs.Faults.{status_of, fault_text}
 use Rattle.druid_serve.specs.declared.fault.ServeFault.{ServeFault}
@@ -9,7 +9,7 @@ use Rattle.druid_serve.specs.declared.fault.ServeFault.TheVariants.{BadConfig, B
 
 -- the bytes are a config
 abbrev pub IsConfig : List ℕ → Type 0
-IsConfig bytes = (d : Data) × (told : Told) × ReadsAs bytes d × (config_at d ≡ Some told)
+IsConfig bytes = (d : Data) × (reported : Reported) × ReadsAs bytes d × (config_at d ≡ Some reported)
 
 -- how the bytes are served as a config: they are refused only where they are none, and a folder only where they are one. A device
 -- that fails and out of memory say nothing of the bytes

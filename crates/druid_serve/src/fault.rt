@@ -45,7 +45,7 @@ impl fmt::Display for ServeFault {
 impl Error for ServeFault {}
 
 impl From<ConfigFault> for ServeFault {
-    ghost from_gives = { λ fault told. told ≡ of_config fault };
+    ghost from_gives = { λ fault reported. reported ≡ of_config fault };
 
     fn from(fault: ConfigFault) -> ServeFault {
         match fault {
@@ -56,7 +56,7 @@ impl From<ConfigFault> for ServeFault {
 }
 
 impl From<ClusterFault> for ServeFault {
-    ghost from_gives = { λ fault told. told ≡ of_cluster fault };
+    ghost from_gives = { λ fault reported. reported ≡ of_cluster fault };
 
     fn from(fault: ClusterFault) -> ServeFault {
         match fault {

@@ -42,7 +42,7 @@ impl From<DeviceFailed> for ClusterFault {
 }
 
 impl From<StoreFault> for ClusterFault {
-    ghost from_gives = { λ fault told. told ≡ of_store fault };
+    ghost from_gives = { λ fault reported. reported ≡ of_store fault };
 
     fn from(fault: StoreFault) -> ClusterFault {
         match fault {
@@ -54,7 +54,7 @@ impl From<StoreFault> for ClusterFault {
 }
 
 impl From<NodeFault> for ClusterFault {
-    ghost from_gives = { λ fault told. told ≡ of_node fault };
+    ghost from_gives = { λ fault reported. reported ≡ of_node fault };
 
     fn from(fault: NodeFault) -> ClusterFault {
         match fault {

@@ -13,7 +13,7 @@ pub(crate) fn halves<'a>(rt: &impl Abort, text: &'a str, between: &str) -> (&'a 
     text.split_once(between).expect(rt, "no such text")
 }
 
-fn told_of(alloc: Global, text: String) -> &'static str {
+fn reported_of(alloc: Global, text: String) -> &'static str {
     match read_config(alloc, text.as_bytes()) {
         Ok(_) => "taken",
         Err(ConfigFault::Refused) => "bad config",
@@ -28,11 +28,11 @@ pub(crate) fn changed(rt: &impl Abort, alloc: Global, from: &str, to: &str) -> S
 }
 
 // Asserts what is reported of each config. A row has a text, and what stands in its place.
-fn assert_told(rt: &impl Abort, alloc: Global, rows: &str, wanted: &str) {
+fn assert_reported(rt: &impl Abort, alloc: Global, rows: &str, wanted: &str) {
     for row in rows.lines() {
         let (from, to) = halves(rt, row, " = ");
         assert!(rt;
-            told_of(alloc, changed(rt, alloc, from, to)) == wanted,
+            reported_of(alloc, changed(rt, alloc, from, to)) == wanted,
             "{row}"
         );
     }
@@ -49,7 +49,7 @@ fn taken_configs(rt: HostRuntime) {
 \"name\":\"n0\" = \"name\":\"n0\",\"tombstones\":[]
 \"name\":\"n0\" = \"name\":\"n0\",\"tombstones\":[{\"dataSource\":\"w\",\"interval\":\"2024-01-01/2024-01-02\",\"version\":\"v\"},{\"dataSource\":\"w\",\"interval\":\"2024-01-01/2024-01-02\",\"version\":\"v\"}]
 {} = {\"a\":[1,null]}";
-    assert_told(&rt, rt.alloc(), rows, "taken");
+    assert_reported(&rt, rt.alloc(), rows, "taken");
 }
 
 #[test]
@@ -87,7 +87,7 @@ fn refused_configs(rt: HostRuntime) {
 {} = \"\"
 [{\"broker\":0,\"query\":{}}] = {}
 [{\"address\":\"127.0.0.1:9001\",\"workers\":16}] = []";
-    assert_told(&rt, rt.alloc(), rows, "bad config");
+    assert_reported(&rt, rt.alloc(), rows, "bad config");
 }
 
 // A node of the name that a letter and its place give.
@@ -123,8 +123,8 @@ fn numbers_of_nodes(rt: HostRuntime) {
         } else {
             "bad config"
         };
-        let told = told_of(rt.alloc(), with_nodes(&rt, rt.alloc(), count));
-        assert!(rt; told == wanted, "{count}");
+        let reported = reported_of(rt.alloc(), with_nodes(&rt, rt.alloc(), count));
+        assert!(rt; reported == wanted, "{count}");
     }
 }
 
@@ -142,8 +142,8 @@ fn listed(rt: &impl Abort, alloc: Global, text: &str, count: usize) -> String {
 // Asserts what becomes of a config in which a text stands so many times in place of itself.
 fn assert_listed(rt: &impl Abort, alloc: Global, text: &str, count: usize, wanted: &str) {
     let list = listed(rt, alloc, text, count);
-    let told = told_of(alloc, changed(rt, alloc, text, list.as_str()));
-    assert!(rt; told == wanted, "{text} {count}");
+    let reported = reported_of(alloc, changed(rt, alloc, text, list.as_str()));
+    assert!(rt; reported == wanted, "{text} {count}");
 }
 
 #[test]
@@ -168,8 +168,8 @@ pub(crate) fn with_doubled(rt: &impl Abort, alloc: Global) -> String {
 
 #[test]
 fn doubled_names(rt: HostRuntime) {
-    let told = told_of(rt.alloc(), with_doubled(&rt, rt.alloc()));
-    assert!(rt; told == "bad config");
+    let reported = reported_of(rt.alloc(), with_doubled(&rt, rt.alloc()));
+    assert!(rt; reported == "bad config");
 }
 
 #[test]

@@ -22,8 +22,8 @@ fn field_of(rt: &impl Abort, alloc: Global, text: &str) -> String {
 fn assert_field(rt: &impl Abort, alloc: Global, row: &str) {
     let (from, rest) = halves(rt, row, " = ");
     let (to, wanted) = halves(rt, rest, " -> ");
-    let told = field_of(rt, alloc, changed(rt, alloc, from, to).as_str());
-    assert!(rt; told.as_str() == wanted, "{row}: {told}");
+    let reported = field_of(rt, alloc, changed(rt, alloc, from, to).as_str());
+    assert!(rt; reported.as_str() == wanted, "{row}: {reported}");
 }
 
 #[test]
@@ -60,18 +60,21 @@ fn fields(rt: HostRuntime) {
 
 #[test]
 fn nodes(rt: HostRuntime) {
-    let told = field_of(&rt, rt.alloc(), with_doubled(&rt, rt.alloc()).as_str());
+    let reported = field_of(&rt, rt.alloc(), with_doubled(&rt, rt.alloc()).as_str());
     assert!(rt;
-        told.as_str() == "nodes[0].name: a later node has it too",
-        "{told}"
+        reported.as_str() == "nodes[0].name: a later node has it too",
+        "{reported}"
     );
     let none = "{\"connections\":0,\"kept\":1,\"turns\":0,\"nodes\":[]}";
-    let told = field_of(&rt, rt.alloc(), none);
-    assert!(rt; told.as_str() == "nodes: not 1 to 64 of them", "{told}");
+    let reported = field_of(&rt, rt.alloc(), none);
+    assert!(rt;
+        reported.as_str() == "nodes: not 1 to 64 of them",
+        "{reported}"
+    );
 }
 
 // What is reported of a config: its status, a line feed, and what was written to the error writer.
-fn reported<R: Host + Net<Listener = TcpListener, Stream = TcpStream>>(
+fn report_of<R: Host + Net<Listener = TcpListener, Stream = TcpStream>>(
     rt: &R,
     alloc: Global,
     config: &str,
@@ -82,17 +85,17 @@ fn reported<R: Host + Net<Listener = TcpListener, Stream = TcpStream>>(
     let ending = serve(rt, alloc, bytes, &mut out, &mut errors, explain);
     assert!(rt; ending.reported.is_ok());
     let status = ending.status;
-    let told = str::from_utf8(&errors).expect(rt, "a text");
-    format!(in alloc; "{status}\n{told}").expect(rt, "memory")
+    let reported = str::from_utf8(&errors).expect(rt, "a text");
+    format!(in alloc; "{status}\n{reported}").expect(rt, "memory")
 }
 
 #[test]
 fn configs(rt: HostRuntime) {
-    let told = reported(&rt, rt.alloc(), "{}", true);
+    let reported = report_of(&rt, rt.alloc(), "{}", true);
     let wanted = "1\nbad config\n  connections: not a number from 0 to 1000000\n";
-    assert!(&rt; told.as_str() == wanted, "{told}");
-    let told = reported(&rt, rt.alloc(), "{}", false);
-    assert!(&rt; told.as_str() == "1\nbad config\n", "{told}");
+    assert!(&rt; reported.as_str() == wanted, "{reported}");
+    let reported = report_of(&rt, rt.alloc(), "{}", false);
+    assert!(&rt; reported.as_str() == "1\nbad config\n", "{reported}");
 }
 
 // A text in which words stand for what is of the place alone.
@@ -114,7 +117,7 @@ fn reported_at<R: Host + Net<Listener = TcpListener, Stream = TcpStream>>(
     place: &Place,
 ) -> String {
     let config = config(rt, alloc, place, 0);
-    let text = reported(rt, alloc, config.as_str(), true);
+    let text = report_of(rt, alloc, config.as_str(), true);
     placeless(rt, alloc, place, text)
 }
 
@@ -132,10 +135,10 @@ fn assert_file<R: Host + Net<Listener = TcpListener, Stream = TcpStream>>(
         Some(name) => put(rt, alloc, place.older.as_str(), name, text.as_bytes()),
         None => put(rt, alloc, place.newer.as_str(), name, text.as_bytes()),
     }
-    let told = reported_at(rt, alloc, &place);
+    let reported = reported_at(rt, alloc, &place);
     clear(rt, &place);
     let wanted = format!(in alloc; "1\nbad folder\n  {wanted}\n").expect(rt, "memory");
-    assert!(rt; told.as_str() == wanted.as_str(), "{row}: {told}");
+    assert!(rt; reported.as_str() == wanted.as_str(), "{row}: {reported}");
 }
 
 #[test]
@@ -159,19 +162,19 @@ fn file_of_two_lines(rt: HostRuntime) {
         "a\nb.seg",
         b"no segment",
     );
-    let told = reported_at(&rt, rt.alloc(), &place);
+    let reported = reported_at(&rt, rt.alloc(), &place);
     clear(&rt, &place);
     assert!(rt;
-        told.as_str()
+        reported.as_str()
             == "1\nbad folder\n  nodes[0].folder: OLDER/a b.seg: N2: F1: not a segment file\n",
-        "{told}"
+        "{reported}"
     );
 }
 
 // Asserts that a device failed, and what is said of it.
-fn assert_device(rt: &impl Abort, alloc: Global, told: String, wanted: &str) {
+fn assert_device(rt: &impl Abort, alloc: Global, reported: String, wanted: &str) {
     let wanted = format!(in alloc; "3\ndevice\n  {wanted}\n").expect(rt, "memory");
-    assert!(rt; told.as_str() == wanted.as_str(), "{told}");
+    assert!(rt; reported.as_str() == wanted.as_str(), "{reported}");
 }
 
 // A port of a node that is taken, one of a broker, and a folder that is not there.
@@ -180,20 +183,25 @@ fn devices(rt: HostRuntime) {
     let alloc = rt.alloc();
     let place = place_of(&rt, alloc, "taken");
     let taken = TcpListener::bind(&rt, place.broker.as_str()).expect(&rt, "a listener");
-    let told = reported_at(&rt, alloc, &place);
-    assert_device(&rt, alloc, told, "brokers[0].address: listening on BROKER");
+    let reported = reported_at(&rt, alloc, &place);
+    assert_device(
+        &rt,
+        alloc,
+        reported,
+        "brokers[0].address: listening on BROKER",
+    );
     drop(taken);
     clear(&rt, &place);
     let place = place_of(&rt, alloc, "held");
     let _taken = TcpListener::bind(&rt, place.first.as_str()).expect(&rt, "a listener");
-    let told = reported_at(&rt, alloc, &place);
-    assert_device(&rt, alloc, told, "nodes[0].address: listening on FIRST");
+    let reported = reported_at(&rt, alloc, &place);
+    assert_device(&rt, alloc, reported, "nodes[0].address: listening on FIRST");
     clear(&rt, &place);
-    let told = reported_at(&rt, alloc, &place);
+    let reported = reported_at(&rt, alloc, &place);
     assert_device(
         &rt,
         alloc,
-        told,
+        reported,
         "nodes[0].folder: OLDER/incarnation: O1: the device failed",
     );
 }

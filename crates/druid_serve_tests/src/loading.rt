@@ -50,7 +50,7 @@ fn node(rt: &impl Abort, alloc: Global) -> DataNode<First> {
 }
 
 // What a node tells of its segments.
-fn told<R: Wait + Abort>(rt: &R, alloc: Global, node: &DataNode<First>) -> String {
+fn reported<R: Wait + Abort>(rt: &R, alloc: Global, node: &DataNode<First>) -> String {
     let mut reader = b"GET /druid-internal/v1/segments HTTP/1.1\r\n\r\n".as_slice();
     let mut written = Vec::new(alloc);
     let served = node.serve_one(rt, &mut reader, &mut written, &mut Mark::never());
@@ -65,6 +65,6 @@ fn loads_later(rt: HostRuntime) {
     let names = names(&rt, rt.alloc());
     let mut folder = folder(&rt, rt.alloc());
     load_later(&rt, &node, &mut folder, &names, &mut Mark::never());
-    let told = told(&rt, rt.alloc(), &node);
-    assert!(rt; told.as_str().ends_with(SERVED), "{told}");
+    let reported = reported(&rt, rt.alloc(), &node);
+    assert!(rt; reported.as_str().ends_with(SERVED), "{reported}");
 }

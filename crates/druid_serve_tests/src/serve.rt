@@ -94,8 +94,8 @@ pub(crate) fn served<R: Host + Net<Listener = TcpListener, Stream = TcpStream>>(
     assert!(rt; ending.reported.is_ok());
     let status = ending.status;
     let printed = str::from_utf8(&out).expect(rt, "a text");
-    let told = str::from_utf8(&errors).expect(rt, "a text");
-    format!(in alloc; "{status}\n{printed}{told}").expect(rt, "memory")
+    let reported = str::from_utf8(&errors).expect(rt, "a text");
+    format!(in alloc; "{status}\n{printed}{reported}").expect(rt, "memory")
 }
 
 /// What the config of a place comes to.
@@ -107,13 +107,13 @@ pub(crate) fn served_at<R: Host + Net<Listener = TcpListener, Stream = TcpStream
     served(rt, alloc, config(rt, alloc, place, 0).as_str())
 }
 
-fn assert_told(rt: &impl Abort, told: String, wanted: &str) {
-    assert!(rt; told.as_str() == wanted, "{told}");
+fn assert_reported(rt: &impl Abort, reported: String, wanted: &str) {
+    assert!(rt; reported.as_str() == wanted, "{reported}");
 }
 
 /// Asserts that a cluster was served, whose first query was answered.
-pub(crate) fn assert_served(rt: &impl Abort, told: String) {
-    assert!(rt; told.as_str().starts_with("0\n200\n"), "{told}");
+pub(crate) fn assert_served(rt: &impl Abort, reported: String) {
+    assert!(rt; reported.as_str().starts_with("0\n200\n"), "{reported}");
 }
 
 // The text of a file of a folder.
@@ -156,8 +156,8 @@ fn served_cluster(rt: HostRuntime) {
     put(&rt, rt.alloc(), place.newer.as_str(), "incarnation", b"7\n");
     let later = file_bytes(&rt, rt.alloc(), LATER_FILE);
     put(&rt, rt.alloc(), place.newer.as_str(), LATER_FILE, &later);
-    assert_told(&rt, served_at(&rt, rt.alloc(), &place), SERVED);
-    assert_told(&rt, incarnations(&rt, rt.alloc(), &place), "1\n8\n");
+    assert_reported(&rt, served_at(&rt, rt.alloc(), &place), SERVED);
+    assert_reported(&rt, incarnations(&rt, rt.alloc(), &place), "1\n8\n");
     let answer = changes_of(&rt, rt.alloc(), place.second.as_str());
     let delta = "{\"counter\":{\"counter\":2,\"hash\":8},\"from\":{\"counter\":0,\"hash\":8},";
     assert!(rt; answer.as_str().contains(delta), "{answer}");
@@ -182,7 +182,7 @@ fn queries_to_their_brokers(rt: HostRuntime) {
     let text = text
         .replace(alloc, "\"query\":{}", QUERY_OF_BOTH)
         .expect(&rt, "memory");
-    assert_told(&rt, served(&rt, alloc, text.as_str()), BOTH);
+    assert_reported(&rt, served(&rt, alloc, text.as_str()), BOTH);
     clear(&rt, &place);
 }
 
@@ -203,7 +203,7 @@ fn turns_of_a_worker(rt: HostRuntime) {
     let text = text
         .replace(alloc, "\"query\":{}", QUERY_OF_BOTH)
         .expect(&rt, "memory");
-    assert_told(&rt, served(&rt, alloc, text.as_str()), TWICE);
+    assert_reported(&rt, served(&rt, alloc, text.as_str()), TWICE);
     clear(&rt, &place);
 }
 
@@ -259,7 +259,7 @@ fn configs_of_paths(rt: HostRuntime) {
             "none" => "3\ndevice\n",
             _ => "1\nbad config\n",
         };
-        assert_told(&rt, run_with(&rt, alloc, path.as_str()), wanted);
+        assert_reported(&rt, run_with(&rt, alloc, path.as_str()), wanted);
     }
     clear(&rt, &place);
 }
@@ -315,14 +315,14 @@ fn ample_memory(rt: HostRuntime) {
 #[test]
 fn no_config(rt: HostRuntime) {
     for text in ["", "{", "no JSON", "[]", "{}"] {
-        let told = served(&rt, rt.alloc(), text);
-        assert!(rt; told.as_str() == "1\nbad config\n", "{text}");
+        let reported = served(&rt, rt.alloc(), text);
+        assert!(rt; reported.as_str() == "1\nbad config\n", "{text}");
     }
 }
 
 // What the config of a place comes to, once a file of a folder has these bytes: the first node's where the name begins with a
 // slash.
-fn told_with<R: Host + Net<Listener = TcpListener, Stream = TcpStream>>(
+fn reported_with<R: Host + Net<Listener = TcpListener, Stream = TcpStream>>(
     rt: &R,
     alloc: Global,
     name: &str,
@@ -333,20 +333,20 @@ fn told_with<R: Host + Net<Listener = TcpListener, Stream = TcpStream>>(
         Some(name) => put(rt, alloc, place.older.as_str(), name, text.as_bytes()),
         None => put(rt, alloc, place.newer.as_str(), name, text.as_bytes()),
     }
-    let told = served_at(rt, alloc, &place);
+    let reported = served_at(rt, alloc, &place);
     clear(rt, &place);
-    told
+    reported
 }
 
 // The same of a row, in whose text `|` stands for a line feed.
-fn told_of<R: Host + Net<Listener = TcpListener, Stream = TcpStream>>(
+fn reported_of<R: Host + Net<Listener = TcpListener, Stream = TcpStream>>(
     rt: &R,
     alloc: Global,
     row: &str,
 ) -> String {
     let (name, text) = row.split_once(":").expect(rt, "no row");
     let text = text.replace(alloc, "|", "\n").expect(rt, "memory");
-    told_with(rt, alloc, name, text.as_str())
+    reported_with(rt, alloc, name, text.as_str())
 }
 
 #[test]
@@ -361,8 +361,8 @@ incarnation:18446744073709551615|
 /incarnation:x
 /a.seg:x";
     for row in rows.lines() {
-        let told = told_of(&rt, rt.alloc(), row);
-        assert!(rt; told.as_str() == "1\nbad folder\n", "{row}");
+        let reported = reported_of(&rt, rt.alloc(), row);
+        assert!(rt; reported.as_str() == "1\nbad folder\n", "{row}");
     }
 }
 
@@ -371,7 +371,7 @@ fn file_under_another_name(rt: HostRuntime) {
     let place = place_of(&rt, rt.alloc(), "name");
     let bytes = file_bytes(&rt, rt.alloc(), NEWER_FILE);
     put(&rt, rt.alloc(), place.older.as_str(), "a.seg", &bytes);
-    assert_told(&rt, served_at(&rt, rt.alloc(), &place), "1\nbad folder\n");
+    assert_reported(&rt, served_at(&rt, rt.alloc(), &place), "1\nbad folder\n");
     clear(&rt, &place);
 }
 
@@ -382,11 +382,11 @@ fn failing_devices(rt: HostRuntime) {
     let place = place_of(&rt, alloc, "devices");
     let _taken = TcpListener::bind(&rt, place.first.as_str()).expect(&rt, "a listener");
     put(&rt, alloc, place.newer.as_str(), "z.seg", b"x");
-    assert_told(&rt, served_at(&rt, alloc, &place), "3\ndevice\n");
+    assert_reported(&rt, served_at(&rt, alloc, &place), "3\ndevice\n");
     put(&rt, alloc, place.older.as_str(), "z.seg", b"x");
-    assert_told(&rt, served_at(&rt, alloc, &place), "1\nbad folder\n");
+    assert_reported(&rt, served_at(&rt, alloc, &place), "1\nbad folder\n");
     clear(&rt, &place);
-    assert_told(&rt, served_at(&rt, alloc, &place), "3\ndevice\n");
+    assert_reported(&rt, served_at(&rt, alloc, &place), "3\ndevice\n");
 }
 
 // Asks brokers whether they are there, until the other thread is done, and gives how often one of them answered.
@@ -458,9 +458,9 @@ fn waits_for_each<R: Host + Net<Listener = TcpListener, Stream = TcpStream>>(
     let (_, waited) = join(
         rt,
         || {
-            let told = served(rt, alloc, config);
+            let reported = served(rt, alloc, config);
             done.store(true, Ordering::SeqCst);
-            told
+            reported
         },
         || ask_first_alone(rt, alloc, &mut links, &done),
     );
@@ -479,9 +479,9 @@ fn served_to_others<R: Host + Net<Listener = TcpListener, Stream = TcpStream>>(
     join(
         rt,
         || {
-            let told = served(rt, alloc, config);
+            let reported = served(rt, alloc, config);
             done.store(true, Ordering::SeqCst);
-            told
+            reported
         },
         || keep_asking(rt, alloc, &mut links, &done),
     )
@@ -491,8 +491,8 @@ fn served_to_others<R: Host + Net<Listener = TcpListener, Stream = TcpStream>>(
 fn connections_from_outside(rt: HostRuntime) {
     let place = place_of(&rt, rt.alloc(), "outside");
     let text = config(&rt, rt.alloc(), &place, 5);
-    let (told, answered) = served_to_others(&rt, rt.alloc(), text.as_str(), &place);
-    assert_served(&rt, told);
+    let (reported, answered) = served_to_others(&rt, rt.alloc(), text.as_str(), &place);
+    assert_served(&rt, reported);
     assert!(rt; answered >= 10, "{answered}");
     clear(&rt, &place);
 }

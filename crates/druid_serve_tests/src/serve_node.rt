@@ -42,7 +42,7 @@ fn config(
 
 // What a node that is started over a folder, with these tombstones, tells of its segments, once it has tried the files that it
 // loads later.
-fn told_over<R: Host + Net<Listener = TcpListener, Stream = TcpStream>>(
+fn reported_over<R: Host + Net<Listener = TcpListener, Stream = TcpStream>>(
     rt: &R,
     alloc: Global,
     folder: &str,
@@ -78,12 +78,12 @@ fn told_over<R: Host + Net<Listener = TcpListener, Stream = TcpStream>>(
 }
 
 // Whether a node is at that mark, and serves as many segments.
-fn is_at(rt: &impl Abort, alloc: Global, told: &str, count: usize, incarnation: &str) -> bool {
+fn is_at(rt: &impl Abort, alloc: Global, reported: &str, count: usize, incarnation: &str) -> bool {
     let mark = format!(in alloc;
         "\r\n\r\n{{\"counter\":{{\"counter\":{count},\"hash\":{incarnation}}},"
     ).expect(rt, "memory");
-    told.contains(mark.as_str())
-        && told.split("\"action\":\"load\"").count() == count.saturating_add(1)
+    reported.contains(mark.as_str())
+        && reported.split("\"action\":\"load\"").count() == count.saturating_add(1)
 }
 
 // Asserts that a node starts over a folder of so many segments, and serves them.
@@ -99,7 +99,7 @@ fn assert_starts<R: Host + Net<Listener = TcpListener, Stream = TcpStream>>(
 {
     let folder = fresh_folder(rt, alloc, "druid_serve_node");
     put_parts(rt, alloc, folder.as_str(), count);
-    let told = told_over(
+    let reported = reported_over(
         rt,
         alloc,
         folder.as_str(),
@@ -109,8 +109,8 @@ fn assert_starts<R: Host + Net<Listener = TcpListener, Stream = TcpStream>>(
         kept,
     );
     assert!(rt;
-        is_at(rt, alloc, told.as_str(), count as usize, "1"),
-        "{count}: {told}"
+        is_at(rt, alloc, reported.as_str(), count as usize, "1"),
+        "{count}: {reported}"
     );
     fs::remove_dir_all(rt, folder.as_str()).expect(rt, "a folder");
 }
@@ -133,8 +133,11 @@ fn assert_raised<R: Host + Net<Listener = TcpListener, Stream = TcpStream>>(
     let folder = fresh_folder(rt, alloc, "druid_serve_incarnation");
     let text = format!(in alloc; "{before}\n").expect(rt, "memory");
     put(rt, alloc, folder.as_str(), "incarnation", text.as_bytes());
-    let told = told_over(rt, alloc, folder.as_str(), "", 0, 1, 10);
-    assert!(rt; is_at(rt, alloc, told.as_str(), 0, after), "{row}: {told}");
+    let reported = reported_over(rt, alloc, folder.as_str(), "", 0, 1, 10);
+    assert!(rt;
+        is_at(rt, alloc, reported.as_str(), 0, after),
+        "{row}: {reported}"
+    );
     fs::remove_dir_all(rt, folder.as_str()).expect(rt, "a folder");
 }
 
@@ -161,9 +164,12 @@ const TOMBSTONES: &str =
 fn assert_placed<R: Host + Net<Listener = TcpListener, Stream = TcpStream>>(rt: &R, alloc: Global) {
     let folder = fresh_folder(rt, alloc, "druid_serve_tombstones");
     put_parts(rt, alloc, folder.as_str(), 2);
-    let told = told_over(rt, alloc, folder.as_str(), TOMBSTONES, 0, 1, 10);
-    assert!(rt; is_at(rt, alloc, told.as_str(), 3, "1"), "{told}");
-    assert!(rt; told.split("\"tombstone\":true").count() == 2, "{told}");
+    let reported = reported_over(rt, alloc, folder.as_str(), TOMBSTONES, 0, 1, 10);
+    assert!(rt; is_at(rt, alloc, reported.as_str(), 3, "1"), "{reported}");
+    assert!(rt;
+        reported.split("\"tombstone\":true").count() == 2,
+        "{reported}"
+    );
     fs::remove_dir_all(rt, folder.as_str()).expect(rt, "a folder");
 }
 

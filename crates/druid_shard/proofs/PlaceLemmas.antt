@@ -31,15 +31,15 @@ abbrev pub AllBefore : List Described → Identifier → ℕ → Type 0
 AllBefore s id low = (k : ℕ) (x : Described) → k < low → Precedes (identifier_text (get_or s k x).id) (identifier_text id)
 
 -- those from high on come after it
-abbrev pub AllBehind : List Described → Identifier → ℕ → Type 0
-AllBehind s id high = (k : ℕ) (x : Described) → high ≤ k → k < length s → Precedes (identifier_text id) (identifier_text (get_or s k x).id)
+abbrev pub AllBeyond : List Described → Identifier → ℕ → Type 0
+AllBeyond s id high = (k : ℕ) (x : Described) → high ≤ k → k < length s → Precedes (identifier_text id) (identifier_text (get_or s k x).id)
 
 -- what is left to be searched
 pub record IsLeft (s : List Described) (id : Identifier) (low high : ℕ) : Type 0 where
   pub apart : low ≤ high
   pub within : high ≤ length s
   pub below : AllBefore s id low
-  pub above : AllBehind s id high
+  pub above : AllBeyond s id high
 
 pub IsLeft-above : (s : List Described) (id : Identifier) (low high m : ℕ) (y : Described) → AreSorted s → IsLeft s id low high → m < high → low ≤ m
     → y ≡ get_or s m y → Less ≡ slice_cmp nat_cmp (identifier_text y.id) (identifier_text id) → IsLeft s id (m + 1) high
@@ -57,7 +57,7 @@ IsLeft-above s id low high m y h left under over is less = record {
         | inr (inl before) ↦
             nat_list_cmp_total.trans (identifier_text (get_or s k x).id) (identifier_text (get_or s m x).id) (identifier_text id)
             (in_order s h k m x before long) at
-        | inr (inr behind) ↦ absurd (omega arith)
+        | inr (inr beyond) ↦ absurd (omega arith)
       ];
   above = left.above;
 }
@@ -73,7 +73,7 @@ IsLeft-below s id low high m y h left under over is greater = record {
       let long : m < length s = omega arith in
       let same : y ≡ get_or s m x = is ∙ get_or_default s m y x long in
       let at : Precedes (identifier_text id) (identifier_text (get_or s m x).id) =
-      subst (λ (z : Described). Precedes (identifier_text id) (identifier_text z.id)) same (behind y greater) in
+      subst (λ (z : Described). Precedes (identifier_text id) (identifier_text z.id)) same (beyond y greater) in
       elim (cases_order k m) [
         | inl level ↦ subst (λ (n : ℕ). Precedes (identifier_text id) (identifier_text (get_or s n x).id)) (sym level) at
         | inr (inl before) ↦ absurd (omega arith)
@@ -82,8 +82,8 @@ IsLeft-below s id low high m y h left under over is greater = record {
             at (in_order s h m k x after l)
       ];
 } where
-  behind : (z : Described) → Greater ≡ slice_cmp nat_cmp (identifier_text z.id) (identifier_text id) → Precedes (identifier_text id) (identifier_text z.id)
-  behind z e = nat_list_cmp_total.antisymm (identifier_text id) (identifier_text z.id) ∙ ap ordering_reverse (sym e)
+  beyond : (z : Described) → Greater ≡ slice_cmp nat_cmp (identifier_text z.id) (identifier_text id) → Precedes (identifier_text id) (identifier_text z.id)
+  beyond z e = nat_list_cmp_total.antisymm (identifier_text id) (identifier_text z.id) ∙ ap ordering_reverse (sym e)
 
 -- it is found
 pub StandsAt-found : (s : List Described) (id : Identifier) (m : ℕ) (y : Described) → m < length s → y ≡ get_or s m y → Equal ≡ identifier_cmp y.id id → StandsAt s id m
@@ -106,7 +106,7 @@ belongs_not_held s d i strict at = by_side ((strict_drop s d).0 strict) where
   by_side (k, l, e) = elim (cases_order k i) [
     | inl level ↦ precedes_itself (identifier_text d.id) (subst (λ (x : Described). Precedes (identifier_text d.id) (identifier_text x.id)) e (at.above k d (omega arith) l))
     | inr (inl before) ↦ precedes_itself (identifier_text d.id) (subst (λ (x : Described). Precedes (identifier_text x.id) (identifier_text d.id)) e (at.below k d before))
-    | inr (inr behind) ↦ precedes_itself (identifier_text d.id) (subst (λ (x : Described). Precedes (identifier_text d.id) (identifier_text x.id)) e (at.above k d (omega arith) l))
+    | inr (inr beyond) ↦ precedes_itself (identifier_text d.id) (subst (λ (x : Described). Precedes (identifier_text d.id) (identifier_text x.id)) e (at.above k d (omega arith) l))
   ]
 
 not_before : (a b : List ℕ) → Precedes a b → (o : Ordering) → slice_cmp nat_cmp b a ≡ o → o ≡ Greater

@@ -195,7 +195,7 @@ impl<R: Files + AllocGlobal + Clone + Drop, D: Device> Folder for DiskFolder<R, 
 
 // What a call of the system answered, as the folder's answer. A failure of the device counts.
 fn counted<T>(faults: &mut u64, answer: io::Result<T>) -> Result<T, StoreFault>
-    ensures told { TellsFault answer result }
+    ensures reported { TellsFault answer result }
     ensures counted { faults.new ≡ faults_after result faults.old }
     ensures fault { IfErr result IsOwnFault }
 {

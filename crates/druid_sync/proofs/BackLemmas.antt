@@ -141,5 +141,5 @@ pub reset_back : (cause : Cause) (at : Point) → 1 ≤ at.incarnation → form_
 unfolding reply_data form_at reset_at
 reset_back cause at h =
     let five = five_at-data at None None [] (Some cause) h in
-    let told = cause_at-data cause in
-    rw five (rw told refl)
+    let reported = cause_at-data cause in
+    rw five (rw reported refl)

@@ -95,15 +95,15 @@ front_joined : (a m b f n c d : List ℕ) → ((((a ++ m) ++ b) ++ f) ++ n) ++ (
 front_joined a m b f n c d = simp (append_assoc)
 
 -- the text of a reply up to the bracket, pushed part by part
-pub front_pushed : (counter : Point) (from : Option Point) (numbers : Option (ℕ × ℕ)) (marked named begun told whole : List ℕ)
+pub front_pushed : (counter : Point) (from : Option Point) (numbers : Option (ℕ × ℕ)) (marked named begun reported whole : List ℕ)
     → marked ≡ codes "{\"counter\":" ++ compact_text (mark_data counter)
     → named ≡ marked ++ codes ",\"from\":"
     → begun ≡ named ++ compact_text (from_data from)
-    → told ≡ begun ++ numbers_text numbers
-    → whole ≡ told ++ codes ",\"requests\":["
+    → reported ≡ begun ++ numbers_text numbers
+    → whole ≡ reported ++ codes ",\"requests\":["
     → whole ≡ front_text counter from numbers ++ codes "["
 unfolding front_text
-front_pushed counter from numbers marked named begun told whole a b c d e =
+front_pushed counter from numbers marked named begun reported whole a b c d e =
     e
     ∙ ap (λ (l : List ℕ). l ++ codes ",\"requests\":[")
     (d ∙ ap (λ (l : List ℕ). l ++ numbers_text numbers) (c ∙ ap (λ (l : List ℕ). l ++ compact_text (from_data from)) (b ∙ ap (λ (l : List ℕ). l ++ codes ",\"from\":") a)))

@@ -4,5 +4,5 @@ pub mod Read
 pub mod Asks
 pub mod Back
 -- words of private contracts
-pub mod Lent
+pub mod Borrowed
 pub mod Given

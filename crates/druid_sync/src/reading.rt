@@ -4,7 +4,7 @@ ghost use Rattle.std.specs.List.{list_all};
 ghost use Rattle.serde_json.specs.View.{view, items_view};
 ghost use Rattle.druid_shard.specs.Reply.{IsAsFar};
 ghost use Rattle.druid_shard.specs.Each.{each_of};
-ghost use Rattle.druid_sync.specs.Lent.{five_lent};
+ghost use Rattle.druid_sync.specs.Borrowed.{five_borrowed};
 ghost use Rattle.druid_sync.specs.Read.{mark_at, change_at, load_at, cause_at, five_at, begun_again, none_in, reset_at, snapshot_at, delta_at, changes_at, page_at, paged_at, tells_page, unpaged_at, form_at, MayBePage, Answers, IsRead, IsReadOf};
 
 use crate::SyncFault;
@@ -130,7 +130,7 @@ fn cause_of(value: &Value) -> Option<Cause>
 
 // The five fields of a reply, borrowed.
 #[derive(Drop)]
-struct Lent<'a> {
+struct Borrowed<'a> {
     at: Mark,
     from: &'a Value,
     requests: &'a [Value],
@@ -139,8 +139,8 @@ struct Lent<'a> {
 }
 
 #[tactic(auto, unfolding(crate::specs::Read::five_at))]
-fn five_of(value: &Value) -> Option<Lent<'_>>
-    ensures value { option_map five_lent result ≡ five_at (view value.now) }
+fn five_of(value: &Value) -> Option<Borrowed<'_>>
+    ensures value { option_map five_borrowed result ≡ five_at (view value.now) }
     ensures valid { IfSome result (λ five. 1 ≤ five.at.incarnation) }
 {
     let at = mark_of(value.get("counter")?)?;
@@ -148,7 +148,7 @@ fn five_of(value: &Value) -> Option<Lent<'_>>
     let requests = value.get("requests").and_then(Value::as_array)?.as_slice();
     let cause = value.get("resetCause")?;
     let reset = value.get("resetCounter").and_then(Value::as_bool)?;
-    Some(Lent {
+    Some(Borrowed {
         at,
         from,
         requests,
@@ -167,8 +167,8 @@ fn are_none(values: &[Value]) -> bool
 
 // The cause, where the five fields are those of a reset.
 #[tactic(auto, unfolding(crate::specs::Read::reset_at))]
-fn reset_of(five: &Lent) -> Option<Cause>
-    ensures { option_map (λ cause. begun_again cause five.now.at) result ≡ reset_at (five_lent five.now) }
+fn reset_of(five: &Borrowed) -> Option<Cause>
+    ensures { option_map (λ cause. begun_again cause five.now.at) result ≡ reset_at (five_borrowed five.now) }
 {
     if !five.from.is_null() {
         return None;
@@ -245,9 +245,9 @@ fn delta_of(alloc: Global, at: Mark, from: &Value, values: &[Value]) -> Result<R
 
 // The snapshot or the delta that the five fields are.
 #[tactic(auto, unfolding(crate::specs::Read::changes_at))]
-fn follow(alloc: Global, five: &Lent) -> Result<Reply, SyncFault>
+fn follow(alloc: Global, five: &Borrowed) -> Result<Reply, SyncFault>
     requires { 1 ≤ five.now.at.incarnation }
-    ensures { Answers (changes_at (five_lent five.now)) result }
+    ensures { Answers (changes_at (five_borrowed five.now)) result }
 {
     if !five.cause.is_null() {
         return Err(SyncFault::Shape);
@@ -299,9 +299,9 @@ fn page_of(alloc: Global, at: Mark, page: u16, of: u16, loads: &[Value]) -> Resu
 
 // The page that a value is.
 #[tactic(auto, unfolding(crate::specs::Read::paged_at))]
-fn page_in(alloc: Global, value: &Value, five: &Lent) -> Result<Reply, SyncFault>
+fn page_in(alloc: Global, value: &Value, five: &Borrowed) -> Result<Reply, SyncFault>
     requires { 1 ≤ five.now.at.incarnation }
-    ensures { Answers (paged_at (view value.now) (five_lent five.now)) result }
+    ensures { Answers (paged_at (view value.now) (five_borrowed five.now)) result }
 {
     let Some(page) = limited_field(value, "page", u16::MAX) else {
         return Err(SyncFault::Shape);
@@ -329,9 +329,9 @@ fn tells_page(value: &Value) -> bool
 }
 
 // The reply that the five fields of a value are, which tells no page.
-fn unpaged_of(alloc: Global, five: &Lent) -> Result<Reply, SyncFault>
+fn unpaged_of(alloc: Global, five: &Borrowed) -> Result<Reply, SyncFault>
     requires { 1 ≤ five.now.at.incarnation }
-    ensures { Answers (unpaged_at (five_lent five.now)) result }
+    ensures { Answers (unpaged_at (five_borrowed five.now)) result }
 {
     if !five.reset {
         return follow(alloc, five);

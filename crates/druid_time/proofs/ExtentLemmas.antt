@@ -156,33 +156,33 @@ ends_partitioned xs t h i j d low below e =
     up_to (get_or xs i d).end t (omega (arith, ends_rise xs h i j d low below, at_most (get_or xs j d).end t e))
 
 -- the first part that ends after an instant holds it, or none does
-abbrev IsFirstBehind : List Extent → ℕ → ℕ → Type 0
-IsFirstBehind xs t i = IsPartitionPoint (λ e. is_le (nat_cmp e.end t) ≡ true) (λ e. is_le (nat_cmp e.end t) ≡ false) xs i
+abbrev IsFirstPast : List Extent → ℕ → ℕ → Type 0
+IsFirstPast xs t i = IsPartitionPoint (λ e. is_le (nat_cmp e.end t) ≡ true) (λ e. is_le (nat_cmp e.end t) ≡ false) xs i
 
-first_behind_start : (xs : List Extent) (t i : ℕ) → AreParts xs → IsFirstBehind xs t i → AnyHas xs t → (i < length xs) × ((d : Extent) → (get_or xs i d).start ≤ t)
-first_behind_start xs t i h point has =
+first_past_start : (xs : List Extent) (t i : ℕ) → AreParts xs → IsFirstPast xs t i → AnyHas xs t → (i < length xs) × ((d : Extent) → (get_or xs i d).start ≤ t)
+first_past_start xs t i h point has =
     AnyHas-at xs i t h (λ k d before. at_most (get_or xs k d).end t (point.0 k d (omega arith) before)) (λ k d from below. above (get_or xs k d).end t (point.1 k d from below)) has
 
-pub AnyHas-first_behind : (xs seen : List Extent) (t i n : ℕ) (e : Extent) → AreParts xs → seen ≡ xs → IsFirstBehind seen t i → i < n → n ≡ length xs → e ≡ get_or xs i e → AnyHas xs t ↔ Has e t
-AnyHas-first_behind xs seen t i n e h same at below len is =
-    let point : IsFirstBehind xs t i = subst (λ ys. IsFirstBehind ys t i) same at in
+pub AnyHas-first_past : (xs seen : List Extent) (t i n : ℕ) (e : Extent) → AreParts xs → seen ≡ xs → IsFirstPast seen t i → i < n → n ≡ length xs → e ≡ get_or xs i e → AnyHas xs t ↔ Has e t
+AnyHas-first_past xs seen t i n e h same at below len is =
+    let point : IsFirstPast xs t i = subst (λ ys. IsFirstPast ys t i) same at in
     let here : i < length xs = omega arith in
     let end_is : e.end ≡ (get_or xs i e).end = ap (λ (x : Extent). x.end) is in
     let start_is : e.start ≡ (get_or xs i e).start = ap (λ (x : Extent). x.start) is in (
-      λ has. (omega (arith, (first_behind_start xs t i h point has).1 e), omega (arith, above (get_or xs i e).end t (point.1 i e (omega arith) here))),
+      λ has. (omega (arith, (first_past_start xs t i h point has).1 e), omega (arith, above (get_or xs i e).end t (point.1 i e (omega arith) here))),
       λ has. AnyHas-Contains xs e t (i, here, sym is) has,
     )
 
-pub AnyHas-none_behind : (xs seen : List Extent) (t i n : ℕ) → AreParts xs → seen ≡ xs → IsFirstBehind seen t i → n ≤ i → n ≡ length xs → ¬ AnyHas xs t
-AnyHas-none_behind xs seen t i n h same at past len has =
-    let point : IsFirstBehind xs t i = subst (λ ys. IsFirstBehind ys t i) same at in
-    omega (arith, (first_behind_start xs t i h point has).0)
+pub AnyHas-none_beyond : (xs seen : List Extent) (t i n : ℕ) → AreParts xs → seen ≡ xs → IsFirstPast seen t i → n ≤ i → n ≡ length xs → ¬ AnyHas xs t
+AnyHas-none_beyond xs seen t i n h same at past len has =
+    let point : IsFirstPast xs t i = subst (λ ys. IsFirstPast ys t i) same at in
+    omega (arith, (first_past_start xs t i h point has).0)
 
 -- ---- a set has one list of parts
 
 -- the instants of the later parts lie after the end of the first
-behind_first : (a : Extent) (xs : List Extent) (t : ℕ) → AreParts (a ∷ xs) → AnyHas xs t → a.end < t
-behind_first a xs t h more =
+beyond_first : (a : Extent) (xs : List Extent) (t : ℕ) → AreParts (a ∷ xs) → AnyHas xs t → a.end < t
+beyond_first a xs t h more =
     let found = Contains-AnyHas xs t more in
     let place = found.1 in
     let start : (get_or xs place.0 found.0).start ≡ found.0.start = ap (λ (x : Extent). x.start) place.2 in
@@ -194,7 +194,7 @@ first_valid a xs h = h.each 0 a (omega arith)
 -- no instant of the parts lies before the first start
 from_first : (a : Extent) (xs : List Extent) (t : ℕ) → AreParts (a ∷ xs) → AnyHas (a ∷ xs) t → a.start ≤ t
 from_first a xs t h (inl here) = here.0
-from_first a xs t h (inr more) = omega (arith, first_valid a xs h, behind_first a xs t h more)
+from_first a xs t h (inr more) = omega (arith, first_valid a xs h, beyond_first a xs t h more)
 
 starts_le : (a b : Extent) (xs ys : List Extent) → AreParts (a ∷ xs) → AreParts (b ∷ ys) → SameInstants (a ∷ xs) (b ∷ ys) → b.start ≤ a.start
 starts_le a b xs ys h k same =
@@ -209,7 +209,7 @@ ends_le a b xs ys h k same start =
           let valid = first_valid a xs h in
           elim ((same a.end).1 (inl (omega (arith, valid), shorter))) [
             | inl here ↦ absurd (omega (arith, here))
-            | inr more ↦ absurd (omega (arith, behind_first a xs a.end h more))
+            | inr more ↦ absurd (omega (arith, beyond_first a xs a.end h more))
           ]
       | inr enough ↦ enough
     ]
@@ -221,7 +221,7 @@ SameInstants-sym xs ys same t = ((same t).1, (same t).0)
 rest_within : (a b : Extent) (xs ys : List Extent) → AreParts (a ∷ xs) → SameInstants (a ∷ xs) (b ∷ ys) → a.end ≡ b.end → (t : ℕ) → AnyHas xs t → AnyHas ys t
 rest_within a b xs ys h same end t has =
     elim ((same t).0 (inr has)) [
-      | inl here ↦ absurd (omega (arith, here, behind_first a xs t h has))
+      | inl here ↦ absurd (omega (arith, here, beyond_first a xs t h has))
       | inr more ↦ more
     ]
 

@@ -102,9 +102,9 @@ IsMerged-touching first rest i done last next s e r h below is valid start end t
     ap2 : s ≡ next.start → e ≡ last.end → is_le (nat_cmp next.start last.end) ≡ is_le (nat_cmp s e)
     ap2 p q = rw (p, q) refl
 
-pub IsMerged-behind : (first : Extent) (rest : List Extent) (i : ℕ) (done : List Extent) (last next : Extent) (s e : ℕ) (r : Bool) → IsMerged first rest i done last → i < length rest → next ≡ get_or rest i next → IsExtent next → s ≡ next.start → e ≡ last.end → r ≡ is_le (nat_cmp s e) → r ≡ false → ((k : ℕ) (d : Extent) → i + 1 ≤ k → k < length rest → next.start ≤ (get_or rest k d).start) → IsMerged first rest (i + 1) (done ++ last ∷ []) next
-IsMerged-behind first rest i done last next s e r h below is valid start end test behind later =
-    IsMerged-push first rest i done last next h below is valid (above next.start last.end (ap2 start end ∙ sym test ∙ behind)) later
+pub IsMerged-beyond : (first : Extent) (rest : List Extent) (i : ℕ) (done : List Extent) (last next : Extent) (s e : ℕ) (r : Bool) → IsMerged first rest i done last → i < length rest → next ≡ get_or rest i next → IsExtent next → s ≡ next.start → e ≡ last.end → r ≡ is_le (nat_cmp s e) → r ≡ false → ((k : ℕ) (d : Extent) → i + 1 ≤ k → k < length rest → next.start ≤ (get_or rest k d).start) → IsMerged first rest (i + 1) (done ++ last ∷ []) next
+IsMerged-beyond first rest i done last next s e r h below is valid start end test beyond later =
+    IsMerged-push first rest i done last next h below is valid (above next.start last.end (ap2 start end ∙ sym test ∙ beyond)) later
   where
     ap2 : s ≡ next.start → e ≡ last.end → is_le (nat_cmp next.start last.end) ≡ is_le (nat_cmp s e)
     ap2 p q = rw (p, q) refl

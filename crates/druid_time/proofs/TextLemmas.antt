@@ -441,9 +441,9 @@ first_at : (p : ℕ → Bool) (xs ys : List ℕ) (y : ℕ) → AllByRecursion (�
 first_at p [] ys y h passes = rw passes refl
 first_at p (x ∷ xs) ys y h passes = rw h.0 (omega (arith, first_at p xs ys y h.1 passes))
 
-drop_behind : (xs ys : List ℕ) (y : ℕ) → drop (length xs + 1) (xs ++ y ∷ ys) ≡ ys
-drop_behind [] ys y = refl
-drop_behind (x ∷ xs) ys y = let next : suc (length xs) + 1 ≡ suc (length xs + 1) = omega arith in rw next (drop_behind xs ys y)
+drop_beyond : (xs ys : List ℕ) (y : ℕ) → drop (length xs + 1) (xs ++ y ∷ ys) ≡ ys
+drop_beyond [] ys y = refl
+drop_beyond (x ∷ xs) ys y = let next : suc (length xs) + 1 ≡ suc (length xs + 1) = omega arith in rw next (drop_beyond xs ys y)
 
 take_before : (xs ys : List ℕ) → take (length xs) (xs ++ ys) ≡ xs
 take_before [] ys = refl
@@ -462,7 +462,7 @@ extent_at-extent_text e h =
     let place : position_or_len is_slash text ≡ length s = first_at is_slash s t 47 (no_slash_instant e.start) refl in
     let inside : position_or_len is_slash text < length text = omega (arith, place, length-append s (47 ∷ t)) in
     let before : before_first is_slash text ≡ s = rw place (take_before s (47 ∷ t)) in
-    let after : after_first is_slash text ≡ t = rw place (drop_behind s t 47) in
+    let after : after_first is_slash text ≡ t = rw place (drop_beyond s t 47) in
     let last : list_any is_slash (after_first is_slash text) ≡ false = rw after (list_any-none is_slash t (no_slash_instant e.end)) in
     let start : read_start text ≡ Ok e.start = rw before (instant_at-instant_text e.start (omega (arith, h))) in
     let end : read_end text ≡ Ok e.end = rw after (instant_at-instant_text e.end h.1) in

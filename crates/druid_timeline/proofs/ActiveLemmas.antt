@@ -17,17 +17,17 @@ use Rattle.druid_timeline.proofs.SweepLemmas.{IsBestOf-same, drop_next}
 
 -- ---- borrowed items
 
-abbrev pub lent : List (Bor Group) → List Group
-lent items = map (λ (c : Bor Group). c.now) items
+abbrev pub borrowed : List (Bor Group) → List Group
+borrowed items = map (λ (c : Bor Group). c.now) items
 
-lent_push : (items : List (Bor Group)) (item : Bor Group) → lent (items ++ item ∷ []) ≡ lent items ++ item.now ∷ []
-lent_push items item = map-append (λ (c : Bor Group). c.now) items (item ∷ [])
+borrowed_push : (items : List (Bor Group)) (item : Bor Group) → borrowed (items ++ item ∷ []) ≡ borrowed items ++ item.now ∷ []
+borrowed_push items item = map-append (λ (c : Bor Group). c.now) items (item ∷ [])
 
-pub lent_filter : (p : Group → Bool) (items : List (Bor Group)) → lent (filter (λ (c : Bor Group). p c.now) items) ≡ filter p (lent items)
-lent_filter p [] = refl
-lent_filter p (x ∷ xs) = by_test (lent_filter p xs) (p x.now) where
-  by_test : lent (filter (λ (c : Bor Group). p c.now) xs) ≡ filter p (lent xs) → (b : Bool)
-      → lent (cond b (x ∷ filter (λ (c : Bor Group). p c.now) xs) (filter (λ (c : Bor Group). p c.now) xs)) ≡ cond b (x.now ∷ filter p (lent xs)) (filter p (lent xs))
+pub borrowed_filter : (p : Group → Bool) (items : List (Bor Group)) → borrowed (filter (λ (c : Bor Group). p c.now) items) ≡ filter p (borrowed items)
+borrowed_filter p [] = refl
+borrowed_filter p (x ∷ xs) = by_test (borrowed_filter p xs) (p x.now) where
+  by_test : borrowed (filter (λ (c : Bor Group). p c.now) xs) ≡ filter p (borrowed xs) → (b : Bool)
+      → borrowed (cond b (x ∷ filter (λ (c : Bor Group). p c.now) xs) (filter (λ (c : Bor Group). p c.now) xs)) ≡ cond b (x.now ∷ filter p (borrowed xs)) (filter p (borrowed xs))
   by_test rest true = ap (λ (ys : List Group). x.now ∷ ys) rest
   by_test rest false = rest
 
@@ -73,21 +73,21 @@ AreSplit-later chunks rest active t u h le = record {
   ];
 }
 
-pub lent_within : (items : List (Bor Group)) (place : ℕ) → place < length items → place < length (lent items)
-lent_within items place l = subst (λ (n : ℕ). place < n) (sym (length-map items (λ (c : Bor Group). c.now))) l
+pub borrowed_within : (items : List (Bor Group)) (place : ℕ) → place < length items → place < length (borrowed items)
+borrowed_within items place l = subst (λ (n : ℕ). place < n) (sym (length-map items (λ (c : Bor Group). c.now))) l
 
-pub lent_at : (items : List (Bor Group)) (place : ℕ) (item : Bor Group) → place < length items → item ≡ get_or items place item → item.now ≡ get_or (lent items) place item.now
-lent_at items place item l at = ap (λ (c : Bor Group). c.now) at ∙ sym (get_or-map (λ (c : Bor Group). c.now) items place item item.now l)
+pub borrowed_at : (items : List (Bor Group)) (place : ℕ) (item : Bor Group) → place < length items → item ≡ get_or items place item → item.now ≡ get_or (borrowed items) place item.now
+borrowed_at items place item l at = ap (λ (c : Bor Group). c.now) at ∙ sym (get_or-map (λ (c : Bor Group). c.now) items place item item.now l)
 
 -- a list in another order has the same chunks
-pub lent_moved : (xs ys : List (Bor Group)) → IsPermutation xs ys → (g : Group) → Contains (lent xs) g → Contains (lent ys) g
-lent_moved xs ys moved g there =
+pub borrowed_moved : (xs ys : List (Bor Group)) → IsPermutation xs ys → (g : Group) → Contains (borrowed xs) g → Contains (borrowed ys) g
+borrowed_moved xs ys moved g there =
     let found = Contains-map (λ (c : Bor Group). c.now) xs g there in
-    subst (Contains (lent ys)) found.2 (Contains-map_back (λ (c : Bor Group). c.now) ys found.0 (Contains-permutation xs ys found.0 moved found.1))
+    subst (Contains (borrowed ys)) found.2 (Contains-map_back (λ (c : Bor Group). c.now) ys found.0 (Contains-permutation xs ys found.0 moved found.1))
 
-pub lent_order : (xs : List (Bor Group)) → IsNonDecreasingBy (λ (c : Bor Group). c.now.interval.start) xs → StartInOrder (lent xs)
-lent_order [] up i j d le l = absurd (omega (arith, l))
-lent_order (x ∷ xs) up i j d le l =
+pub borrowed_order : (xs : List (Bor Group)) → IsNonDecreasingBy (λ (c : Bor Group). c.now.interval.start) xs → StartInOrder (borrowed xs)
+borrowed_order [] up i j d le l = absurd (omega (arith, l))
+borrowed_order (x ∷ xs) up i j d le l =
     let below : j < length (x ∷ xs) = subst (λ (n : ℕ). j < n) (length-map (x ∷ xs) (λ (c : Bor Group). c.now)) l in
     let at_i = get_or-map (λ (c : Bor Group). c.now) (x ∷ xs) i x d (omega (arith, le, below)) in
     let at_j = get_or-map (λ (c : Bor Group). c.now) (x ∷ xs) j x d below in
@@ -96,35 +96,35 @@ lent_order (x ∷ xs) up i j d le l =
     let start_j = ap (λ (g : Group). g.interval.start) at_j in
     omega (arith, rises, start_i, start_j)
 
-pub lent_more : (xs : List (Bor Group)) (x : Bor Group) (g : Group) → Contains (lent (xs ++ x ∷ [])) g ↔ (Contains (lent xs) g ⊎ (x.now ≡ g))
-lent_more xs x g = (
-  λ there. Contains-push_cases (lent xs) x.now g (subst (λ (ys : List Group). Contains ys g) (lent_push xs x) there),
-  λ either. subst (λ (ys : List Group). Contains ys g) (sym (lent_push xs x)) (back either),
+pub borrowed_more : (xs : List (Bor Group)) (x : Bor Group) (g : Group) → Contains (borrowed (xs ++ x ∷ [])) g ↔ (Contains (borrowed xs) g ⊎ (x.now ≡ g))
+borrowed_more xs x g = (
+  λ there. Contains-push_cases (borrowed xs) x.now g (subst (λ (ys : List Group). Contains ys g) (borrowed_push xs x) there),
+  λ either. subst (λ (ys : List Group). Contains ys g) (sym (borrowed_push xs x)) (back either),
 ) where
-  back : Contains (lent xs) g ⊎ (x.now ≡ g) → Contains (lent xs ++ x.now ∷ []) g
-  back (inl before) = Contains-append_left (lent xs) (x.now ∷ []) g before
-  back (inr same) = subst (Contains (lent xs ++ x.now ∷ [])) same (Contains-push (lent xs) x.now)
+  back : Contains (borrowed xs) g ⊎ (x.now ≡ g) → Contains (borrowed xs ++ x.now ∷ []) g
+  back (inl before) = Contains-append_left (borrowed xs) (x.now ∷ []) g before
+  back (inr same) = subst (Contains (borrowed xs ++ x.now ∷ [])) same (Contains-push (borrowed xs) x.now)
 
 -- the others, and with them the chunk's own where it is not complete
-pub joined_candidates : (found others : List (Bor Group)) (own : Bor Group) (whole : Bool) → found ≡ others ++ own ∷ [] → whole ≡ false → (g : Group) → Contains (lent found) g ↔ (Contains (lent others) g ⊎ ((g ≡ own.now) × (whole ≡ false)))
+pub joined_candidates : (found others : List (Bor Group)) (own : Bor Group) (whole : Bool) → found ≡ others ++ own ∷ [] → whole ≡ false → (g : Group) → Contains (borrowed found) g ↔ (Contains (borrowed others) g ⊎ ((g ≡ own.now) × (whole ≡ false)))
 joined_candidates found others own whole e not g = (
-  λ there. forth ((lent_more others own g).0 (subst (λ (xs : List (Bor Group)). Contains (lent xs) g) e there)),
-  λ either. subst (λ (xs : List (Bor Group)). Contains (lent xs) g) (sym e) ((lent_more others own g).1 (back either)),
+  λ there. forth ((borrowed_more others own g).0 (subst (λ (xs : List (Bor Group)). Contains (borrowed xs) g) e there)),
+  λ either. subst (λ (xs : List (Bor Group)). Contains (borrowed xs) g) (sym e) ((borrowed_more others own g).1 (back either)),
 ) where
-  forth : Contains (lent others) g ⊎ (own.now ≡ g) → Contains (lent others) g ⊎ ((g ≡ own.now) × (whole ≡ false))
+  forth : Contains (borrowed others) g ⊎ (own.now ≡ g) → Contains (borrowed others) g ⊎ ((g ≡ own.now) × (whole ≡ false))
   forth (inl other) = inl other
   forth (inr same) = inr (sym same, not)
 
-  back : Contains (lent others) g ⊎ ((g ≡ own.now) × (whole ≡ false)) → Contains (lent others) g ⊎ (own.now ≡ g)
+  back : Contains (borrowed others) g ⊎ ((g ≡ own.now) × (whole ≡ false)) → Contains (borrowed others) g ⊎ (own.now ≡ g)
   back (inl other) = inl other
   back (inr same) = inr (sym same.0)
 
-pub other_candidates : (found others : List (Bor Group)) (own : Group) (whole : Bool) → found ≡ others → whole ≡ true → (g : Group) → Contains (lent found) g ↔ (Contains (lent others) g ⊎ ((g ≡ own) × (whole ≡ false)))
+pub other_candidates : (found others : List (Bor Group)) (own : Group) (whole : Bool) → found ≡ others → whole ≡ true → (g : Group) → Contains (borrowed found) g ↔ (Contains (borrowed others) g ⊎ ((g ≡ own) × (whole ≡ false)))
 other_candidates found others own whole e is g = (
-  λ there. inl (subst (λ (xs : List (Bor Group)). Contains (lent xs) g) e there),
-  λ either. subst (λ (xs : List (Bor Group)). Contains (lent xs) g) (sym e) (back either),
+  λ there. inl (subst (λ (xs : List (Bor Group)). Contains (borrowed xs) g) e there),
+  λ either. subst (λ (xs : List (Bor Group)). Contains (borrowed xs) g) (sym e) (back either),
 ) where
-  back : Contains (lent others) g ⊎ ((g ≡ own) × (whole ≡ false)) → Contains (lent others) g
+  back : Contains (borrowed others) g ⊎ ((g ≡ own) × (whole ≡ false)) → Contains (borrowed others) g
   back (inl other) = other
   back (inr same) = absurd (false≢true (sym same.1 ∙ is))
 
@@ -137,19 +137,19 @@ few_pushed old new item place e few = let l = ap length e ∙ length_push old it
 
 -- the first of the rest becomes active
 pub AreSplit-take : (chunks : List Group) (place t : ℕ) (old new : List (Bor Group)) (item : Bor Group) → place < length chunks → item.now ≡ get_or chunks place item.now → new ≡ old ++ item ∷ []
-    → AreSplit chunks (drop place chunks) (lent old) t → AreSplit chunks (drop (place + 1) chunks) (lent new) t
+    → AreSplit chunks (drop place chunks) (borrowed old) t → AreSplit chunks (drop (place + 1) chunks) (borrowed new) t
 AreSplit-take chunks place t old new item l at e h =
-    subst (λ (active : List Group). AreSplit chunks (drop (place + 1) chunks) active t) (sym (ap lent e ∙ lent_push old item)) (record {
-      among = λ x there. elim (Contains-push_cases (lent old) item.now x there) [
+    subst (λ (active : List Group). AreSplit chunks (drop (place + 1) chunks) active t) (sym (ap borrowed e ∙ borrowed_push old item)) (record {
+      among = λ x there. elim (Contains-push_cases (borrowed old) item.now x there) [
         | inl before ↦ h.among x before
         | inr same ↦ (place, l, sym (subst (λ (y : Group). y ≡ get_or chunks place y) same at))
       ];
       all = λ x there. elim (h.all x there) [
         | inl left ↦ elim (Contains-cons item.now (drop (place + 1) chunks) x (subst (λ (xs : List Group). Contains xs x) (drop_next chunks place item.now l at) left)) [
-          | inl same ↦ inr (inl (subst (Contains (lent old ++ item.now ∷ [])) same (Contains-push (lent old) item.now)))
+          | inl same ↦ inr (inl (subst (Contains (borrowed old ++ item.now ∷ [])) same (Contains-push (borrowed old) item.now)))
           | inr later ↦ inl later
         ]
-        | inr (inl before) ↦ inr (inl (Contains-append_left (lent old) (item.now ∷ []) x before))
+        | inr (inl before) ↦ inr (inl (Contains-append_left (borrowed old) (item.now ∷ []) x before))
         | inr (inr ended) ↦ inr (inr ended)
       ];
     })
@@ -170,8 +170,8 @@ AreSplit-kept chunks rest old new t kept h =
       ];
     })
 
-behind_first : (first : Group) (later : List Group) (t : ℕ) → StartInOrder (first ∷ later) → t < first.interval.start → StartLater (first ∷ later) t
-behind_first first later t order below e (i, l, at) =
+beyond_first : (first : Group) (later : List Group) (t : ℕ) → StartInOrder (first ∷ later) → t < first.interval.start → StartLater (first ∷ later) t
+beyond_first first later t order below e (i, l, at) =
     let up : first.interval.start ≤ (get_or (first ∷ later) i e).interval.start = order 0 i e (omega arith) l in
     let same : (get_or (first ∷ later) i e).interval.start ≡ e.interval.start = ap (λ (x : Group). x.interval.start) at in
     omega (arith, up, same, below)
@@ -181,12 +181,12 @@ pub StartLater-first : (chunks : List Group) (place t : ℕ) (first : Group) →
 StartLater-first chunks place t first order l at below =
     let e = drop_next chunks place first l at in
     subst (λ (xs : List Group). StartLater xs t) (sym e)
-    (behind_first first (drop (place + 1) chunks) t (subst StartInOrder e (IsNonDecreasingBy-drop (λ (x : Group). x.interval.start) place chunks order)) below)
+    (beyond_first first (drop (place + 1) chunks) t (subst StartInOrder e (IsNonDecreasingBy-drop (λ (x : Group). x.interval.start) place chunks order)) below)
 
 -- each that has the instant is active
 pub AreSplit-all : (chunks rest active : List Group) (t : ℕ) → AreSplit chunks rest active t → StartLater rest t → (e : Group) → Contains chunks e → Has e.interval t → Contains active e
-AreSplit-all chunks rest active t h behind e there has = elim (h.all e there) [
-  | inl left ↦ let later = behind e left in let began : e.interval.start ≤ t = has.0 in absurd (omega (arith, later, began))
+AreSplit-all chunks rest active t h beyond e there has = elim (h.all e there) [
+  | inl left ↦ let later = beyond e left in let began : e.interval.start ≤ t = has.0 in absurd (omega (arith, later, began))
   | inr (inl at) ↦ at
   | inr (inr ended) ↦ let stops : t < e.interval.end = has.1 in absurd (omega (arith, ended, stops))
 ]
@@ -207,7 +207,7 @@ same_between chunks active from to t none among all low high g = (
       let began : g.interval.start ≤ t = h.1.0 in
       let stops : t < g.interval.end = h.1.1 in (
         all g h.0 (
-          elim (none.starts g h.0) [ inl before ↦ before | inr behind ↦ let b : to ≤ g.interval.start = behind in absurd (omega arith) ],
+          elim (none.starts g h.0) [ inl before ↦ before | inr beyond ↦ let b : to ≤ g.interval.start = beyond in absurd (omega arith) ],
           omega arith,
         ),
         h.1,

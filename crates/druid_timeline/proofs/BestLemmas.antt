@@ -8,14 +8,14 @@ use Rattle.druid_shard.proofs.MemberLemmas.{Contains-nil, Contains-cons, Contain
 use Rattle.druid_timeline.specs.Candidates.{IsCandidateOf, IsBest}
 
 -- a group that is the best one so far, or that it outranks
-abbrev pub IsBehind : Option Group → Group → Type 0
-IsBehind best g = MatchOption best ⊥ (λ b. (g ≡ b) ⊎ Outranks b g)
+abbrev pub IsBeyond : Option Group → Group → Type 0
+IsBeyond best g = MatchOption best ⊥ (λ b. (g ≡ b) ⊎ Outranks b g)
 
 -- the best of the chunks that are passed: those that are left are rest
 pub record IsBestSoFar (chunks rest : List Group) (t : ℕ) (best : Option Group) : Type 0 where
   pub among : (g : Group) → Contains rest g → Contains chunks g
   pub found : MatchOption best (Unit {0}) (IsCandidateOf chunks t)
-  pub passed : (g : Group) → IsCandidateOf chunks t g → IsCandidateOf rest t g ⊎ IsBehind best g
+  pub passed : (g : Group) → IsCandidateOf chunks t g → IsCandidateOf rest t g ⊎ IsBeyond best g
 
 no_candidate : (t : ℕ) (g : Group) → IsCandidateOf [] t g → ⊥
 no_candidate t g (there, has) = Contains-nil g there
@@ -23,15 +23,15 @@ no_candidate t g (there, has) = Contains-nil g there
 pub IsBestSoFar-end : (chunks : List Group) (t : ℕ) (best : Option Group) → IsBestSoFar chunks [] t best → IsBest chunks t best
 IsBestSoFar-end chunks t None h = λ g there. elim (h.passed g there) [
   | inl left ↦ no_candidate t g left
-  | inr behind ↦ behind
+  | inr beyond ↦ beyond
 ]
 IsBestSoFar-end chunks t (Some b) h = record {
   candidate = h.found;
   greatest = λ other there. by_place other (h.passed other there);
 } where
-  by_place : (other : Group) → IsCandidateOf [] t other ⊎ IsBehind (Some b) other → (other ≡ b) ⊎ Outranks b other
+  by_place : (other : Group) → IsCandidateOf [] t other ⊎ IsBeyond (Some b) other → (other ≡ b) ⊎ Outranks b other
   by_place other (inl left) = absurd (no_candidate t other left)
-  by_place other (inr behind) = behind
+  by_place other (inr beyond) = beyond
 
 -- what is said of a chunk that is better than the best one so far
 abbrev pub IsBetter : Group → ℕ → Option Group → Type 0
@@ -43,10 +43,10 @@ first_or_rest e rest t g (there, has) = elim (Contains-cons e rest g there) [
   | inr later ↦ inr (later, has)
 ]
 
-behind_better : (e : Group) (t : ℕ) (best : Option Group) (g : Group) → IsBetter e t best → IsBehind best g → Outranks e g
-behind_better e t None g better behind = absurd behind
-behind_better e t (Some b) g better (inl same) = subst (Outranks e) (sym same) better.1
-behind_better e t (Some b) g better (inr below) = Outranks-onward e b g better.1 below
+beyond_better : (e : Group) (t : ℕ) (best : Option Group) (g : Group) → IsBetter e t best → IsBeyond best g → Outranks e g
+beyond_better e t None g better beyond = absurd beyond
+beyond_better e t (Some b) g better (inl same) = subst (Outranks e) (sym same) better.1
+beyond_better e t (Some b) g better (inr below) = Outranks-onward e b g better.1 below
 
 pub IsBestSoFar-better : (chunks rest : List Group) (t : ℕ) (best : Option Group) (e : Group) → IsBestSoFar chunks (e ∷ rest) t best → IsBetter e t best → IsBestSoFar chunks rest t (Some e)
 IsBestSoFar-better chunks rest t best e h better = record {
@@ -54,16 +54,16 @@ IsBestSoFar-better chunks rest t best e h better = record {
   found = (h.among e (0, omega arith, refl), better.0);
   passed = λ g there. by_place g (h.passed g there);
 } where
-  by_place : (g : Group) → IsCandidateOf (e ∷ rest) t g ⊎ IsBehind best g → IsCandidateOf rest t g ⊎ IsBehind (Some e) g
+  by_place : (g : Group) → IsCandidateOf (e ∷ rest) t g ⊎ IsBeyond best g → IsCandidateOf rest t g ⊎ IsBeyond (Some e) g
   by_place g (inl left) = elim (first_or_rest e rest t g left) [
     | inl here ↦ inr (inl here.0)
     | inr later ↦ inl later
   ]
-  by_place g (inr behind) = inr (inr (behind_better e t best g better behind))
+  by_place g (inr beyond) = inr (inr (beyond_better e t best g better beyond))
 
-behind_best : (e : Group) (t : ℕ) (best : Option Group) → (IsBetter e t best → ⊥) → Has e.interval t → IsBehind best e
-behind_best e t None not has = absurd (not (has, tt))
-behind_best e t (Some b) not has = elim (Outranks-cases e b) [
+beyond_best : (e : Group) (t : ℕ) (best : Option Group) → (IsBetter e t best → ⊥) → Has e.interval t → IsBeyond best e
+beyond_best e t None not has = absurd (not (has, tt))
+beyond_best e t (Some b) not has = elim (Outranks-cases e b) [
   | inl above ↦ absurd (not (has, above))
   | inr (inl same) ↦ inl same
   | inr (inr below) ↦ inr below
@@ -75,9 +75,9 @@ IsBestSoFar-not_better chunks rest t best e h not = record {
   found = h.found;
   passed = λ g there. by_place g (h.passed g there);
 } where
-  by_place : (g : Group) → IsCandidateOf (e ∷ rest) t g ⊎ IsBehind best g → IsCandidateOf rest t g ⊎ IsBehind best g
+  by_place : (g : Group) → IsCandidateOf (e ∷ rest) t g ⊎ IsBeyond best g → IsCandidateOf rest t g ⊎ IsBeyond best g
   by_place g (inl left) = elim (first_or_rest e rest t g left) [
-    | inl here ↦ inr (subst (IsBehind best) (sym here.0) (behind_best e t best not here.1))
+    | inl here ↦ inr (subst (IsBeyond best) (sym here.0) (beyond_best e t best not here.1))
     | inr later ↦ inl later
   ]
-  by_place g (inr behind) = inr behind
+  by_place g (inr beyond) = inr beyond

@@ -52,8 +52,8 @@ HasRows-chunk cs are node id = (forth, back) where
 
 -- an answer about the place is one about the segment
 pub holds_held : (cs : List Chunk) → AreChunks cs → (node : ℕ) (id other : Identifier) (b : Bool) → other ≡ id → IsTrue b ↔ HoldsPlace (members_at cs (group_of other)) other.partition node → IsTrue b ↔ IsHeld (held_in cs) node id
-holds_held cs are node id other b same told =
-    let at = subst (λ (i : Identifier). IsTrue b ↔ HoldsPlace (members_at cs (group_of i)) i.partition node) same told in
+holds_held cs are node id other b same reported =
+    let at = subst (λ (i : Identifier). IsTrue b ↔ HoldsPlace (members_at cs (group_of i)) i.partition node) same reported in
     let held = IsHeld-chunk cs are node id in
     (λ e. held.1 (at.0 e), λ h. at.1 (held.0 h))
 

@@ -6,15 +6,15 @@ use Rattle.druid_time.specs.Extent.{Extent, IsExtent, Has, AnyHas, AreApart, Are
 use Rattle.druid_segid.specs.Group.{Group}
 use Rattle.druid_timeline.specs.Holding.{Held}
 use Rattle.druid_timeline.specs.Pieces.{Shown, IsStretch, AreRuns, Shows, ArePiecesIn, ArePieces, cut_piece, cut}
-use Rattle.druid_timeline.proofs.RunsLemmas.{AreRuns-first, AreRuns-rest, Shows-first, Shows-behind, Shows-at_end}
+use Rattle.druid_timeline.proofs.RunsLemmas.{AreRuns-first, AreRuns-rest, Shows-first, Shows-beyond, Shows-at_end}
 use Rattle.druid_timeline.proofs.SweepLemmas.{Shows-left, Shows-right, Shows-cases}
 
 -- a run before others, seen by what they show
 pub AreRuns-cons : (a : Shown) (xs : List Shown) → IsStretch a → AreRuns xs → ((t : ℕ) (g : Group) → Shows xs t g → a.interval.end ≤ t) → ((g : Group) → Shows xs a.interval.end g → a.group ≢ g) → AreRuns (a ∷ xs)
-AreRuns-cons a [] st runs behind changes = st
-AreRuns-cons a (b ∷ more) st runs behind changes =
+AreRuns-cons a [] st runs beyond changes = st
+AreRuns-cons a (b ∷ more) st runs beyond changes =
     let first = Shows-first b more runs in
-    (st, behind b.interval.start b.group first, (λ touch. changes b.group (subst (λ (t : ℕ). Shows (b ∷ more) t b.group) (sym touch) first)), runs)
+    (st, beyond b.interval.start b.group first, (λ touch. changes b.group (subst (λ (t : ℕ). Shows (b ∷ more) t b.group) (sym touch) first)), runs)
 
 -- what a part and a piece have in common
 abbrev both : Extent → Shown → Shown
@@ -66,31 +66,31 @@ Shows-cut part (s ∷ ps) t g = by_rest (Shows-cut part ps t g) (cut_cases part 
 AreRuns-cut : (part : Extent) (ps : List Shown) → AreRuns ps → AreRuns (filter_map (cut_piece part) ps)
 AreRuns-cut part [] runs = tt
 AreRuns-cut part (s ∷ ps) runs = by_rest (AreRuns-cut part ps (AreRuns-rest s ps runs)) (cut_cases part s) where
-  behind : (t : ℕ) (g : Group) → Shows (filter_map (cut_piece part) ps) t g → min part.end s.interval.end ≤ t
-  behind t g later =
-      let b = Shows-behind s ps t g runs ((Shows-cut part ps t g).0 later).1 in
+  beyond : (t : ℕ) (g : Group) → Shows (filter_map (cut_piece part) ps) t g → min part.end s.interval.end ≤ t
+  beyond t g later =
+      let b = Shows-beyond s ps t g runs ((Shows-cut part ps t g).0 later).1 in
       omega arith
 
   changes : (g : Group) → Shows (filter_map (cut_piece part) ps) (min part.end s.interval.end) g → s.group ≢ g
   changes g later =
       let at = ((Shows-cut part ps (min part.end s.interval.end) g).0 later).1 in
-      let b = Shows-behind s ps (min part.end s.interval.end) g runs at in
+      let b = Shows-beyond s ps (min part.end s.interval.end) g runs at in
       let same : min part.end s.interval.end ≡ s.interval.end = omega arith in
       Shows-at_end s ps g runs (subst (λ (t : ℕ). Shows ps t g) same at)
 
   by_rest : AreRuns (filter_map (cut_piece part) ps)
       → ((max part.start s.interval.start < min part.end s.interval.end) × (cut_piece part s ≡ Some (both part s))) ⊎ ((min part.end s.interval.end ≤ max part.start s.interval.start) × (cut_piece part s ≡ None))
       → AreRuns (filter_map (cut_piece part) (s ∷ ps))
-  by_rest rest (inl (lt, e)) = rw e (AreRuns-cons (both part s) (filter_map (cut_piece part) ps) lt rest behind changes)
+  by_rest rest (inl (lt, e)) = rw e (AreRuns-cons (both part s) (filter_map (cut_piece part) ps) lt rest beyond changes)
   by_rest rest (inr (le, e)) = rw e rest
 
 -- ---- runs with a gap between
 
 AreRuns-append : (xs ys : List Shown) (e : ℕ) → AreRuns xs → AreRuns ys → ((t : ℕ) (g : Group) → Shows xs t g → t < e) → ((t : ℕ) (g : Group) → Shows ys t g → e < t) → AreRuns (xs ++ ys)
-AreRuns-append [] ys e hx hy before behind = hy
-AreRuns-append (a ∷ xs) ys e hx hy before behind =
+AreRuns-append [] ys e hx hy before beyond = hy
+AreRuns-append (a ∷ xs) ys e hx hy before beyond =
     AreRuns-cons a (xs ++ ys) (AreRuns-first a xs hx)
-    (AreRuns-append xs ys e (AreRuns-rest a xs hx) hy (λ t g s. before t g (inr s)) behind)
+    (AreRuns-append xs ys e (AreRuns-rest a xs hx) hy (λ t g s. before t g (inr s)) beyond)
     (λ t g s. after t g (Shows-cases xs ys t g s)) (λ g s. changes g (Shows-cases xs ys a.interval.end g s)) where
       ends : a.interval.end ≤ e
       ends =
@@ -99,12 +99,12 @@ AreRuns-append (a ∷ xs) ys e hx hy before behind =
           omega arith
 
       after : (t : ℕ) (g : Group) → Shows xs t g ⊎ Shows ys t g → a.interval.end ≤ t
-      after t g (inl s) = Shows-behind a xs t g hx s
-      after t g (inr s) = let l = behind t g s in let m = ends in omega arith
+      after t g (inl s) = Shows-beyond a xs t g hx s
+      after t g (inr s) = let l = beyond t g s in let m = ends in omega arith
 
       changes : (g : Group) → Shows xs a.interval.end g ⊎ Shows ys a.interval.end g → a.group ≢ g
       changes g (inl s) = Shows-at_end a xs g hx s
-      changes g (inr s) = let l = behind a.interval.end g s in let m = ends in absurd (omega arith)
+      changes g (inr s) = let l = beyond a.interval.end g s in let m = ends in absurd (omega arith)
 
 -- ---- cut by all parts
 
@@ -115,14 +115,14 @@ rest_apart : (p : Extent) (ps : List Extent) → AreApart (p ∷ ps) → AreApar
 rest_apart p [] apart = tt
 rest_apart p (q ∷ more) apart = apart.1
 
-all_behind : (p : Extent) (ps : List Extent) (t : ℕ) → AreApart (p ∷ ps) → All IsExtent ps → AnyHas ps t → p.end < t
-all_behind p [] t apart each h = absurd h
-all_behind p (q ∷ more) t apart each (inl here) =
+all_beyond : (p : Extent) (ps : List Extent) (t : ℕ) → AreApart (p ∷ ps) → All IsExtent ps → AnyHas ps t → p.end < t
+all_beyond p [] t apart each h = absurd h
+all_beyond p (q ∷ more) t apart each (inl here) =
     let gap : p.end < q.start = apart.0 in
     let from : q.start ≤ t = here.0 in
     omega arith
-all_behind p (q ∷ more) t apart each (inr later) =
-    let b = all_behind q more t apart.1 (rest_each q more each) later in
+all_beyond p (q ∷ more) t apart each (inr later) =
+    let b = all_beyond q more t apart.1 (rest_each q more each) later in
     let gap : p.end < q.start = apart.0 in
     let own : q.start < q.end = (each 0 q (omega arith)).0 in
     omega arith
@@ -145,7 +145,7 @@ AreRuns-cut_all [] ps apart each runs = tt
 AreRuns-cut_all (p ∷ parts) ps apart each runs =
     AreRuns-append (filter_map (cut_piece p) ps) (cut parts ps) p.end (AreRuns-cut p ps runs) (AreRuns-cut_all parts ps (rest_apart p parts apart) (rest_each p parts each) runs)
     (λ t g s. ((Shows-cut p ps t g).0 s).0.1)
-    (λ t g s. all_behind p parts t apart (rest_each p parts each) ((Shows-cut_all parts ps t g).0 s).0)
+    (λ t g s. all_beyond p parts t apart (rest_each p parts each) ((Shows-cut_all parts ps t g).0 s).0)
 
 pub ArePiecesIn-cut : (parts : List Extent) (held : List Held) (ps : List Shown) → AreParts parts → ArePieces held ps → ArePiecesIn (AnyHas parts) held (cut parts ps)
 ArePiecesIn-cut parts held ps whole h = record {

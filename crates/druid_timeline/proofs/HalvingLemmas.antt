@@ -12,7 +12,7 @@ use Rattle.druid_time.specs.Extent.{Has}
 use Rattle.druid_time.proofs.ExtentLemmas.{at_most, above}
 use Rattle.druid_segid.specs.Group.{Group}
 use Rattle.druid_timeline.specs.Pieces.{shown_at, AreRuns, Shows}
-use Rattle.druid_timeline.proofs.RunsLemmas.{Shows-behind}
+use Rattle.druid_timeline.proofs.RunsLemmas.{Shows-beyond}
 use Rattle.druid_timeline.proofs.SpliceLemmas.{Shows-member, split_at, runs_drop}
 use Rattle.druid_timeline.proofs.SweepLemmas.{Run, Shows-cases, AreRuns-stretch, drop_next}
 
@@ -109,8 +109,8 @@ shown_beyond rs t i r runs l at before stays g s = by_part (Shows-cases (map sho
   at_run : Shows (map shown_at (r ∷ drop (i + 1) rs)) t g → Has r.0 t
   at_run (inl here) = here.1
   at_run (inr later) =
-      let behind : r.0.end ≤ t = Shows-behind (shown_at r) (map shown_at (drop (i + 1) rs)) t g rest later in
-      absurd (omega (arith, behind, stays))
+      let beyond : r.0.end ≤ t = Shows-beyond (shown_at r) (map shown_at (drop (i + 1) rs)) t g rest later in
+      absurd (omega (arith, beyond, stays))
 
   by_part : Shows (map shown_at (take i rs)) t g ⊎ Shows (map shown_at (drop i rs)) t g → Has r.0 t
   by_part (inl early) =

@@ -12,10 +12,10 @@ use Rattle.druid_members.specs.Members.{Member}
 use Rattle.druid_chunks.specs.Chunks.{Chunk, AreChunks, members_at}
 use Rattle.druid_timeline.specs.Chunks.{held_in}
 use Rattle.druid_timeline.specs.Holding.{members_of}
-use Rattle.druid_timeline.specs.Pieces.{Shown, shown_at, shown_of, AreRuns, ArePartitions, Told, cut, cut_piece}
+use Rattle.druid_timeline.specs.Pieces.{Shown, shown_at, shown_of, AreRuns, ArePartitions, Reported, cut, cut_piece}
 use Rattle.druid_timeline.proofs.ChunkLemmas.{members_of-held_in}
 use Rattle.druid_timeline.proofs.CutLemmas.{cut_cases}
-use Rattle.druid_timeline.proofs.RunsLemmas.{Shows-behind, AreRuns-rest}
+use Rattle.druid_timeline.proofs.RunsLemmas.{Shows-beyond, AreRuns-rest}
 use Rattle.druid_timeline.proofs.SpliceLemmas.{member-Shows, split_at}
 use Rattle.druid_timeline.proofs.SweepLemmas.{Run, AreRuns-stretch, drop_next}
 
@@ -83,14 +83,14 @@ off_none part r e = elim (cases_lt (max part.start r.0.start) (min part.end r.0.
 
 -- where a run that ends after the part's start does not overlap it, neither do those after it
 pub cut_past : (part : Extent) (r : Run) (more : List Run) → part.start < part.end → part.start < r.0.end → AreRuns (map shown_at (r ∷ more)) → common part r.0 ≡ None → cut_runs part (r ∷ more) ≡ []
-cut_past part r more order beyond runs e = none_cut part (r ∷ more) (λ q there. elim (Contains-cons r more q there) [
+cut_past part r more order past runs e = none_cut part (r ∷ more) (λ q there. elim (Contains-cons r more q there) [
   | inl same ↦ subst (IsOff part) same (off_none part r e)
   | inr later ↦
       let st : q.0.start < q.0.end = AreRuns-stretch more (AreRuns-rest (shown_at r) (map shown_at more) runs) q later in
       let own : r.0.start < r.0.end = AreRuns-stretch (r ∷ more) runs r (0, omega arith, refl) in
-      let behind : r.0.end ≤ q.0.start = Shows-behind (shown_at r) (map shown_at more) q.0.start q.1 runs (member-Shows more q q.0.start later (omega arith, st)) in
+      let beyond : r.0.end ≤ q.0.start = Shows-beyond (shown_at r) (map shown_at more) q.0.start q.1 runs (member-Shows more q q.0.start later (omega arith, st)) in
       let off = off_none part r e in
-      omega (arith, st, own, behind, off, order, beyond)
+      omega (arith, st, own, beyond, off, order, past)
 ])
 
 -- ---- lists of pieces
@@ -108,10 +108,10 @@ append-nil [] = refl
 append-nil (x ∷ xs) = ap (λ (ws : List Shown). x ∷ ws) (append-nil xs)
 
 -- one piece more, of the run at a place
-pub piece_pushed : (pieces new : List Told) (p : Told) (part both : Extent) (rs : List Run) (i : ℕ) (r : Run) (whole : List Shown) → new ≡ pieces ++ p ∷ [] → shown_of p ≡ record { interval = both; group = r.1 }
+pub piece_pushed : (pieces new : List Reported) (p : Reported) (part both : Extent) (rs : List Run) (i : ℕ) (r : Run) (whole : List Shown) → new ≡ pieces ++ p ∷ [] → shown_of p ≡ record { interval = both; group = r.1 }
     → i < length rs → r ≡ get_or rs i r → common part r.0 ≡ Some both → map shown_of pieces ++ cut_runs part (drop i rs) ≡ whole → map shown_of new ++ cut_runs part (drop (i + 1) rs) ≡ whole
 piece_pushed pieces new p part both rs i r whole e same l at here h =
-    ap (λ (ps : List Told). map shown_of ps ++ cut_runs part (drop (i + 1) rs)) e
+    ap (λ (ps : List Reported). map shown_of ps ++ cut_runs part (drop (i + 1) rs)) e
     ∙ ap (λ (xs : List Shown). xs ++ cut_runs part (drop (i + 1) rs)) (map-append shown_of pieces (p ∷ []))
     ∙ push_front (map shown_of pieces) (cut_runs part (drop (i + 1) rs)) (shown_of p)
     ∙ ap (λ (s : Shown). map shown_of pieces ++ s ∷ cut_runs part (drop (i + 1) rs)) same
@@ -119,11 +119,11 @@ piece_pushed pieces new p part both rs i r whole e same l at here h =
     ∙ h
 
 -- where the runs that are left give nothing, all are cut
-pub pieces_done : (pieces : List Told) (left whole : List Shown) → left ≡ [] → map shown_of pieces ++ left ≡ whole → map shown_of pieces ≡ whole
+pub pieces_done : (pieces : List Reported) (left whole : List Shown) → left ≡ [] → map shown_of pieces ++ left ≡ whole → map shown_of pieces ≡ whole
 pieces_done pieces left whole none h = sym (append-nil (map shown_of pieces)) ∙ ap (λ (xs : List Shown). map shown_of pieces ++ xs) (sym none) ∙ h
 
 -- one part more
-pub part_pushed : (pieces new : List Told) (parts : List Extent) (rs : List Run) (i : ℕ) (part : Extent) (whole : List Shown) → i < length parts → part ≡ get_or parts i part
+pub part_pushed : (pieces new : List Reported) (parts : List Extent) (rs : List Run) (i : ℕ) (part : Extent) (whole : List Shown) → i < length parts → part ≡ get_or parts i part
     → map shown_of new ≡ map shown_of pieces ++ cut_runs part rs → map shown_of pieces ++ cut (drop i parts) (map shown_at rs) ≡ whole → map shown_of new ++ cut (drop (i + 1) parts) (map shown_at rs) ≡ whole
 part_pushed pieces new parts rs i part whole l at e h =
     ap (λ (xs : List Shown). xs ++ cut (drop (i + 1) parts) (map shown_at rs)) e
@@ -140,6 +140,6 @@ pub later_within : (rs : List Run) (i : ℕ) (r q : Run) → i < length rs → r
 later_within rs i r q l at there = subst (λ (xs : List Run). Contains xs q) (sym (drop_next rs i r l at)) (Contains-later r (drop (i + 1) rs) q there)
 
 -- what holds of the partitions of a chunk's members holds of those of what is held of it
-pub parts_held : (cs : List Chunk) (found : List Told) → AreChunks cs → All (λ (p : Told). ArePartitions (members_at cs p.group) p.parts) found → All (λ (p : Told). ArePartitions (members_of (held_in cs) p.group) p.parts) found
+pub parts_held : (cs : List Chunk) (found : List Reported) → AreChunks cs → All (λ (p : Reported). ArePartitions (members_at cs p.group) p.parts) found → All (λ (p : Reported). ArePartitions (members_of (held_in cs) p.group) p.parts) found
 parts_held cs found are all k d l =
     subst (λ (ms : List Member). ArePartitions ms (get_or found k d).parts) (sym (members_of-held_in cs are (get_or found k d).group)) (all k d l)

@@ -135,7 +135,7 @@ IsSorted-insert gs key i h sorted k d from l = elim (cases_order (k + 1) i) [
       (sorted k d from (omega (arith, before, h.within)))
   | inl at ↦ both key (get_or gs k d) (subst (λ (j : ℕ). get_or (insert gs i key) j d ≡ key) (sym at) (get_or-insert_at gs i key d h.within)) (get_or-insert_below gs i key d k (omega (arith, at)) h.within)
       (h.below k d at)
-  | inr (inr behind) ↦ elim (cases_order i k) [
+  | inr (inr beyond) ↦ elim (cases_order i k) [
     | inr (inl after) ↦
         let same : (k - 1) + 1 ≡ k = omega (arith, after) in
         both (get_or gs k d) (get_or gs (k - 1) d) (get_or-insert_above gs i key d k (omega (arith, after)) h.within)
@@ -144,7 +144,7 @@ IsSorted-insert gs key i h sorted k d from l = elim (cases_order (k + 1) i) [
     | inl at ↦ both (get_or gs i d) key (subst (λ (j : ℕ). get_or (insert gs i key) (j + 1) d ≡ get_or gs i d) at (get_or-insert_above gs i key d i (omega arith) h.within))
         (subst (λ (j : ℕ). get_or (insert gs i key) j d ≡ key) at (get_or-insert_at gs i key d h.within))
         (h.above d (omega (arith, l, at, length-insert gs i key h.within)))
-    | inr (inr under) ↦ absurd (omega (arith, behind, under))
+    | inr (inr under) ↦ absurd (omega (arith, beyond, under))
   ]
 ] where
   both : (a b : Group) → get_or (insert gs i key) (k + 1) d ≡ a → get_or (insert gs i key) k d ≡ b → is_lt (place_cmp a b) ≡ false

@@ -22,15 +22,15 @@ Shows-from_start a (b ∷ more) t g h (inl here) = here.1.0
 Shows-from_start a (b ∷ more) t g h (inr later) =
     let from = Shows-from_start b more t g h.3 later in
     let stretch : a.interval.start < a.interval.end = h.0 in
-    let behind : a.interval.end ≤ b.interval.start = h.1 in
+    let beyond : a.interval.end ≤ b.interval.start = h.1 in
     omega arith
 
 -- the runs after the first show nothing before it ends
-pub Shows-behind : (a : Shown) (more : List Shown) (t : ℕ) (g : Group) → AreRuns (a ∷ more) → Shows more t g → a.interval.end ≤ t
-Shows-behind a [] t g h later = absurd later
-Shows-behind a (b ∷ more) t g h later =
+pub Shows-beyond : (a : Shown) (more : List Shown) (t : ℕ) (g : Group) → AreRuns (a ∷ more) → Shows more t g → a.interval.end ≤ t
+Shows-beyond a [] t g h later = absurd later
+Shows-beyond a (b ∷ more) t g h later =
     let from = Shows-from_start b more t g h.3 later in
-    let behind : a.interval.end ≤ b.interval.start = h.1 in
+    let beyond : a.interval.end ≤ b.interval.start = h.1 in
     omega arith
 
 -- where the first run ends, the chunk changes
@@ -38,12 +38,12 @@ pub Shows-at_end : (a : Shown) (more : List Shown) (g : Group) → AreRuns (a �
 Shows-at_end a [] g h later same = absurd later
 Shows-at_end a (b ∷ more) g h (inl here) same =
     let start : b.interval.start ≤ a.interval.end = here.1.0 in
-    let behind : a.interval.end ≤ b.interval.start = h.1 in
+    let beyond : a.interval.end ≤ b.interval.start = h.1 in
     h.2 (omega arith) (same ∙ sym here.0)
 Shows-at_end a (b ∷ more) g h (inr later) same =
-    let from = Shows-behind b more a.interval.end g h.3 later in
+    let from = Shows-beyond b more a.interval.end g h.3 later in
     let stretch : b.interval.start < b.interval.end = AreRuns-first b more h.3 in
-    let behind : a.interval.end ≤ b.interval.start = h.1 in
+    let beyond : a.interval.end ≤ b.interval.start = h.1 in
     absurd (omega arith)
 
 -- what the first run shows at its start
@@ -62,7 +62,7 @@ ShowsAll ps qs = (t : ℕ) (g : Group) → Shows ps t g → Shows qs t g
 first_group : (p q : Shown) (qs : List Shown) → AreRuns (q ∷ qs) → p.interval.start ≡ q.interval.start → Shows (q ∷ qs) p.interval.start p.group → q.group ≡ p.group
 first_group p q qs h same (inl here) = here.0
 first_group p q qs h same (inr later) =
-    let behind = Shows-behind q qs p.interval.start p.group h later in
+    let beyond = Shows-beyond q qs p.interval.start p.group h later in
     let stretch : q.interval.start < q.interval.end = AreRuns-first q qs h in
     absurd (omega arith)
 
@@ -75,20 +75,20 @@ ends_with p q ps qs hp hq start group all =
           let stretch : p.interval.start < p.interval.end = AreRuns-first p ps hp in
           let shown = all p.interval.end q.group (inl (refl, (omega arith, before))) in
           absurd (changes shown)
-      | inr (inr behind) ↦ omega arith
+      | inr (inr beyond) ↦ omega arith
     ] where
       changes : Shows (p ∷ ps) p.interval.end q.group → ⊥
       changes (inl here) = let stops : p.interval.end < p.interval.end = here.1.1 in omega arith
       changes (inr later) = Shows-at_end p ps q.group hp later (sym group)
 
 tails : (p q : Shown) (ps qs : List Shown) → AreRuns (p ∷ ps) → q.interval.end ≡ p.interval.end → ShowsAll (p ∷ ps) (q ∷ qs) → ShowsAll ps qs
-tails p q ps qs hp end all t g later = behind (all t g (inr later)) where
-  behind : Shows (q ∷ qs) t g → Shows qs t g
-  behind (inl here) =
-      let from = Shows-behind p ps t g hp later in
+tails p q ps qs hp end all t g later = beyond (all t g (inr later)) where
+  beyond : Shows (q ∷ qs) t g → Shows qs t g
+  beyond (inl here) =
+      let from = Shows-beyond p ps t g hp later in
       let stops : t < q.interval.end = here.1.1 in
       absurd (omega arith)
-  behind (inr more) = more
+  beyond (inr more) = more
 
 -- two lists of runs that show the same are one
 pub AreRuns-one_list : (ps qs : List Shown) → AreRuns ps → AreRuns qs → ShowsAll ps qs → ShowsAll qs ps → ps ≡ qs

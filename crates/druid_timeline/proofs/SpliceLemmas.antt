@@ -11,7 +11,7 @@ use Rattle.druid_timeline.specs.Candidates.{IsBestOf}
 use Rattle.druid_timeline.specs.Edited.{AreRunsEdited, spliced}
 use Rattle.druid_timeline.specs.Pieces.{Shown, shown_at, AreRuns, Shows}
 use Rattle.druid_timeline.proofs.CutLemmas.{AreRuns-cons}
-use Rattle.druid_timeline.proofs.RunsLemmas.{AreRuns-first, AreRuns-rest, Shows-from_start, Shows-behind, Shows-at_end}
+use Rattle.druid_timeline.proofs.RunsLemmas.{AreRuns-first, AreRuns-rest, Shows-from_start, Shows-beyond, Shows-at_end}
 use Rattle.druid_timeline.proofs.SweepLemmas.{Run, Shows-left, Shows-right, Shows-cases, Shows-push, ShowsOne, AreRuns-last, drop_next}
 
 -- ---- two lists of runs after each other
@@ -29,7 +29,7 @@ AreRuns-right (a ∷ xs) ys h = AreRuns-right xs ys (AreRuns-rest a (xs ++ ys) h
 pub Shows-order : (xs ys : List Shown) (t u : ℕ) (g k : Group) → AreRuns (xs ++ ys) → Shows xs t g → Shows ys u k → t < u
 Shows-order [] ys t u g k h none later = absurd none
 Shows-order (a ∷ xs) ys t u g k h (inl here) later =
-    let behind = Shows-behind a (xs ++ ys) u k h (Shows-right xs ys u k later) in
+    let beyond = Shows-beyond a (xs ++ ys) u k h (Shows-right xs ys u k later) in
     let stops : t < a.interval.end = here.1.1 in
     omega arith
 Shows-order (a ∷ xs) ys t u g k h (inr before) later =
@@ -40,7 +40,7 @@ pub Shows-seam : (xs ys : List Shown) (t : ℕ) (g : Group) → AreRuns (xs ++ y
 Shows-seam [] ys t g h none later = none
 Shows-seam (a ∷ xs) ys t g h (inl here) later =
     let after = Shows-right xs ys (suc t) g later in
-    let behind = Shows-behind a (xs ++ ys) (suc t) g h after in
+    let beyond = Shows-beyond a (xs ++ ys) (suc t) g h after in
     let stops : t < a.interval.end = here.1.1 in
     let e : suc t ≡ a.interval.end = omega arith in
     Shows-at_end a (xs ++ ys) g h (subst (λ (u : ℕ). Shows (xs ++ ys) u g) e after) here.0
@@ -59,7 +59,7 @@ AreRuns-join (a ∷ xs) ys hx hy order seam =
       at_last = let st = stretch in inl (refl, (omega arith, omega arith))
 
       after : (t : ℕ) (g : Group) → Shows xs t g ⊎ Shows ys t g → a.interval.end ≤ t
-      after t g (inl s) = Shows-behind a xs t g hx s
+      after t g (inl s) = Shows-beyond a xs t g hx s
       after t g (inr s) = let l = order (a.interval.end - 1) t a.group g at_last s in let st = stretch in omega arith
 
       changes : (g : Group) → Shows xs a.interval.end g ⊎ Shows ys a.interval.end g → a.group ≢ g
@@ -229,8 +229,8 @@ front_shows r more u runs starts stays t g = (forth, back) where
   back : Shows (map shown_at (r ∷ more)) t g × (t < u) → Shows (map shown_at (until_instant r u ∷ [])) t g
   back (inl here, l) = inl (here.0, (here.1.0, l))
   back (inr later, l) =
-      let behind : r.0.end ≤ t = Shows-behind (shown_at r) (map shown_at more) t g runs later in
-      absurd (omega (arith, behind, l, stays))
+      let beyond : r.0.end ≤ t = Shows-beyond (shown_at r) (map shown_at more) t g runs later in
+      absurd (omega (arith, beyond, l, stays))
 
 -- what runs show from an instant on, before which the last of them has started, is shown by that one
 pub back_shows : (front : List Run) (r : Run) (u : ℕ) → AreRuns (map shown_at (front ++ r ∷ [])) → r.0.start ≤ u → (t : ℕ) (g : Group)

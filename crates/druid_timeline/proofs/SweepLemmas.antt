@@ -147,11 +147,11 @@ IsPushed-joined old rest new last run e f runs st touch same = record {
   were : AreRuns (map shown_at rest ++ shown_at last ∷ [])
   were = subst AreRuns old_shown runs
 
-pub IsPushed-behind : (old rest new : List Run) (last run : Run) → old ≡ rest ++ last ∷ [] → new ≡ (rest ++ last ∷ []) ++ run ∷ [] → AreRuns (map shown_at old) → IsStretch (shown_at run)
+pub IsPushed-beyond : (old rest new : List Run) (last run : Run) → old ≡ rest ++ last ∷ [] → new ≡ (rest ++ last ∷ []) ++ run ∷ [] → AreRuns (map shown_at old) → IsStretch (shown_at run)
     → EndBy (map shown_at old) run.0.start → ((last.0.end ≡ run.0.start) × (last.1 ≡ run.1) → ⊥) → IsPushed old new run
-IsPushed-behind old rest new last run e f runs st behind apart = record {
+IsPushed-beyond old rest new last run e f runs st beyond apart = record {
   runs =
-      let at = EndBy-last (map shown_at rest) (shown_at last) run.0.start (subst (λ (xs : List Shown). EndBy xs run.0.start) old_shown behind) (AreRuns-last (map shown_at rest) (shown_at last) were) in
+      let at = EndBy-last (map shown_at rest) (shown_at last) run.0.start (subst (λ (xs : List Shown). EndBy xs run.0.start) old_shown beyond) (AreRuns-last (map shown_at rest) (shown_at last) were) in
       subst AreRuns (sym new_shown) (AreRuns-push (map shown_at rest) (shown_at last) (shown_at run) were at (λ touch same. apart (touch, same)) st);
   shows = λ t g.
       subst (λ (xs : List Shown). Shows xs t g ↔ (Shows (map shown_at old) t g ⊎ ShowsOne (shown_at run) t g)) (sym (new_shown ∙ ap (λ (xs : List Shown). xs ++ shown_at run ∷ []) (sym old_shown)))
@@ -179,7 +179,7 @@ IsCandidateOf-level cs from to t none low high g = (forth, back) where
           omega arith,
           elim (none.ends g there) [
             | inl before ↦ let b : g.interval.end ≤ from = before in absurd (omega arith)
-            | inr behind ↦ let b : to ≤ g.interval.end = behind in omega arith
+            | inr beyond ↦ let b : to ≤ g.interval.end = beyond in omega arith
           ],
         ),
       )
@@ -192,7 +192,7 @@ IsCandidateOf-level cs from to t none low high g = (forth, back) where
         (
           elim (none.starts g there) [
             | inl before ↦ before
-            | inr behind ↦ let b : to ≤ g.interval.start = behind in absurd (omega arith)
+            | inr beyond ↦ let b : to ≤ g.interval.start = beyond in absurd (omega arith)
           ],
           omega arith,
         ),
@@ -271,7 +271,7 @@ below_next : (bounds : List ℕ) (i to k : ℕ) → ((j : ℕ) → j < i → get
 below_next bounds i to k below at l = elim (cases_order k i) [
   | inl level ↦ subst (λ (j : ℕ). get_or bounds j 0 ≤ to) (sym level) at
   | inr (inl before) ↦ below k before
-  | inr (inr behind) ↦ let b : i < k = behind in absurd (omega arith)
+  | inr (inr beyond) ↦ let b : i < k = beyond in absurd (omega arith)
 ]
 
 pub IsSwept-skip : (part : Extent) (cs : List Group) (bounds : List ℕ) (old new : List Run) (i from : ℕ) → IsSwept part cs bounds old new i from → get_or bounds i 0 ≤ from → IsSwept part cs bounds old new (i + 1) from
@@ -283,10 +283,10 @@ IsSwept-skip part cs bounds old new i from h le = record {
   shows = h.shows;
 }
 
-pub IsSwept-behind : (part : Extent) (cs : List Group) (bounds : List ℕ) (old new : List Run) (i from : ℕ) → IsSwept part cs bounds old new i from → EndBy (map shown_at old) part.start → EndBy (map shown_at new) from
-IsSwept-behind part cs bounds old new i from h behind t g s = by_place ((h.shows t g).0 s) where
+pub IsSwept-beyond : (part : Extent) (cs : List Group) (bounds : List ℕ) (old new : List Run) (i from : ℕ) → IsSwept part cs bounds old new i from → EndBy (map shown_at old) part.start → EndBy (map shown_at new) from
+IsSwept-beyond part cs bounds old new i from h beyond t g s = by_place ((h.shows t g).0 s) where
   by_place : Shows (map shown_at old) t g ⊎ (((part.start ≤ t) × (t < from)) × IsBestOf cs t g) → t < from
-  by_place (inl before) = let b = behind t g before in let low = h.low in omega arith
+  by_place (inl before) = let b = beyond t g before in let low = h.low in omega arith
   by_place (inr here) = here.0.1
 
 -- a bound does not lie strictly between what is passed and the next bound
@@ -298,7 +298,7 @@ not_within part bounds i from t up passed low high bound = elim (cases_order t f
   | inr (inr above) ↦ elim (cases_order t (get_or bounds i 0)) [
     | inl level ↦ inr (let l : t ≡ get_or bounds i 0 = level in omega arith)
     | inr (inl below) ↦ inr (found above below)
-    | inr (inr behind) ↦ inr (let l : get_or bounds i 0 < t = behind in omega arith)
+    | inr (inr beyond) ↦ inr (let l : get_or bounds i 0 < t = beyond in omega arith)
   ]
 ] where
   found : from < t → t < get_or bounds i 0 → get_or bounds i 0 ≤ t
@@ -308,7 +308,7 @@ not_within part bounds i from t up passed low high bound = elim (cases_order t f
       elim (cases_order there.0 i) [
         | inl level ↦ let e = ap (λ (j : ℕ). get_or bounds j 0) level in omega arith
         | inr (inl before) ↦ let p = passed there.0 before in omega arith
-        | inr (inr behind) ↦ let l : i < there.0 = behind in let p = up i there.0 0 (omega arith) there.1 in omega arith
+        | inr (inr beyond) ↦ let l : i < there.0 = beyond in let p = up i there.0 0 (omega arith) there.1 in omega arith
       ]
 
 pub IsSwept-level : (part : Extent) (cs : List Group) (bounds : List ℕ) (old new : List Run) (i from : ℕ) → IsSwept part cs bounds old new i from → HaveBounds part cs bounds → IsNonDecreasing bounds → i < length bounds

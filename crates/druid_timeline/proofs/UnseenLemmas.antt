@@ -53,7 +53,7 @@ IsShownBy-more rs i r key old new l at same updates h g = by_test (same_group ke
   )
   by_test false e =
       let was : new g ≡ old g = updates g ∙ ap (λ (b : Bool). cond b true (old g)) e in (
-        λ told. back ((h g).0 (sym was ∙ told)),
+        λ reported. back ((h g).0 (sym was ∙ reported)),
         λ shown. was ∙ (h g).1 (forth e shown),
       )
 
@@ -166,5 +166,5 @@ IsOvershadowed-unshown cs rs are h g = (forth, back) where
   back o = ((IsCompleteIn-chunk cs are g).0 o.complete, shown o)
 
 -- the complete chunks that are not reported, where what is reported is what is seen
-pub unseen_of : (told seen : Type 0) (P : Type 0) → told ↔ seen → (P × (told → ⊥)) ↔ (P × (seen → ⊥))
-unseen_of told seen P h = (λ both. (both.0, λ s. both.1 (h.1 s)), λ both. (both.0, λ t. both.1 (h.0 t)))
+pub unseen_of : (reported seen : Type 0) (P : Type 0) → reported ↔ seen → (P × (reported → ⊥)) ↔ (P × (seen → ⊥))
+unseen_of reported seen P h = (λ both. (both.0, λ s. both.1 (h.1 s)), λ both. (both.0, λ t. both.1 (h.0 t)))

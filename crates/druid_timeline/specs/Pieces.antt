@@ -52,12 +52,12 @@ abbrev pub cut : List Extent → List Shown → List Shown
 cut parts pieces = flat_map (λ part. filter_map (cut_piece part) pieces) parts
 
 -- a piece as it is returned: with all partitions of the chunk
-pub record Told : Type 0 where
+pub record Reported : Type 0 where
   pub interval : Extent
   pub group : Group
   pub parts : List ℕ
 
-abbrev pub shown_of : Told → Shown
+abbrev pub shown_of : Reported → Shown
 shown_of t = record { interval = t.interval; group = t.group }
 
 -- rising, and all partitions that a member has

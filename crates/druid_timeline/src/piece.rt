@@ -58,9 +58,9 @@ pub struct Piece {
 }
 
 impl Model for Piece {
-    ghost use Rattle.druid_timeline.specs.Pieces.{Told};
+    ghost use Rattle.druid_timeline.specs.Pieces.{Reported};
 
-    ghost Value = { Told };
+    ghost Value = { Reported };
 
     ghost view = { λ a. record { interval = a.interval; group = a.key; parts = a.parts } };
 }

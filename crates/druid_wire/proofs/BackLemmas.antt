@@ -12,11 +12,11 @@ use Rattle.httparse.proofs.GrammarLemmas.{print_request-append, print_response-a
 use Rattle.druid_wire.specs.Frame.{IsFramed}
 use Rattle.druid_message.specs.Requests.{RequestValue}
 use Rattle.druid_wire.specs.Messages.{IsRequest, IsResponse, request_length, response_length, body_length, length_or}
-use Rattle.druid_wire.specs.Heads.{length_told}
+use Rattle.druid_wire.specs.Heads.{length_reported}
 use Rattle.druid_wire.specs.Written.{fields_text, request_head, request_text, phrase_of, response_head, response_text}
 use Rattle.druid_wire.specs.Limits.{max_head, max_body}
 use Rattle.druid_wire.proofs.GrammarLines.{request_framed, response_framed}
-use Rattle.druid_wire.proofs.DecimalLemmas.{decimal_values, decimal_trimmed, decimal_digits, decimal_code, short_decimal, length_told_again}
+use Rattle.druid_wire.proofs.DecimalLemmas.{decimal_values, decimal_trimmed, decimal_digits, decimal_code, short_decimal, length_reported_again}
 
 -- ---- the fields of each message
 
@@ -27,12 +27,12 @@ abbrev shared : List ℕ → List Field
 shared digits =
     field (codes "Content-Type") (codes " application/json") ∷ field (codes "Content-Length") (32 ∷ digits) ∷ field (codes "Connection") (codes " close") ∷ []
 
-behind_digits : (digits : List ℕ) → ((digits ++ codes "\r\n") ++ codes "Connection: close\r\n") ++ codes "\r\n" ≡ digits ++ codes "\r\nConnection: close\r\n\r\n"
-behind_digits digits =
+beyond_digits : (digits : List ℕ) → ((digits ++ codes "\r\n") ++ codes "Connection: close\r\n") ++ codes "\r\n" ≡ digits ++ codes "\r\nConnection: close\r\n\r\n"
+beyond_digits digits =
     append_assoc (digits ++ codes "\r\n") (codes "Connection: close\r\n") (codes "\r\n") ∙ append_assoc digits (codes "\r\n") (codes "Connection: close\r\n\r\n")
 
 shared_text : (n : ℕ) → print_section (shared (decimal n)) crlf ≡ fields_text n
-shared_text n = ap (λ (l : List ℕ). codes "Content-Type: application/json\r\nContent-Length: " ++ l) (behind_digits (decimal n))
+shared_text n = ap (λ (l : List ℕ). codes "Content-Type: application/json\r\nContent-Length: " ++ l) (beyond_digits (decimal n))
 
 literal_field : (name raw : List ℕ) → 0 < length name → list_all is_token_byte name ≡ true → list_all is_value_byte raw ≡ true → IsField (field name raw)
 literal_field name raw some token value = record {
@@ -57,7 +57,7 @@ shared_fields n low =
 
 -- the length is given once, and is read back
 said : (needed : Bool) (n : ℕ) → n ≤ max_body → body_length needed (map name_and_value (shared (decimal n))) ≡ Ok n
-said needed n low = ap (λ (l : List ℕ). length_or needed (length_told l)) (decimal_trimmed n (omega arith)) ∙ ap (length_or needed) (length_told_again n low)
+said needed n low = ap (λ (l : List ℕ). length_or needed (length_reported l)) (decimal_trimmed n (omega arith)) ∙ ap (length_or needed) (length_reported_again n low)
 
 -- ---- requests
 

@@ -33,8 +33,8 @@ no_lines a =
     record { blank = []; lines = []; blanks = All-nil IsBlank; each = All-nil IsTextLine; is = refl; counted = refl; short = omega arith; taken = Consumes-nil a }
 
 -- what follows the lines is the line that was taken
-behind : (old mid front : List ℕ) → mid ≡ old ++ front → drop (length old) mid ≡ front
-behind old mid front e = ap (λ l. drop (length old) l) e ∙ drop-append_seam old front
+beyond : (old mid front : List ℕ) → mid ≡ old ++ front → drop (length old) mid ≡ front
+beyond old mid front e = ap (λ l. drop (length old) l) e ∙ drop-append_seam old front
 
 -- what is kept of it, with its line feed
 with_feed : (old mid front : List ℕ) (lines : List (List ℕ)) → old ≡ text_of lines → mid ≡ old ++ front → mid ++ 10 ∷ [] ≡ text_of (lines ++ front ∷ [])
@@ -50,7 +50,7 @@ line_more passed old mid room a b c h w fits text = record {
   blank = h.blank;
   lines = h.lines ++ w.front ∷ [];
   blanks = h.blanks;
-  each = All-push IsTextLine h.lines w.front h.each (w.plain, λ blank. text (subst IsBlank (sym (behind old mid w.front w.grown)) blank));
+  each = All-push IsTextLine h.lines w.front h.each (w.plain, λ blank. text (subst IsBlank (sym (beyond old mid w.front w.grown)) blank));
   is = with_feed old mid w.front h.lines h.is w.grown;
   counted = h.counted;
   short = omega (arith, fits, w.ends.1, with_feed_long old mid w.front w.grown);
@@ -78,7 +78,7 @@ pub blank_more : (passed : ℕ) (old mid : List ℕ) (room : ℕ) (a b c : Optio
 blank_more passed old mid room a b c h w fits empty is_blank = record {
   blank = h.blank ++ w.front ∷ [];
   lines = [];
-  blanks = All-push IsBlank h.blank w.front h.blanks (subst IsBlank (behind old mid w.front w.grown) is_blank);
+  blanks = All-push IsBlank h.blank w.front h.blanks (subst IsBlank (beyond old mid w.front w.grown) is_blank);
   each = All-nil IsTextLine;
   is = refl;
   counted = omega (
@@ -120,7 +120,7 @@ head_found passed old mid room (Some input) (Some more) (Some rest) h w fits som
       last = w.front;
       some = some_of h.lines (omega (arith, some, ap length h.is));
       each = h.each;
-      empty = subst IsBlank (behind old mid w.front w.grown) is_blank;
+      empty = subst IsBlank (beyond old mid w.front w.grown) is_blank;
       is = whole;
     };
     short = omega (arith, fits, w.ends.1, h.counted, with_feed_long old mid w.front w.grown);

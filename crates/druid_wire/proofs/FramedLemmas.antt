@@ -36,12 +36,12 @@ blank_short line blank =
     ]
 
 -- where the first line is not blank, no blank line comes first
-pub text_not_blank : (lines : List (List ℕ)) (blank behind rest : List ℕ) → All IsTextLine lines → 0 < length lines → IsBlank blank
-    → text_of lines ++ rest ≡ blank ++ 10 ∷ behind → ⊥
-text_not_blank [] blank behind rest texts some is e = omega arith
-text_not_blank (l ∷ lines) blank behind rest texts some is e =
+pub text_not_blank : (lines : List (List ℕ)) (blank beyond rest : List ℕ) → All IsTextLine lines → 0 < length lines → IsBlank blank
+    → text_of lines ++ rest ≡ blank ++ 10 ∷ beyond → ⊥
+text_not_blank [] blank beyond rest texts some is e = omega arith
+text_not_blank (l ∷ lines) blank beyond rest texts some is e =
     let first = All-head IsTextLine l lines texts in
-    let same = line_once l blank (text_of lines ++ rest) behind first.0 (blank_plain blank is) (sym (first_line l lines rest) ∙ e) in
+    let same = line_once l blank (text_of lines ++ rest) beyond first.0 (blank_plain blank is) (sym (first_line l lines rest) ∙ e) in
     first.1 (subst IsBlank (sym same.0) is)
 
 -- the lines after as many blank ones
@@ -84,9 +84,9 @@ lines_in input head rest f =
 
 pub one_head : (input a b r s : List ℕ) → IsFramed input a r → IsFramed input b s → (a ≡ b) × (r ≡ s)
 one_head input a b r s f g =
-    let behind = same_blanks f.blank g.blank f.framed.lines g.framed.lines (f.framed.last ++ 10 ∷ r) (g.framed.last ++ 10 ∷ s) f.blanks g.blanks f.framed.each g.framed.each
+    let beyond = same_blanks f.blank g.blank f.framed.lines g.framed.lines (f.framed.last ++ 10 ∷ r) (g.framed.last ++ 10 ∷ s) f.blanks g.blanks f.framed.each g.framed.each
     f.framed.some g.framed.some (sym (lines_in input a r f) ∙ lines_in input b s g) in
-    let same = same_lines f.framed.lines g.framed.lines f.framed.last g.framed.last r s f.framed.each g.framed.each f.framed.empty g.framed.empty behind in
+    let same = same_lines f.framed.lines g.framed.lines f.framed.last g.framed.last r s f.framed.each g.framed.each f.framed.empty g.framed.empty beyond in
     (f.framed.is ∙ same.0 ∙ sym g.framed.is, same.1)
 
 -- ---- an input that is begun

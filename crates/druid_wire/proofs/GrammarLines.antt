@@ -161,9 +161,9 @@ fields_within bytes front rest start top some all last end before above ta tb ps
     ∙ ap (λ (l : List ℕ). l ++ (text_of (lines_of start some) ++ (before_feed last ++ rest))) (blank_lines before) in
     let whole : bytes ≡ text_of (map before_feed above) ++ (text_of (lines_of top all) ++ (before_feed end ++ 10 ∷ [])) =
     g ∙ ap (λ (l : List ℕ). l ++ (text_of (lines_of top all) ++ (before_feed end ++ 10 ∷ []))) (blank_lines above) in
-    let behind = same_blanks (map before_feed before) (map before_feed above) (lines_of start some) (lines_of top all) (before_feed last ++ rest) (before_feed end ++ 10 ∷ [])
+    let beyond = same_blanks (map before_feed before) (map before_feed above) (lines_of start some) (lines_of top all) (before_feed last ++ rest) (before_feed end ++ 10 ∷ [])
     (all_blank before) (all_blank above) (texts start some ta ps) (texts top all tb pa) (omega arith) (omega arith) (sym more ∙ whole) in
-    let count = no_more (lines_of start some) (lines_of top all) (before_feed end) (before_feed last ++ rest) [] (texts start some ta ps) (texts top all tb pa) (end_blank end) behind in
+    let count = no_more (lines_of start some) (lines_of top all) (before_feed end) (before_feed last ++ rest) [] (texts start some ta ps) (texts top all tb pa) (end_blank end) beyond in
     omega (arith, count, length-map some field_line, length-map all field_line)
 
 -- ---- requests

@@ -53,24 +53,24 @@ input_lines input bytes rest start fields last f e =
 
 -- ---- requests
 
-behind_request : List (List ℕ) → RequestHead → RequestHead
-behind_request blank h = record h { blank = map end_of blank }
+beyond_request : List (List ℕ) → RequestHead → RequestHead
+beyond_request blank h = record h { blank = map end_of blank }
 
 to_grammar_request : (input : List ℕ) (request : RequestValue) (rest : List ℕ) → IsRequest input request rest → IsGrammarRequest input request rest
-unfolding behind_request
+unfolding beyond_request
 to_grammar_request input request rest p =
     let h = p.head in
     let start = request_start h ++ before_feed h.line_end in
     let valid = p.reads.reads.0 in
     let bytes = bytes_lines input p.bytes (request.body ++ rest) start h.fields h.last h.blank p.framed (p.reads.reads.1 ∙ request_lines h []) in
     let same = bytes ∙ sym (request_lines (bare_request h) []) ∙ append-nil (print_request (bare_request h)) in
-    let whole : print_request (behind_request p.framed.blank h) ≡ print_blank (map end_of p.framed.blank) ++ print_request (bare_request h) =
-    request_whole (behind_request p.framed.blank h) in
-    let is : IsRequestHead (behind_request p.framed.blank h) =
+    let whole : print_request (beyond_request p.framed.blank h) ≡ print_blank (map end_of p.framed.blank) ++ print_request (bare_request h) =
+    request_whole (beyond_request p.framed.blank h) in
+    let is : IsRequestHead (beyond_request p.framed.blank h) =
     record { method = valid.method; target = valid.target; target_text = valid.target_text; minor = valid.minor; fields = valid.fields } in
     record {
-      head = behind_request p.framed.blank h;
-      reads = (is, input_lines input p.bytes (request.body ++ rest) start h.fields h.last p.framed bytes ∙ sym (request_lines (behind_request p.framed.blank h) (request.body ++ rest)));
+      head = beyond_request p.framed.blank h;
+      reads = (is, input_lines input p.bytes (request.body ++ rest) start h.fields h.last p.framed bytes ∙ sym (request_lines (beyond_request p.framed.blank h) (request.body ++ rest)));
       short = omega (arith, p.framed.short, ap length same, ap length (blank_ends p.framed.blank p.framed.blanks), ap length whole, length-append (print_blank (map end_of p.framed.blank)) (print_request (bare_request h)));
       few = p.reads.few;
       method = p.method;
@@ -96,24 +96,24 @@ grammar_request input request rest = (to_grammar_request input request rest, fro
 
 -- ---- responses
 
-behind_response : List (List ℕ) → ResponseHead → ResponseHead
-behind_response blank h = record h { blank = map end_of blank }
+beyond_response : List (List ℕ) → ResponseHead → ResponseHead
+beyond_response blank h = record h { blank = map end_of blank }
 
 to_grammar_response : (input : List ℕ) (status : ℕ) (body rest : List ℕ) → IsResponse input status body rest → IsGrammarResponse input status body rest
-unfolding behind_response
+unfolding beyond_response
 to_grammar_response input status body rest p =
     let h = p.head in
     let start = response_start h ++ before_feed h.line_end in
     let valid = p.reads.reads.0 in
     let bytes = bytes_lines input p.bytes (body ++ rest) start h.fields h.last h.blank p.framed (p.reads.reads.1 ∙ response_lines h []) in
     let same = bytes ∙ sym (response_lines (bare_response h) []) ∙ append-nil (print_response (bare_response h)) in
-    let whole : print_response (behind_response p.framed.blank h) ≡ print_blank (map end_of p.framed.blank) ++ print_response (bare_response h) =
-    response_whole (behind_response p.framed.blank h) in
-    let is : IsResponseHead (behind_response p.framed.blank h) =
+    let whole : print_response (beyond_response p.framed.blank h) ≡ print_blank (map end_of p.framed.blank) ++ print_response (bare_response h) =
+    response_whole (beyond_response p.framed.blank h) in
+    let is : IsResponseHead (beyond_response p.framed.blank h) =
     record { minor = valid.minor; digits = valid.digits; reason = valid.reason; fields = valid.fields } in
     record {
-      head = behind_response p.framed.blank h;
-      reads = (is, input_lines input p.bytes (body ++ rest) start h.fields h.last p.framed bytes ∙ sym (response_lines (behind_response p.framed.blank h) (body ++ rest)));
+      head = beyond_response p.framed.blank h;
+      reads = (is, input_lines input p.bytes (body ++ rest) start h.fields h.last p.framed bytes ∙ sym (response_lines (beyond_response p.framed.blank h) (body ++ rest)));
       short = omega (arith, p.framed.short, ap length same, ap length (blank_ends p.framed.blank p.framed.blanks), ap length whole, length-append (print_blank (map end_of p.framed.blank)) (print_response (bare_response h)));
       few = p.reads.few;
       high = omega (arith, p.reads.status, p.code);

@@ -16,8 +16,8 @@ front_as a b text whole e h = subst (AppendsFront a b) (sym e) h
 
 pub lacks_request : (request : RequestValue) (a b : Option (List ℕ)) (f : WireFault) → length request.body ≤ max_body
     → (f ≡ Write) ⊎ (f ≡ Memory) → AppendsFront a b (request_text request) → LacksRequest request a b f
-lacks_request request a b f short told front =
-    elim told [
+lacks_request request a b f short reported front =
+    elim reported [
       | inl w ↦ subst (LacksRequest request a b) (sym w) (short, front)
       | inr m ↦ subst (LacksRequest request a b) (sym m) (short, front)
     ]

@@ -47,7 +47,7 @@ IsWriteFault fault = (fault ≡ Write) ⊎ (fault ≡ Memory)
 -- some front of the answer was written, and not the whole
 pub record IsCutShort (old new : Option (List ℕ)) (status : ℕ) (body : List ℕ) (fault : WireFault) : Type 0 where
   pub front : AppendsFront old new (answer_text status body)
-  pub told : IsWriteFault fault
+  pub reported : IsWriteFault fault
 
 -- ---- what was read and answered. Of an input whose bytes are not known, as over a socket, it says that there was some request or
 -- some fault; where they are known, these bytes have it

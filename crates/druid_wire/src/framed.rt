@@ -2,7 +2,7 @@
 ghost use Rattle.std.specs.Prelude.{◌≡◌, ◌∷◌, ◌++◌, IfSome, IfNone, IfOk, IfErr};
 ghost use Rattle.druid_wire.specs.Frame.{IsPlain, IsFramed};
 ghost use Rattle.druid_wire.specs.Messages.{IsOfBytes};
-ghost use Rattle.druid_wire.specs.Told.{LacksHead};
+ghost use Rattle.druid_wire.specs.Reported.{LacksHead};
 
 use crate::frame::{MAX_HEAD, is_blank};
 use druid_message::WireFault;
@@ -16,8 +16,8 @@ fn split_line(bytes: &[u8]) -> Option<(&[u8], &[u8])>
     for i in 0..bytes.len() {
         if bytes[i] == b'\n' {
             let (line, _) = bytes.split_at(i);
-            let (_, behind) = bytes.split_at(i + 1);
-            return Some((line, behind));
+            let (_, beyond) = bytes.split_at(i + 1);
+            return Some((line, beyond));
         }
     }
     None
@@ -32,20 +32,20 @@ pub(crate) fn split_head(bytes: &[u8]) -> Result<(&[u8], &[u8]), WireFault>
     // The bytes from the head on, and those after the lines of it that were passed. The limit counts the blank lines before it.
     let mut text = bytes;
     let mut rest = bytes;
-    while let Some((line, behind)) = split_line(rest) {
-        if MAX_HEAD < bytes.len() - behind.len() {
+    while let Some((line, beyond)) = split_line(rest) {
+        if MAX_HEAD < bytes.len() - beyond.len() {
             return Err(WireFault::HeadTooLong);
         }
         if !is_blank(line, 0) {
-            rest = behind;
+            rest = beyond;
             continue;
         }
         if rest.len() < text.len() {
-            let (head, _) = text.split_at(text.len() - behind.len());
-            return Ok((head, behind));
+            let (head, _) = text.split_at(text.len() - beyond.len());
+            return Ok((head, beyond));
         }
-        text = behind;
-        rest = behind;
+        text = beyond;
+        rest = beyond;
     }
     if bytes.len() <= MAX_HEAD {
         return Err(WireFault::Cut);

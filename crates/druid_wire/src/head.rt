@@ -2,7 +2,7 @@
 ghost use Rattle.std.specs.Prelude.{◌≡◌, ◌≤◌, length, map, All, IfOk, IfErr, Err};
 ghost use Rattle.httparse.specs.Spans.{IsHeaderWithin, header_bytes, IsRequestWithin, IsResponseWithin, IsRequestOf, IsResponseOf};
 ghost use Rattle.druid_wire.specs.Messages.{body_length, RequestSays, ResponseSays};
-ghost use Rattle.druid_wire.specs.Told.{TellsRequest, TellsResponse};
+ghost use Rattle.druid_wire.specs.Reported.{TellsRequest, TellsResponse};
 
 use crate::length::{Length, is_coded, length_in};
 use druid_message::WireFault;
@@ -17,7 +17,7 @@ pub const MAX_FIELDS: usize = 64;
 
 /// What the head of a request says.
 #[derive(Clone, Copy, Debug)]
-pub(crate) struct RequestTold {
+pub(crate) struct RequestReported {
     pub(crate) method: Span,
     pub(crate) target: Span,
     // How many bytes the body has.
@@ -26,7 +26,7 @@ pub(crate) struct RequestTold {
 
 /// What the head of a response says.
 #[derive(Clone, Copy, Debug)]
-pub(crate) struct ResponseTold {
+pub(crate) struct ResponseReported {
     pub(crate) status: StatusCode,
     // How many bytes the body has.
     pub(crate) length: usize,
@@ -59,7 +59,7 @@ fn whole_request(
     head: &[u8],
     fields: &[HeaderSpan],
     spans: RequestSpans,
-) -> Result<RequestTold, WireFault>
+) -> Result<RequestReported, WireFault>
     requires within { IsRequestWithin head.now fields.now spans }
     requires found { IsRequestOf head.now fields.now spans }
     requires room { length fields.now ≤ MAX_FIELDS }
@@ -71,7 +71,7 @@ fn whole_request(
     }
     let needed = spans.method.of(head) == b"POST".as_slice();
     match body_length(head, &fields[..spans.headers], needed) {
-        Ok(length) => Ok(RequestTold {
+        Ok(length) => Ok(RequestReported {
             method: spans.method,
             target: spans.path,
             length,
@@ -81,7 +81,7 @@ fn whole_request(
 }
 
 // What a framed head says, if it is the head of a request. Does not allocate.
-pub(crate) fn request_told(head: &[u8]) -> Result<RequestTold, WireFault>
+pub(crate) fn request_reported(head: &[u8]) -> Result<RequestReported, WireFault>
     ensures ok { IfOk result (TellsRequest head.now) }
     ensures err { IfErr result (λ fault. RequestSays head.now (Err fault)) }
 {
@@ -99,7 +99,7 @@ fn whole_response(
     head: &[u8],
     fields: &[HeaderSpan],
     spans: ResponseSpans,
-) -> Result<ResponseTold, WireFault>
+) -> Result<ResponseReported, WireFault>
     requires within { IsResponseWithin head.now fields.now spans }
     requires found { IsResponseOf head.now fields.now spans }
     requires room { length fields.now ≤ MAX_FIELDS }
@@ -113,13 +113,13 @@ fn whole_response(
         return Err(WireFault::BadHead);
     };
     match body_length(head, &fields[..spans.headers], true) {
-        Ok(length) => Ok(ResponseTold { status, length }),
+        Ok(length) => Ok(ResponseReported { status, length }),
         Err(fault) => Err(fault),
     }
 }
 
 // What a framed head says, if it is the head of a response. Does not allocate.
-pub(crate) fn response_told(head: &[u8]) -> Result<ResponseTold, WireFault>
+pub(crate) fn response_reported(head: &[u8]) -> Result<ResponseReported, WireFault>
     ensures ok { IfOk result (TellsResponse head.now) }
     ensures err { IfErr result (λ fault. ResponseSays head.now (Err fault)) }
 {

@@ -3,7 +3,7 @@ ghost use Rattle.std.specs.Prelude.{ℕ, List, IfOk, IfErr, OnErr};
 ghost use Rattle.druid_wire.specs.Messages.{IsResponse, HasFault, IsOfBytes, ResponseSays};
 
 use crate::framed::split_head;
-use crate::head::response_told;
+use crate::head::response_reported;
 use druid_message::WireFault;
 use http::StatusCode;
 
@@ -21,13 +21,13 @@ pub fn response_of(bytes: &[u8]) -> Result<(StatusCode, &[u8]), WireFault>
         Ok(parts) => parts,
         Err(fault) => return Err(fault),
     };
-    let told = match response_told(head) {
-        Ok(told) => told,
+    let reported = match response_reported(head) {
+        Ok(reported) => reported,
         Err(fault) => return Err(fault),
     };
-    if rest.len() < told.length {
+    if rest.len() < reported.length {
         return Err(WireFault::Cut);
     }
-    let (body, _) = rest.split_at(told.length);
-    Ok((told.status, body))
+    let (body, _) = rest.split_at(reported.length);
+    Ok((reported.status, body))
 }

@@ -57,10 +57,10 @@ fn refusal_text(fault: WireFault) -> Option<&'static [u8]>
 pub fn refuse_request<W: Write>(fault: WireFault, writer: &mut W) -> Result<u16, WireFault>
     ensures ok { IfOk result (λ sent. (text : List ℕ) × (refusal_text fault ≡ Some text)
         × IsSent (W.contents writer.old) (W.contents writer.new) 400 text sent) }
-    ensures err { IfErr result (λ told.
-        ((told ≡ fault) × (refusal_text fault ≡ None) × Keeps (W.contents writer.old) (W.contents writer.new))
+    ensures err { IfErr result (λ reported.
+        ((reported ≡ fault) × (refusal_text fault ≡ None) × Keeps (W.contents writer.old) (W.contents writer.new))
         ⊎ ((text : List ℕ) × (refusal_text fault ≡ Some text)
-        × IsCutShort (W.contents writer.old) (W.contents writer.new) 400 text told)) }
+        × IsCutShort (W.contents writer.old) (W.contents writer.new) 400 text reported)) }
 {
     match refusal_text(fault) {
         Some(text) => send_response(StatusCode::BAD_REQUEST, text, writer),

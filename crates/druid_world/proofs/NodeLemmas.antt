@@ -43,9 +43,9 @@ accepted ended history changes kept c h t =
     let end : nat_le last_count history.count ≡ false = lt-leb last_count history.count (omega arith) in
     rw (parts.0, parts.1, end) refl
 
-pub takes_told : (ended : List Era) (history : Kept) (changes : List Change) (kept : ℕ) (c : Change) (r : Bool) → IsFollowed history changes kept
+pub takes_reported : (ended : List Era) (history : Kept) (changes : List Change) (kept : ℕ) (c : Change) (r : Bool) → IsFollowed history changes kept
     → (IsTrue r ↔ (refusal history c ≡ None)) → r ≡ takes (life_with ended history changes kept) c
-takes_told ended history changes kept c r h told = by r (takes (life_with ended history changes kept) c) refl told where
+takes_reported ended history changes kept c r h reported = by r (takes (life_with ended history changes kept) c) refl reported where
   by : (a b : Bool) → takes (life_with ended history changes kept) c ≡ b → (IsTrue a ↔ (refusal history c ≡ None)) → a ≡ b
   by true true e t = refl
   by true false e t = sym (sym e ∙ taken ended history changes kept c h (t.0 refl))

@@ -458,13 +458,13 @@ equal_marks s t events a b h run in_a in_b marks =
     let named_b : names_of b ≡ names = each_in (λ (inventory : List Entry). names_of inventory ≡ names) t.brokers b after.named in_b in
     determined t.world a b known_a known_b (named_a ∙ sym named_b) marks
 
-folds_true : (world : List Life) (told : List (ℕ × Body)) (before after : List Entry) → IsWorld world → AreHonest world told → IsInventoryOf world before
-    → Folds before told after → IsInventoryOf world after
+folds_true : (world : List Life) (reported : List (ℕ × Body)) (before after : List Entry) → IsWorld world → AreHonest world reported → IsInventoryOf world before
+    → Folds before reported after → IsInventoryOf world after
 folds_true world [] before after valid honest is folds = subst (IsInventoryOf world) (sym folds) is
-folds_true world (pair ∷ told) before after valid honest is folds =
+folds_true world (pair ∷ reported) before after valid honest is folds =
     let mid = applies_true world before folds.0 pair.0 pair.1 valid is honest.0 folds.1 in
-    folds_true world told folds.0 after valid honest.1 mid.0 folds.2
+    folds_true world reported folds.0 after valid honest.1 mid.0 folds.2
 
-pub folded : (world : List Life) (names : List (List ℕ)) (told : List (ℕ × Body)) (inventory : List Entry) → IsWorld world → length names ≡ length world → AreHonest world told
-    → Folds (map fresh names) told inventory → IsInventoryOf world inventory
-folded world names told inventory valid long honest folds = folds_true world told (map fresh names) inventory valid honest (fresh_true world names long) folds
+pub folded : (world : List Life) (names : List (List ℕ)) (reported : List (ℕ × Body)) (inventory : List Entry) → IsWorld world → length names ≡ length world → AreHonest world reported
+    → Folds (map fresh names) reported inventory → IsInventoryOf world inventory
+folded world names reported inventory valid long honest folds = folds_true world reported (map fresh names) inventory valid honest (fresh_true world names long) folds

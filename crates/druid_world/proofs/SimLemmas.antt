@@ -210,7 +210,7 @@ pub on_ok : (r : Result ⊤ SimFault) (P Q : Type 0) → (P → Q) → OnOk r P 
 on_ok (Ok x) P Q f h = f h
 on_ok (Err fault) P Q f h = tt
 
--- it is told as out of memory where the event can happen
+-- it is reported as out of memory where the event can happen
 pub if_memory : (r : Result ⊤ SimFault) (s : State) (event : Event) → ((t : State) × Next s event t) → IfErr r (λ fault. fault ≡ faults.Memory) → IfErr r (Tells s event)
 if_memory (Ok x) s event can memory = tt
 if_memory (Err fault) s event can memory = subst (Tells s event) (sym memory) can
@@ -243,9 +243,9 @@ put_reached v s packet items b is h next items_are =
     put_by v packet items b h (subst (λ (x : State). (event : Event) × Next x event (with_packet x packet)) (sym is) next) items_are
 
 -- out of memory where the event can happen
-pub memory_told : (r : Result ⊤ SimFault) (s t : State) (event : Event) → Next s event t → IfErr r (λ fault. fault ≡ faults.Memory) → IfErr r (Tells s event)
-memory_told (Ok x) s t event next memory = tt
-memory_told (Err fault) s t event next memory = subst (Tells s event) (sym memory) (t, next)
+pub memory_reported : (r : Result ⊤ SimFault) (s t : State) (event : Event) → Next s event t → IfErr r (λ fault. fault ≡ faults.Memory) → IfErr r (Tells s event)
+memory_reported (Ok x) s t event next memory = tt
+memory_reported (Err fault) s t event next memory = subst (Tells s event) (sym memory) (t, next)
 
 -- a peer sends what it knows, or a page of it
 pub seed_next : (s : State) (peer broker node page : ℕ) (life : Life) (inventory other : List Entry) (mark : Point) (reply : Body) → Some life ≡ slice_get s.world node
@@ -266,18 +266,18 @@ seed_next s peer broker node page life inventory other mark reply at_node at_pee
       ap (λ (r : Body). with_packet s (Reply broker node r)) reply_is,
     )
 
-pub entry_told : (s : State) (peer broker node page : ℕ) (life : Life) (inventory other : List Entry) (mark : Point) (fault : SimFault) → Some life ≡ slice_get s.world node
+pub entry_reported : (s : State) (peer broker node page : ℕ) (life : Life) (inventory other : List Entry) (mark : Point) (fault : SimFault) → Some life ≡ slice_get s.world node
     → Some inventory ≡ slice_get s.brokers peer → Some other ≡ slice_get s.brokers broker → Some mark ≡ option_map (λ (e : Entry). e.mark) (slice_get inventory node)
     → TellsEntry inventory node (seed_mark mark page) fault → Tells s (Seed peer broker node page) fault
 unfolding refusal
-entry_told s peer broker node page life inventory other mark faults.NoSuchNode at_node at_peer at_broker at told = absurd told
-entry_told s peer broker node page life inventory other mark faults.NoSuchBroker at_node at_peer at_broker at told = absurd told
-entry_told s peer broker node page life inventory other mark faults.NoSuchPacket at_node at_peer at_broker at told = absurd told
-entry_told s peer broker node page life inventory other mark faults.NoAssembly at_node at_peer at_broker at told = absurd told
-entry_told s peer broker node page life inventory other mark faults.Refused at_node at_peer at_broker at told =
-    rw (sym at_node, sym at_peer, sym at_broker, told.1, told.2) refl
-entry_told s peer broker node page life inventory other mark faults.Memory at_node at_peer at_broker at told =
-    (with_packet s (Reply broker node told.0), seed_next s peer broker node page life inventory other mark told.0 at_node at_peer at_broker at told.1)
+entry_reported s peer broker node page life inventory other mark faults.NoSuchNode at_node at_peer at_broker at reported = absurd reported
+entry_reported s peer broker node page life inventory other mark faults.NoSuchBroker at_node at_peer at_broker at reported = absurd reported
+entry_reported s peer broker node page life inventory other mark faults.NoSuchPacket at_node at_peer at_broker at reported = absurd reported
+entry_reported s peer broker node page life inventory other mark faults.NoAssembly at_node at_peer at_broker at reported = absurd reported
+entry_reported s peer broker node page life inventory other mark faults.Refused at_node at_peer at_broker at reported =
+    rw (sym at_node, sym at_peer, sym at_broker, reported.1, reported.2) refl
+entry_reported s peer broker node page life inventory other mark faults.Memory at_node at_peer at_broker at reported =
+    (with_packet s (Reply broker node reported.0), seed_next s peer broker node page life inventory other mark reported.0 at_node at_peer at_broker at reported.1)
 
 abbrev pub entry_failed : InventoryFault → Result Body InventoryFault
 entry_failed f = Err f
@@ -285,11 +285,11 @@ entry_failed f = Err f
 -- an entry that is not refused was synced
 pub entry_memory : (inventory : List Entry) (node : ℕ) (ask : Ask) (f : InventoryFault) → node < length inventory → f ≡ entry_faults.Memory
     → (IsErrOf (entry_failed f) entry_faults.NotSynced ↔ IsUnsynced inventory node) → TellsEntry inventory node ask faults.Memory
-entry_memory inventory node ask f l memory told =
+entry_memory inventory node ask f l memory reported =
     let found = get_below inventory node l in
     (answer_of found.0 ask, (found.0, found.1, other found.0 found.1, refl)) where
       other : (e : Entry) → slice_get inventory node ≡ Some e → e.mark ≡ never → ⊥
-      other e at never_synced = let failed : entry_failed f ≡ entry_failed entry_faults.NotSynced = told.1 (e, at, never_synced) in absurd (cc)
+      other e at never_synced = let failed : entry_failed f ≡ entry_failed entry_faults.NotSynced = reported.1 (e, at, never_synced) in absurd (cc)
 
 -- ---- a node changes
 
@@ -357,30 +357,30 @@ restarted_next s node at there l = (at, sym there, lt-ltb at.last.incarnation la
 -- ---- the refusals
 
 named : (s : State) (event : Event) (f : SimFault) → (f ≡ faults.Memory → ⊥) → Tells s event f → refusal s event ≡ Some f
-named s event faults.NoSuchNode other told = told
-named s event faults.NoSuchBroker other told = told
-named s event faults.NoSuchPacket other told = told
-named s event faults.Refused other told = told
-named s event faults.NoAssembly other told = told
-named s event faults.Memory other told = absurd (other refl)
+named s event faults.NoSuchNode other reported = reported
+named s event faults.NoSuchBroker other reported = reported
+named s event faults.NoSuchPacket other reported = reported
+named s event faults.Refused other reported = reported
+named s event faults.NoAssembly other reported = reported
+named s event faults.Memory other reported = absurd (other refl)
 
 one_fault : (s : State) (event : Event) (f g : SimFault) → refusal s event ≡ Some f → Tells s event g → g ≡ f
-one_fault s event f faults.NoSuchNode e told = same_Some faults.NoSuchNode f (sym told ∙ e)
-one_fault s event f faults.NoSuchBroker e told = same_Some faults.NoSuchBroker f (sym told ∙ e)
-one_fault s event f faults.NoSuchPacket e told = same_Some faults.NoSuchPacket f (sym told ∙ e)
-one_fault s event f faults.Refused e told = same_Some faults.Refused f (sym told ∙ e)
-one_fault s event f faults.NoAssembly e told = same_Some faults.NoAssembly f (sym told ∙ e)
-one_fault s event f faults.Memory e told = absurd (none-some f (sym (not_refused s told.0 event told.1) ∙ e))
+one_fault s event f faults.NoSuchNode e reported = same_Some faults.NoSuchNode f (sym reported ∙ e)
+one_fault s event f faults.NoSuchBroker e reported = same_Some faults.NoSuchBroker f (sym reported ∙ e)
+one_fault s event f faults.NoSuchPacket e reported = same_Some faults.NoSuchPacket f (sym reported ∙ e)
+one_fault s event f faults.Refused e reported = same_Some faults.Refused f (sym reported ∙ e)
+one_fault s event f faults.NoAssembly e reported = same_Some faults.NoAssembly f (sym reported ∙ e)
+one_fault s event f faults.Memory e reported = absurd (none-some f (sym (not_refused s reported.0 event reported.1) ∙ e))
 
 refused_by : (r : Result ⊤ SimFault) (s t : State) (event : Event) (f : SimFault) → OnOk r (Next s event t) → IfErr r (Tells s event)
     → refusal s event ≡ Some f → IsErrOf r f
-refused_by (Ok x) s t event f ok told e = absurd (none-some f (sym (not_refused s t event ok) ∙ e))
-refused_by (Err g) s t event f ok told e = ap (λ x. Err x) (one_fault s event f g e told)
+refused_by (Ok x) s t event f ok reported e = absurd (none-some f (sym (not_refused s t event ok) ∙ e))
+refused_by (Err g) s t event f ok reported e = ap (λ x. Err x) (one_fault s event f g e reported)
 
 pub exactly : (r : Result ⊤ SimFault) (s t : State) (event : Event) (f : SimFault) → (f ≡ faults.Memory → ⊥) → OnOk r (Next s event t) → IfErr r (Tells s event)
     → IsErrOf r f ↔ (refusal s event ≡ Some f)
-exactly r s t event f other ok told =
-    (λ is. named s event f other (subst (λ (x : Result ⊤ SimFault). IfErr x (Tells s event)) is told), refused_by r s t event f ok told)
+exactly r s t event f other ok reported =
+    (λ is. named s event f other (subst (λ (x : Result ⊤ SimFault). IfErr x (Tells s event)) is reported), refused_by r s t event f ok reported)
 
 -- ---- the opening
 

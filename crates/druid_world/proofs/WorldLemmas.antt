@@ -19,7 +19,7 @@ use Rattle.druid_shard.specs.declared.change.Change.{Change}
 use Rattle.druid_shard.specs.declared.reply.Body.{Body}
 use Rattle.druid_shard.specs.declared.reply.Body.TheVariants.{Delta, Snapshot, Page, Reset}
 use Rattle.druid_shard.proofs.ReplayLemmas.{replay_from-append, replay_from-front, and_then-some}
-use Rattle.druid_changes.specs.Answer.{answer, asked_page, cause_of, first_page, is_frozen, mark_behind, page_answer, page_of, reset_or_delta, whole_answer}
+use Rattle.druid_changes.specs.Answer.{answer, asked_page, cause_of, first_page, is_frozen, mark_after, page_answer, page_of, reset_or_delta, whole_answer}
 use Rattle.druid_pages.specs.Pages.{pages_in}
 use Rattle.druid_changes.proofs.HistoryLemmas.{no_cause}
 use Rattle.druid_inventory.specs.Entry.{Entry}
@@ -72,18 +72,18 @@ rising_more (x ∷ y ∷ ended) last new l h = (h.0, rising_more (y ∷ ended) l
 pub grows_self : (life : Life) → Grows life life
 grows_self life = ([], [], ap (λ cs. life.ended ++ record { incarnation = life.last.incarnation; changes = cs } ∷ []) (sym (append-nil life.last.changes)))
 
-pub changes_grow : (ended : List Era) (last : Era) (more : List Change) (behind : List Era) (i : ℕ) (cs : List Change) → changes_of (ended ++ last ∷ []) i ≡ Some cs
-    → (rest : List Change) × (changes_of (ended ++ with_more last more ∷ behind) i ≡ Some (cs ++ rest))
-changes_grow [] last more behind i cs e = by_test (nat_eq last.incarnation i) e where
+pub changes_grow : (ended : List Era) (last : Era) (more : List Change) (beyond : List Era) (i : ℕ) (cs : List Change) → changes_of (ended ++ last ∷ []) i ≡ Some cs
+    → (rest : List Change) × (changes_of (ended ++ with_more last more ∷ beyond) i ≡ Some (cs ++ rest))
+changes_grow [] last more beyond i cs e = by_test (nat_eq last.incarnation i) e where
   by_test : (b : Bool) → cond b (Some last.changes) None ≡ Some cs
-      → (rest : List Change) × (cond b (Some (last.changes ++ more)) (changes_of behind i) ≡ Some (cs ++ rest))
+      → (rest : List Change) × (cond b (Some (last.changes ++ more)) (changes_of beyond i) ≡ Some (cs ++ rest))
   by_test true f = (more, ap (λ xs. Some (xs ++ more)) (same_Some last.changes cs f))
   by_test false f = absurd (none-some cs f)
-changes_grow (era ∷ ended) last more behind i cs e = by_test (changes_grow ended last more behind i cs) (nat_eq era.incarnation i) e where
+changes_grow (era ∷ ended) last more beyond i cs e = by_test (changes_grow ended last more beyond i cs) (nat_eq era.incarnation i) e where
   by_test : (changes_of (ended ++ last ∷ []) i ≡ Some cs
-      → (rest : List Change) × (changes_of (ended ++ with_more last more ∷ behind) i ≡ Some (cs ++ rest)))
+      → (rest : List Change) × (changes_of (ended ++ with_more last more ∷ beyond) i ≡ Some (cs ++ rest)))
       → (b : Bool) → cond b (Some era.changes) (changes_of (ended ++ last ∷ []) i) ≡ Some cs
-      → (rest : List Change) × (cond b (Some era.changes) (changes_of (ended ++ with_more last more ∷ behind) i) ≡ Some (cs ++ rest))
+      → (rest : List Change) × (cond b (Some era.changes) (changes_of (ended ++ with_more last more ∷ beyond) i) ≡ Some (cs ++ rest))
   by_test later true f = ([], f ∙ ap (λ xs. Some xs) (sym (append-nil cs)))
   by_test later false f = later f
 
@@ -266,7 +266,7 @@ answer_since life mark None reply valid is e =
     let last = last_changes_of life.ended life.last valid.rising in
     let before = within.before in
     let all : take (length life.last.changes) life.last.changes ≡ life.last.changes = take_all (length life.last.changes) life.last.changes (omega arith) in
-    let stretch : IsStretch (eras_of life) mark (mark_behind life.last.incarnation life.last.changes) (drop mark.count life.last.changes) = record {
+    let stretch : IsStretch (eras_of life) mark (mark_after life.last.incarnation life.last.changes) (drop mark.count life.last.changes) = record {
       all = life.last.changes;
       of_one = ap (changes_of (eras_of life)) within.incarnation_is ∙ last;
       same = sym within.incarnation_is;
@@ -346,10 +346,10 @@ whole_true life set valid stands e = by (nat_le (length set) max_page) refl wher
   frozen_or_now (Some count) h many = h
 
   by : (b : Bool) → nat_le (length set) max_page ≡ b
-      → AnswersTruly life (cond b (Some (Snapshot (mark_behind life.last.incarnation life.last.changes) set, life.frozen))
+      → AnswersTruly life (cond b (Some (Snapshot (mark_after life.last.incarnation life.last.changes) set, life.frozen))
       (first_page life.last.incarnation life.last.changes (unwrap_or life.frozen (length life.last.changes))))
   by true few = record {
-    reply = Snapshot (mark_behind life.last.incarnation life.last.changes) set;
+    reply = Snapshot (mark_after life.last.incarnation life.last.changes) set;
     frozen = life.frozen;
     is = refl;
     honest = last_set life (length life.last.changes) set valid (omega arith) all;
@@ -372,7 +372,7 @@ asked_true : (life : Life) (mark : Point) (page : ℕ) → IsLife life → HasFr
     → (reply : Body) × (asked_page life.last.incarnation life.last.changes life.frozen mark page ≡ Some reply) × IsHonest (eras_of life) reply
 asked_true life mark page valid stands = by (nat_eq mark.incarnation life.last.incarnation) where
   reset : (cause : Cause) → Body
-  reset cause = Reset cause (mark_behind life.last.incarnation life.last.changes)
+  reset cause = Reset cause (mark_after life.last.incarnation life.last.changes)
 
   of_set : (set : List Described) → max_page < length set → replay (take mark.count life.last.changes) ≡ Some set → mark.count ≤ length life.last.changes
       → (b : Bool) → nat_lt page (pages_in (length set)) ≡ b

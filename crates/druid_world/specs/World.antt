@@ -133,4 +133,4 @@ with_more era more = record { incarnation = era.incarnation; changes = era.chang
 
 -- the last incarnation goes on, or it ended and others came after it; nothing that was is changed
 abbrev pub Grows : Life → Life → Type 0
-Grows old new = (more : List Change) × (behind : List Era) × (eras_of new ≡ old.ended ++ with_more old.last more ∷ behind)
+Grows old new = (more : List Change) × (beyond : List Era) × (eras_of new ≡ old.ended ++ with_more old.last more ∷ beyond)

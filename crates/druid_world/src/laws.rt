@@ -20,9 +20,9 @@ pub fn same_marks_same_inventory()
         → Contains s.brokers a → Contains t.brokers b → marks_of a ≡ marks_of b → a ≡ b }
     ensures determined { (world : List Life) (a b : List Entry) → IsInventoryOf world a → IsInventoryOf world b
         → names_of a ≡ names_of b → marks_of a ≡ marks_of b → a ≡ b }
-    ensures folded { (world : List Life) (names : List (List ℕ)) (told : List (ℕ × Body)) (inventory : List Entry)
-        → IsWorld world → length names ≡ length world → AreHonest world told
-        → Folds (map fresh names) told inventory → IsInventoryOf world inventory }
+    ensures folded { (world : List Life) (names : List (List ℕ)) (reported : List (ℕ × Body)) (inventory : List Entry)
+        → IsWorld world → length names ≡ length world → AreHonest world reported
+        → Folds (map fresh names) reported inventory → IsInventoryOf world inventory }
 {}
 
 /// Two inventories that tell what each node served at a mark are joined without a conflict, and together they tell what

@@ -8,7 +8,7 @@ returns c = record {
   names = c.in_ok-sources.sources.items;
   all = c.in_ok-sources.ensures.all;
   ordered = c.in_ok-sources.ensures.rising;
-  told = record {
+  reported = record {
     status_is = c.made.ensures.status_is;
     body_is = c.made.ensures.body_is ∙ c.in_ok-text.ensures ∙ ap (λ names. compact_text (names_data names)) c.deref.ensures.value;
   };

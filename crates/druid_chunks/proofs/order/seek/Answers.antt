@@ -5,7 +5,7 @@ use Rattle.druid_time.specs.Extent.{IsExtent}
 use Rattle.druid_segid.specs.Group.{Group}
 use Rattle.druid_chunks.specs.Chunks.{Chunk}
 use Rattle.druid_chunks.specs.Places.{chunk_place, place_of}
-use Rattle.druid_chunks.proofs.OrderLemmas.{absent, no_later, stands_after, told_apart}
+use Rattle.druid_chunks.proofs.OrderLemmas.{absent, no_later, stands_after, reported_apart}
 use Rattle.druid_chunks.proofs.order.seek.Goals as goal
 
 pub returns-then-ne-clause-absent : goal.returns-then-ne-clause-absent
@@ -13,7 +13,7 @@ returns-then-ne-clause-absent c =
     let g : Group = record { interval = c.args.interval; version = c.args.version.now } in
     let own = c.index-items-i.result in
     let interval : c.interval.result ≡ own.0.interval = c.interval.ensures.value ∙ ap (λ (h : Group). h.interval) c.key-key.ensures in
-    let other : (own.0.interval ≡ c.args.interval → ⊥) = λ same. told_apart c.interval.result c.args.interval c.ne.result c.ne.ensures c.if-ne.true (interval ∙ same) in
+    let other : (own.0.interval ≡ c.args.interval → ⊥) = λ same. reported_apart c.interval.result c.args.interval c.ne.result c.ne.ensures c.if-ne.true (interval ∙ same) in
     let before = subst (λ (n : ℕ). AllWithin (λ chunk. chunk_place chunk < n) c.args.items.now 0 c.first_from-first.result) c.of.ensures.value c.first_from-first.ensures.before in
     let from = subst (λ (n : ℕ). n ≤ chunk_place (get_or c.args.items.now c.loop-i.i own)) c.of.ensures.value (c.first_from-first.ensures.after c.loop-i.i own c.loop-i.auto.i c.loop-i-test.true) in
     let here : get_or c.args.items.now c.loop-i.i own ≡ own = sym c.index-items-i.is in

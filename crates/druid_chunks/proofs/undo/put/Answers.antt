@@ -34,20 +34,20 @@ returns-in-Err-clause-ordered c =
     let cs = c.args.items.now.items in
     let new = c.args.chunk in
     let named : record { interval = c.interval.result; version = c.version.result.now } ≡ new.0 = λ i. record { interval = (c.interval.ensures.value ∙ ap (λ (g : Group). g.interval) c.key.ensures) i; version = (c.version.ensures.value ∙ ap (λ (g : Group). g.version) c.key-2.ensures) i } in
-    let told = subst (λ (p : List Chunk × Group). HasNoChunk p.0 p.1 × (c.in-Err.i ≤ length p.0) × AllWithin (λ x. chunk_place x ≤ place_of p.1.interval) p.0 0 c.in-Err.i × AllWithin (λ x. place_of p.1.interval ≤ chunk_place x) p.0 c.in-Err.i (length p.0))
+    let reported = subst (λ (p : List Chunk × Group). HasNoChunk p.0 p.1 × (c.in-Err.i ≤ length p.0) × AllWithin (λ x. chunk_place x ≤ place_of p.1.interval) p.0 0 c.in-Err.i × AllWithin (λ x. place_of p.1.interval ≤ chunk_place x) p.0 c.in-Err.i (length p.0))
     (λ i. (c.deref.ensures.value i, named i)) (c.in-Err.ensures.absent, c.in-Err.ensures.end, c.in-Err.ensures.before, c.in-Err.ensures.after) in
     let valid : IsExtent new.0.interval = subst (λ (g : Group). IsExtent g.interval) c.key.ensures c.interval.ensures.valid.interval in
     let made : c.insert.new.self.items ≡ insert cs c.in-Err.i new = c.insert.ensures.items ∙ ap (λ (b : Bool). cond b (insert cs c.in-Err.i new) cs) (c.insert.ensures.succeeds c.requires.room) in
-    subst AreInOrder (sym made) (AreInOrder-insert cs c.in-Err.i new c.requires.ordered told.0 c.requires.inhabited valid told.1 told.2 told.3)
+    subst AreInOrder (sym made) (AreInOrder-insert cs c.in-Err.i new c.requires.ordered reported.0 c.requires.inhabited valid reported.1 reported.2 reported.3)
 
 pub returns-in-Err-clause-put : goal.returns-in-Err-clause-put
 returns-in-Err-clause-put c g =
     let cs = c.args.items.now.items in
     let new = c.args.chunk in
     let named : record { interval = c.interval.result; version = c.version.result.now } ≡ new.0 = λ i. record { interval = (c.interval.ensures.value ∙ ap (λ (g : Group). g.interval) c.key.ensures) i; version = (c.version.ensures.value ∙ ap (λ (g : Group). g.version) c.key-2.ensures) i } in
-    let told = subst (λ (p : List Chunk × Group). HasNoChunk p.0 p.1 × (c.in-Err.i ≤ length p.0) × AllWithin (λ x. chunk_place x ≤ place_of p.1.interval) p.0 0 c.in-Err.i × AllWithin (λ x. place_of p.1.interval ≤ chunk_place x) p.0 c.in-Err.i (length p.0))
+    let reported = subst (λ (p : List Chunk × Group). HasNoChunk p.0 p.1 × (c.in-Err.i ≤ length p.0) × AllWithin (λ x. chunk_place x ≤ place_of p.1.interval) p.0 0 c.in-Err.i × AllWithin (λ x. place_of p.1.interval ≤ chunk_place x) p.0 c.in-Err.i (length p.0))
     (λ i. (c.deref.ensures.value i, named i)) (c.in-Err.ensures.absent, c.in-Err.ensures.end, c.in-Err.ensures.before, c.in-Err.ensures.after) in
     let valid : IsExtent new.0.interval = subst (λ (g : Group). IsExtent g.interval) c.key.ensures c.interval.ensures.valid.interval in
     let made : c.insert.new.self.items ≡ insert cs c.in-Err.i new = c.insert.ensures.items ∙ ap (λ (b : Bool). cond b (insert cs c.in-Err.i new) cs) (c.insert.ensures.succeeds c.requires.room) in
-    let ordered = AreInOrder-insert cs c.in-Err.i new c.requires.ordered told.0 c.requires.inhabited valid told.1 told.2 told.3 in
+    let ordered = AreInOrder-insert cs c.in-Err.i new c.requires.ordered reported.0 c.requires.inhabited valid reported.1 reported.2 reported.3 in
     ap (λ (xs : List Chunk). members_at xs g) made ∙ put-insert cs c.in-Err.i new ordered.are g

@@ -1,7 +1,7 @@
 use Rattle.std.proofs.Common.{◌≡◌, ◌+◌, [], drop, slice_index_or}
 use Rattle.std.specs.List.{list_any}
 use Rattle.std.specs.Str.{bytes_eq}
-use Rattle.druid_config.specs.Lent.{names_in}
+use Rattle.druid_config.specs.Borrowed.{names_in}
 use Rattle.druid_config.proofs.judging.stands_later.Given as goal
 
 abbrev pub invariant-loop-later : goal.invariant-loop-later

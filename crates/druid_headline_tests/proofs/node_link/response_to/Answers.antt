@@ -1,19 +1,19 @@
 use Rattle.std.proofs.Common.{◌≡◌, ℕ, List, subst}
 use Rattle.std.specs.Prelude.{IfOk}
 use Rattle.druid_wire.specs.Written.{answer_text}
-use Rattle.druid_headline_tests.proofs.NodeLemmas.{memory_told, answer_told, unfrozen}
+use Rattle.druid_headline_tests.proofs.NodeLemmas.{memory_reported, answer_reported, unfrozen}
 use Rattle.druid_headline_tests.proofs.node_link.response_to.Goals as goal
 
 pub returns-in-Ok-clause-ok : goal.returns-in-Ok-clause-ok
 returns-in-Ok-clause-ok c =
-    answer_told c.args.state.now c.respond.new.self c.args.request.now c.in-Ok.answer.0 c.in-Ok.answer.1.items c.text_of.result c.requires c.in-Ok.ensures.stays
+    answer_reported c.args.state.now c.respond.new.self c.args.request.now c.in-Ok.answer.0 c.in-Ok.answer.1.items c.text_of.result c.requires c.in-Ok.ensures.stays
     c.in-Ok.ensures.ok (subst (λ (b : List ℕ). IfOk c.text_of.result (λ text. text.items ≡ answer_text c.in-Ok.answer.0 b)) c.deref.ensures.value c.text_of.ensures.ok)
 
 pub returns-in-Ok-clause-same : goal.returns-in-Ok-clause-same
 returns-in-Ok-clause-same c = unfrozen c.args.state.now c.respond.new.self c.requires c.in-Ok.ensures.stays
 
 pub returns-in-Err-clause-ok : goal.returns-in-Err-clause-ok
-returns-in-Err-clause-ok c = memory_told c.args.state.now c.args.request.now c.text_of-in-Err.result c.text_of-in-Err.ensures.ok
+returns-in-Err-clause-ok c = memory_reported c.args.state.now c.args.request.now c.text_of-in-Err.result c.text_of-in-Err.ensures.ok
 
 pub returns-in-Err-clause-same : goal.returns-in-Err-clause-same
 returns-in-Err-clause-same c = unfrozen c.args.state.now c.respond.new.self c.requires c.in-Err.ensures.stays

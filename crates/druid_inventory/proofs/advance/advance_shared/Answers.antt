@@ -36,18 +36,18 @@ returns-in_err-entries-clause-over c =
 pub returns-in_err-timelines-clause-err : goal.returns-in_err-timelines-clause-err
 returns-in_err-timelines-clause-err c =
     let es = map arc_value (arc_value c.args.entries.now).items in
-    let lent : map arc_value c.in_ok-entries.entries.now.items ≡ es = elim c.in_ok-entries.ensures.value [
+    let borrowed : map arc_value c.in_ok-entries.entries.now.items ≡ es = elim c.in_ok-entries.ensures.value [
       | inl e ↦ (λ i. map arc_value (e i).items)
       | inr h ↦ map-copied arc_value (arc_value c.args.entries.now).items c.in_ok-entries.entries.now.items h.0
     ] in
     let written = c.make_mut.follows.holds c.in_ok-entries.entries.now (was_ok c.in_ok-entries.was) in
     let after = (arc_value (c.make_mut.follows.lender c.in_ok-entries.entries.now)).items in
-    always_err c.from_residual-in_err-timelines.result (map arc_value after ≡ es) ((λ i. map arc_value (written i).items) ∙ lent)
+    always_err c.from_residual-in_err-timelines.result (map arc_value after ≡ es) ((λ i. map arc_value (written i).items) ∙ borrowed)
 
 pub returns-in_err-timelines-clause-over : goal.returns-in_err-timelines-clause-over
 returns-in_err-timelines-clause-over c =
     let es = map arc_value (arc_value c.args.entries.now).items in
-    let lent : map arc_value c.in_ok-entries.entries.now.items ≡ es = elim c.in_ok-entries.ensures.value [
+    let borrowed : map arc_value c.in_ok-entries.entries.now.items ≡ es = elim c.in_ok-entries.ensures.value [
       | inl e ↦ (λ i. map arc_value (e i).items)
       | inr h ↦ map-copied arc_value (arc_value c.args.entries.now).items c.in_ok-entries.entries.now.items h.0
     ] in
@@ -62,22 +62,22 @@ returns-in_err-timelines-clause-over c =
       few = c.requires.over.few;
       over = AreTimelines-copied (Serves es) old new same c.requires.over.over;
     } in
-    subst (λ (xs : List Entry). IsInventory xs new) (sym ((λ i. map arc_value (written i).items) ∙ lent)) over
+    subst (λ (xs : List Entry). IsInventory xs new) (sym ((λ i. map arc_value (written i).items) ∙ borrowed)) over
 
 pub advance_entries-requires-clause-made : goal.advance_entries-requires-clause-made
 advance_entries-requires-clause-made c =
     let es = map arc_value (arc_value c.args.entries.now).items in
-    let lent : map arc_value c.in_ok-entries.entries.now.items ≡ es = elim c.in_ok-entries.ensures.value [
+    let borrowed : map arc_value c.in_ok-entries.entries.now.items ≡ es = elim c.in_ok-entries.ensures.value [
       | inl e ↦ (λ i. map arc_value (e i).items)
       | inr h ↦ map-copied arc_value (arc_value c.args.entries.now).items c.in_ok-entries.entries.now.items h.0
     ] in
     subst (λ (xs : List Entry). (e : Entry) × (slice_get xs c.args.node ≡ Some e) × (t : List Described) × (replay_from e.set c.args.changes.now ≡ Some t))
-    (sym lent) c.requires.made
+    (sym borrowed) c.requires.made
 
 pub advance_entries-requires-clause-over : goal.advance_entries-requires-clause-over
 advance_entries-requires-clause-over c =
     let es = map arc_value (arc_value c.args.entries.now).items in
-    let lent : map arc_value c.in_ok-entries.entries.now.items ≡ es = elim c.in_ok-entries.ensures.value [
+    let borrowed : map arc_value c.in_ok-entries.entries.now.items ≡ es = elim c.in_ok-entries.ensures.value [
       | inl e ↦ (λ i. map arc_value (e i).items)
       | inr h ↦ map-copied arc_value (arc_value c.args.entries.now).items c.in_ok-entries.entries.now.items h.0
     ] in
@@ -85,13 +85,13 @@ advance_entries-requires-clause-over c =
       | inl e ↦ (λ i. (e i).entries)
       | inr h ↦ copied_entries (arc_value c.args.timelines.now) c.in_ok-timelines.timelines.now h
     ] in
-    subst (λ (xs : List Entry). AreTimelines (Serves xs) c.in_ok-timelines.timelines.now) (sym lent)
+    subst (λ (xs : List Entry). AreTimelines (Serves xs) c.in_ok-timelines.timelines.now) (sym borrowed)
     (AreTimelines-copied (Serves es) (arc_value c.args.timelines.now) c.in_ok-timelines.timelines.now same c.requires.over.over)
 
 pub returns-clause-ok : goal.returns-clause-ok
 returns-clause-ok c =
     let es = map arc_value (arc_value c.args.entries.now).items in
-    let lent : map arc_value c.in_ok-entries.entries.now.items ≡ es = elim c.in_ok-entries.ensures.value [
+    let borrowed : map arc_value c.in_ok-entries.entries.now.items ≡ es = elim c.in_ok-entries.ensures.value [
       | inl e ↦ (λ i. map arc_value (e i).items)
       | inr h ↦ map-copied arc_value (arc_value c.args.entries.now).items c.in_ok-entries.entries.now.items h.0
     ] in
@@ -100,15 +100,15 @@ returns-clause-ok c =
     (λ i. map arc_value (written i).items) in
     on_ok_weaker c.advance_entries.result
     (λ moves. subst (λ (xs : List Entry). MovesAt es xs c.args.node c.args.to c.args.changes.now) (sym after)
-    (subst (λ (xs : List Entry). MovesAt xs (map arc_value c.advance_entries.new.entries.items) c.args.node c.args.to c.args.changes.now) lent moves))
+    (subst (λ (xs : List Entry). MovesAt xs (map arc_value c.advance_entries.new.entries.items) c.args.node c.args.to c.args.changes.now) borrowed moves))
     c.advance_entries.ensures.ok
 
 pub returns-clause-err : goal.returns-clause-err
 returns-clause-err c =
     let es = map arc_value (arc_value c.args.entries.now).items in
-    let lent : map arc_value c.in_ok-entries.entries.now.items ≡ es = elim c.in_ok-entries.ensures.value [
+    let borrowed : map arc_value c.in_ok-entries.entries.now.items ≡ es = elim c.in_ok-entries.ensures.value [
       | inl e ↦ (λ i. map arc_value (e i).items)
       | inr h ↦ map-copied arc_value (arc_value c.args.entries.now).items c.in_ok-entries.entries.now.items h.0
     ] in
     let written = c.make_mut.follows.holds c.advance_entries.new.entries (was_ok c.in_ok-entries.was) in
-    on_err_weaker c.advance_entries.result (λ same. (λ i. map arc_value (written i).items) ∙ same ∙ lent) c.advance_entries.ensures.err
+    on_err_weaker c.advance_entries.result (λ same. (λ i. map arc_value (written i).items) ∙ same ∙ borrowed) c.advance_entries.ensures.err

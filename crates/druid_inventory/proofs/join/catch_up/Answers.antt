@@ -6,18 +6,18 @@ use Rattle.std.proofs.lemmas.List.{map-set}
 use Rattle.druid_shard.specs.Mark.{mark_cmp}
 use Rattle.druid_inventory.specs.Entry.{Entry}
 use Rattle.druid_inventory.proofs.EditLemmas.{replay_start, replay_end}
-use Rattle.druid_inventory.proofs.JoinLemmas.{not_behind, behind}
+use Rattle.druid_inventory.proofs.JoinLemmas.{not_older, beyond}
 use Rattle.druid_inventory.proofs.join.catch_up.Goals as goal
 
-pub returns-then-not-is_behind-clause-entries :
-    goal.returns-then-not-is_behind-clause-entries
-returns-then-not-is_behind-clause-entries c =
+pub returns-then-not-is_older-clause-entries :
+    goal.returns-then-not-is_older-clause-entries
+returns-then-not-is_older-clause-entries c =
     let es = map arc_value c.args.entries.now.items in
     let found : slice_get es c.args.node ≡ Some c.entry_of-known.result.now =
     ap (λ xs. slice_get (map arc_value xs) c.args.node) (sym c.deref.ensures.value) ∙ c.entry_of-known.ensures in
     let level : is_lt (mark_cmp c.entry_of-known.result.now.mark (arc_value c.args.entry.now).mark) ≡ _ =
-    ap (λ (e : Entry). is_lt (mark_cmp c.entry_of-known.result.now.mark e.mark)) (sym c.deref-2.ensures) ∙ sym c.is_behind.ensures ∙ c.if-not-is_behind.true in
-    not_behind es c.args.node c.entry_of-known.result.now (arc_value c.args.entry.now) found level
+    ap (λ (e : Entry). is_lt (mark_cmp c.entry_of-known.result.now.mark e.mark)) (sym c.deref-2.ensures) ∙ sym c.is_older.ensures ∙ c.if-not-is_older.true in
+    not_older es c.args.node c.entry_of-known.result.now (arc_value c.args.entry.now) found level
 
 pub change_set-requires-clause-over : goal.change_set-requires-clause-over
 change_set-requires-clause-over c =
@@ -32,8 +32,8 @@ returns-clause-entries c =
     let found : slice_get es c.args.node ≡ Some c.entry_of-known.result.now =
     ap (λ xs. slice_get (map arc_value xs) c.args.node) (sym c.deref.ensures.value) ∙ c.entry_of-known.ensures in
     let level : is_lt (mark_cmp c.entry_of-known.result.now.mark (arc_value c.args.entry.now).mark) ≡ _ =
-    ap (λ (e : Entry). is_lt (mark_cmp c.entry_of-known.result.now.mark e.mark)) (sym c.deref-2.ensures) ∙ sym c.is_behind.ensures ∙ c.if-not-is_behind.false in
-    behind es (map arc_value (set c.args.entries.now.items c.args.node c.in_ok-entries.field-0)) c.args.node c.entry_of-known.result.now (arc_value c.args.entry.now)
+    ap (λ (e : Entry). is_lt (mark_cmp c.entry_of-known.result.now.mark e.mark)) (sym c.deref-2.ensures) ∙ sym c.is_older.ensures ∙ c.if-not-is_older.false in
+    beyond es (map arc_value (set c.args.entries.now.items c.args.node c.in_ok-entries.field-0)) c.args.node c.entry_of-known.result.now (arc_value c.args.entry.now)
     (arc_value c.in_ok-entries.field-0) found level (map-set arc_value c.args.entries.now.items c.args.node c.in_ok-entries.field-0) c.in_ok-entries.ensures
 
 pub returns-clause-over : goal.returns-clause-over

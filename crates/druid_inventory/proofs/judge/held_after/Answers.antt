@@ -7,8 +7,8 @@ use Rattle.druid_inventory.specs.Judged.{segment_of, NoneOfFrom}
 use Rattle.druid_inventory.proofs.ReplayedLemmas.{NoneOfFrom-end, NoneOfFrom-more, texts_apart, holder-loaded, holder-dropped, holder-stands, holder-absent}
 use Rattle.druid_inventory.proofs.judge.held_after.Goals as goal
 
-behind : (cs : List Change) (id : Identifier) (n : ℕ) → 0 < n → NoneOfFrom cs id n → NoneOfFrom cs id (suc (n - 1))
-behind cs id n l none = let e : n ≡ suc (n - 1) = omega arith in subst (NoneOfFrom cs id) e none
+beyond : (cs : List Change) (id : Identifier) (n : ℕ) → 0 < n → NoneOfFrom cs id n → NoneOfFrom cs id (suc (n - 1))
+beyond cs id n l none = let e : n ≡ suc (n - 1) = omega arith in subst (NoneOfFrom cs id) e none
 
 pub loop-left-init : goal.loop-left-init
 loop-left-init c = record { within = omega arith; none = NoneOfFrom-end c.args.changes.now c.args.id.now (length c.args.changes.now) refl }
@@ -17,7 +17,7 @@ pub returns-in-Load : goal.returns-in-Load
 returns-in-Load c t e =
     let within = c.loop-left.invariant.within in
     let test = c.loop-left-test.true in
-    let last = behind c.args.changes.now c.args.id.now c.loop-left.left test c.loop-left.invariant.none in
+    let last = beyond c.args.changes.now c.args.id.now c.loop-left.left test c.loop-left.invariant.none in
     let ids : c.id.result.now ≡ c.args.id.now = same_identifier-true c.id.result.now c.args.id.now (sym c.eq.ensures ∙ c.if-eq.true) in
     let is : c.segment_of.result.now ≡ c.in-Load.descriptor = c.segment_of.ensures ∙ ap segment_of c.in-Load.is in
     let same : identifier_text c.in-Load.descriptor.id ≡ identifier_text c.args.id.now =
@@ -29,7 +29,7 @@ pub returns-in-Drop : goal.returns-in-Drop
 returns-in-Drop c t e =
     let within = c.loop-left.invariant.within in
     let test = c.loop-left-test.true in
-    let last = behind c.args.changes.now c.args.id.now c.loop-left.left test c.loop-left.invariant.none in
+    let last = beyond c.args.changes.now c.args.id.now c.loop-left.left test c.loop-left.invariant.none in
     let ids : c.id.result.now ≡ c.args.id.now = same_identifier-true c.id.result.now c.args.id.now (sym c.eq.ensures ∙ c.if-eq.true) in
     let is : c.segment_of.result.now ≡ c.in-Drop.field-0 = c.segment_of.ensures ∙ ap segment_of c.in-Drop.is in
     let same : identifier_text c.in-Drop.field-0.id ≡ identifier_text c.args.id.now =

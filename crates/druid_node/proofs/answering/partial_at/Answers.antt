@@ -2,7 +2,7 @@ use Rattle.std.proofs.Common.{◌≡◌, ◌∙◌, map, List, ap, subst, arith,
 use Rattle.std.specs.List.{flat_map}
 use Rattle.std.proofs.lemmas.Result.{IfOk-weaker}
 use Rattle.druid_partial.specs.Groups.{Group, IsResult}
-use Rattle.druid_partial.specs.Rows.{kinds_of, told_by}
+use Rattle.druid_partial.specs.Rows.{kinds_of, counted_by}
 use Rattle.druid_node.specs.Placed.{Placed}
 use Rattle.druid_node.proofs.AnswerLemmas.{one_place}
 use Rattle.druid_node.proofs.answering.partial_at.Goals as goal
@@ -14,5 +14,5 @@ returns-clause-result c =
     let pieces = c.args.pieces.now in
     let all = take_all c.loop-piece.piece-index pieces (let done = c.loop-piece-test.false in let end = c.loop-piece.auto.piece-index-end in omega arith) in
     let items : c.deref.result.now ≡ map (λ (p : Placed). p.1) pieces = c.deref.ensures.value ∙ c.loop-piece.invariant ∙ ap (map (λ (p : Placed). p.1)) all in
-    let rows = ap (flat_map (told_by query segment)) items ∙ one_place query c.args.held.now c.args.place segment pieces c.at.ensures c.requires.one in
-    IfOk-weaker c.partial_over.result _ _ (λ partial result. subst (λ (told : List Group). IsResult (kinds_of query) told partial.groups) rows result) c.partial_over.ensures.result
+    let rows = ap (flat_map (counted_by query segment)) items ∙ one_place query c.args.held.now c.args.place segment pieces c.at.ensures c.requires.one in
+    IfOk-weaker c.partial_over.result _ _ (λ partial result. subst (λ (reported : List Group). IsResult (kinds_of query) reported partial.groups) rows result) c.partial_over.ensures.result

@@ -5,7 +5,7 @@ use Rattle.std.proofs.lemmas.Result.{IfOk-weaker}
 use Rattle.druid_partial.specs.Groups.{Group, IsResult}
 use Rattle.druid_partial.specs.Rows.{kinds_of}
 use Rattle.druid_partial.proofs.MovedLemmas.{moved_result}
-use Rattle.druid_node.specs.Placed.{Placed, told_at, IsWithin}
+use Rattle.druid_node.specs.Placed.{Placed, counted_at, IsWithin}
 use Rattle.druid_node.proofs.answering.partial_of_asked.Goals as goal
 
 pub partial_of_placed-requires : goal.partial_of_placed-requires
@@ -17,9 +17,9 @@ pub returns-clause-result : goal.returns-clause-result
 returns-clause-result c =
     let query = c.args.query.now in
     let placed = c.in_ok-placed.placed.items in
-    let tells = told_at query c.args.held.now in
+    let tells = counted_at query c.args.held.now in
     let moved : IsPermutation placed c.deref.result.now = subst (λ (pieces : List Placed). IsPermutation placed pieces) (sym c.deref.ensures.value) c.sort_unstable_by_key.ensures.permutation in
     IfOk-weaker c.partial_of_placed.result _ _
-    (λ partial result. subst (λ (told : List Group). IsResult (kinds_of query) told partial.groups) (c.in_ok-placed.ensures.told query)
+    (λ partial result. subst (λ (reported : List Group). IsResult (kinds_of query) reported partial.groups) (c.in_ok-placed.ensures.reported query)
     (moved_result (kinds_of query) tells placed c.deref.result.now partial.groups moved result))
     c.partial_of_placed.ensures.result

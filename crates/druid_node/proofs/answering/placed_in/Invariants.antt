@@ -5,6 +5,6 @@ use Rattle.druid_node.proofs.answering.placed_in.Given as goal
 
 abbrev pub invariant-loop-id : goal.invariant-loop-id
 invariant-loop-id l = record {
-  told : PlacedSoFar l.held l.placed.items l.asked l.id-index;
+  reported : PlacedSoFar l.held l.placed.items l.asked l.id-index;
   within : All (IsWithin l.held) l.placed.items;
 }

@@ -2,12 +2,12 @@ use Rattle.std.proofs.Common.{◌≡◌, true, false, ap, sym, ◌∙◌, subst,
 use Rattle.druid_shard.specs.Described.{Described}
 use Rattle.druid_segid.specs.Identifier.{Identifier}
 use Rattle.druid_node.specs.Files.{file_name, RefusesBytes}
-use Rattle.druid_node.proofs.FileLemmas.{told_bytes, under_name, under_other, is_read}
+use Rattle.druid_node.proofs.FileLemmas.{reported_bytes, under_name, under_other, is_read}
 use Rattle.druid_node.proofs.data_node.segment_in.Goals as goal
 
 pub returns-in-Err-clause-err : goal.returns-in-Err-clause-err
 returns-in-Err-clause-err c =
-    subst (RefusesBytes c.args.name.now c.args.bytes.now) (sym c.file_fault.ensures) (told_bytes c.args.name.now c.args.bytes.now c.in-Err.fault c.in-Err.ensures.exact)
+    subst (RefusesBytes c.args.name.now c.args.bytes.now) (sym c.file_fault.ensures) (reported_bytes c.args.name.now c.args.bytes.now c.in-Err.fault c.in-Err.ensures.exact)
 
 pub returns-in-Ok-true-clause-ok : goal.returns-in-Ok-true-clause-ok
 returns-in-Ok-true-clause-ok c =

@@ -4,7 +4,7 @@ use Rattle.serde_json.specs.View.{items_view}
 use Rattle.druid_query.specs.Query.{Query}
 use Rattle.druid_partial.specs.Groups.{Group}
 use Rattle.druid_partial_text.specs.Read.{TellsGroups}
-use Rattle.druid_partial_text.proofs.MissedLemmas.{none_told}
+use Rattle.druid_partial_text.proofs.MissedLemmas.{none_reported}
 use Rattle.druid_partial_text.proofs.answer_reading.answer_in.Goals as goal
 
 pub returns-in_default-2-clause-none : goal.returns-in_default-2-clause-none
@@ -12,4 +12,4 @@ returns-in_default-2-clause-none c =
     let ds = items_view c.args.missing.now in
     let rs = items_view c.args.rows.now in
     let none : (groups : List Group) → TellsGroups c.query.result.now (array rs) groups → ⊥ = search rules in
-    none_told c.args.sub.now ds rs (subst (λ (q : Query). (groups : List Group) → TellsGroups q (array rs) groups → ⊥) c.query.ensures none)
+    none_reported c.args.sub.now ds rs (subst (λ (q : Query). (groups : List Group) → TellsGroups q (array rs) groups → ⊥) c.query.ensures none)

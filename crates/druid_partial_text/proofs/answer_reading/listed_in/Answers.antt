@@ -4,7 +4,7 @@ use Rattle.serde_json.specs.Find.{get, as_array}
 use Rattle.serde_json.specs.View.{view, items_view}
 use Rattle.druid_query.specs.Asked.{asked_at}
 use Rattle.druid_query.specs.Query.{Query}
-use Rattle.druid_partial_text.specs.Lent.{AreRows}
+use Rattle.druid_partial_text.specs.Borrowed.{AreRows}
 use Rattle.druid_partial_text.proofs.MissedLemmas.{no_pieces, lists_read}
 use Rattle.druid_partial_text.proofs.answer_reading.listed_in.Goals as goal
 

@@ -13,14 +13,14 @@ pub returns-then-branch-clause-some : goal.returns-then-branch-clause-some
 returns-then-branch-clause-some c =
     let made = c.in_ok-missing.missing.items in
     let read : each_of (asked_at c.args.sub.now.query.source) (items_view c.args.values.now) ≡ Some made = search rules in
-    let told = subst (λ (l : List Asked). IsTrue c.in_ok-were_asked.field-0 ↔ AllIn c.asked.result.now l) c.deref.ensures.value c.in_ok-were_asked.ensures in
-    let of_all = subst (λ (l : List Asked). IsTrue c.in_ok-were_asked.field-0 ↔ AllIn l made) c.asked.ensures told in
+    let reported = subst (λ (l : List Asked). IsTrue c.in_ok-were_asked.field-0 ↔ AllIn c.asked.result.now l) c.deref.ensures.value c.in_ok-were_asked.ensures in
+    let of_all = subst (λ (l : List Asked). IsTrue c.in_ok-were_asked.field-0 ↔ AllIn l made) c.asked.ensures reported in
     missed c.args.sub.now (items_view c.args.values.now) made read (of_all.0 c.if-branch.true)
 
 pub returns-else-branch-clause-none : goal.returns-else-branch-clause-none
 returns-else-branch-clause-none c =
     let made = c.in_ok-missing.missing.items in
     let read : each_of (asked_at c.args.sub.now.query.source) (items_view c.args.values.now) ≡ Some made = search rules in
-    let told = subst (λ (l : List Asked). IsTrue c.in_ok-were_asked.field-0 ↔ AllIn c.asked.result.now l) c.deref.ensures.value c.in_ok-were_asked.ensures in
-    let of_all = subst (λ (l : List Asked). IsTrue c.in_ok-were_asked.field-0 ↔ AllIn l made) c.asked.ensures told in
+    let reported = subst (λ (l : List Asked). IsTrue c.in_ok-were_asked.field-0 ↔ AllIn c.asked.result.now l) c.deref.ensures.value c.in_ok-were_asked.ensures in
+    let of_all = subst (λ (l : List Asked). IsTrue c.in_ok-were_asked.field-0 ↔ AllIn l made) c.asked.ensures reported in
     not_missed c.args.sub.now (items_view c.args.values.now) made read (λ all. false≢true (sym c.if-branch.false ∙ of_all.1 all))

@@ -1,5 +1,5 @@
 use Rattle.std.proofs.Common.{All}
-use Rattle.druid_partial_text.specs.Lent.{HasWords}
+use Rattle.druid_partial_text.specs.Borrowed.{HasWords}
 use Rattle.druid_partial_text.specs.Read.{group_at}
 use Rattle.druid_partial_text.proofs.MadeLemmas.{Made}
 use Rattle.druid_partial_text.proofs.reading.groups_in.Given as goal

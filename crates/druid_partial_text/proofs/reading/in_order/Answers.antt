@@ -1,6 +1,6 @@
 use Rattle.std.proofs.Common.{rules, length}
 use Rattle.std.specs.List.{AllAdjacentBelow}
-use Rattle.druid_partial_text.specs.Lent.{IsBefore}
+use Rattle.druid_partial_text.specs.Borrowed.{IsBefore}
 use Rattle.druid_partial_text.proofs.MadeLemmas.{not_ascending}
 use Rattle.druid_partial_text.proofs.reading.in_order.Goals as goal
 

@@ -1,5 +1,5 @@
 use Rattle.std.specs.List.{AllAdjacentBelow}
-use Rattle.druid_partial_text.specs.Lent.{IsBefore}
+use Rattle.druid_partial_text.specs.Borrowed.{IsBefore}
 use Rattle.druid_partial_text.proofs.reading.is_ascending.Given as goal
 
 abbrev pub invariant-loop-i : goal.invariant-loop-i

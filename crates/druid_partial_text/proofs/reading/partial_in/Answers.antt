@@ -5,8 +5,8 @@ use Rattle.druid_shard.specs.Each.{each_of}
 use Rattle.druid_partial.specs.Groups.{InOrder}
 use Rattle.druid_partial.specs.Rows.{kinds_of, Partial, IsPartialFor}
 use Rattle.druid_partial_text.specs.Read.{group_at}
-use Rattle.druid_partial_text.specs.Lent.{AreRows, HasWords}
-use Rattle.druid_partial_text.proofs.MadeLemmas.{told_for, told_valid}
+use Rattle.druid_partial_text.specs.Borrowed.{AreRows, HasWords}
+use Rattle.druid_partial_text.proofs.MadeLemmas.{reported_for, reported_valid}
 use Rattle.druid_partial_text.proofs.reading.partial_in.Goals as goal
 
 pub new-requires : goal.new-requires
@@ -20,7 +20,7 @@ new-requires c =
     let ordered : InOrder groups = search rules in
     let is : c.in_ok-kinds.kinds.items ≡ kinds_of c.args.query.now = search rules in
     let words : All HasWords made = search rules in
-    told_valid c.args.query.now items c.in_ok-kinds.kinds.items made groups rows read moved ordered words is
+    reported_valid c.args.query.now items c.in_ok-kinds.kinds.items made groups rows read moved ordered words is
 
 pub returns-in-Some-clause-of_query : goal.returns-in-Some-clause-of_query
 returns-in-Some-clause-of_query c =
@@ -31,5 +31,5 @@ returns-in-Some-clause-of_query c =
     let read : each_of group_at items ≡ Some made = search rules in
     let moved : IsPermutation made groups = search rules in
     let is : c.in_ok-kinds.kinds.items ≡ kinds_of c.args.query.now = search rules in
-    let for : IsPartialFor c.args.query.now (record { kinds = c.in_ok-kinds.kinds.items; groups = groups }) = told_for c.args.query.now items c.in_ok-kinds.kinds.items made groups rows read moved is in
+    let for : IsPartialFor c.args.query.now (record { kinds = c.in_ok-kinds.kinds.items; groups = groups }) = reported_for c.args.query.now items c.in_ok-kinds.kinds.items made groups rows read moved is in
     subst (λ (p : Partial). IsPartialFor c.args.query.now p) (sym c.new.ensures) for

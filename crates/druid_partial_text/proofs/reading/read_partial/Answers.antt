@@ -4,7 +4,7 @@ use Rattle.serde_json.specs.View.{view, items_view}
 use Rattle.druid_partial.specs.Groups.{Group}
 use Rattle.druid_partial.specs.Rows.{Partial}
 use Rattle.druid_partial_text.specs.Read.{TellsGroups}
-use Rattle.druid_partial_text.proofs.MadeLemmas.{not_told}
+use Rattle.druid_partial_text.proofs.MadeLemmas.{not_reported}
 use Rattle.druid_partial_text.proofs.reading.read_partial.Goals as goal
 
 pub returns-in-Ok-None-clause-read : goal.returns-in-Ok-None-clause-read
@@ -12,4 +12,4 @@ returns-in-Ok-None-clause-read c =
     let items = items_view c.in-Some.rows.now in
     let is : view c.args.value.now ≡ array items = search rules in
     let none = subst (λ (o : Option Partial). IfNone o ((groups : List Group) → TellsGroups c.args.query.now (array items) groups → ⊥)) c.in-Ok-None.field-0-is c.in-Ok-None.ensures.none in
-    not_told c.args.query.now (view c.args.value.now) items is none
+    not_reported c.args.query.now (view c.args.value.now) items is none

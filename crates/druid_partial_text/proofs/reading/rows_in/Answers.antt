@@ -1,7 +1,7 @@
 use Rattle.std.proofs.Common.{◌≡◌, Some, rules}
 use Rattle.serde_json.specs.Find.{as_array}
 use Rattle.serde_json.specs.View.{view, items_view}
-use Rattle.druid_partial_text.specs.Lent.{AreRows}
+use Rattle.druid_partial_text.specs.Borrowed.{AreRows}
 use Rattle.druid_partial_text.proofs.MadeLemmas.{no_such_rows}
 use Rattle.druid_partial_text.proofs.reading.rows_in.Goals as goal
 

@@ -6,7 +6,7 @@ use Rattle.druid_shard.specs.Each.{each_of}
 use Rattle.druid_query.specs.Filters.{value_at, filter_at, each_filter}
 use Rattle.druid_query_text.specs.Levels.{selector, among, all, any, negation}
 use Rattle.druid_shard.proofs.EachLemmas.{all_reads}
-use Rattle.druid_query_text.proofs.FilterLemmas.{within, item_depth, judged, none_judged, filters_more, filters_refused, filters_last, map_some, told}
+use Rattle.druid_query_text.proofs.FilterLemmas.{within, item_depth, judged, none_judged, filters_more, filters_refused, filters_last, map_some, reported}
 use Rattle.druid_query_text.specs.declared.filter.Level.TheVariants as levels
 use Rattle.druid_query_text.proofs.filter.+is_filter.Goals as goal
 
@@ -31,19 +31,19 @@ are_filters-returns t c = filters_last c.args.values.now c.loop-value.value-inde
 pub is_filter-are_filters-requires : goal.is_filter-are_filters-requires
 is_filter-are_filters-requires t c =
     let below : items_depth (items_view c.in-Some-All.fields.now) < depth (view c.args.value.now) =
-    within (view c.args.value.now) (all (items_view c.in-Some-All.fields.now)) (sym (told c.in-Some-All.field-0 (levels.All c.in-Some-All.fields) (view c.args.value.now) c.in-Some-All.field-0-is c.in-Some-All.ensures)) in
+    within (view c.args.value.now) (all (items_view c.in-Some-All.fields.now)) (sym (reported c.in-Some-All.field-0 (levels.All c.in-Some-All.fields) (view c.args.value.now) c.in-Some-All.field-0-is c.in-Some-All.ensures)) in
     (omega (arith, below, c.decreases), tt)
 
 pub is_filter-are_filters-requires-in-Some-Any : goal.is_filter-are_filters-requires-in-Some-Any
 is_filter-are_filters-requires-in-Some-Any t c =
     let below : items_depth (items_view c.in-Some-Any.fields.now) < depth (view c.args.value.now) =
-    within (view c.args.value.now) (any (items_view c.in-Some-Any.fields.now)) (sym (told c.in-Some-Any.field-0 (levels.Any c.in-Some-Any.fields) (view c.args.value.now) c.in-Some-Any.field-0-is c.in-Some-Any.ensures)) in
+    within (view c.args.value.now) (any (items_view c.in-Some-Any.fields.now)) (sym (reported c.in-Some-Any.field-0 (levels.Any c.in-Some-Any.fields) (view c.args.value.now) c.in-Some-Any.field-0-is c.in-Some-Any.ensures)) in
     (omega (arith, below, c.decreases), tt)
 
 pub is_filter-is_filter-requires : goal.is_filter-is_filter-requires
 is_filter-is_filter-requires t c =
     let below : depth (view c.in-Some-Not.field.now) < depth (view c.args.value.now) =
-    within (view c.args.value.now) (negation (view c.in-Some-Not.field.now)) (sym (told c.in-Some-Not.field-0 (levels.Not c.in-Some-Not.field) (view c.args.value.now) c.in-Some-Not.field-0-is c.in-Some-Not.ensures)) in
+    within (view c.args.value.now) (negation (view c.in-Some-Not.field.now)) (sym (reported c.in-Some-Not.field-0 (levels.Not c.in-Some-Not.field) (view c.args.value.now) c.in-Some-Not.field-0-is c.in-Some-Not.ensures)) in
     (omega (arith, below, c.decreases), tt)
 
 pub is_filter-returns-in-None : goal.is_filter-returns-in-None
@@ -51,26 +51,26 @@ is_filter-returns-in-None t c = none_judged (view c.args.value.now) c.in-None.en
 
 pub is_filter-returns-in-Some-Selector : goal.is_filter-returns-in-Some-Selector
 is_filter-returns-in-Some-Selector t c =
-    judged (view c.args.value.now) (selector c.in-Some-Selector._dimension.now (option_map (λ s. s.now) c.in-Some-Selector._wanted)) (told c.in-Some-Selector.field-0 (levels.Selector c.in-Some-Selector._dimension c.in-Some-Selector._wanted) (view c.args.value.now) c.in-Some-Selector.field-0-is c.in-Some-Selector.ensures)
+    judged (view c.args.value.now) (selector c.in-Some-Selector._dimension.now (option_map (λ s. s.now) c.in-Some-Selector._wanted)) (reported c.in-Some-Selector.field-0 (levels.Selector c.in-Some-Selector._dimension c.in-Some-Selector._wanted) (view c.args.value.now) c.in-Some-Selector.field-0-is c.in-Some-Selector.ensures)
 
 pub is_filter-returns-in-Some-Among : goal.is_filter-returns-in-Some-Among
 is_filter-returns-in-Some-Among t c =
     let d = c.in-Some-Among._dimension.now in
     let vs = c.in-Some-Among.values.now in
     c.are_values.ensures ∙ all_reads value_at vs ∙ map_some (has_among d) (each_of value_at (items_view vs))
-    ∙ judged (view c.args.value.now) (among d (items_view vs)) (told c.in-Some-Among.field-0 (levels.Among c.in-Some-Among._dimension c.in-Some-Among.values) (view c.args.value.now) c.in-Some-Among.field-0-is c.in-Some-Among.ensures)
+    ∙ judged (view c.args.value.now) (among d (items_view vs)) (reported c.in-Some-Among.field-0 (levels.Among c.in-Some-Among._dimension c.in-Some-Among.values) (view c.args.value.now) c.in-Some-Among.field-0-is c.in-Some-Among.ensures)
 
 pub is_filter-returns-in-Some-All : goal.is_filter-returns-in-Some-All
 is_filter-returns-in-Some-All t c =
     let vs = c.in-Some-All.fields.now in
-    c.are_filters.ensures ∙ map_some all_of (each_filter (items_view vs)) ∙ judged (view c.args.value.now) (all (items_view vs)) (told c.in-Some-All.field-0 (levels.All c.in-Some-All.fields) (view c.args.value.now) c.in-Some-All.field-0-is c.in-Some-All.ensures)
+    c.are_filters.ensures ∙ map_some all_of (each_filter (items_view vs)) ∙ judged (view c.args.value.now) (all (items_view vs)) (reported c.in-Some-All.field-0 (levels.All c.in-Some-All.fields) (view c.args.value.now) c.in-Some-All.field-0-is c.in-Some-All.ensures)
 
 pub is_filter-returns-in-Some-Any : goal.is_filter-returns-in-Some-Any
 is_filter-returns-in-Some-Any t c =
     let vs = c.in-Some-Any.fields.now in
-    c.are_filters-in-Some-Any.ensures ∙ map_some any_of (each_filter (items_view vs)) ∙ judged (view c.args.value.now) (any (items_view vs)) (told c.in-Some-Any.field-0 (levels.Any c.in-Some-Any.fields) (view c.args.value.now) c.in-Some-Any.field-0-is c.in-Some-Any.ensures)
+    c.are_filters-in-Some-Any.ensures ∙ map_some any_of (each_filter (items_view vs)) ∙ judged (view c.args.value.now) (any (items_view vs)) (reported c.in-Some-Any.field-0 (levels.Any c.in-Some-Any.fields) (view c.args.value.now) c.in-Some-Any.field-0-is c.in-Some-Any.ensures)
 
 pub is_filter-returns-in-Some-Not : goal.is_filter-returns-in-Some-Not
 is_filter-returns-in-Some-Not t c =
     let v = c.in-Some-Not.field.now in
-    c.is_filter.ensures ∙ map_some is_not (filter_at (view v)) ∙ judged (view c.args.value.now) (negation (view v)) (told c.in-Some-Not.field-0 (levels.Not c.in-Some-Not.field) (view c.args.value.now) c.in-Some-Not.field-0-is c.in-Some-Not.ensures)
+    c.is_filter.ensures ∙ map_some is_not (filter_at (view v)) ∙ judged (view c.args.value.now) (negation (view v)) (reported c.in-Some-Not.field-0 (levels.Not c.in-Some-Not.field) (view c.args.value.now) c.in-Some-Not.field-0-is c.in-Some-Not.ensures)

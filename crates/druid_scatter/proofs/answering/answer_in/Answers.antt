@@ -1,5 +1,5 @@
 use Rattle.std.proofs.Common.{◌∙◌, sym}
-use Rattle.druid_scatter.proofs.TellLemmas.{no_response, not_ok, told_no_json, told_other_shape}
+use Rattle.druid_scatter.proofs.TellLemmas.{no_response, not_ok, reported_no_json, reported_other_shape}
 use Rattle.druid_scatter.proofs.answering.answer_in.Goals as goal
 
 pub returns-in_default-clause-none : goal.returns-in_default-clause-none
@@ -13,9 +13,9 @@ returns-then-ne-clause-none c =
 pub returns-in-Err-NotJson-clause-none : goal.returns-in-Err-NotJson-clause-none
 returns-in-Err-NotJson-clause-none c =
     let r = c.in-Ok.ensures.ok in
-    told_no_json c.args.sub.now c.args.bytes.now _ _ r.0 c.in-Err-NotJson.field-0 r.1 c.in-Err-NotJson.ensures c.in-Err-NotJson.field-0-is
+    reported_no_json c.args.sub.now c.args.bytes.now _ _ r.0 c.in-Err-NotJson.field-0 r.1 c.in-Err-NotJson.ensures c.in-Err-NotJson.field-0-is
 
 pub returns-in-Err-Shape-clause-none : goal.returns-in-Err-Shape-clause-none
 returns-in-Err-Shape-clause-none c =
     let r = c.in-Ok.ensures.ok in
-    told_other_shape c.args.sub.now c.args.bytes.now _ _ r.0 c.in-Err-Shape.field-0 r.1 c.in-Err-Shape.ensures c.in-Err-Shape.field-0-is
+    reported_other_shape c.args.sub.now c.args.bytes.now _ _ r.0 c.in-Err-Shape.field-0 r.1 c.in-Err-Shape.ensures c.in-Err-Shape.field-0-is

@@ -1,4 +1,4 @@
-use Rattle.druid_segfile.specs.Lent.{bytes_of}
+use Rattle.druid_segfile.specs.Borrowed.{bytes_of}
 use Rattle.std.proofs.Common.{rules}
 use Rattle.std.specs.Prelude.{bytes_eq}
 use Rattle.std.proofs.lemmas.Iterator.{YieldsList-from_slice}

@@ -3,9 +3,9 @@ use Rattle.druid_rows.specs.Rows.{Row, row_of}
 use Rattle.druid_rows.specs.Segment.{Segment, IsSegment, segment_of, with_row}
 use Rattle.druid_segfile.specs.Parts.{each_at, values_at}
 use Rattle.druid_segfile.specs.Building.{HasRoom, with_read}
-use Rattle.druid_segfile.specs.Lent.{values_lent}
+use Rattle.druid_segfile.specs.Borrowed.{values_borrowed}
 use Rattle.druid_segfile.proofs.LoopLemmas.{goes_on, ends, is_done, is_read}
-use Rattle.druid_segfile.proofs.BuildLemmas.{room_for_row, lent_row}
+use Rattle.druid_segfile.proofs.BuildLemmas.{room_for_row, borrowed_row}
 use Rattle.druid_segfile.proofs.rows.with_rows.Goals as goal
 
 -- the rows with those that were read before them
@@ -22,22 +22,22 @@ pub want_of_memory-requires : goal.want_of_memory-requires
 want_of_memory-requires c =
     let values = c.row.new.values in
     let after = c.row.new.self in
-    let row : Row = row_of c.in-Ok.time (values_lent values.texts.items) values.numbers.items in
+    let row : Row = row_of c.in-Ok.time (values_borrowed values.texts.items) values.numbers.items in
     let read = subst (λ s. values_at s c.args.shape c.loop.cursor.rest ≡ Ok (row, after.rest)) c.loop.invariant.short c.in-Ok.ensures.0 in
     let room = room_for_row c.args.short c.loop.builder c.args.shape c.args.count c.loop.counter c.loop.cursor.rest row after.rest c.loop.invariant.room c.loop-test.true c.loop.invariant.fits read in
-    let same = lent_row c.in-Ok.time values.texts.items c.as_slice.result.now values.numbers.items c.as_slice-in-loop.result.now c.as_slice.ensures.value c.as_slice-in-loop.ensures.value in
-    let valid : IsSegment (with_row c.loop.builder (row_of c.in-Ok.time (values_lent c.as_slice.result.now) c.as_slice-in-loop.result.now)) = subst (λ (r : Row). IsSegment (with_row c.loop.builder r)) (sym same) room.0.valid in
+    let same = borrowed_row c.in-Ok.time values.texts.items c.as_slice.result.now values.numbers.items c.as_slice-in-loop.result.now c.as_slice.ensures.value c.as_slice-in-loop.ensures.value in
+    let valid : IsSegment (with_row c.loop.builder (row_of c.in-Ok.time (values_borrowed c.as_slice.result.now) c.as_slice-in-loop.result.now)) = subst (λ (r : Row). IsSegment (with_row c.loop.builder r)) (sym same) room.0.valid in
     c.in-Err-push_values.ensures.accepts valid
 
 pub loop-preserved : goal.loop-preserved
 loop-preserved c =
     let values = c.row.new.values in
     let after = c.row.new.self in
-    let row : Row = row_of c.in-Ok.time (values_lent values.texts.items) values.numbers.items in
+    let row : Row = row_of c.in-Ok.time (values_borrowed values.texts.items) values.numbers.items in
     let read = subst (λ s. values_at s c.args.shape c.loop.cursor.rest ≡ Ok (row, after.rest)) c.loop.invariant.short c.in-Ok.ensures.0 in
     let room = room_for_row c.args.short c.loop.builder c.args.shape c.args.count c.loop.counter c.loop.cursor.rest row after.rest c.loop.invariant.room c.loop-test.true c.loop.invariant.fits read in
     let on = goes_on (segment_of c.loop.builder.descriptor c.loop.builder.fields) (values_at c.args.short c.args.shape) c.loop.builder.rows c.args.count c.loop.counter c.loop.cursor.rest row after.rest (with_read c.args.builder (each_at (values_at c.args.short c.args.shape) c.args.count c.args.bytes.now)) c.loop-test.true read c.loop.invariant.reading in
-    let same = lent_row c.in-Ok.time values.texts.items c.as_slice.result.now values.numbers.items c.as_slice-in-loop.result.now c.as_slice.ensures.value c.as_slice-in-loop.ensures.value in
+    let same = borrowed_row c.in-Ok.time values.texts.items c.as_slice.result.now values.numbers.items c.as_slice-in-loop.result.now c.as_slice.ensures.value c.as_slice-in-loop.ensures.value in
     let pushed : c.push_values.new.self ≡ with_row c.loop.builder row = subst (λ (r : Row). c.push_values.new.self ≡ with_row c.loop.builder r) same c.in-Ok-push_values.ensures.ok in
     record {
       room = subst (λ (s : Segment). HasRoom s c.args.shape (c.args.count - (c.loop.counter + 1)) (length after.rest)) (sym pushed) room.0;

@@ -5,15 +5,15 @@ use Rattle.std.proofs.lemmas.List.{drop_all}
 use Rattle.druid_segid.specs.Group.{Group}
 use Rattle.druid_timeline.proofs.BestLemmas.{IsBestSoFar, IsBestSoFar-better, IsBestSoFar-not_better, IsBestSoFar-end}
 use Rattle.druid_timeline.proofs.SweepLemmas.{drop_next}
-use Rattle.druid_timeline.proofs.ActiveLemmas.{lent}
+use Rattle.druid_timeline.proofs.ActiveLemmas.{borrowed}
 use Rattle.druid_timeline.proofs.active.best_at.Goals as goal
 use Rattle.druid_timeline.proofs.active.best_at.Goals.{then-is_better, else-is_better}
 
 pub loop-candidate-preserved : goal.loop-candidate-preserved
 loop-candidate-preserved c =
-    let all : List Group = lent c.args.candidates.now in
-    let rest : List Group = lent (drop (c.loop-candidate.candidate-index + 1) c.args.candidates.now) in
-    let e = ap lent (drop_next c.args.candidates.now c.loop-candidate.candidate-index c.candidate-item.result c.loop-candidate-test.true c.candidate-item.is) in
+    let all : List Group = borrowed c.args.candidates.now in
+    let rest : List Group = borrowed (drop (c.loop-candidate.candidate-index + 1) c.args.candidates.now) in
+    let e = ap borrowed (drop_next c.args.candidates.now c.loop-candidate.candidate-index c.candidate-item.result c.loop-candidate-test.true c.candidate-item.is) in
     let far = subst (λ (left : List Group). IsBestSoFar all left c.args.instant (option_copied c.loop-candidate.best)) e c.loop-candidate.invariant.far in
     elim c.if-is_better.branch [
       | then-is_better w ↦ record {
@@ -35,6 +35,6 @@ loop-candidate-preserved c =
 
 pub returns-clause-best : goal.returns-clause-best
 returns-clause-best c =
-    let e = ap lent (drop_all c.loop-candidate.candidate-index c.args.candidates.now c.loop-candidate-test.false) in
-    IsBestSoFar-end (lent c.args.candidates.now) c.args.instant (option_copied c.loop-candidate.best)
-    (subst (λ (rest : List Group). IsBestSoFar (lent c.args.candidates.now) rest c.args.instant (option_copied c.loop-candidate.best)) e c.loop-candidate.invariant.far)
+    let e = ap borrowed (drop_all c.loop-candidate.candidate-index c.args.candidates.now c.loop-candidate-test.false) in
+    IsBestSoFar-end (borrowed c.args.candidates.now) c.args.instant (option_copied c.loop-candidate.best)
+    (subst (λ (rest : List Group). IsBestSoFar (borrowed c.args.candidates.now) rest c.args.instant (option_copied c.loop-candidate.best)) e c.loop-candidate.invariant.far)

@@ -2,7 +2,7 @@ use Rattle.std.proofs.Common.{◌<◌, ◌≤◌, ◌⊎◌, ◌↔◌, ℕ, map
 use Rattle.std.specs.List.{Contains}
 use Rattle.druid_segid.specs.Group.{Group}
 use Rattle.druid_timeline.specs.Pieces.{Shows, shown_at}
-use Rattle.druid_timeline.proofs.ActiveLemmas.{lent}
+use Rattle.druid_timeline.proofs.ActiveLemmas.{borrowed}
 use Rattle.druid_timeline.proofs.HalvingLemmas.{places_ordered}
 use Rattle.druid_timeline.proofs.SpliceLemmas.{AreRunsEdited-spliced, middle_made}
 use Rattle.druid_timeline.proofs.SweepLemmas.{Run}
@@ -20,6 +20,6 @@ returns-clause-edited c =
     let late = subst (λ (s : ℕ). (r : Run) → Contains (drop c.first_after-to.result c.args.runs.now) r → s < r.0.start) c.end.ensures.value c.first_after-to.ensures.rest in
     let first = subst (λ (s : ℕ). (t : ℕ) (g : Group) → Shows (map shown_at c.in_ok-middle.middle.items) t g ↔ (Shows (map shown_at (drop c.first_to-from.result c.args.runs.now)) t g × (t < s))) c.start-2.ensures.value c.in_ok-middle.ensures.shows in
     let third = subst (λ (s : ℕ). (t : ℕ) (g : Group) → Shows (map shown_at c.add_back.new.middle.items) t g ↔ (Shows (map shown_at c.add_part.new.runs.items) t g ⊎ (Shows (map shown_at (take c.first_after-to.result c.args.runs.now)) t g × (s ≤ t)))) c.end-2.ensures.value c.in_ok-add_back.ensures.shows in
-    AreRunsEdited-spliced c.args.part (lent c.args.candidates.now) c.args.runs.now c.add_back.new.middle.items c.first_to-from.result c.first_after-to.result c.start.ensures.valid.0 c.requires.runs c.in_ok-add_back.ensures.runs early late
-    (middle_made c.args.part (lent c.args.candidates.now) (map shown_at (drop c.first_to-from.result c.args.runs.now)) (map shown_at (take c.first_after-to.result c.args.runs.now)) (map shown_at c.in_ok-middle.middle.items) (map shown_at c.add_part.new.runs.items) (map shown_at c.add_back.new.middle.items)
+    AreRunsEdited-spliced c.args.part (borrowed c.args.candidates.now) c.args.runs.now c.add_back.new.middle.items c.first_to-from.result c.first_after-to.result c.start.ensures.valid.0 c.requires.runs c.in_ok-add_back.ensures.runs early late
+    (middle_made c.args.part (borrowed c.args.candidates.now) (map shown_at (drop c.first_to-from.result c.args.runs.now)) (map shown_at (take c.first_after-to.result c.args.runs.now)) (map shown_at c.in_ok-middle.middle.items) (map shown_at c.add_part.new.runs.items) (map shown_at c.add_back.new.middle.items)
     first c.in_ok-add_part.ensures.shows third)

@@ -3,7 +3,7 @@ use Rattle.std.specs.List.{Contains}
 use Rattle.druid_chunks.specs.Chunks.{members_at}
 use Rattle.druid_time.specs.Extent.{common}
 use Rattle.druid_segid.specs.Group.{Group}
-use Rattle.druid_timeline.specs.Pieces.{AreRuns, ArePartitions, Told, shown_at, shown_of}
+use Rattle.druid_timeline.specs.Pieces.{AreRuns, ArePartitions, Reported, shown_at, shown_of}
 use Rattle.druid_timeline.proofs.HalvingLemmas.{at_place}
 use Rattle.druid_timeline.proofs.LookupLemmas.{cut_runs, cut_before, cut_past, piece_pushed, pieces_done, all_pushed, later_within}
 use Rattle.druid_timeline.proofs.SpliceLemmas.{runs_drop}
@@ -34,8 +34,8 @@ pub loop-place-preserved : goal.loop-place-preserved
 loop-place-preserved c = record {
   known = c.in_ok-parts.ensures.known;
   parts =
-      all_pushed c.loop-place.pieces.items c.push.new.self.items c.new.result (λ (p : Told). ArePartitions (members_at c.args.chunks.now p.group) p.parts) c.in_ok-push.ensures.items c.loop-place.invariant.parts
-      (subst (λ (p : Told). ArePartitions (members_at c.args.chunks.now p.group) p.parts) (sym c.new.ensures)
+      all_pushed c.loop-place.pieces.items c.push.new.self.items c.new.result (λ (p : Reported). ArePartitions (members_at c.args.chunks.now p.group) p.parts) c.in_ok-push.ensures.items c.loop-place.invariant.parts
+      (subst (λ (p : Reported). ArePartitions (members_at c.args.chunks.now p.group) p.parts) (sym c.new.ensures)
       (subst (λ (g : Group). ArePartitions (members_at c.args.chunks.now g) c.in_ok-parts.parts) (sym c.in_ok-key.ensures.cases) c.in_ok-parts.ensures.parts));
   shown =
       piece_pushed c.loop-place.pieces.items c.push.new.self.items c.new.result c.args.part c.in-Some.both c.args.runs.now c.loop-place.place c.index-runs-place.result _ c.in_ok-push.ensures.items

@@ -6,9 +6,9 @@ use Rattle.druid_timeline.proofs.PlaceLemmas.{place_cmp-below, place_cmp-level}
 use Rattle.druid_timeline.proofs.overshadowed.place_order.Goals as goal
 
 -- what a rank answers it answers of its chunk
-answered : (told : Bool) (mine theirs g h : Group) → mine ≡ g → theirs ≡ h → IsTrue told ↔ Outranks mine theirs → IsTrue told ↔ Outranks g h
-answered told mine theirs g h e f told_of =
-    subst (λ (k : Group). IsTrue told ↔ Outranks k h) e (subst (λ (k : Group). IsTrue told ↔ Outranks mine k) f told_of)
+answered : (reported : Bool) (mine theirs g h : Group) → mine ≡ g → theirs ≡ h → IsTrue reported ↔ Outranks mine theirs → IsTrue reported ↔ Outranks g h
+answered reported mine theirs g h e f reported_of =
+    subst (λ (k : Group). IsTrue reported ↔ Outranks k h) e (subst (λ (k : Group). IsTrue reported ↔ Outranks mine k) f reported_of)
 
 pub returns-then-beats-2-clause-order : goal.returns-then-beats-2-clause-order
 returns-then-beats-2-clause-order c =

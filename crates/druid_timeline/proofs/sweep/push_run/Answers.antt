@@ -1,6 +1,6 @@
 use Rattle.std.proofs.Common.{◌≡◌, [], ◌∷◌, ◌++◌, sym, ◌∙◌, ap}
 use Rattle.std.proofs.lemmas.Bool.{false≢true}
-use Rattle.druid_timeline.proofs.SweepLemmas.{Run, IsPushed-joined, IsPushed-behind}
+use Rattle.druid_timeline.proofs.SweepLemmas.{Run, IsPushed-joined, IsPushed-beyond}
 use Rattle.druid_timeline.proofs.sweep.push_run.Goals as goal
 
 pub returns-then-goes_on-clause-runs : goal.returns-then-goes_on-clause-runs
@@ -16,11 +16,11 @@ returns-then-goes_on-clause-shows c =
 pub returns-clause-runs : goal.returns-clause-runs
 returns-clause-runs c =
     let key : c.in_ok-clone-2.field-0 ≡ c.args.key.now = c.in_ok-clone-2.ensures.cases in
-    (IsPushed-behind c.args.runs.now.items c.pop.new.self.items c.push-3.new.self.items c.in-Some.last (c.args.stretch, c.args.key.now) c.in-Some.ensures.items
+    (IsPushed-beyond c.args.runs.now.items c.pop.new.self.items c.push-3.new.self.items c.in-Some.last (c.args.stretch, c.args.key.now) c.in-Some.ensures.items
     (c.in_ok-push-4.ensures.items ∙ (λ i. c.in_ok-push-3.ensures.items i ++ (c.args.stretch, key i) ∷ [])) c.requires.runs c.goes_on.ensures.valid.0 c.requires.ends (λ both. false≢true (sym c.if-goes_on.false ∙ c.goes_on.ensures.same.1 both))).runs
 
 pub returns-clause-shows : goal.returns-clause-shows
 returns-clause-shows c =
     let key : c.in_ok-clone-2.field-0 ≡ c.args.key.now = c.in_ok-clone-2.ensures.cases in
-    (IsPushed-behind c.args.runs.now.items c.pop.new.self.items c.push-3.new.self.items c.in-Some.last (c.args.stretch, c.args.key.now) c.in-Some.ensures.items
+    (IsPushed-beyond c.args.runs.now.items c.pop.new.self.items c.push-3.new.self.items c.in-Some.last (c.args.stretch, c.args.key.now) c.in-Some.ensures.items
     (c.in_ok-push-4.ensures.items ∙ (λ i. c.in_ok-push-3.ensures.items i ++ (c.args.stretch, key i) ∷ [])) c.requires.runs c.goes_on.ensures.valid.0 c.requires.ends (λ both. false≢true (sym c.if-goes_on.false ∙ c.goes_on.ensures.same.1 both))).shows

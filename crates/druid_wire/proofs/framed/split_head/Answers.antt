@@ -6,9 +6,9 @@ use Rattle.druid_wire.proofs.framed.split_head.Goals as goal
 pub loop-line-init : goal.loop-line-init
 loop-line-init c = begins c.args.bytes.now
 
-pub returns-then-bytes-behind-gt-MAX_HEAD-clause-err : goal.returns-then-bytes-behind-gt-MAX_HEAD-clause-err
-returns-then-bytes-behind-gt-MAX_HEAD-clause-err c =
-    head_is_long _ _ _ c.in-Some.line.now (10 ∷ c.in-Some.behind.now) c.loop-line.invariant c.in-Some.ensures.some.0 c.in-Some.ensures.some.1 (omega arith) (omega arith)
+pub returns-then-bytes-beyond-gt-MAX_HEAD-clause-err : goal.returns-then-bytes-beyond-gt-MAX_HEAD-clause-err
+returns-then-bytes-beyond-gt-MAX_HEAD-clause-err c =
+    head_is_long _ _ _ c.in-Some.line.now (10 ∷ c.in-Some.beyond.now) c.loop-line.invariant c.in-Some.ensures.some.0 c.in-Some.ensures.some.1 (omega arith) (omega arith)
 
 pub loop-line-preserved-then-not-is_blank : goal.loop-line-preserved-then-not-is_blank
 loop-line-preserved-then-not-is_blank c =

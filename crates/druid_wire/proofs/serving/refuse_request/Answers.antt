@@ -12,7 +12,7 @@ returns-in-Some-clause-ok g c =
 pub returns-in-Some-clause-err : goal.returns-in-Some-clause-err
 returns-in-Some-clause-err g c =
     let text = sym c.refusal_text.ensures ∙ ap (option_map (λ t. t.now)) c.in-Some.is in
-    IfErr-weaker c.send_response.result _ _ (λ told is. inr (c.in-Some.text.now, text, is)) c.send_response.ensures.err
+    IfErr-weaker c.send_response.result _ _ (λ reported is. inr (c.in-Some.text.now, text, is)) c.send_response.ensures.err
 
 pub returns-in-None-clause-err : goal.returns-in-None-clause-err
 returns-in-None-clause-err g c =

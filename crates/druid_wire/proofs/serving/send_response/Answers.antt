@@ -7,4 +7,4 @@ returns-in-Ok-clause-ok g c = record {
 }
 
 pub returns-in-Err-clause-err : goal.returns-in-Err-clause-err
-returns-in-Err-clause-err g c = record { front = c.in-Err.ensures.err; told = c.in-Err.ensures.faults }
+returns-in-Err-clause-err g c = record { front = c.in-Err.ensures.err; reported = c.in-Err.ensures.faults }

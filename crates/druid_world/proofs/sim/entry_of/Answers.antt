@@ -4,5 +4,5 @@ use Rattle.druid_world.proofs.sim.entry_of.Goals as goal
 pub returns-in-Err-Memory : goal.returns-in-Err-Memory
 returns-in-Err-Memory c = record {
   ok = tt;
-  told = entry_memory c.args.inventory.now c.args.node c.args.ask.now _ c.requires c.in-Err-Memory.field-0-is c.in-Err-Memory.ensures.not_synced;
+  reported = entry_memory c.args.inventory.now c.args.node c.args.ask.now _ c.requires c.in-Err-Memory.field-0-is c.in-Err-Memory.ensures.not_synced;
 }

@@ -35,6 +35,6 @@ returns-in-LoadStatus c =
 
 pub returns-in-Entry : goal.returns-in-Entry
 returns-in-Entry c =
-    ap (λ part. entry part) (c.behind_front.ensures ∙ ap (λ path. drop (length entry_front) path) c.as_bytes.ensures.value) ∙ ap (λ p. place_route p c.args.path.now) (sym c.in-Entry.is)
+    ap (λ part. entry part) (c.beyond_front.ensures ∙ ap (λ path. drop (length entry_front) path) c.as_bytes.ensures.value) ∙ ap (λ p. place_route p c.args.path.now) (sym c.in-Entry.is)
     ∙ leads_to c.args.self.now.router c.args.path.now _ c.args.self.now.rows (are_bytes c.args.path.now (λ i. (c.type_inv.path i).fits))
     c.in-Ok.ensures.found

@@ -6,8 +6,8 @@ use Rattle.druid_changes.specs.Kept.{Kept, IsKept}
 use Rattle.druid_changes.proofs.HistoryLemmas.{IsWithin, no_fault, within-state, enough-kept, delta_of_view}
 use Rattle.druid_changes.proofs.history.History.delta.Goals as goal
 
-pub overflow_sub-behind : goal.overflow_sub-behind
-overflow_sub-behind c =
+pub overflow_sub-beyond : goal.overflow_sub-beyond
+overflow_sub-beyond c =
     let within : IsWithin c.self.inside.incarnation c.self.inside.count c.self.inside.changes.capacity c.args.mark = within-state _ c.args.self.now c.args.mark c.self.view_is c.requires in
     omega (arith, within.before)
 
@@ -45,4 +45,4 @@ returns c history stands =
     let len = c.len.ensures.len ∙ ap (λ (k : Kept). length k.changes) c.self.view_is in
     let items = c.in_ok-changes.ensures ∙ ap (λ (k : Kept). drop (c.len.result - (k.count - c.count.result)) now.changes) c.self.view_is in
     let all = delta_of_view now c.args.mark c.count.result c.len.result c.in_ok-changes.changes.items kept c.requires c.count.ensures len items in
-    c.in-Ok.ensures.ok ∙ (λ i. Delta c.args.mark (c.mark.ensures.behind history stands i) (all.last history stands i))
+    c.in-Ok.ensures.ok ∙ (λ i. Delta c.args.mark (c.mark.ensures.beyond history stands i) (all.last history stands i))

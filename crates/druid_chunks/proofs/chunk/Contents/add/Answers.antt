@@ -10,5 +10,5 @@ returns-in_err-add-clause-err c =
 
 pub returns-clause-added : goal.returns-clause-added
 returns-clause-added c =
-    let told = c.in_ok-add.ensures.held.1 (λ place. c.requires (subst (λ (p : Chunk). HoldsPlace p.1 c.args.descriptor.now.id.partition c.args.node) c.self.view_is place)) in
-    subst (λ (p : Chunk). Adds p.1 c.add.new.self (member_of c.args.node c.args.descriptor.now)) c.self.view_is (c.in_ok-add.ensures.added told)
+    let reported = c.in_ok-add.ensures.held.1 (λ place. c.requires (subst (λ (p : Chunk). HoldsPlace p.1 c.args.descriptor.now.id.partition c.args.node) c.self.view_is place)) in
+    subst (λ (p : Chunk). Adds p.1 c.add.new.self (member_of c.args.node c.args.descriptor.now)) c.self.view_is (c.in_ok-add.ensures.added reported)

@@ -9,5 +9,5 @@ returns-clause-removed c =
 
 pub returns-clause-one : goal.returns-clause-one
 returns-clause-one c =
-    let told = c.remove.ensures.held.1 (subst (λ (p : Chunk). HoldsPlace p.1 c.args.partition c.args.node) (sym c.self.view_is) c.requires) in
-    subst (λ (p : Chunk). RemovesOne p.1 c.remove.new.self c.args.partition c.args.node) c.self.view_is (c.remove.ensures.one told)
+    let reported = c.remove.ensures.held.1 (subst (λ (p : Chunk). HoldsPlace p.1 c.args.partition c.args.node) (sym c.self.view_is) c.requires) in
+    subst (λ (p : Chunk). RemovesOne p.1 c.remove.new.self c.args.partition c.args.node) c.self.view_is (c.remove.ensures.one reported)

@@ -43,10 +43,10 @@ invariant_of-self-in-Err c =
     let g : Group = group_of c.args.descriptor.now.id in
     let new = c.in_ok-chunk-in-Err.chunk in
     let named : record { interval = c.interval.result; version = c.version.result.now } ≡ g = (λ i. record { interval = c.interval.ensures.value i; version = c.version.ensures.value i }) ∙ ap group_of c.id-id.ensures.value in
-    let told = subst (λ (p : List Chunk × Group). HasNoChunk p.0 p.1 × (c.in-Err.i ≤ length p.0) × AllWithin (λ x. chunk_place x ≤ place_of p.1.interval) p.0 0 c.in-Err.i × AllWithin (λ x. place_of p.1.interval ≤ chunk_place x) p.0 c.in-Err.i (length p.0))
+    let reported = subst (λ (p : List Chunk × Group). HasNoChunk p.0 p.1 × (c.in-Err.i ≤ length p.0) × AllWithin (λ x. chunk_place x ≤ place_of p.1.interval) p.0 0 c.in-Err.i × AllWithin (λ x. place_of p.1.interval ≤ chunk_place x) p.0 c.in-Err.i (length p.0))
     (λ i. (c.deref.ensures.value i, (named ∙ sym c.in_ok-chunk-in-Err.ensures.key) i)) (c.in-Err.ensures.absent, c.in-Err.ensures.end, c.in-Err.ensures.before, c.in-Err.ensures.after) in
     let valid : IsExtent new.0.interval = subst (λ (e : Extent). IsExtent e) (ap (λ (id : Identifier). id.interval) c.id-id.ensures.value ∙ sym (ap (λ (k : Group). k.interval) c.in_ok-chunk-in-Err.ensures.key)) c.interval.ensures.valid.interval in
-    let ordered = AreInOrder-insert cs c.in-Err.i new c.self.invariant told.0 (member_of c.args.node c.args.descriptor.now, (c.in_ok-chunk-in-Err.ensures.added (member_of c.args.node c.args.descriptor.now)).1 (inl refl)) valid told.1 told.2 told.3 in
+    let ordered = AreInOrder-insert cs c.in-Err.i new c.self.invariant reported.0 (member_of c.args.node c.args.descriptor.now, (c.in_ok-chunk-in-Err.ensures.added (member_of c.args.node c.args.descriptor.now)).1 (inl refl)) valid reported.1 reported.2 reported.3 in
     subst AreInOrder (sym c.in_ok-insert-in-Err.ensures.items) ordered
 
 pub returns-in-Ok-clause-added : goal.returns-in-Ok-clause-added
@@ -113,11 +113,11 @@ returns-in_ok-insert-in-Err-clause-added c =
     let g : Group = group_of c.args.descriptor.now.id in
     let new = c.in_ok-chunk-in-Err.chunk in
     let named : record { interval = c.interval.result; version = c.version.result.now } ≡ g = (λ i. record { interval = c.interval.ensures.value i; version = c.version.ensures.value i }) ∙ ap group_of c.id-id.ensures.value in
-    let told = subst (λ (p : List Chunk × Group). HasNoChunk p.0 p.1 × (c.in-Err.i ≤ length p.0) × AllWithin (λ x. chunk_place x ≤ place_of p.1.interval) p.0 0 c.in-Err.i × AllWithin (λ x. place_of p.1.interval ≤ chunk_place x) p.0 c.in-Err.i (length p.0))
+    let reported = subst (λ (p : List Chunk × Group). HasNoChunk p.0 p.1 × (c.in-Err.i ≤ length p.0) × AllWithin (λ x. chunk_place x ≤ place_of p.1.interval) p.0 0 c.in-Err.i × AllWithin (λ x. place_of p.1.interval ≤ chunk_place x) p.0 c.in-Err.i (length p.0))
     (λ i. (c.deref.ensures.value i, (named ∙ sym c.in_ok-chunk-in-Err.ensures.key) i)) (c.in-Err.ensures.absent, c.in-Err.ensures.end, c.in-Err.ensures.before, c.in-Err.ensures.after) in
     let valid : IsExtent new.0.interval = subst (λ (e : Extent). IsExtent e) (ap (λ (id : Identifier). id.interval) c.id-id.ensures.value ∙ sym (ap (λ (k : Group). k.interval) c.in_ok-chunk-in-Err.ensures.key)) c.interval.ensures.valid.interval in
-    let ordered = AreInOrder-insert cs c.in-Err.i new c.self.invariant told.0 (member_of c.args.node c.args.descriptor.now, (c.in_ok-chunk-in-Err.ensures.added (member_of c.args.node c.args.descriptor.now)).1 (inl refl)) valid told.1 told.2 told.3 in
-    let old : [] ≡ members_at c.args.self.now g = sym (members_at-none cs g (subst (HasNoChunk cs) c.in_ok-chunk-in-Err.ensures.key told.0)) ∙ ap (λ (xs : List Chunk). members_at xs g) c.self.view_is in
+    let ordered = AreInOrder-insert cs c.in-Err.i new c.self.invariant reported.0 (member_of c.args.node c.args.descriptor.now, (c.in_ok-chunk-in-Err.ensures.added (member_of c.args.node c.args.descriptor.now)).1 (inl refl)) valid reported.1 reported.2 reported.3 in
+    let old : [] ≡ members_at c.args.self.now g = sym (members_at-none cs g (subst (HasNoChunk cs) c.in_ok-chunk-in-Err.ensures.key reported.0)) ∙ ap (λ (xs : List Chunk). members_at xs g) c.self.view_is in
     let now : new.1 ≡ members_at c.insert.new.self.items g = inserted_members cs c.in-Err.i new g ordered.are c.in_ok-chunk-in-Err.ensures.key ∙ ap (λ (xs : List Chunk). members_at xs g) (sym c.in_ok-insert-in-Err.ensures.items) in
     subst (λ (p : List Member × List Member). Adds p.0 p.1 (member_of c.args.node c.args.descriptor.now)) (λ i. (old i, now i)) c.in_ok-chunk-in-Err.ensures.added
 
@@ -133,8 +133,8 @@ returns-in_ok-insert-in-Err-clause-chunks c =
     let g : Group = group_of c.args.descriptor.now.id in
     let new = c.in_ok-chunk-in-Err.chunk in
     let named : record { interval = c.interval.result; version = c.version.result.now } ≡ g = (λ i. record { interval = c.interval.ensures.value i; version = c.version.ensures.value i }) ∙ ap group_of c.id-id.ensures.value in
-    let told = subst (λ (p : List Chunk × Group). HasNoChunk p.0 p.1 × (c.in-Err.i ≤ length p.0) × AllWithin (λ x. chunk_place x ≤ place_of p.1.interval) p.0 0 c.in-Err.i × AllWithin (λ x. place_of p.1.interval ≤ chunk_place x) p.0 c.in-Err.i (length p.0))
+    let reported = subst (λ (p : List Chunk × Group). HasNoChunk p.0 p.1 × (c.in-Err.i ≤ length p.0) × AllWithin (λ x. chunk_place x ≤ place_of p.1.interval) p.0 0 c.in-Err.i × AllWithin (λ x. place_of p.1.interval ≤ chunk_place x) p.0 c.in-Err.i (length p.0))
     (λ i. (c.deref.ensures.value i, (named ∙ sym c.in_ok-chunk-in-Err.ensures.key) i)) (c.in-Err.ensures.absent, c.in-Err.ensures.end, c.in-Err.ensures.before, c.in-Err.ensures.after) in
     let valid : IsExtent new.0.interval = subst (λ (e : Extent). IsExtent e) (ap (λ (id : Identifier). id.interval) c.id-id.ensures.value ∙ sym (ap (λ (k : Group). k.interval) c.in_ok-chunk-in-Err.ensures.key)) c.interval.ensures.valid.interval in
-    let ordered = AreInOrder-insert cs c.in-Err.i new c.self.invariant told.0 (member_of c.args.node c.args.descriptor.now, (c.in_ok-chunk-in-Err.ensures.added (member_of c.args.node c.args.descriptor.now)).1 (inl refl)) valid told.1 told.2 told.3 in
+    let ordered = AreInOrder-insert cs c.in-Err.i new c.self.invariant reported.0 (member_of c.args.node c.args.descriptor.now, (c.in_ok-chunk-in-Err.ensures.added (member_of c.args.node c.args.descriptor.now)).1 (inl refl)) valid reported.1 reported.2 reported.3 in
     subst AreChunks (sym c.in_ok-insert-in-Err.ensures.items) ordered.are

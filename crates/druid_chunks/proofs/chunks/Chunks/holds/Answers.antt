@@ -6,4 +6,4 @@ pub returns-clause-held : goal.returns-clause-held
 returns-clause-held c =
     let any = any-Contains c.replicas.result.now c.args.node in
     let nodes = c.replicas.ensures.nodes c.args.node in
-    (λ told. nodes.0 (any.0 (sym c.contains.ensures.value ∙ told)), λ held. c.contains.ensures.value ∙ any.1 (nodes.1 held))
+    (λ reported. nodes.0 (any.0 (sym c.contains.ensures.value ∙ reported)), λ held. c.contains.ensures.value ∙ any.1 (nodes.1 held))

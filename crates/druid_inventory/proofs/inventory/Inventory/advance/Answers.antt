@@ -11,5 +11,5 @@ returns-clause-refused c =
     let ok : IfOk c.advanced.result (λ _. SomeStep c.args.self.now c.args.node c.body.result.now) =
     IfOk-weaker c.advanced.result _ _ (λ o h. (o, h.0, h.1)) c.advanced.ensures.ok in
     let ok' = subst (λ (b : Body). IfOk c.advanced.result (λ _. SomeStep c.args.self.now c.args.node b)) c.body.ensures.value ok in
-    let told = subst (λ (b : Body). IfErr c.advanced.result (Tells c.args.self.now c.args.node b)) c.body.ensures.value c.advanced.ensures.told in
-    refused_exact c.advanced.result c.args.self.now c.args.node c.args.reply.now ok' told
+    let reported = subst (λ (b : Body). IfErr c.advanced.result (Tells c.args.self.now c.args.node b)) c.body.ensures.value c.advanced.ensures.reported in
+    refused_exact c.advanced.result c.args.self.now c.args.node c.args.reply.now ok' reported

@@ -6,4 +6,4 @@ use Rattle.druid_inventory.proofs.inventory.Inventory.join.Goals as goal
 pub returns-clause-conflict : goal.returns-clause-conflict
 returns-clause-conflict c node =
     join_refused c.judged_join.result c.args.self.now c.args.other.now
-    (IfOk-weaker c.judged_join.result _ _ (λ inventory h. (inventory, h)) c.judged_join.ensures.ok) c.judged_join.ensures.told (faults.Conflict node) (λ e. cc)
+    (IfOk-weaker c.judged_join.result _ _ (λ inventory h. (inventory, h)) c.judged_join.ensures.ok) c.judged_join.ensures.reported (faults.Conflict node) (λ e. cc)

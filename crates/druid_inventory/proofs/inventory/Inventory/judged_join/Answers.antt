@@ -3,8 +3,8 @@ use Rattle.druid_inventory.specs.Join.{later_each}
 use Rattle.druid_inventory.proofs.JoinLemmas.{agreeing, refused_at, joined_so}
 use Rattle.druid_inventory.proofs.inventory.Inventory.judged_join.Goals as goal
 
-pub returns-in-Some-clause-told : goal.returns-in-Some-clause-told
-returns-in-Some-clause-told c =
+pub returns-in-Some-clause-reported : goal.returns-in-Some-clause-reported
+returns-in-Some-clause-reported c =
     refused_at _ _ c.args.self.now c.args.other.now c.in-Some.node c.entries-entries.ensures.value c.entries-others.ensures.value
     (c.are_of_same_nodes.ensures.0 c.if-not-are_of_same_nodes.false) c.in-Some.ensures
 
@@ -17,8 +17,8 @@ returns-in-Ok-clause-ok c =
     joined_so _ _ c.args.self.now c.args.other.now c.in-Ok.inventory c.entries-entries.ensures.value c.entries-others.ensures.value
     (c.are_of_same_nodes.ensures.0 c.if-not-are_of_same_nodes.false) c.in_default.ensures c.in-Ok.ensures
 
-pub returns-in-Err-clause-told : goal.returns-in-Err-clause-told
-returns-in-Err-clause-told c = (
+pub returns-in-Err-clause-reported : goal.returns-in-Err-clause-reported
+returns-in-Err-clause-reported c = (
   later_each c.args.self.now c.args.other.now,
   joined_so _ _ c.args.self.now c.args.other.now (later_each c.args.self.now c.args.other.now) c.entries-entries.ensures.value c.entries-others.ensures.value
       (c.are_of_same_nodes.ensures.0 c.if-not-are_of_same_nodes.false) c.in_default.ensures refl,

@@ -56,7 +56,7 @@ returns-then-added-clause-held c =
     held_same c.in_ok-added.added (members_in c.self.inside.slots.entries) c.args.self.now _ c.partition-partition.result _ c.args.node c.self.view_is (c.partition-partition.ensures.value ∙ ap (λ (id : Identifier). id.partition) c.id.ensures.value) (HoldsPlace-slot c.self.inside.slots c.partition-partition.result c.args.node c.add_member.ensures.was_ordered) c.in_ok-added.ensures.held
 
 pub returns-then-added-clause-added : goal.returns-then-added-clause-added
-returns-then-added-clause-added c told =
+returns-then-added-clause-added c reported =
     let e = c.add_member.ensures in
     let adds = Adds-slot c.self.inside.slots c.add_member.new.slots c.partition-partition.result c.args.node c.of-stated.result e.was_ordered e.ordered e.others (c.in_ok-added.ensures.added c.if-added.true) in
     let at = c.partition-partition.ensures.value ∙ ap (λ (id : Identifier). id.partition) c.id.ensures.value in

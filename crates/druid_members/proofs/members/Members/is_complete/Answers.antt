@@ -21,8 +21,8 @@ returns c =
     let e = c.self.invariant.0 ∙ ap core_count c.self.view_is in
     let any = subst (λ (ms : List Member). IsTrue c.self.inside.has_member ↔ HasMember ms) c.self.view_is c.self.invariant.1 in
     let all = kept_below-all c.self.inside.slots c.self.inside.core (sym c.self.invariant.3 ∙ c.if-self.false) in (
-      λ told. record {
-        some = any.0 told;
+      λ reported. record {
+        some = any.0 reported;
         cores = λ p l.
             subst (λ (ms : List Member). HasPartition ms p) c.self.view_is ((kept-HasPartition c.self.inside.slots p c.len.ensures.ordered c.self.invariant.2).0 (all p (omega (arith, e, l))));
       },

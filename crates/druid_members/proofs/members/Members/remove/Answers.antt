@@ -34,9 +34,9 @@ invariant_of-self-else-removed c =
     (c.self.invariant.0 ∙ sym (core_count-same _ _ same), HasMember-same _ _ _ same c.self.invariant.1, e.none_empty, c.self.invariant.3 ∙ sym (kept_below-same c.self.inside.slots c.remove_member-removed.new.slots c.self.inside.core e.was_ordered e.ordered c.self.invariant.2 e.none_empty same))
 
 -- what holds of the members in the slots holds of the value
-of_value : (told : Bool) (members value : List Member) (slot : List ℕ) (p n : ℕ) → members ≡ value → HoldsPlace members p n ↔ Contains slot n → IsTrue told ↔ Contains slot n → IsTrue told ↔ HoldsPlace value p n
-of_value told members value slot p n e h k =
-    subst (λ (ms : List Member). IsTrue told ↔ HoldsPlace ms p n) e (λ yes. h.1 (k.0 yes), λ held. k.1 (h.0 held))
+of_value : (reported : Bool) (members value : List Member) (slot : List ℕ) (p n : ℕ) → members ≡ value → HoldsPlace members p n ↔ Contains slot n → IsTrue reported ↔ Contains slot n → IsTrue reported ↔ HoldsPlace value p n
+of_value reported members value slot p n e h k =
+    subst (λ (ms : List Member). IsTrue reported ↔ HoldsPlace ms p n) e (λ yes. h.1 (k.0 yes), λ held. k.1 (h.0 held))
 
 pub returns-then-removed-clause-held : goal.returns-then-removed-clause-held
 returns-then-removed-clause-held c =
@@ -69,7 +69,7 @@ returns-else-removed-clause-same c =
     inr (subst (λ (ms : List Member). SameMembers ms (members_in c.remove_member-removed.new.slots.entries)) c.self.view_is same)
 
 pub returns-then-removed-clause-one : goal.returns-then-removed-clause-one
-returns-then-removed-clause-one c told =
+returns-then-removed-clause-one c reported =
     let e = c.remove_member-removed.ensures in
     subst (λ (ms : List Member). RemovesOne ms (members_in c.remove_member-removed.new.slots.entries) c.args.partition c.args.node) c.self.view_is
-    (RemovesOne-slot c.self.inside.slots c.remove_member-removed.new.slots c.args.partition c.args.node e.was_ordered e.ordered e.others (e.one told))
+    (RemovesOne-slot c.self.inside.slots c.remove_member-removed.new.slots c.args.partition c.args.node e.was_ordered e.ordered e.others (e.one reported))

@@ -4,7 +4,7 @@ use Rattle.std.proofs.lemmas.Result.{on_ok_weaker}
 use Rattle.druid_partial.specs.Groups.{AreWords}
 use Rattle.druid_partial.specs.Rows.{kinds_of}
 use Rattle.druid_partial.specs.Cells.{Column, HasCode, HasNumber, number_from, cell_from}
-use Rattle.druid_partial.specs.Plans.{Plan, told_at, cell_at}
+use Rattle.druid_partial.specs.Plans.{Plan, counted_at, cell_at}
 use Rattle.druid_partial.specs.declared.cells.Numbers.{Numbers}
 use Rattle.druid_partial.proofs.RadixLemmas.{columns_have}
 use Rattle.druid_partial.proofs.SourceLemmas.{numbers_have, row_numbers_are, row_words}
@@ -27,7 +27,7 @@ enter_row-requires c =
 pub returns-clause-words : goal.returns-clause-words
 returns-clause-words c =
     let R : Plan → Type 0 = λ p. c.args.row < length p.segment.rows in
-    let W : Plan → Type 0 = λ p. AreWords (told_at p c.args.row).numbers in
+    let W : Plan → Type 0 = λ p. AreWords (counted_at p c.args.row).numbers in
     subst W c.self.view_is (row_words c.self.inside.query.now c.self.inside.segment.now c.args.row c.self.invariant.words (subst R (sym c.self.view_is) c.requires.row))
 
 pub returns-clause-joined : goal.returns-clause-joined
@@ -35,12 +35,12 @@ returns-clause-joined c =
     let plan = c.args.self.now in
     let row = c.args.row in
     let R : Plan → Type 0 = λ p. row < length p.segment.rows in
-    let W : Plan → Type 0 = λ p. AreWords (told_at p row).numbers in
+    let W : Plan → Type 0 = λ p. AreWords (counted_at p row).numbers in
     let h = subst R (sym c.self.view_is) c.requires.row in
     let kinds : c.deref-2.result.now ≡ kinds_of plan.query = c.deref-2.ensures.value ∙ c.self.invariant.kinds_are ∙ ap (λ (p : Plan). kinds_of p.query) c.self.view_is in
-    let numbers : map (number_from row) c.deref-3.result.now ≡ (told_at plan row).numbers =
+    let numbers : map (number_from row) c.deref-3.result.now ≡ (counted_at plan row).numbers =
     ap (map (number_from row)) c.deref-3.ensures.value ∙ row_numbers_are c.self.inside.query.now c.self.inside.segment.now c.self.inside.numbers.items row c.self.invariant.numbers_are h
-    ∙ ap (λ (p : Plan). (told_at p row).numbers) c.self.view_is in
+    ∙ ap (λ (p : Plan). (counted_at p row).numbers) c.self.view_is in
     let columns : c.deref.result.now ≡ plan.columns = c.deref.ensures.value ∙ ap (λ (p : Plan). p.columns) c.self.view_is in
     let cell : c.cell_of-cell.result ≡ cell_at plan row = c.cell_of-cell.ensures.value ∙ ap (λ cs. cell_from cs row 0) columns in
     on_ok_weaker c.enter_row.result

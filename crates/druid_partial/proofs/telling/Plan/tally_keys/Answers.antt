@@ -17,7 +17,7 @@ loop-row-preserved c =
     elim c.if-asks.branch [
       | then-asks+in_ok-tell w ↦
           rw w.found-is (λ groups before upto. upto_asked plan c.args.interval c.args.from c.args.to row groups now _ after inside below (let t = w.if-asks.true in let e = c.asks.ensures in cc)
-          w.in_ok-tell.ensures.words w.in_ok-tell.ensures.told before (c.loop-row.invariant groups before upto))
+          w.in_ok-tell.ensures.words w.in_ok-tell.ensures.reported before (c.loop-row.invariant groups before upto))
       | else-asks w ↦
           rw w.found-is (λ groups before upto. upto_passed plan c.args.interval row (groups ++ now) below (let t = w.if-asks.false in let e = c.asks.ensures in cc) (c.loop-row.invariant groups before upto))
     ]

@@ -5,7 +5,7 @@ use Rattle.druid_link.specs.Links.{came_of}
 use Rattle.druid_scatter.specs.Gathered.{Answers, IsLost}
 use Rattle.druid_scatter.specs.Waiting.{exchange_of}
 use Rattle.druid_scatter.proofs.TellLemmas.{lacks_may, answer_may}
-use Rattle.druid_scatter.proofs.StateLemmas.{at_some, at_none, took_of, partial_told, lost_kept}
+use Rattle.druid_scatter.proofs.StateLemmas.{at_some, at_none, took_of, partial_reported, lost_kept}
 use Rattle.druid_scatter.proofs.gathering.Gathering.after.Goals as goal
 
 pub returns-in-Some-clause-took : goal.returns-in-Some-clause-took
@@ -13,18 +13,18 @@ returns-in-Some-clause-took c =
     let sub = c.args.sub.now in
     let came = came_of c.args.came.now in
     let answer = c.in-Some.answer in
-    took_of sub.query c.args.round c.args.node c.args.self (exchange_of sub came c.args.node) answer.missing answer.partial c.told.result c.requires.kinds
+    took_of sub.query c.args.round c.args.node c.args.self (exchange_of sub came c.args.node) answer.missing answer.partial c.reported.result c.requires.kinds
     (at_some c.in_ok-answer.field-0 answer (λ a. a.partial.kinds ≡ kinds_of sub.query) c.in-Some.is c.in_ok-answer.ensures.kinds)
     (at_some c.in_ok-answer.field-0 answer (λ a. (node : ℕ) → Answers sub.query (exchange_of sub came node) a.missing a.partial.groups) c.in-Some.is c.in_ok-answer.ensures.some c.args.node)
-    c.told.ensures.kept c.told.ensures.merged c.told.ensures.itself
+    c.reported.ensures.kept c.reported.ensures.merged c.reported.ensures.itself
 
 pub returns-in-Some-clause-of_query : goal.returns-in-Some-clause-of_query
 returns-in-Some-clause-of_query c =
     let sub = c.args.sub.now in
     let came = came_of c.args.came.now in
     let answer = c.in-Some.answer in
-    c.told.ensures.of_query sub.query c.requires
-    (partial_told sub.query (exchange_of sub came c.args.node) answer.missing answer.partial
+    c.reported.ensures.of_query sub.query c.requires
+    (partial_reported sub.query (exchange_of sub came c.args.node) answer.missing answer.partial
     (at_some c.in_ok-answer.field-0 answer (λ a. (node : ℕ) → Answers sub.query (exchange_of sub came node) a.missing a.partial.groups) c.in-Some.is c.in_ok-answer.ensures.some c.args.node)
     (at_some c.in_ok-answer.field-0 answer (λ a. a.partial.kinds ≡ kinds_of sub.query) c.in-Some.is c.in_ok-answer.ensures.kinds))
 
@@ -44,6 +44,6 @@ returns-in-Some-clause-err c =
     let sub = c.args.sub.now in
     let came = came_of c.args.came.now in
     let answer = c.in-Some.answer in
-    always_err c.told.result _
+    always_err c.reported.result _
     (answer_may sub came c.args.node answer.missing answer.partial.groups
     (at_some c.in_ok-answer.field-0 answer (λ a. (node : ℕ) → Answers sub.query (exchange_of sub came node) a.missing a.partial.groups) c.in-Some.is c.in_ok-answer.ensures.some c.args.node))

@@ -3,7 +3,7 @@ use Rattle.druid_chunks.proofs.EditLemmas.{always_err}
 use Rattle.druid_link.specs.Links.{came_of}
 use Rattle.druid_scatter.specs.Waiting.{wanted_of}
 use Rattle.druid_scatter.proofs.RoundLemmas.{mapped_at}
-use Rattle.druid_scatter.proofs.StateLemmas.{of_query_at, settled_step, behind_step, settled_all, inside_came}
+use Rattle.druid_scatter.proofs.StateLemmas.{of_query_at, settled_step, beyond_step, settled_all, inside_came}
 use Rattle.druid_scatter.proofs.AskedLemmas.{lacking_at}
 use Rattle.druid_scatter.proofs.gathering.Gathering.settled.Goals as goal
 
@@ -22,9 +22,9 @@ loop-node-preserved c =
     (inside_came c.args.subs.now (option_map came_of) c.args.came.now c.loop-node.node c.requires.matched (omega arith)) c.index-came-node.is in
     record {
       goes = settled_step c.args.query.now c.args.round c.args.self c.loop-node.gathering c.in_ok-gathering.gathering c.args.subs.now came c.loop-node.node c.index-subs-node.result one
-          c.requires.subs c.requires.matched (omega arith) c.index-subs-node.is there c.loop-node.invariant.behind c.in_ok-gathering.ensures.took c.loop-node.invariant.goes;
-      behind = behind_step c.args.round c.args.self c.loop-node.gathering c.in_ok-gathering.gathering c.loop-node.node c.index-subs-node.result one
-          c.loop-node.invariant.behind c.in_ok-gathering.ensures.took;
+          c.requires.subs c.requires.matched (omega arith) c.index-subs-node.is there c.loop-node.invariant.beyond c.in_ok-gathering.ensures.took c.loop-node.invariant.goes;
+      beyond = beyond_step c.args.round c.args.self c.loop-node.gathering c.in_ok-gathering.gathering c.loop-node.node c.index-subs-node.result one
+          c.loop-node.invariant.beyond c.in_ok-gathering.ensures.took;
       of_query = c.in_ok-gathering.ensures.of_query;
     }
 

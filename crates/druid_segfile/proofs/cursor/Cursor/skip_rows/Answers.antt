@@ -1,7 +1,7 @@
 use Rattle.std.proofs.Common.{◌≡◌, ◌++◌, ◌∷◌, ◌∙◌, [], List, Ok, Err, subst, refl}
 use Rattle.druid_rows.specs.Rows.{Row, row_of}
 use Rattle.druid_segfile.specs.Parts.{each_at, values_at}
-use Rattle.druid_segfile.specs.Lent.{values_lent}
+use Rattle.druid_segfile.specs.Borrowed.{values_borrowed}
 use Rattle.druid_segfile.proofs.LoopLemmas.{with_none, goes_on, ends, is_done}
 use Rattle.druid_segfile.proofs.cursor.Cursor.skip_rows.Goals as goal
 
@@ -22,7 +22,7 @@ loop-preserved c =
     let short = c.args.self.now.short in
     let after = c.row.new.self in
     let values = c.row.new.values in
-    let row : Row = row_of c.in_default.field-0 (values_lent values.texts.items) values.numbers.items in
+    let row : Row = row_of c.in_default.field-0 (values_borrowed values.texts.items) values.numbers.items in
     let read = subst (λ s. values_at s c.args.shape c.loop.self.rest ≡ Ok (row, after.rest)) c.loop.invariant.short c.in_default.ensures.0 in
     record {
       front = c.loop.invariant.front ++ row ∷ [];

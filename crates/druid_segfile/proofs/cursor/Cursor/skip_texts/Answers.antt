@@ -2,7 +2,7 @@ use Rattle.std.proofs.Common.{◌≡◌, ◌≤◌, ◌++◌, ◌∷◌, ◌∙�
 use Rattle.std.proofs.lemmas.Result.{err_from_is_err_and}
 use Rattle.std.proofs.lemmas.List.{length-set, take_all}
 use Rattle.druid_segfile.specs.ColumnReading.{value_text_at, value_texts_at}
-use Rattle.druid_segfile.specs.Lent.{bytes_of}
+use Rattle.druid_segfile.specs.Borrowed.{bytes_of}
 use Rattle.druid_segfile.proofs.LoopLemmas.{no_texts, texts_go_on, texts_end, texts_done}
 use Rattle.druid_segfile.proofs.JudgeLemmas.{text_within, lens_push}
 use Rattle.druid_segfile.proofs.cursor.Cursor.skip_texts.Goals as goal

@@ -1,6 +1,6 @@
 use Rattle.std.proofs.Common.{◌≡◌, ◌-◌, List, ℕ, map, take, length, option_map, None}
 use Rattle.druid_segfile.specs.ColumnReading.{value_texts_at}
-use Rattle.druid_segfile.specs.Lent.{bytes_of}
+use Rattle.druid_segfile.specs.Borrowed.{bytes_of}
 use Rattle.druid_segfile.proofs.LoopLemmas.{with_front}
 use Rattle.druid_segfile.proofs.cursor.Cursor.skip_texts.Given as goal
 

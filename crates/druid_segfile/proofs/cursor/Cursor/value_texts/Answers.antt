@@ -2,7 +2,7 @@ use Rattle.std.proofs.Common.{◌≡◌, ◌++◌, ◌∷◌, ◌∙◌, [], Lis
 use Rattle.std.proofs.lemmas.List.{map_push}
 use Rattle.druid_rows.specs.Rows.{texts_of}
 use Rattle.druid_segfile.specs.ColumnReading.{value_text_at, value_texts_at}
-use Rattle.druid_segfile.specs.Lent.{bytes_of}
+use Rattle.druid_segfile.specs.Borrowed.{bytes_of}
 use Rattle.druid_segfile.proofs.LoopLemmas.{texts_go_on, texts_end, texts_done, not_read}
 use Rattle.druid_segfile.proofs.cursor.Cursor.value_texts.Goals as goal
 

@@ -1,7 +1,7 @@
 use Rattle.std.proofs.Common.{◌≡◌, ◌-◌, option_map, None}
 use Rattle.druid_rows.specs.Rows.{texts_of}
 use Rattle.druid_segfile.specs.ColumnReading.{value_texts_at}
-use Rattle.druid_segfile.specs.Lent.{bytes_of}
+use Rattle.druid_segfile.specs.Borrowed.{bytes_of}
 use Rattle.druid_segfile.proofs.LoopLemmas.{with_front}
 use Rattle.druid_segfile.proofs.cursor.Cursor.value_texts.Given as goal
 

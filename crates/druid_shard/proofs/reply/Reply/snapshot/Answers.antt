@@ -11,8 +11,8 @@ returns-then-not-are_sorted-clause-doubled c = (
     omega arith,
     λ own.
         let sorted = own-AreSorted c.sort_unstable.new.self.items c.sort_unstable.ensures.sorted (own-permutation _ _ c.sort_unstable.ensures.permutation own) in
-        let told = c.are_sorted.ensures.1 (subst AreSorted (sym c.deref.ensures.value) sorted) in
-        absurd (false≢true (sym c.if-not-are_sorted.true ∙ told)),
+        let reported = c.are_sorted.ensures.1 (subst AreSorted (sym c.deref.ensures.value) sorted) in
+        absurd (false≢true (sym c.if-not-are_sorted.true ∙ reported)),
   ),
   λ _. refl,
 )

@@ -3,7 +3,7 @@ use Rattle.std.specs.List.{All}
 use Rattle.druid_time.specs.Extent.{Extent, AnyHas, AreParts}
 use Rattle.druid_timeline.specs.Chunks.{held_in}
 use Rattle.druid_timeline.specs.Holding.{Held, Serving, members_of}
-use Rattle.druid_timeline.specs.Pieces.{Shown, Told, ArePieces, ArePiecesIn, ArePartitions, cut, shown_at, shown_of}
+use Rattle.druid_timeline.specs.Pieces.{Shown, Reported, ArePieces, ArePiecesIn, ArePartitions, cut, shown_at, shown_of}
 use Rattle.druid_timeline.proofs.CutLemmas.{ArePiecesIn-cut}
 use Rattle.druid_chunks.proofs.EditLemmas.{if_ok_weaker}
 use Rattle.druid_timeline.proofs.LookupLemmas.{parts_held}
@@ -23,5 +23,5 @@ returns-clause-pieces c =
 pub returns-clause-parts : goal.returns-clause-parts
 returns-clause-parts c =
     if_ok_weaker c.pieces_in.result _ _ c.pieces_in.ensures.parts (λ found parts.
-    subst (λ (hs : List Held). All (λ (p : Told). ArePartitions (members_of hs p.group) p.parts) found.items) (ap (λ (s : Serving). s.held) c.self.view_is)
+    subst (λ (hs : List Held). All (λ (p : Reported). ArePartitions (members_of hs p.group) p.parts) found.items) (ap (λ (s : Serving). s.held) c.self.view_is)
     (parts_held c.self.inside.chunks found.items c.pieces_in.ensures.chunks parts))

@@ -10,15 +10,15 @@ use Rattle.druid_timeline.proofs.timeline.Timeline.remove.Goals as goal
 
 pub returns-then-not-holds-clause-not_there : goal.returns-then-not-holds-clause-not_there
 returns-then-not-holds-clause-not_there c =
-    let told = holds_held c.self.inside.chunks c.holds.ensures.chunks c.args.node c.args.id.now c.args.id.now c.holds.result refl c.holds.ensures.held in
+    let reported = holds_held c.self.inside.chunks c.holds.ensures.chunks c.args.node c.args.id.now c.args.id.now c.holds.result refl c.holds.ensures.held in
     let view = ap (λ (s : Serving). s.held) c.self.view_is in
-    (λ e served. false≢true (sym c.if-not-holds.true ∙ told.1 (subst (λ (hs : List Held). IsHeld hs c.args.node c.args.id.now) (sym view) served.1)), λ none. refl)
+    (λ e served. false≢true (sym c.if-not-holds.true ∙ reported.1 (subst (λ (hs : List Held). IsHeld hs c.args.node c.args.id.now) (sym view) served.1)), λ none. refl)
 
 pub returns-in_err-remove_segment-clause-not_there : goal.returns-in_err-remove_segment-clause-not_there
 returns-in_err-remove_segment-clause-not_there c =
-    let told = holds_held c.self.inside.chunks c.holds.ensures.chunks c.args.node c.args.id.now c.args.id.now c.holds.result refl c.holds.ensures.held in
+    let reported = holds_held c.self.inside.chunks c.holds.ensures.chunks c.args.node c.args.id.now c.args.id.now c.holds.result refl c.holds.ensures.held in
     let view = ap (λ (s : Serving). s.held) c.self.view_is in
-    let held = subst (λ (hs : List Held). IsHeld hs c.args.node c.args.id.now) view (told.0 c.if-not-holds.false) in
+    let held = subst (λ (hs : List Held). IsHeld hs c.args.node c.args.id.now) view (reported.0 c.if-not-holds.false) in
     let source = c.is_source_of.ensures.0 c.if-not-is_source_of.false in
     let not : IsErrOf c.from_residual.result faults.NotThere → ⊥ = search rules in
     (λ e. absurd (not e), λ none. absurd (none (source, held)))
@@ -30,9 +30,9 @@ returns-in_err-remove_segment-clause-err c =
 
 pub returns-clause-not_there : goal.returns-clause-not_there
 returns-clause-not_there c =
-    let told = holds_held c.self.inside.chunks c.holds.ensures.chunks c.args.node c.args.id.now c.args.id.now c.holds.result refl c.holds.ensures.held in
+    let reported = holds_held c.self.inside.chunks c.holds.ensures.chunks c.args.node c.args.id.now c.args.id.now c.holds.result refl c.holds.ensures.held in
     let view = ap (λ (s : Serving). s.held) c.self.view_is in
-    let held = subst (λ (hs : List Held). IsHeld hs c.args.node c.args.id.now) view (told.0 c.if-not-holds.false) in
+    let held = subst (λ (hs : List Held). IsHeld hs c.args.node c.args.id.now) view (reported.0 c.if-not-holds.false) in
     let source = c.is_source_of.ensures.0 c.if-not-is_source_of.false in
     (λ e. absurd (cc), λ none. absurd (none (source, held)))
 

@@ -1,5 +1,5 @@
-use Rattle.druid_world.proofs.NodeLemmas.{takes_told}
+use Rattle.druid_world.proofs.NodeLemmas.{takes_reported}
 use Rattle.druid_world.proofs.node.Node.takes.Goals as goal
 
 pub returns : goal.returns
-returns c = rw (← c.self.view_is) (takes_told _ _ _ _ _ _ c.self.invariant c.accepts.ensures)
+returns c = rw (← c.self.view_is) (takes_reported _ _ _ _ _ _ c.self.invariant c.accepts.ensures)

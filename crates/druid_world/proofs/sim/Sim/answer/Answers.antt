@@ -15,8 +15,8 @@ pub returns-clause-ok : goal.returns-clause-ok
 returns-clause-ok c =
     on_ok c.answer_in.result _ _ (λ h. answer_next _ _ _ _ _ _ _ _ _ c.self.view_is c.in-Some-Request.ensures c.in-Some-Request.field-0-is h) c.answer_in.ensures.ok
 
-pub returns-clause-told : goal.returns-clause-told
-returns-clause-told c =
+pub returns-clause-reported : goal.returns-clause-reported
+returns-clause-reported c =
     rw (← c.self.view_is)
     (if_memory c.answer_in.result _ (events.Answer c.args.packet)
     (replies _ _ _ _ _ _ c.self.invariant c.in-Some-Request.ensures c.in-Some-Request.field-0-is) c.answer_in.ensures.memory)

@@ -24,8 +24,8 @@ pub returns-clause-ok : goal.returns-clause-ok
 returns-clause-ok c =
     on_ok c.deliver_in.result _ _ (λ h. delivery_next _ _ _ _ _ _ _ _ _ c.self.view_is c.in-Some-Reply.ensures c.in-Some-Reply.field-0-is h) c.deliver_in.ensures.ok
 
-pub returns-clause-told : goal.returns-clause-told
-returns-clause-told c =
+pub returns-clause-reported : goal.returns-clause-reported
+returns-clause-reported c =
     rw (← c.self.view_is)
     (if_memory c.deliver_in.result _ (events.Deliver c.args.packet)
     (delivers _ _ _ _ _ _ c.self.invariant c.in-Some-Reply.ensures c.in-Some-Reply.field-0-is) c.deliver_in.ensures.memory)

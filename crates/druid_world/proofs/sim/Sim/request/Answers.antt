@@ -9,7 +9,7 @@ returns-in-Some-ask_of_kind-clause-ok c =
     let at = asks_at _ _ _ _ _ _ _ c.in-Some.ensures.reached c.in-Some.ensures.value c.in-Some-inventory.ensures.value c.in-Some-next_ask.ensures c.mark_of_pages.ensures in
     asks_it _ _ _ _ _ _ _ _ _ c.in-Some.ensures.value c.in-Some-inventory.ensures.value at c.in-Some-ask_of_kind.ensures
 
-pub returns-in-None-clause-told : goal.returns-in-None-clause-told
-returns-in-None-clause-told c =
+pub returns-in-None-clause-reported : goal.returns-in-None-clause-reported
+returns-in-None-clause-reported c =
     let at = asks_at _ _ _ _ _ _ _ c.in-Some.ensures.reached c.in-Some.ensures.value c.in-Some-inventory.ensures.value c.in-Some-next_ask.ensures c.mark_of_pages.ensures in
     asks_none _ _ _ _ _ _ _ _ c.in-Some.ensures.value c.in-Some-inventory.ensures.value at c.in-None.ensures

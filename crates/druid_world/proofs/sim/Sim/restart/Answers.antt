@@ -1,7 +1,7 @@
 use Rattle.druid_world.specs.declared.event.Event.TheVariants as events
 use Rattle.druid_world.specs.Run.{restarted}
 use Rattle.std.proofs.Common.{arith}
-use Rattle.druid_world.proofs.SimLemmas.{ChangesNode, node_reached, node_ok, memory_told, restarted_next}
+use Rattle.druid_world.proofs.SimLemmas.{ChangesNode, node_reached, node_ok, memory_reported, restarted_next}
 use Rattle.druid_world.proofs.sim.Sim.restart.Goals as goal
 
 -- what becomes of the node
@@ -22,5 +22,5 @@ invariant_of-self c = node_reached _ _ _ _ _ _ _ _ c.self.invariant (changes c)
 pub returns-clause-ok : goal.returns-clause-ok
 returns-clause-ok c = node_ok _ _ _ _ _ _ _ _ (changes c)
 
-pub returns-clause-told : goal.returns-clause-told
-returns-clause-told c = memory_told _ _ _ _ (changes c).next c.restart.ensures.memory
+pub returns-clause-reported : goal.returns-clause-reported
+returns-clause-reported c = memory_reported _ _ _ _ (changes c).next c.restart.ensures.memory

@@ -1,5 +1,0 @@
-use Rattle.druid_node.proofs.RowLemmas.{rows_once}
-use Rattle.druid_node.proofs.laws.rows_are_told_once.Goals as goal
-
-pub returns : goal.returns
-returns c = rows_once

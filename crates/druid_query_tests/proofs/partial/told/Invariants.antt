@@ -1,5 +1,0 @@
-use Rattle.druid_partial.specs.Rows.{IsPartialFor}
-use Rattle.druid_query_tests.proofs.partial.told.Given as goal
-
-abbrev pub invariant-loop-text : goal.invariant-loop-text
-invariant-loop-text g l = IsPartialFor l.query l.whole
