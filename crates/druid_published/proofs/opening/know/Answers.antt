@@ -10,7 +10,7 @@ use Rattle.druid_published.proofs.opening.know.Goals.{in-Ok, in-Err}
 pub publish_as-requires : goal.publish_as-requires
 publish_as-requires g c next is =
     let now = c.append.new.self.desk.shown.value in
-    let set : state_of next ≡ state_of c.args.shown = sets (λ s x. state_of x) (λ s x. refl) (state_of now) (drop c.args.writer.beyond c.args.writer.log.items) (drop c.append.new.self.beyond c.append.new.self.log.items) c.args.shown (state_of next) c.in-Ok.ensures.pending is in
+    let set : state_of next ≡ state_of c.args.shown = sets (λ s x. state_of x) (λ s x. refl) (state_of now) (drop c.args.writer.behind c.args.writer.log.items) (drop c.append.new.self.behind c.append.new.self.log.items) c.args.shown (state_of next) c.in-Ok.ensures.pending is in
     stays _ _ now next (set ∙ (alike c.args.shown c.args.writer.desk.shown.value c.requires.alike ∙ sym (ap (λ d. state_of d.shown.value) c.append.ensures.desk)))
 
 pub returns : goal.returns
@@ -21,7 +21,7 @@ returns g c =
           let then = w.publish_as.result.0.desk.shown.value in
           subst (λ r. IfOk r.1 (λ _. view {T = Shown} {V = Known} r.0.desk.place ≡ named)) (sym w.result-is)
           (if_ok_both w.publish_as.result.1 _ _ _ _ _ w.publish_as.ensures.rule w.publish_as.ensures.values (λ a q p.
-          let set : state_of then ≡ state_of c.args.shown = sets (λ s x. state_of x) (λ s x. refl) (state_of now) (drop c.args.writer.beyond c.args.writer.log.items) (drop c.append.new.self.beyond c.append.new.self.log.items) c.args.shown (state_of then) w.in-Ok.ensures.pending p.0 in
+          let set : state_of then ≡ state_of c.args.shown = sets (λ s x. state_of x) (λ s x. refl) (state_of now) (drop c.args.writer.behind c.args.writer.log.items) (drop c.append.new.self.behind c.append.new.self.log.items) c.args.shown (state_of then) w.in-Ok.ensures.pending p.0 in
           names_first _ _ _ then _ (ap (λ (s : State). s.1.book) set ∙ c.requires.book) (ap (λ (s : State). s.1.log) set ∙ c.requires.log) (ap (λ (s : State). s.0) set ∙ c.requires.inventory) q))
       | in-Err w ↦ subst (λ r. IfOk r.1 (λ _. view {T = Shown} {V = Known} r.0.desk.place ≡ named)) (sym w.result-is) tt
     ]

@@ -11,7 +11,7 @@ pub publish_as-requires : goal.publish_as-requires
 publish_as-requires g c next is = let now = c.append.new.self.desk.shown.value in
     shows g.J.Publication.book g.J.Publication.opening _ _ now next c.args.shown
     (ap (λ d. view {T = Shown} {V = Known} d.place) c.append.ensures.desk ∙ c.requires.place)
-    (sets (λ s x. state_of x) (λ s x. refl) (state_of now) (drop c.args.writer.beyond c.args.writer.log.items) (drop c.append.new.self.beyond c.append.new.self.log.items) c.args.shown (state_of next) c.in-Ok.ensures.pending is)
+    (sets (λ s x. state_of x) (λ s x. refl) (state_of now) (drop c.args.writer.behind c.args.writer.log.items) (drop c.append.new.self.behind c.append.new.self.log.items) c.args.shown (state_of next) c.in-Ok.ensures.pending is)
     c.requires.book c.requires.fold
 
 pub returns : goal.returns
