@@ -1,5 +1,5 @@
 -- What a data node of ours answers to an ask is the answer of its history.
-use Rattle.std.proofs.Common.{◌≡◌, inl, inr, ℕ, List, Option, Some, None, Result, Ok, sym, ap, ◌∙◌, subst, arith}
+use Rattle.std.proofs.Common.{◌≡◌, inl, inr, ℕ, List, Option, Some, None, Ok, sym, ap, ◌∙◌, subst, arith}
 use Rattle.std.proofs.lemmas.Option.{same_Some}
 use Rattle.druid_shard.specs.ReplyBody.{IsReply}
 use Rattle.druid_shard.specs.declared.change.Ask.{Ask}

@@ -1,10 +1,14 @@
 -- What a user of a broker relies on: what nodes serve in a world at the marks at which the broker stands, and the rows that are
 -- visible there.
-use Rattle.std.specs.Prelude.{◌≡◌, ◌<◌, ℕ, Bool, true, false, List, [], length, slice_get, Some, Ok, Contains, ◌↔◌, codes, bytes_eq}
+use Rattle.std.specs.Prelude.{◌≡◌, ◌<◌, ◌≤◌, ◌^◌, ⊤, ℕ, Bool, true, false, List, [], ◌∷◌, length, slice_get, Some, Ok, Contains, ◌↔◌, codes, bytes_eq}
+use Rattle.std.specs.List.{AllByRecursion}
 use Rattle.druid_changes.specs.Kept.{StandsFor, frozen_count}
 use Rattle.druid_shard.specs.Described.{Described, IsDescribed}
 use Rattle.druid_shard.specs.Mark.{Point}
+use Rattle.druid_shard.specs.declared.change.Ask.{Ask}
+use Rattle.druid_shard.specs.declared.change.Ask.TheVariants.{Whole, Since, Page}
 use Rattle.druid_shard.specs.declared.reply.Body.{Body}
+use Rattle.druid_sync.specs.Written.{IsWord}
 use Rattle.druid_timeline.specs.Holding.{Held, held_of}
 use Rattle.druid_rows.specs.Segment.{Segment}
 use Rattle.druid_rows.specs.Rows.{Row}
@@ -64,10 +68,28 @@ pub record IsLastOf (life : Life) (state : State) : Type 0 where
   pub kept : life.kept ≡ state.history.limit
   pub frozen : life.frozen ≡ frozen_count state.history.frozen
 
--- each reply that comes over the link is honest in this life of a node
-abbrev pub RepliesAreHonest : {L : Type 0} → (L → List ℕ → Came → L → Type 0) → Life → Type 0
-RepliesAreHonest {L} step life =
-    (request : RequestValue) (old new : L) (reply : Body) → IsReported step request old new (Ok reply) → replies.IsHonest (eras_of life) reply
+-- ---- what is asked over a link
+
+-- the changes of each incarnation are counted, and the incarnations are numbered, by words of 64 bits
+abbrev pub HasWords : Life → Type 0
+HasWords life = AllByRecursion (λ era. (era.incarnation < 2 ^ 64) × (length era.changes < 2 ^ 64)) (eras_of life)
+
+-- the numbers of an ask are such as its text has
+abbrev pub HasText : Ask → Type 0
+HasText Whole = ⊤
+HasText (Since m) = IsWord m × (1 ≤ m.incarnation)
+HasText (Page m page) = IsWord m × (1 ≤ m.incarnation) × (page ≤ 65_535)
+
+-- exchanges of these requests, one after another, lead from the one state of a link to the other
+abbrev pub Leads : {L : Type 0} → (L → List ℕ → Came → L → Type 0) → List (List ℕ) → L → L → Type 0
+Leads step [] old new = new ≡ old
+Leads {L} step (bytes ∷ rest) old new = (came : Came) × (between : L) × step old bytes came between × Leads step rest between new
+
+-- from this state of a link on, whatever is sent: where a reply comes to an ask, it is honest in this life of a node
+abbrev pub AnswersHonestly : {L : Type 0} → (L → List ℕ → Came → L → Type 0) → (Ask → RequestValue) → Life → L → Type 0
+AnswersHonestly {L} step request life link =
+    (sent : List (List ℕ)) (ask : Ask) (old new : L) (reply : Body) → Leads step sent link old → HasText ask
+    → IsReported step (request ask) old new (Ok reply) → replies.IsHonest (eras_of life) reply
 
 -- ---- what a broker answers
 

@@ -1,10 +1,10 @@
 //! The sentences that a user of a broker relies on.
-ghost use Rattle.std.specs.Prelude.{◌≡◌, ◌⊎◌, ℕ, List, Some, Ok, length, map};
+ghost use Rattle.std.specs.Prelude.{◌≡◌, ◌⊎◌, ℕ, List, Some, Ok, length, map, slice_get};
 ghost use Rattle.druid_shard.specs.declared.change.Ask.{Ask};
 ghost use Rattle.druid_shard.specs.declared.change.Ask.TheVariants.{Whole};
 ghost use Rattle.druid_shard.specs.declared.reply.Body.{Body};
 ghost use Rattle.druid_sync.specs.Asks.{ask_at, parameters_of};
-ghost use Rattle.druid_inventory.specs.Entry.{Entry, fresh};
+ghost use Rattle.druid_inventory.specs.Entry.{Entry, ask_of, fresh};
 ghost use Rattle.druid_rows.specs.Segment.{Segment};
 ghost use Rattle.druid_query.specs.Query.{Query};
 ghost use Rattle.druid_query.specs.Read.{IsQuery};
@@ -22,7 +22,7 @@ ghost use Rattle.druid_broker.specs.Turns as turns;
 ghost use Rattle.druid_broker.specs.Views.{RespondsBy, AnswersUnread};
 ghost use Rattle.druid_world.specs.World.{Life, IsLife, IsWorld, IsHonest, IsInventoryOf, eras_of, marks_of};
 ghost use Rattle.druid_world.specs.Run.{AreHonest};
-ghost use Rattle.druid_headline.specs.Headline.{AreAmong, IsLastOf, RepliesAreHonest, IsPosted, IsExactAt};
+ghost use Rattle.druid_headline.specs.Headline.{AreAmong, AnswersHonestly, HasText, HasWords, IsLastOf, IsPosted, IsExactAt};
 
 use druid_link::Link;
 
@@ -78,11 +78,15 @@ pub fn asks_are_answered()
         → IsHonest (eras_of life) reply }
 {}
 
-/// What `fetch` and `fetch_entry` answer over a link whose replies are honest in a life of the node is honest there: so is a snapshot
-/// put together of pages, each of which was answered at its time, while the node went on.
+/// What `fetch` answers is honest in a life of the node, and so is what `fetch_entry` answers of a peer, where each ask that is sent
+/// from then on is answered honestly: so is a snapshot put together of pages, each of which was answered at its time, while the node
+/// went on.
 pub fn fetched_replies_are_honest<L: Link>()
-    ensures fetched { (life : Life) (inventory : List Entry) (node : ℕ) (old new : L) (reply : Body) → RepliesAreHonest L.exchanges life
+    ensures fetched { (life : Life) (inventory : List Entry) (node : ℕ) (entry : Entry) (old new : L) (reply : Body)
+        → IsLife life → HasWords life → AnswersHonestly L.exchanges ask_request life old
+        → slice_get inventory node ≡ Some entry → HasText (ask_of entry.mark)
         → IsFetchedFrom L.exchanges inventory node old new (Ok reply) → IsHonest (eras_of life) reply }
-    ensures of_entry { (life : Life) (node : ℕ) (old new : L) (reply : Body) → RepliesAreHonest L.exchanges life
+    ensures of_entry { (life : Life) (node : ℕ) (old new : L) (reply : Body)
+        → IsLife life → HasWords life → AnswersHonestly L.exchanges (entry_request node) life old
         → turns.IsAsked L.exchanges (entry_request node) Whole old new (Ok reply) → IsHonest (eras_of life) reply }
 {}

@@ -1,5 +1,6 @@
 pub mod RequestLemmas
 pub mod ExchangeLemmas
+pub mod FetchLemmas
 pub mod TurnLemmas
 pub mod NodeLemmas
 pub mod MarkLemmas

@@ -37,7 +37,7 @@ reported_by old (Err fault) reply is reported = absurd (no_bytes fault reported.
 reported_by old (Ok text) reply is reported = record {
   status = is.status;
   body = is.body;
-  responds = subst (λ (r : RequestValue). RespondsInTurn old old r is.status is.body) (ask_read is.request is.rest is.read) is.responds;
+  responds = subst (λ (r : RequestValue). RespondsInTurn old old r is.status is.body) (ask_read Whole is.request is.rest tt is.read) is.responds;
   reported = subst (λ (bytes : List ℕ). IsAnswerTo (Ok bytes) (Ok reply)) is.written reported;
 }
 

@@ -1,20 +1,24 @@
 //! The laws of the headline, over two data nodes.
-ghost use Rattle.std.specs.Prelude.{◌≡◌, ◌⊎◌, ℕ, List, [], ◌∷◌, map, length};
-ghost use Rattle.druid_inventory.specs.Entry.{fresh};
+ghost use Rattle.std.specs.Prelude.{◌≡◌, ◌⊎◌, ℕ, List, [], ◌∷◌, Some, Ok, map, length, slice_get};
+ghost use Rattle.druid_shard.specs.declared.reply.Body.{Body};
+ghost use Rattle.druid_inventory.specs.Entry.{Entry, ask_of, fresh};
 ghost use Rattle.druid_query.specs.Query.{Query};
 ghost use Rattle.druid_message.specs.Requests.{RequestValue};
 ghost use Rattle.druid_node.specs.State.{State};
 ghost use Rattle.druid_published.specs.Fold.{Published};
+ghost use Rattle.druid_broker.specs.Turns.{IsFetchedFrom};
 ghost use Rattle.druid_broker.specs.Views.{RespondsBy, AnswersUnread};
-ghost use Rattle.druid_world.specs.World.{Life, IsLife};
-ghost use Rattle.druid_headline.specs.Headline.{IsLastOf, IsPosted};
+ghost use Rattle.druid_world.specs.World.{Life, IsHonest, IsLife, eras_of};
+ghost use Rattle.druid_headline.specs.Headline.{HasText, HasWords, IsLastOf, IsPosted};
 ghost use Rattle.druid_headline_tests.specs.Exchanges.{ExchangesWithNode};
 ghost use Rattle.druid_headline_tests.specs.Nodes.{IsNode};
 ghost use Rattle.druid_headline_tests.specs.Following.{AreFollowed};
 ghost use Rattle.druid_headline_tests.specs.Answers.{IsExactOver};
 
 use crate::node_link::NodeLink;
-use druid_headline::{asks_are_answered, nodes_are_honest, queries_are_exact};
+use druid_headline::{
+    asks_are_answered, fetched_replies_are_honest, nodes_are_honest, queries_are_exact,
+};
 use druid_sync::asks_are_read_back;
 
 /// What a broker answers to a query that is posted, where what its view has seen is what each of two nodes answered to an ask for
@@ -32,4 +36,15 @@ pub fn answers_are_exact()
     asks_are_answered();
     nodes_are_honest();
     queries_are_exact::<NodeLink>();
+}
+
+/// What a broker fetches over a link to a data node, of which it knows whatever it does, is honest in any life of the node.
+pub fn fetches_are_honest()
+    ensures { (life : Life) (inventory : List Entry) (number : ℕ) (entry : Entry) (old new : State) (reply : Body)
+        → IsLife life → HasWords life → IsLastOf life old → slice_get inventory number ≡ Some entry → HasText (ask_of entry.mark)
+        → IsFetchedFrom ExchangesWithNode inventory number old new (Ok reply) → IsHonest (eras_of life) reply }
+{
+    asks_are_read_back();
+    asks_are_answered();
+    fetched_replies_are_honest::<NodeLink>();
 }

@@ -11,5 +11,5 @@ mod nodes;
 mod two_nodes;
 
 pub use asking::ask_two;
-pub use laws::answers_are_exact;
+pub use laws::{answers_are_exact, fetches_are_honest};
 pub use node_link::NodeLink;

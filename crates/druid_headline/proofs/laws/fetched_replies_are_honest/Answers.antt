@@ -4,9 +4,9 @@ use Rattle.druid_headline.proofs.FetchLemmas.{asked_true, fetched_from_true}
 use Rattle.druid_headline.proofs.laws.fetched_replies_are_honest.Goals as goal
 
 pub returns-clause-fetched : goal.returns-clause-fetched
-returns-clause-fetched g c life inventory node old new reply honest fetched =
-    fetched_from_true g.L.Link.exchanges life honest inventory node old new reply fetched
+returns-clause-fetched g c life inventory node entry old new reply valid words honest at text fetched =
+    fetched_from_true g.L.Link.exchanges life valid words inventory node entry old new reply honest at text fetched
 
 pub returns-clause-of_entry : goal.returns-clause-of_entry
-returns-clause-of_entry g c life node old new reply honest asked =
-    asked_true g.L.Link.exchanges life honest (entry_request node) Whole old new reply asked
+returns-clause-of_entry g c life node old new reply valid words honest asked =
+    asked_true g.L.Link.exchanges life valid words (entry_request node) Whole old new reply honest tt asked
