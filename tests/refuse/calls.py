@@ -20,6 +20,8 @@ DEVICE = 'reaches the system, whose own faults come first; by tests with a devic
 LEFT_OUT = {
     'druid_asked_text::are_apart': BY_CALLER + 'read_subquery',
     'druid_asked_text::asked_list': BY_CALLER + 'read_subquery',
+    'druid_base::copy_text': WITHIN + 'Aggregator::new, Segment::row',
+    'druid_base::parse_json': WITHIN + 'read_reply, read_query',
     'druid_changes::History::refusal_of_drop': NEVER,
     'druid_changes::History::refusal_of_load': NEVER,
     'druid_config::config_of': BY_CALLER + 'read_config',

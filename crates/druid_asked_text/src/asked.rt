@@ -10,6 +10,7 @@ ghost use Rattle.druid_query.specs.AskedOrder as order;
 ghost use Rattle.druid_query.specs.AskedOrder.{asked_cmp, same_asked, AreApart};
 ghost use Rattle.druid_query.specs.SubQuery.{pieces_data};
 
+use druid_base::list_field;
 use druid_query::Asked;
 use druid_segid::{Name, SegmentId, Version};
 use druid_shard::{limited_field, text_field};
@@ -300,8 +301,7 @@ fn segments_in(value: &Value) -> Option<&[Value]>
     ensures { option_map (λ vs. items_view vs.now) result ≡ segments_in (view value.now) }
 {
     if text_field(value, "type")? == "segments" {
-        let values = value.get("segments").and_then(Value::as_array)?;
-        Some(values.as_slice())
+        list_field(value, "segments")
     } else {
         None
     }

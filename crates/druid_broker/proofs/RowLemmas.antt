@@ -2,7 +2,7 @@
 use Rattle.std.proofs.Common.{◌≡◌, ℕ, zero, suc, ◌-◌, ◌==◌, ◌&&◌, Bool, true, false, not, cond, ◌||◌, List, [], ◌∷◌, ◌++◌, length, take, drop, Option, Some, None, bytes_eq, nat_lt, refl, sym, ap, ◌∙◌, arith}
 use Rattle.std.specs.List.{list_any, list_all, AllByRecursion}
 use Rattle.std.specs.Cmp.{nat_eq_equiv}
-use Rattle.std.proofs.lemmas.Bool.{le-leb}
+use Rattle.std.proofs.lemmas.Bool.{le-leb, not-true}
 use Rattle.matchit.specs.Rows.{RowsOf}
 use Rattle.matchit.specs.Seek.{own, step, or_else, seek, param_step, has_slash}
 use Rattle.druid_broker.specs.Routes.{is_part}
@@ -18,19 +18,15 @@ and_last : (a b : Bool) → (a && b) ≡ true → b ≡ true
 and_last true b h = h
 and_last false b h = absurd (cc)
 
-was_not : (b : Bool) → not b ≡ true → b ≡ false
-was_not true h = absurd (cc)
-was_not false h = refl
-
 -- no token of it is a part
 abbrev pub plain : List ℕ → Bool
 plain w = list_all (λ x. not (x == 256) && not (x == 257)) w
 
 is_no_param : (x : ℕ) (w : List ℕ) → plain (x ∷ w) ≡ true → (x == 256) ≡ false
-is_no_param x w h = was_not (x == 256) (and_first (not (x == 256)) (not (x == 257)) (and_first (not (x == 256) && not (x == 257)) (plain w) h))
+is_no_param x w h = not-true (x == 256) (and_first (not (x == 256)) (not (x == 257)) (and_first (not (x == 256) && not (x == 257)) (plain w) h))
 
 is_no_catch : (x : ℕ) (w : List ℕ) → plain (x ∷ w) ≡ true → (x == 257) ≡ false
-is_no_catch x w h = was_not (x == 257) (and_last (not (x == 256)) (not (x == 257)) (and_first (not (x == 256) && not (x == 257)) (plain w) h))
+is_no_catch x w h = not-true (x == 257) (and_last (not (x == 256)) (not (x == 257)) (and_first (not (x == 256) && not (x == 257)) (plain w) h))
 
 plain_tail : (x : ℕ) (w : List ℕ) → plain (x ∷ w) ≡ true → plain w ≡ true
 plain_tail x w h = and_last (not (x == 256) && not (x == 257)) (plain w) h

@@ -8,7 +8,8 @@ use Rattle.druid_wire.specs.Served.{Tells, IsSent, IsServed, IsCutShort, FailsTo
 use Rattle.druid_message.specs.declared.fault.WireFault.{WireFault}
 use Rattle.druid_wire.proofs.ServeLemmas.{WasRead, served, unsent}
 use Rattle.druid_query.specs.Query.{Query}
-use Rattle.druid_query.specs.Read.{ReadsAs, IsReadOf, query_at}
+use Rattle.druid_base.specs.Json.{ReadsAs}
+use Rattle.druid_query.specs.Read.{IsReadOf, query_at}
 use Rattle.druid_query.specs.Refusal.{Refusal}
 use Rattle.druid_query.specs.Refused.{refusal_text}
 use Rattle.druid_query.specs.declared.fault.QueryFault.{QueryFault}

@@ -1,10 +1,9 @@
 -- Each line is bad or has an answer.
-use Rattle.std.proofs.Common.{◌≡◌, ℕ, zero, suc, ◌<◌, ◌≤◌, Bool, true, false, nat_lt, if◌then◌else◌, List, [], ◌∷◌, All, length, map, replicate, Option, None, Some, Result, Ok, Err, ◌⊎◌, inl, inr, slice_get, slice_set, refl, sym, ap, subst, ◌∙◌, arith}
+use Rattle.std.proofs.Common.{◌≡◌, ℕ, zero, suc, ◌<◌, ◌≤◌, Bool, true, false, if◌then◌else◌, List, [], ◌∷◌, All, length, map, replicate, Option, None, Some, Result, Ok, Err, ◌⊎◌, inl, inr, slice_get, slice_set, refl, sym, ap, subst, ◌∙◌, arith}
 use Rattle.std.specs.Str.{IsUtf8, is_utf8}
 use Rattle.std.specs.Bool.{IsTrue}
-use Rattle.std.proofs.lemmas.Bool.{cases_lt}
+use Rattle.std.proofs.lemmas.Bool.{cases_lt, ltb-true}
 use Rattle.std.specs.Cmp.{first_so, second_so}
-use Rattle.std.proofs.lemmas.Bool.Decides.{Decides-ltb}
 use Rattle.std.proofs.lemmas.Option.{same_Some, none-some}
 use Rattle.std.proofs.lemmas.Str.{IsUtf8-from_is_utf8, is_utf8-from_IsUtf8}
 use Rattle.serde_json.specs.Data.{Data}
@@ -143,15 +142,12 @@ join_some_answer brokers into own with (inr (joins.Memory, h)) = absurd h
 
 -- ---- lines
 
-lt_so : (a b : ℕ) → nat_lt a b ≡ true → a < b
-lt_so a b e = (Decides-ltb a b).0 e
-
 among_so : (count : ℕ) (c : Command) → is_among count c ≡ true → AreAmong count c
-among_so count (reply broker node body) e = lt_so broker count e
-among_so count (lookup broker interval source) e = lt_so broker count e
-among_so count (marks broker) e = lt_so broker count e
-among_so count (join from into) e = (lt_so from count (first_so _ _ e), lt_so into count (second_so _ _ e))
-among_so count (equal left right) e = (lt_so left count (first_so _ _ e), lt_so right count (second_so _ _ e))
+among_so count (reply broker node body) e = ltb-true broker count e
+among_so count (lookup broker interval source) e = ltb-true broker count e
+among_so count (marks broker) e = ltb-true broker count e
+among_so count (join from into) e = (ltb-true from count (first_so _ _ e), ltb-true into count (second_so _ _ e))
+among_so count (equal left right) e = (ltb-true left count (first_so _ _ e), ltb-true right count (second_so _ _ e))
 
 among_test : (count : ℕ) (c e : Command) → (if is_among count c then Some c else None) ≡ Some e → AreAmong count e
 among_test count c e h = by (is_among count c) refl where
@@ -161,15 +157,15 @@ among_test count c e h = by (is_among count c) refl where
       subst (AreAmong count) same (among_so count c is)
   by false is = absurd (none-some e (sym (ap (λ (t : Bool). if t then Some c else None) is) ∙ h))
 
-bind_some : {A B : Type 0} (f : A → Option B) (o : Option A) (y : B) → (o >>= f) ≡ Some y → (x : A) × (o ≡ Some x) × (f x ≡ Some y)
-bind_some f (Some x) y e = (x, refl, e)
-bind_some f None y e = absurd (none-some y e)
+stepped : {A B : Type 0} (f : A → Option B) (o : Option A) (y : B) → (o >>= f) ≡ Some y → (x : A) × (o ≡ Some x) × (f x ≡ Some y)
+stepped f None y e = absurd (none-some y e)
+stepped f (Some x) y e = (x, refl, e)
 
 -- a command that is read is of brokers that stand
 command_among : (count : ℕ) (d : Data) (c : Command) → command_at count d ≡ Some c → AreAmong count c
 unfolding command_at
 command_among count d c h =
-    let step = bind_some (λ e. if is_among count e then Some e else None) (asked_at d) c h in
+    let step = stepped (λ e. if is_among count e then Some e else None) (asked_at d) c h in
     among_test count step.0 c step.2
 
 held_at : (brokers : List (List Entry)) (broker : ℕ) → broker < length brokers → (inventory : List Entry) × Holds brokers broker inventory

@@ -1,10 +1,10 @@
 -- A list in strict order is determined by what it contains.
-use Rattle.std.proofs.Common.{◌≡◌, ℕ, ◌+◌, ◌<◌, zero, suc, List, [], ◌∷◌, get_or, ◌⊎◌, inl, inr, refl, sym, ap, subst, ◌∙◌, arith}
+use Rattle.std.proofs.Common.{◌≡◌, ℕ, ◌+◌, ◌<◌, suc, List, [], ◌∷◌, get_or, ◌⊎◌, inl, inr, refl, sym, ap, subst, ◌∙◌, arith}
 use Rattle.std.specs.List.{Contains}
 use Rattle.std.specs.List.Sorted.{IsStrictlyIncreasing, IsPermutation}
 use Rattle.std.proofs.lemmas.Cmp.{nat_list_cmp_total, tied_itself}
-use Rattle.std.proofs.lemmas.List.Kept.{AllPairs-from_increasing}
 use Rattle.std.proofs.lemmas.List.Sorted.{Contains-permutation, IsPermutation-sym}
+use Rattle.druid_base.proofs.ListLemmas.{Contains-here, IsStrictlyIncreasing-tail, IsStrictlyIncreasing-first}
 use Rattle.druid_segid.specs.Identifier.{identifier_text}
 use Rattle.druid_shard.specs.Described.{Described}
 use Rattle.druid_shard.specs.Reply.{IsBefore, AreSorted}
@@ -16,9 +16,6 @@ pub record IsStrict {A : Type 0} (R : A → A → Type 0) (Rising : List A → T
   pub apart : (x y : A) → R x y → R y x → ⊥
   pub later : (x : A) (xs : List A) (d : A) → Rising (x ∷ xs) → Contains xs d → R x d
   pub tail : (x : A) (xs : List A) → Rising (x ∷ xs) → Rising xs
-
-first : {A : Type 0} (x : A) (xs : List A) → Contains (x ∷ xs) x
-first x xs = (zero, omega arith, refl)
 
 heads : {A : Type 0} (R : A → A → Type 0) (Rising : List A → Type 0) → IsStrict R Rising → (x y : A) (xs ys : List A) → Rising (x ∷ xs) → Rising (y ∷ ys)
     → (y ≡ x) ⊎ Contains ys x → (x ≡ y) ⊎ Contains xs y → x ≡ y
@@ -36,10 +33,10 @@ tails R Rising strict x y d xs ys hx same there (inr rest) = rest
 pub once : {A : Type 0} (R : A → A → Type 0) (Rising : List A → Type 0) → IsStrict R Rising → (xs ys : List A) → Rising xs → Rising ys
     → ((d : A) → Contains xs d → Contains ys d) → ((d : A) → Contains ys d → Contains xs d) → xs ≡ ys
 once R Rising strict [] [] hx hy to from = refl
-once R Rising strict [] (y ∷ ys) hx hy to from = absurd (Contains-nil y (from y (first y ys)))
-once R Rising strict (x ∷ xs) [] hx hy to from = absurd (Contains-nil x (to x (first x xs)))
+once R Rising strict [] (y ∷ ys) hx hy to from = absurd (Contains-nil y (from y (Contains-here y ys)))
+once R Rising strict (x ∷ xs) [] hx hy to from = absurd (Contains-nil x (to x (Contains-here x xs)))
 once R Rising strict (x ∷ xs) (y ∷ ys) hx hy to from =
-    let same = heads R Rising strict x y xs ys hx hy (Contains-cons y ys x (to x (first x xs))) (Contains-cons x xs y (from y (first y ys))) in
+    let same = heads R Rising strict x y xs ys hx hy (Contains-cons y ys x (to x (Contains-here x xs))) (Contains-cons x xs y (from y (Contains-here y ys))) in
     let rest = once R Rising strict xs ys (strict.tail x xs hx) (strict.tail y ys hy)
     (λ d there. tails R Rising strict x y d xs ys hx same there (Contains-cons y ys d (to d (Contains-later x xs d there))))
     (λ d there. tails R Rising strict y x d ys xs hy (sym same) there (Contains-cons x xs d (from d (Contains-later y ys d there)))) in
@@ -79,19 +76,8 @@ sorted_once given xs ys moved shifted hx hy =
 
 -- ---- by number
 
-below_later : (x : ℕ) (xs : List ℕ) (d : ℕ) → IsStrictlyIncreasing (x ∷ xs) → Contains xs d → x < d
-below_later x xs d h there =
-    subst (λ (n : ℕ). x < n) there.2 (AllPairs-from_increasing (x ∷ xs) h 0 (suc there.0) d (omega arith) (omega (arith, there.1)))
-
-rising_tail : (x : ℕ) (xs : List ℕ) → IsStrictlyIncreasing (x ∷ xs) → IsStrictlyIncreasing xs
-rising_tail x xs h = λ k l.
-    let e : suc k + 1 ≡ suc (k + 1) = omega arith in
-    let next = h (suc k) (omega (arith, l)) in
-    let next' : get_or xs k 0 < get_or xs (k + 1) 0 = rw e at next in
-    next'
-
 not_round : (x y : ℕ) → x < y → y < x → ⊥
 not_round x y l m = omega (arith, l, m)
 
 pub by_number : IsStrict (λ (x y : ℕ). x < y) IsStrictlyIncreasing
-by_number = record { apart = not_round; later = below_later; tail = rising_tail }
+by_number = record { apart = not_round; later = IsStrictlyIncreasing-first; tail = IsStrictlyIncreasing-tail }

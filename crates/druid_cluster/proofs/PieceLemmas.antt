@@ -1,7 +1,7 @@
 -- The line of pieces, part by part.
 use Rattle.std.proofs.Common.{◌≡◌, ℕ, ◌+◌, ◌<◌, ◌≤◌, Bool, true, false, nat_lt, List, [], ◌∷◌, ◌++◌, length, get_or, drop, map, codes, append_assoc, length-append, drop_of_length-le, arith, sym, ap, ◌∙◌}
 use Rattle.std.proofs.lemmas.List.{drop_more}
-use Rattle.std.proofs.lemmas.Bool.Decides.{nat_tests}
+use Rattle.std.proofs.lemmas.Bool.{lt-ltb}
 use Rattle.serde_json.proofs.OnLiterals.{serde_json_on_literals}
 use Rattle.serde_json.specs.View.{items_of}
 use Rattle.serde_json.specs.Written.{compact_text, items_text, comma_if}
@@ -23,16 +23,13 @@ first_piece later p ps =
     ∙ ap (λ (l : List ℕ). comma_if later ++ l) (append_assoc (compact_text (piece_data p)) (items_text true (items_of (map piece_data ps))) (125 ∷ 10 ∷ []))
     ∙ sym (append_assoc (comma_if later) (compact_text (piece_data p)) (rest_of true ps))
 
-above_none : (i : ℕ) → true ≡ nat_lt 0 (i + 1)
-above_none i = grind (arith, nat_tests)
-
 -- the piece at a place, and what is after it
 pub piece_next : (later : Bool) (ps : List Reported) (i : ℕ) (p : Reported) → i < length ps → p ≡ get_or ps i p → rest_of later (drop i ps) ≡ (comma_if later ++ compact_text (piece_data p)) ++ rest_of (nat_lt 0 (i + 1)) (drop (i + 1) ps)
 piece_next later ps i p h is =
     ap (rest_of later) (drop_more ps i p h)
     ∙ first_piece later (get_or ps i p) (drop (i + 1) ps)
     ∙ ap (λ (q : Reported). (comma_if later ++ compact_text (piece_data q)) ++ rest_of true (drop (i + 1) ps)) (sym is)
-    ∙ ap (λ (b : Bool). (comma_if later ++ compact_text (piece_data p)) ++ rest_of b (drop (i + 1) ps)) (above_none i)
+    ∙ ap (λ (b : Bool). (comma_if later ++ compact_text (piece_data p)) ++ rest_of b (drop (i + 1) ps)) (sym (lt-ltb 0 (i + 1) (omega arith)))
 
 pub piece_last : (later : Bool) (ps : List Reported) (i : ℕ) → length ps ≤ i → rest_of later (drop i ps) ≡ codes "]}\n"
 piece_last later ps i h = ap (rest_of later) (drop_of_length-le ps h)

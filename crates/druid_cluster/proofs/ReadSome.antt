@@ -1,5 +1,5 @@
 -- Each value is read as a reply, or refused as one.
-use Rattle.std.proofs.Common.{◌≡◌, ℕ, ◌+◌, ◌<◌, ◌≤◌, Bool, true, false, cond, nat_le, List, codes, length, Option, None, Some, is_some, option_and_then, Ok, Err, ◌⊎◌, inl, inr, ⊎_elim, refl, ap, subst, arith}
+use Rattle.std.proofs.Common.{◌≡◌, ℕ, ◌+◌, ◌<◌, ◌≤◌, Bool, true, false, cond, nat_le, List, codes, length, Option, None, Some, is_some, option_and_then, Ok, Err, ◌⊎◌, inl, inr, ⊎_elim, refl, ap, arith}
 use Rattle.std.specs.Prelude.{⊤}
 use Rattle.std.proofs.lemmas.Bool.{cases_lt, cases_eq}
 use Rattle.std.proofs.lemmas.Bool.Decides.{nat_tests}
@@ -7,6 +7,7 @@ use Rattle.std.proofs.lemmas.Option.{same_Some}
 use Rattle.std.proofs.lemmas.List.Sorted.{length_permutation}
 use Rattle.serde_json.specs.Data.{Data, Items}
 use Rattle.serde_json.specs.Find.{get, as_null, as_bool, as_array}
+use Rattle.druid_base.proofs.OptionLemmas.{given_so}
 use Rattle.druid_time.specs.Options.{◌>>=◌}
 use Rattle.druid_segid.specs.Identifier.{identifier_text}
 use Rattle.druid_shard.specs.Described.{Described}
@@ -31,10 +32,6 @@ use Rattle.druid_cluster.proofs.Decided.{Decided, own_decided, sorted_decided, i
 each_next : {A B : Type 0} (P : B → Type 0) (o : Option A) (f : A → Option B) → ((x : A) → o ≡ Some x → (y : B) → f x ≡ Some y → P y) → (y : B) → (o >>= f) ≡ Some y → P y
 each_next P None f each y e = absurd cc
 each_next P (Some x) f each y e = each x refl y e
-
--- and what holds of a value holds of it where it is given
-given_so : {B : Type 0} (P : B → Type 0) (x : B) → P x → (y : B) → Some x ≡ Some y → P y
-given_so P x here y e = subst P (same_Some x y e) here
 
 abbrev IsMarked : Point → Type 0
 IsMarked m = 1 ≤ m.incarnation

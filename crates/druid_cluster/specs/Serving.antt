@@ -1,6 +1,7 @@
 -- What each line is answered, and what stands after it.
 use Rattle.std.specs.Prelude.{◌≡◌, ◌≤◌, ◌<◌, ◌⊎◌, ◌↔◌, ⊤, ℕ, Bool, IsTrue, List, [], All, length, map, replicate, Option, Some, None, Ok, Err, slice_get, slice_set}
 use Rattle.serde_json.specs.Data.{Data}
+use Rattle.druid_base.specs.Json.{ReadsAs}
 use Rattle.druid_time.specs.Extent.{Extent, Has}
 use Rattle.druid_time.specs.Texts.{extent_at}
 use Rattle.druid_time.specs.declared.fault.TimeFault.TheVariants as times
@@ -16,7 +17,7 @@ use Rattle.druid_inventory.specs.declared.fault.ApplyFault.TheVariants as steps
 use Rattle.druid_inventory.specs.declared.fault.JoinFault.{JoinFault}
 use Rattle.druid_inventory.specs.declared.fault.JoinFault.TheVariants as joins
 use Rattle.druid_inventory.specs.Sources.{HasSource, IsHoldingOf}
-use Rattle.druid_sync.specs.Read.{ReadsAs, IsRead}
+use Rattle.druid_sync.specs.Read.{IsRead}
 use Rattle.druid_sync.specs.declared.fault.SyncFault.{SyncFault}
 use Rattle.druid_sync.specs.declared.fault.SyncFault.TheVariants as replies
 use Rattle.druid_cluster.specs.Commands.{Opening, Command, reply, lookup, marks, join, equal, opening_at, command_at}

@@ -1,6 +1,5 @@
 //! Commands, read out of JSON.
-ghost use Rattle.std.specs.Prelude.{◌≡◌, ◌≤◌, length, option_map, is_none, is_some, nat_lt, IfNone, IfOk, IfSome};
-ghost use Rattle.std.specs.List.{list_all};
+ghost use Rattle.std.specs.Prelude.{◌≡◌, ◌≤◌, length, option_map, is_none, nat_lt, IfNone, IfOk, IfSome};
 ghost use Rattle.std.specs.Result.{result_ok};
 ghost use Rattle.serde_json.specs.Find.{as_str};
 ghost use Rattle.serde_json.specs.View.{view, items_view};
@@ -10,6 +9,7 @@ ghost use Rattle.druid_cluster.specs.Commands.{brokers_at, opening_at, reply_at,
 ghost use Rattle.druid_cluster.specs.Seen.{text_in, texts_in, command_seen, opening_seen, AreAmong};
 
 use crate::reason::{BadLine, BrokerKey};
+use druid_base::{are_texts, list_field};
 use druid_inventory::MAX_NODES;
 use druid_shard::{limited_field, number_field, text_field};
 use serde_json::Value;
@@ -75,13 +75,6 @@ pub fn text_of(value: &Value) -> &str
     value.as_str().unwrap_or("")
 }
 
-// Whether each value is a text.
-fn are_texts(values: &[Value]) -> bool
-    ensures { result ≡ list_all (λ v. is_some (as_str (view v))) values.now }
-{
-    values.iter().all(|value| value.is_string())
-}
-
 // The same values, where each is a text.
 #[tactic(auto, using(crate::proofs::EachTexts::texts_read, crate::proofs::EachTexts::texts_unread))]
 fn texts_of(values: &[Value]) -> Option<&[Value]>
@@ -105,7 +98,7 @@ fn brokers_of(value: &Value) -> Result<Opening<'_>, BadLine>
     let Some(count) = number_field(value, "count") else {
         return Err(BadLine::Count);
     };
-    let Some(names) = value.get("nodes").and_then(Value::as_array) else {
+    let Some(names) = list_field(value, "nodes") else {
         return Err(BadLine::Nodes);
     };
     let Some(nodes) = texts_of(names) else {

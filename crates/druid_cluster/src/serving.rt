@@ -11,6 +11,7 @@ use crate::answer::{Answer, Marks, Pieces, Refusal};
 use crate::brokers::Brokers;
 use crate::command::{Command, command_of, opening_of, text_of};
 use crate::reason::BadLine;
+use druid_base::{JsonFault, parse_json};
 use druid_inventory::{ApplyFault, Inventory, InventoryFault, JoinFault};
 use druid_segid::Name;
 use druid_sync::{SyncFault, reply_of};
@@ -18,7 +19,6 @@ use druid_time::{Interval, IntervalSet, TimeFault};
 use druid_timeline::Timeline;
 use serde_json::Value;
 use std::alloc::{AllocError, Global};
-use std::str;
 
 // Whether each text is a name. Does not allocate.
 #[tactic(auto, using(crate::proofs::NameLemmas::not_all, crate::proofs::NameLemmas::names_more))]
@@ -339,14 +339,10 @@ pub fn serve_line(alloc: Global, state: Option<Brokers>, line: &[u8]) -> Result<
     ensures bad { IfOk result (λ found. OnErr found (IsBad state line.now)) }
     ensures memory { OnErr result (IsUtf8 line.now) }
 {
-    let value = match Value::from_slice(alloc, line) {
+    let value = match parse_json(alloc, line) {
         Ok(value) => value,
-        Err(error) => {
-            if error.is_memory() && str::from_utf8(line).is_ok() {
-                return Err(AllocError);
-            }
-            return Ok(Err(BadLine::NotJson));
-        }
+        Err(JsonFault::NotJson) => return Ok(Err(BadLine::NotJson)),
+        Err(JsonFault::Memory) => return Err(AllocError),
     };
     match state {
         Some(brokers) => answer_command(alloc, brokers, &value),

@@ -1,7 +1,7 @@
 -- Addresses, and the ports that they name.
-use Rattle.std.proofs.Common.{◌≡◌, ℕ, ◌≤◌, ◌++◌, List, decimal, take, drop, Option, Some, None, IsTrue, Bool, true, false, ◌&&◌, nat_le, refl, sym, subst, ap, ◌∙◌, arith}
+use Rattle.std.proofs.Common.{◌≡◌, ℕ, ◌≤◌, ◌++◌, List, decimal, take, drop, Option, Some, None, IsTrue, Bool, true, nat_le, refl, sym, subst, ap, ◌∙◌, arith}
 use Rattle.std.specs.Str.{bytes_eq}
-use Rattle.std.proofs.lemmas.Bool.{leb-true, le-leb}
+use Rattle.std.proofs.lemmas.Bool.{leb-true, le-leb, and_parts, and_from}
 use Rattle.std.proofs.lemmas.List.{take-append-drop}
 use Rattle.std.proofs.lemmas.Slice.Eq.{bytes_eq-Decides}
 use Rattle.druid_segid.specs.Numbers as numbers
@@ -9,25 +9,18 @@ use Rattle.druid_segid.proofs.NumberLemmas.{number_at-found, number_at-to}
 use Rattle.druid_config.specs.Limits.{max_port}
 use Rattle.druid_config.specs.Configs.{loopback, is_port, is_address, NamesPort}
 
-both_true : (a b : Bool) → (a && b) ≡ true → (a ≡ true) × (b ≡ true)
-both_true true b h = (refl, h)
-both_true false b h = absurd cc
-
-both_so : (a b : Bool) → a ≡ true → b ≡ true → (a && b) ≡ true
-both_so a b h g = ap (λ x. x && b) h ∙ g
-
 port_in : (o : Option ℕ) → is_port o ≡ true → (port : ℕ) × (o ≡ Some port) × (1 ≤ port) × (port ≤ max_port)
 port_in None h = absurd cc
 port_in (Some n) h =
-    let both = both_true (nat_le 1 n) (nat_le n max_port) h in
+    let both = and_parts (nat_le 1 n) (nat_le n max_port) h in
     (n, refl, leb-true 1 n both.0, leb-true n max_port both.1)
 
 is_port_so : (n : ℕ) → 1 ≤ n → n ≤ max_port → is_port (Some n) ≡ true
-is_port_so n some few = both_so (nat_le 1 n) (nat_le n max_port) (le-leb 1 n some) (le-leb n max_port few)
+is_port_so n some few = and_from (nat_le 1 n) (nat_le n max_port) (le-leb 1 n some) (le-leb n max_port few)
 
 pub names_port : (text : List ℕ) → IsTrue (is_address text) → NamesPort text
 names_port text h =
-    let both = both_true (bytes_eq (take 10 text) loopback) (is_port (numbers.number_at (drop 10 text))) h in
+    let both = and_parts (bytes_eq (take 10 text) loopback) (is_port (numbers.number_at (drop 10 text))) h in
     let port = port_in (numbers.number_at (drop 10 text)) both.1 in
     let front : take 10 text ≡ loopback = (bytes_eq-Decides (take 10 text) loopback).0 both.0 in
     let back : drop 10 text ≡ decimal port.0 = (number_at-to (drop 10 text) port.0 port.1).1 in
@@ -36,6 +29,6 @@ names_port text h =
 pub is_named : (text : List ℕ) → NamesPort text → IsTrue (is_address text)
 is_named text (port, some, few, is) =
     subst (λ t. is_address t ≡ true) (sym is)
-    (both_so (bytes_eq (take 10 (loopback ++ decimal port)) loopback) (is_port (numbers.number_at (drop 10 (loopback ++ decimal port))))
+    (and_from (bytes_eq (take 10 (loopback ++ decimal port)) loopback) (is_port (numbers.number_at (drop 10 (loopback ++ decimal port))))
     ((bytes_eq-Decides loopback loopback).1 refl)
     (ap is_port (number_at-found (decimal port) port (omega (arith, few)) refl) ∙ is_port_so port some few))

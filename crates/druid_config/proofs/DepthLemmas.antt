@@ -12,7 +12,8 @@ use Rattle.serde_json.specs.View.{view, items_view}
 use Rattle.serde_json.specs.Written.{compact_text, has_float}
 use Rattle.serde_json.specs.declared.value.Value.{Value}
 use Rattle.druid_time.specs.Options.{◌>>=◌}
-use Rattle.druid_config.specs.Configs.{Asked, IsCompact, asked_of, list_at, place_at, object_at, query_at}
+use Rattle.druid_base.specs.Fields.{list_at}
+use Rattle.druid_config.specs.Configs.{Asked, IsCompact, asked_of, place_at, object_at, query_at}
 
 abbrev IsShallow : ℕ → Option Data → Type 0
 IsShallow n None = Unit {0}

@@ -2,45 +2,35 @@
 use Rattle.std.proofs.Common.{◌≡◌, ℕ, zero, suc, ◌<◌, ◌≤◌, List, [], ◌∷◌, length, map, get_or, codes, All, IsSome, Option, Some, None, option_and_then, Bool, true, false, not, ◌&&◌, ◌||◌, cond, nat_le, nat_lt, refl, sym, subst, ap, ◌∙◌, arith}
 use Rattle.std.specs.List.{list_any}
 use Rattle.std.specs.Str.{bytes_eq}
-use Rattle.std.proofs.lemmas.Bool.{leb-true}
+use Rattle.std.proofs.lemmas.Bool.{leb-true, and_parts, not-true}
 use Rattle.std.proofs.lemmas.Bool.Decides.{nat_tests}
-use Rattle.std.proofs.lemmas.Option.{same_Some}
+use Rattle.std.proofs.lemmas.Option.{same_Some, cond_some}
 use Rattle.std.proofs.lemmas.List.{get_or-map, get_or_default, length-map}
 use Rattle.std.proofs.lemmas.Slice.Eq.{bytes_eq-Decides}
 use Rattle.serde_json.specs.Data.{Data, null, boolean, number, string, array, object, Items}
 use Rattle.serde_json.specs.Find.{get, as_object}
+use Rattle.druid_base.proofs.OptionLemmas.{chained}
 use Rattle.druid_time.specs.Options.{◌>>=◌}
 use Rattle.druid_shard.specs.Each.{each_of}
 use Rattle.druid_shard.specs.Json.{text_at, number_at}
 use Rattle.druid_shard.proofs.EachLemmas.{each_sound}
 use Rattle.druid_segid.specs.Names.{is_name}
 use Rattle.druid_config.specs.Limits.{max_servers, max_workers, max_kept, max_count}
-use Rattle.druid_config.specs.Configs.{IsObject, Node, Broker, Asked, Posted, Reported, asked_of, is_address, some_at, count_at, list_at, node_at, broker_at, query_at, are_few, are_distinct, names_of, nodes_in, brokers_in, config_at, IsNode, IsBroker, HaveOwnNames, IsWithinLimits}
+use Rattle.druid_base.specs.Fields.{list_at}
+use Rattle.druid_config.specs.Configs.{IsObject, Node, Broker, Asked, Posted, Reported, asked_of, is_address, some_at, count_at, node_at, broker_at, query_at, are_few, are_distinct, names_of, nodes_in, brokers_in, config_at, IsNode, IsBroker, HaveOwnNames, IsWithinLimits}
 use Rattle.druid_config.proofs.PartLemmas.{node_parts, broker_parts, query_parts, config_parts}
 
 -- ---- tests
-
-both_true : (a b : Bool) → (a && b) ≡ true → (a ≡ true) × (b ≡ true)
-both_true true b h = (refl, h)
-both_true false b h = absurd cc
-
-chained : {A B : Type 0} (f : A → Option B) (o : Option A) (y : B) → option_and_then f o ≡ Some y → (x : A) × (o ≡ Some x) × (f x ≡ Some y)
-chained f None y e = absurd cc
-chained f (Some x) y e = (x, refl, e)
 
 stepped : {A B : Type 0} (f : A → Option B) (o : Option A) (y : B) → (o >>= f) ≡ Some y → (x : A) × (o ≡ Some x) × (f x ≡ Some y)
 stepped f None y e = absurd cc
 stepped f (Some x) y e = (x, refl, e)
 
-kept_so : {A : Type 0} (b : Bool) (x y : A) → cond b (Some x) None ≡ Some y → (b ≡ true) × (x ≡ y)
-kept_so true x y e = (refl, same_Some x y e)
-kept_so false x y e = absurd cc
-
 -- what passed a test, passes it
 passed : {A : Type 0} (p : A → Bool) (o : Option A) (y : A) → option_and_then (λ s. cond (p s) (Some s) None) o ≡ Some y → p y ≡ true
 passed {A} p o y e =
     let step = chained (λ (s : A). cond (p s) (Some s) None) o y e in
-    let kept = kept_so (p step.0) step.0 y step.2 in
+    let kept = cond_some (p step.0) step.0 y step.2 in
     subst (λ t. p t ≡ true) kept.1 kept.0
 
 record Between (low high n : ℕ) : Type 0 where
@@ -49,7 +39,7 @@ record Between (low high n : ℕ) : Type 0 where
 
 between : (low high n : ℕ) → (nat_le low n && nat_le n high) ≡ true → Between low high n
 between low high n h =
-    let both = both_true (nat_le low n) (nat_le n high) h in
+    let both = and_parts (nat_le low n) (nat_le n high) h in
     record { above = leb-true low n both.0; below = leb-true n high both.1 }
 
 some_between : (limit : ℕ) (key : List ℕ) (d : Data) (n : ℕ) → some_at limit key d ≡ Some n → Between 1 limit n
@@ -112,13 +102,9 @@ either_false false b h = (refl, h)
 two_ways : (b : Bool) → b ≡ true → b ≡ false → ⊥
 two_ways b here gone = let both = sym here ∙ gone in absurd cc
 
-none_if : (b : Bool) → not b ≡ true → b ≡ false
-none_if true h = absurd cc
-none_if false h = refl
-
 first_apart : (name : List ℕ) (names : List (List ℕ)) → are_distinct (name ∷ names) ≡ true → list_any (bytes_eq name) names ≡ false
 first_apart name names distinct =
-    none_if (list_any (bytes_eq name) names) (both_true (not (list_any (bytes_eq name) names)) (are_distinct names) distinct).0
+    not-true (list_any (bytes_eq name) names) (and_parts (not (list_any (bytes_eq name) names)) (are_distinct names) distinct).0
 
 none_same : (name : List ℕ) (names : List (List ℕ)) → list_any (bytes_eq name) names ≡ false → (j : ℕ) (d : List ℕ) → j < length names → name ≡ get_or names j d → ⊥
 none_same name [] none j d below same = omega (arith, below)
@@ -137,7 +123,7 @@ own_names (name ∷ names) distinct zero (suc j) d hi hj same =
 own_names (name ∷ names) distinct (suc i) zero d hi hj same =
     absurd (none_same name names (first_apart name names distinct) i d (omega (arith, hi)) (sym same))
 own_names (name ∷ names) distinct (suc i) (suc j) d hi hj same =
-    ap suc (own_names names (both_true (not (list_any (bytes_eq name) names)) (are_distinct names) distinct).1 i j d (omega (arith, hi)) (omega (arith, hj)) same)
+    ap suc (own_names names (and_parts (not (list_any (bytes_eq name) names)) (are_distinct names) distinct).1 i j d (omega (arith, hi)) (omega (arith, hj)) same)
 
 -- ---- lists of servers
 
@@ -153,8 +139,8 @@ nodes_fit : (items : Items) (nodes : List Node) → nodes_in items ≡ Some node
 unfolding nodes_in
 nodes_fit items nodes read =
     let step = stepped nodes_if (each_of node_at items) nodes read in
-    let kept = kept_so (are_few (length step.0) && are_distinct (names_of step.0)) step.0 nodes step.2 in
-    let tests = both_true (are_few (length step.0)) (are_distinct (names_of step.0)) kept.0 in
+    let kept = cond_some (are_few (length step.0) && are_distinct (names_of step.0)) step.0 nodes step.2 in
+    let tests = and_parts (are_few (length step.0)) (are_distinct (names_of step.0)) kept.0 in
     subst NodeLimits kept.1 (record {
       count = between 1 max_servers (length step.0) tests.0;
       each = each_is IsNode node_at node_is items step.0 step.1;
@@ -172,7 +158,7 @@ brokers_fit : (items : Items) (brokers : List Broker) → brokers_in items ≡ S
 unfolding brokers_in
 brokers_fit items brokers read =
     let step = stepped brokers_if (each_of broker_at items) brokers read in
-    let kept = kept_so (are_few (length step.0)) step.0 brokers step.2 in
+    let kept = cond_some (are_few (length step.0)) step.0 brokers step.2 in
     subst BrokerLimits kept.1 (record {
       count = between 1 max_servers (length step.0) kept.0;
       each = each_is IsBroker broker_at broker_is items step.0 step.1;

@@ -2,6 +2,7 @@
 use Rattle.std.proofs.Common.{◌≡◌, ℕ, List, length, codes, Option, Some, None, IsSome, option_and_then, refl, sym, subst, ap, ◌∙◌}
 use Rattle.std.proofs.lemmas.Option.{same_Some}
 use Rattle.serde_json.specs.Data.{Data}
+use Rattle.druid_base.proofs.OptionLemmas.{given_so}
 use Rattle.druid_time.specs.Options.{◌>>=◌}
 use Rattle.druid_segid.specs.Identifier.{Identifier}
 use Rattle.druid_shard.specs.Json.{text_at}
@@ -12,10 +13,6 @@ use Rattle.druid_config.specs.Configs.{Node, Broker, Asked, Reported, node_of, n
 pub each_next : {A B : Type 0} (P : B → Type 0) (o : Option A) (f : A → Option B) → ((x : A) → o ≡ Some x → (y : B) → f x ≡ Some y → P y) → (y : B) → (o >>= f) ≡ Some y → P y
 each_next P None f each y e = absurd cc
 each_next P (Some x) f each y e = each x refl y e
-
--- and what holds of a value holds of it where it is given
-pub given_so : {B : Type 0} (P : B → Type 0) (x : B) → P x → (y : B) → Some x ≡ Some y → P y
-given_so P x here y e = subst P (same_Some x y e) here
 
 pub some_of : {A : Type 0} (o : Option A) → IsSome o → (x : A) × (o ≡ Some x)
 some_of None some = absurd cc

@@ -10,6 +10,7 @@ use Rattle.druid_time.specs.Options.{◌>>=◌}
 use Rattle.druid_segid.specs.Names.{is_name}
 use Rattle.druid_segid.specs.Identifier.{Identifier}
 use Rattle.druid_segid.specs.Numbers as numbers
+use Rattle.druid_base.specs.Fields.{list_at}
 use Rattle.druid_shard.specs.Json.{text_at, number_at, source_at, interval_at, version_at}
 use Rattle.druid_shard.specs.Each.{each_of}
 use Rattle.druid_config.specs.Limits.{max_servers, max_workers, max_kept, max_count, max_port}
@@ -122,10 +123,6 @@ some_at limit key d = option_and_then (λ n. if nat_le 1 n && nat_le n limit the
 -- the number at a key, where it is at most 1,000,000
 abbrev pub count_at : List ℕ → Data → Option ℕ
 count_at key d = option_and_then (λ n. if nat_le n max_count then Some n else None) (number_at key d)
-
--- the items of the list at a key
-abbrev pub list_at : List ℕ → Data → Option Items
-list_at key d = option_and_then as_array (get key d)
 
 -- ---- nodes, brokers and queries
 

@@ -1,17 +1,13 @@
 -- What reading a config answers.
 use Rattle.std.specs.Prelude.{◌≡◌, ◌⊎◌, ℕ, List, IsUtf8, Option, Some, None, IsSome, Result, Ok, Err}
 use Rattle.serde_json.specs.Data.{Data}
-use Rattle.serde_json.specs.Read.{read}
+use Rattle.druid_base.specs.Json.{ReadsAs}
 use Rattle.druid_config.specs.BadFields.{IsWrong}
 use Rattle.druid_config.specs.declared.bad_field.BadField.{BadField}
 use Rattle.druid_config.specs.declared.bad_field.BadField.TheVariants as bad
 use Rattle.druid_config.specs.Configs.{Cluster, Reported, reported_of, config_at}
 use Rattle.druid_config.specs.declared.fault.ConfigFault.{ConfigFault}
 use Rattle.druid_config.specs.declared.fault.ConfigFault.TheVariants as faults
-
--- the bytes are the JSON of d, in UTF-8
-abbrev pub ReadsAs : List ℕ → Data → Type 0
-ReadsAs bytes d = IsUtf8 bytes × (read bytes ≡ Some d)
 
 -- the config that the bytes give, or that none is. out of memory only where nothing else is refused
 abbrev pub Gives : Result Cluster ConfigFault → Option Reported → Type 0

@@ -1,9 +1,9 @@
 //! The fields of a config, read out of JSON. Nothing here allocates.
 ghost use Rattle.std.specs.Prelude.{◌≡◌, ◌≤◌, IsTrue, IfSome, option_map};
-ghost use Rattle.serde_json.specs.View.{view, items_view};
+ghost use Rattle.serde_json.specs.View.{view};
 ghost use Rattle.druid_segid.specs.Names.{is_name};
 ghost use Rattle.druid_segid.specs.Numbers as numbers;
-ghost use Rattle.druid_config.specs.Configs.{is_port, is_address, address_at, name_at, tombstone_at, some_at, count_at, list_at, place_at, object_at};
+ghost use Rattle.druid_config.specs.Configs.{is_port, is_address, address_at, name_at, tombstone_at, some_at, count_at, place_at, object_at};
 ghost use Rattle.druid_shard.specs.Json.{source_at, interval_at, version_at};
 
 use crate::{MAX_COUNT, MAX_PORT};
@@ -138,14 +138,6 @@ pub(crate) fn count_field(value: &Value, key: &str) -> Option<u64>
     } else {
         None
     }
-}
-
-// The values of the list at a key.
-pub(crate) fn list_field<'a>(value: &'a Value, key: &str) -> Option<&'a [Value]>
-    ensures { option_map (λ vs. items_view vs.now) result ≡ list_at key.now (view value.now) }
-{
-    let values = value.get(key).and_then(Value::as_array)?;
-    Some(values.as_slice())
 }
 
 // The place of the broker that a query is for, where there are so many brokers.

@@ -5,26 +5,21 @@ ghost use Rattle.std.specs.Result.{result_ok};
 ghost use Rattle.std.specs.Str.{bytes_eq};
 ghost use Rattle.serde_json.specs.Data.{Data, Items};
 ghost use Rattle.serde_json.specs.View.{view, items_view};
-ghost use Rattle.serde_json.specs.Find.{as_str, get_item};
+ghost use Rattle.serde_json.specs.Find.{get_item};
+ghost use Rattle.druid_base.specs.Fields.{list_at};
 ghost use Rattle.druid_config.specs.BadFields.{BreaksNode, BreaksBroker, BreaksQuery, IsWrong};
-ghost use Rattle.druid_config.specs.Configs.{Broker, name_at, loads_at, tombstone_at, tombstones_at, node_at, broker_at, query_at, are_few, are_distinct, nodes_in, brokers_in, list_at, nodes_at, brokers_at, queries_at, config_at};
+ghost use Rattle.druid_config.specs.Configs.{Broker, name_at, loads_at, tombstone_at, tombstones_at, node_at, broker_at, query_at, are_few, are_distinct, nodes_in, brokers_in, nodes_at, brokers_at, queries_at, config_at};
 ghost use Rattle.druid_config.specs.Borrowed.{text_or, names_in};
 
 use crate::bad_field::{BadField, BrokerRule, NodeRule, QueryRule, WholeRule};
 use crate::fields::{
-    address_field, chunk_field, count_field, list_field, name_field, object_field, place_field,
+    address_field, chunk_field, count_field, name_field, object_field, place_field,
     some_field,
 };
 use crate::{MAX_KEPT, MAX_SERVERS, MAX_WORKERS};
+use druid_base::{are_texts, list_field};
 use druid_shard::text_field;
 use serde_json::Value;
-
-// Whether each value is a text.
-fn are_texts(values: &[Value]) -> bool
-    ensures { result ≡ list_all (λ value. is_some (as_str (view value))) values.now }
-{
-    values.iter().all(|value| value.is_string())
-}
 
 // Whether the files that a node loads are named.
 #[tactic(auto, using(crate::proofs::FormLemmas::texts_judged))]

@@ -9,9 +9,9 @@ ghost use Rattle.druid_config.specs.Read.{Gives, IsReadOf, IsFoundIn};
 use crate::building::built;
 use crate::judging::bad_field_of;
 use crate::{BadField, Config, ConfigFault};
+use druid_base::{JsonFault, parse_json};
 use serde_json::Value;
 use std::alloc::{AllocError, Global};
-use std::str;
 
 /// Reads a config: `Refused` where the value is none, and then `Memory`. The value nests at most 127 deep, as each that was
 /// read out of a text does. Other keys are passed over.
@@ -33,15 +33,10 @@ pub fn config_of(alloc: Global, value: &Value) -> Result<Config, ConfigFault>
 pub fn read_config(alloc: Global, bytes: &[u8]) -> Result<Config, ConfigFault>
     ensures { IsReadOf bytes.now result }
 {
-    match Value::from_slice(alloc, bytes) {
+    match parse_json(alloc, bytes) {
         Ok(value) => config_of(alloc, &value),
-        Err(error) => {
-            if error.is_memory() && str::from_utf8(bytes).is_ok() {
-                Err(ConfigFault::Memory)
-            } else {
-                Err(ConfigFault::Refused)
-            }
-        }
+        Err(JsonFault::NotJson) => Err(ConfigFault::Refused),
+        Err(JsonFault::Memory) => Err(ConfigFault::Memory),
     }
 }
 
@@ -51,14 +46,9 @@ pub fn bad_field_in(alloc: Global, bytes: &[u8]) -> Result<Option<BadField>, All
     ensures found { IfOk result (IsFoundIn bytes.now) }
     ensures memory { OnErr result (IsUtf8 bytes.now) }
 {
-    match Value::from_slice(alloc, bytes) {
+    match parse_json(alloc, bytes) {
         Ok(value) => Ok(bad_field_of(&value)),
-        Err(error) => {
-            if error.is_memory() && str::from_utf8(bytes).is_ok() {
-                Err(AllocError)
-            } else {
-                Ok(Some(BadField::Json))
-            }
-        }
+        Err(JsonFault::NotJson) => Ok(Some(BadField::Json)),
+        Err(JsonFault::Memory) => Err(AllocError),
     }
 }

@@ -14,6 +14,7 @@ use Rattle.druid_query.specs.Read.{IsQuery}
 use Rattle.druid_query.specs.Asked.{Asked}
 use Rattle.druid_query.specs.AskedOrder.{same_asked, same_asked-equiv}
 use Rattle.druid_query.specs.SubQuery.{SubQuery, IsAsked, subquery_data, subquery_at, subquery_text}
+use Rattle.druid_query.proofs.AskedLemmas.{all_of_each}
 use Rattle.druid_query_text.proofs.SubBackLemmas.{sub_back}
 use Rattle.druid_partial.specs.Groups.{Group, IsResult}
 use Rattle.druid_partial.specs.Rows.{kinds_of}
@@ -37,7 +38,7 @@ use Rattle.druid_scatter.specs.Exact.{without, IsHonest}
 use Rattle.druid_scatter.proofs.ExactLemmas.{any_found, any_counted}
 use Rattle.druid_headline.specs.Headline.{AreAmong}
 use Rattle.druid_headline.proofs.TextLemmas.{subquery_read, answer_text_read}
-use Rattle.druid_headline.proofs.WordLemmas.{groups_held, all_of_each}
+use Rattle.druid_headline.proofs.WordLemmas.{groups_held}
 
 -- ---- the request
 

@@ -1,10 +1,9 @@
 -- What a result over segments tells: instants, and numbers of 64 bits.
-use Rattle.std.proofs.Common.{◌≡◌, ℕ, zero, suc, ◌<◌, ℤ, Bool, true, false, ◌&&◌, nat_le, nat_lt, List, [], ◌∷◌, get_or, map, All, Option, Some, None, IfSome, option_and_then, refl, sym, subst, arith}
-use Rattle.std.specs.Prelude.{FitsSigned, Contains, filter, cond, slice_index_or, unwrap_or}
+use Rattle.std.proofs.Common.{◌≡◌, ℕ, zero, suc, ◌<◌, ℤ, Bool, true, ◌&&◌, nat_le, nat_lt, List, [], ◌∷◌, get_or, map, All, Option, Some, None, option_and_then, refl, sym, subst, arith}
+use Rattle.std.specs.Prelude.{FitsSigned, Contains, filter, slice_index_or, unwrap_or}
 use Rattle.std.specs.Int.{w64}
 use Rattle.std.specs.Ordering.{is_eq}
-use Rattle.std.specs.Str.{bytes_eq}
-use Rattle.std.proofs.lemmas.Int.{ints, SFits-int_wrap}
+use Rattle.std.proofs.lemmas.Int.{SFits-int_wrap}
 use Rattle.std.proofs.lemmas.Bool.{and_parts, ltb-true}
 use Rattle.std.proofs.lemmas.List.Elements.{All-nil, All-cons, All-head, All-tail, All-contains, All-from_get_or, All-map}
 use Rattle.std.proofs.lemmas.Option.{slice_get-get_or}
@@ -23,36 +22,20 @@ use Rattle.druid_query.specs.Read.{IsQuery}
 use Rattle.druid_query.specs.Asked.{Asked}
 use Rattle.druid_query.specs.declared.aggregator.AggregatorKind.{AggregatorKind}
 use Rattle.druid_query.specs.declared.aggregator.AggregatorKind.TheVariants.{Count, LongSum, LongMin, LongMax}
+use Rattle.druid_query.proofs.AskedLemmas.{all_of_each}
 use Rattle.druid_query_text.proofs.QueryBackLemmas.{query_sound}
 use Rattle.druid_partial.specs.Groups.{Key, Group, AreWords, key_cmp, known, column, number_at, IsReported, IsAggregate, IsGroupOf, IsResult}
-use Rattle.druid_partial.specs.Rows.{number_in, earliest, one_or, taken, tells, passes_if, is_asked, kinds_of}
+use Rattle.druid_partial.specs.Rows.{number_in, earliest, taken, tells, passes_if, is_asked, kinds_of}
 use Rattle.druid_partial.specs.Once.{segment_named, counted_in, counted_of, counted_groups}
+use Rattle.druid_partial.proofs.MergedLemmas.{IsWord}
+use Rattle.druid_partial.proofs.SourceLemmas.{number_word, one_word}
 use Rattle.druid_partial_text.specs.Written.{IsHeld}
 use Rattle.druid_node.proofs.HeldLemmas.{found_each}
-
-abbrev IsWord : Option ℤ → Type 0
-IsWord x = IfSome x (FitsSigned w64)
 
 abbrev Fits : ℤ → Type 0
 Fits z = FitsSigned w64 z
 
 -- ---- what one row tells
-
-number_word : (names : List (List ℕ)) (numbers : List (Option ℤ)) (name : List ℕ) → AreWords numbers → IsWord (number_in names numbers name)
-number_word [] numbers name words = tt
-number_word (n ∷ names) [] name words = tt
-number_word (n ∷ names) (x ∷ numbers) name words =
-    by (bytes_eq n name) (number_word names numbers name (All-tail IsWord x numbers words))
-  where
-    by : (b : Bool) → IsWord (number_in names numbers name) → IsWord (cond b x (number_in names numbers name))
-    by true rest = All-head IsWord x numbers words
-    by false rest = rest
-
-one_word : (kind : AggregatorKind) (x : Option ℤ) → IsWord x → IsWord (one_or kind x)
-one_word Count x word = omega (arith, ints)
-one_word LongSum x word = word
-one_word LongMin x word = word
-one_word LongMax x word = word
 
 field_word : (fields : Schema) (row : Row) (field : Option (List ℕ)) → AreWords row.metrics → IsWord (option_and_then (number_in fields.metrics row.metrics) field)
 field_word fields row None words = tt
@@ -128,10 +111,6 @@ word_at : (numbers : List (Option ℤ)) (place : ℕ) → AreWords numbers → I
 word_at [] place words = tt
 word_at (x ∷ xs) zero words = All-head IsWord x xs words
 word_at (x ∷ xs) (suc place) words = word_at xs place (All-tail IsWord x xs words)
-
-pub all_of_each : {X : Type 0} (P : X → Type 0) (xs : List X) → ((x : X) → Contains xs x → P x) → All P xs
-all_of_each P [] each = All-nil P
-all_of_each P (x ∷ xs) each = All-cons P x xs (each x (0, omega arith, refl)) (all_of_each P xs (λ y there. each y (Contains-later x xs y there)))
 
 column_words : (key : Key) (place : ℕ) (rows : List Group) → All IsHeld rows → AreWords (column key place rows)
 column_words key place rows held =

@@ -84,15 +84,14 @@ written_back m n source was now found same writes s = elim (same_or_not s source
   | inr apart ↦ others_stay m n source source (Some now) refl writes s apart
 ]
 
--- what is inserted is removed
-pub removed_again : (m n p : BTreeMap (List ℕ) Serving) (source key : List ℕ) (t : Serving) → key ≡ source → kept m source ≡ None
-    → UpdatesBy (slice_cmp nat_cmp) (slice_cmp nat_cmp key) m n (Some t) → UpdatesBy (slice_cmp nat_cmp) (slice_cmp nat_cmp source) n p None
-    → (s : List ℕ) → kept p s ≡ kept m s
-removed_again m n p source key t same none inserts removes s = elim (same_or_not s source) [
+-- a place that was made is removed
+pub removed_again : (m n p : BTreeMap (List ℕ) Serving) (source : List ℕ) → kept m source ≡ None → HasPlace m n source
+    → UpdatesBy (slice_cmp nat_cmp) (slice_cmp nat_cmp source) n p None → (s : List ℕ) → kept p s ≡ kept m s
+removed_again m n p source none place removes s = elim (same_or_not s source) [
   | inl e ↦
       let here : kept p source ≡ kept m source = removes.1 ∙ sym none in
       subst (λ (x : List ℕ). kept p x ≡ kept m x) (sym e) here
-  | inr apart ↦ others_stay n p source source None refl removes s apart ∙ others_stay m n source key (Some t) same inserts s apart
+  | inr apart ↦ others_stay n p source source None refl removes s apart ∙ place.others s apart
 ]
 
 -- nothing is held, and the place goes

@@ -1,5 +1,5 @@
 //! Edits of the timelines of several sources, which are committed or rolled back together.
-ghost use Rattle.std.specs.Prelude.{◌≡◌, ℕ, List, [], None, Some, IsSome, OnOk, OnErr};
+ghost use Rattle.std.specs.Prelude.{IfOk, ◌≡◌, ℕ, List, [], None, Some, IsSome, OnOk, OnErr};
 ghost use Rattle.druid_segid.specs.Group.{Group};
 ghost use Rattle.druid_chunks.specs.Chunks.{members_at};
 ghost use Rattle.druid_shard.specs.Described.{Described};
@@ -34,7 +34,7 @@ fn begin_kept(
     ensures place { OnErr result (place.new ≡ place.old) }
     ensures edits { OnErr result (edits.new.entries ≡ edits.old.entries) }
 {
-    let left = Timeline::new(alloc, source.clone()?);
+    let left = empty_timeline(alloc, source)?;
     let name = source.clone()?;
     let timeline = place.take(left)?;
     match edits.insert(name, Transaction::begin(timeline)) {
@@ -46,6 +46,24 @@ fn begin_kept(
             Err(AllocError)
         }
     }
+}
+
+// A timeline of a source that holds nothing.
+fn empty_timeline(alloc: Global, source: &Name) -> Result<Timeline, AllocError>
+    ensures { IfOk result (λ timeline. timeline ≡ record { source = source.now; held = [] }) }
+{
+    Ok(Timeline::new(alloc, source.clone()?))
+}
+
+// Makes a place for a source that has none.
+fn put_place(timelines: &mut Timelines, alloc: Global, source: &Name) -> Result<(), AllocError>
+    ensures ok { OnOk result (HasPlace timelines.old timelines.new source.now) }
+    ensures err { OnErr result (timelines.new.entries ≡ timelines.old.entries) }
+{
+    let name = source.clone()?;
+    let empty = empty_timeline(alloc, source)?;
+    timelines.insert(name, SharedTimeline::new(alloc, empty))?;
+    Ok(())
 }
 
 // Makes a place for a source that has no timeline, and begins its edits.
@@ -63,10 +81,9 @@ fn begin_new(
     ensures edits { OnErr result (edits.new.entries ≡ edits.old.entries) }
 {
     let name = source.clone()?;
-    let begun = Transaction::begin(Timeline::new(alloc, source.clone()?));
-    let left = SharedTimeline::new(alloc, Timeline::new(alloc, source.clone()?));
-    timelines.insert(source.clone()?, left)?;
-    match edits.insert(name, begun) {
+    let empty = empty_timeline(alloc, source)?;
+    put_place(timelines, alloc, source)?;
+    match edits.insert(name, Transaction::begin(empty)) {
         Ok(_) => Ok(()),
         Err(_) => {
             timelines.remove(source);

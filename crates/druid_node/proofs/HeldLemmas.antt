@@ -7,7 +7,7 @@ use Rattle.std.specs.Option.{is_some, option_map}
 use Rattle.std.specs.Ordering.{is_eq, match_ordering}
 use Rattle.std.specs.declared.cmp.Ordering.{Ordering}
 use Rattle.std.specs.declared.cmp.Ordering.TheVariants.{Less, Equal, Greater}
-use Rattle.std.proofs.lemmas.Bool.{cases_Bool, false≢true}
+use Rattle.std.proofs.lemmas.Bool.{cases_Bool, false≢true, not-true}
 use Rattle.std.proofs.lemmas.List.Elements.{All-nil, All-cons, All-head, All-tail}
 use Rattle.std.proofs.lemmas.Option.{same_Some}
 use Rattle.druid_segid.specs.Identifier.{Identifier, same_identifier, identifier_cmp}
@@ -120,12 +120,8 @@ pub not_some : (o : Option Segment) → is_some o ≡ false → o ≡ None
 not_some None e = refl
 not_some (Some x) e = absurd (false≢true (sym e))
 
-not_on : (b : Bool) → not b ≡ true → b ≡ false
-not_on true e = absurd (false≢true e)
-not_on false e = refl
-
 pub absent : (xs : List Segment) (d : Described) → IsDescribed d → All IsWhole xs → is_strict (descriptors_of xs) (Load d) ≡ true → segment_named d.id xs ≡ None
-absent xs d h each strict = not_some (segment_named d.id xs) (held-shares xs d h each ∙ not_on (list_any (λ x. shares_identifier x d) (descriptors_of xs)) strict)
+absent xs d h each strict = not_some (segment_named d.id xs) (held-shares xs d h each ∙ not-true (list_any (λ x. shares_identifier x d) (descriptors_of xs)) strict)
 
 pub with_held-descriptors : (xs : List Segment) (s : Segment) → IsDescribed s.descriptor → All IsWhole xs → segment_named s.descriptor.id xs ≡ None
     → descriptors_of (with_held s xs) ≡ with_segment s.descriptor (descriptors_of xs)

@@ -3,7 +3,7 @@ use Rattle.std.proofs.Common.{◌≡◌, ◌≤◌, Bool, true, false, not, cond
 use Rattle.std.specs.List.{All, filter, list_any}
 use Rattle.std.specs.Option.{option_map}
 use Rattle.std.specs.Ordering.{is_lt}
-use Rattle.std.proofs.lemmas.Bool.{cases_Bool, false≢true, lt-ltb, or_parts}
+use Rattle.std.proofs.lemmas.Bool.{cases_Bool, lt-ltb, or_parts, not-true}
 use Rattle.std.proofs.lemmas.List.Elements.{All-head, All-tail, All-filter, All-weaker}
 use Rattle.std.proofs.lemmas.List.Kept.{AllPairs-filter}
 use Rattle.std.proofs.lemmas.Option.{same_Some}
@@ -51,13 +51,9 @@ none_named f (x ∷ xs) none =
     by_test rest here true = rest
     by_test rest here false = rw here rest
 
-not_on : (b : Bool) → not b ≡ true → b ≡ false
-not_on true e = absurd (false≢true e)
-not_on false e = refl
-
 -- a load that is strict, and for which there is room, is so among those with rows
 pub with_rows-strict : (s : List Described) (d : Described) → is_strict s (Load d) ≡ true → is_strict (with_rows s) (Load d) ≡ true
-with_rows-strict s d strict = ap not (none_named (λ x. shares_identifier x d) s (not_on (list_any (λ x. shares_identifier x d) s) strict))
+with_rows-strict s d strict = ap not (none_named (λ x. shares_identifier x d) s (not-true (list_any (λ x. shares_identifier x d) s) strict))
 
 pub with_rows-room : (s : List Described) (d : Described) → has_room s (Load d) ≡ true → has_room (with_rows s) (Load d) ≡ true
 with_rows-room s d room =

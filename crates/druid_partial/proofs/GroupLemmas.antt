@@ -11,12 +11,15 @@ use Rattle.std.proofs.lemmas.Cmp.{tied_itself}
 use Rattle.std.proofs.lemmas.List.{map-append, append-nil, ext_get_or}
 use Rattle.std.proofs.lemmas.List.Elements.{filter-append, Contains-append_left, Contains-append_right, Contains-append_cases}
 use Rattle.std.proofs.lemmas.Map.Keys.{sorted_head, sorted_tail}
+use Rattle.std.proofs.lemmas.Bool.{false_from_ne_true}
+use Rattle.druid_base.proofs.ListLemmas.{Contains-here}
 use Rattle.druid_segid.proofs.OrderLemmas.{both-Equal, nat_cmp-Equal, slice_cmp-Equal}
+use Rattle.druid_shard.proofs.MemberLemmas.{Contains-later, Contains-nil, Contains-cons}
 use Rattle.druid_query.specs.declared.aggregator.AggregatorKind.{AggregatorKind}
 use Rattle.druid_partial.specs.Groups.{Key, Group, value_cmp, key_cmp, key_of, InOrder, known, number_at, column, Occurs, IsAggregate, IsResult, IsMerge}
 use Rattle.druid_partial.specs.Joined.{joined}
 use Rattle.druid_partial.specs.Orders.{key_cmp-total}
-use Rattle.druid_partial.proofs.NumberLemmas.{contains_here, contains_there, contains_none, contains_cases, reported, reported-append, reported-again, counted_is, counted_alone, again, joined-none, joined-comm}
+use Rattle.druid_partial.proofs.NumberLemmas.{reported, reported-append, reported-again, counted_is, counted_alone, again, joined-none, joined-comm}
 
 -- ---- keys that tie are one
 
@@ -96,30 +99,26 @@ at-here kind place g rows key e =
     at-cons kind key place g rows
     ∙ ap (λ o. joined kind (cond (is_eq o) (one kind place g) None) (at kind key place rows)) (tied_of key g.key e)
 
-is_no : (b : Bool) → (b ≡ true → ⊥) → b ≡ false
-is_no true h = absurd (h refl)
-is_no false h = refl
-
 pub at-apart : (kind : AggregatorKind) (place : ℕ) (g : Group) (rows : List Group) (key : Key) → (key ≡ g.key → ⊥) → at kind key place (g ∷ rows) ≡ at kind key place rows
 at-apart kind place g rows key apart =
     at-cons kind key place g rows
     ∙ ap (λ b. joined kind (cond b (one kind place g) None) (at kind key place rows))
-    (is_no (is_eq (key_cmp key g.key)) (λ t. apart (key_same key g.key (eq_yes _ t))))
+    (false_from_ne_true (is_eq (key_cmp key g.key)) (λ t. apart (key_same key g.key (eq_yes _ t))))
 
 -- ---- which keys occur
 
 pub occurs_here : (g : Group) (rows : List Group) → Occurs g.key (g ∷ rows)
-occurs_here g rows = (g, contains_here g rows, refl)
+occurs_here g rows = (g, Contains-here g rows, refl)
 
 pub occurs_there : (g : Group) (rows : List Group) (key : Key) → Occurs key rows → Occurs key (g ∷ rows)
-occurs_there g rows key o = (o.0, contains_there g rows o.0 o.1, o.2)
+occurs_there g rows key o = (o.0, Contains-later g rows o.0 o.1, o.2)
 
 pub occurs_along : (rows : List Group) (a b : Key) → a ≡ b → Occurs a rows → Occurs b rows
 occurs_along rows a b e o = let P : Key → Type 0 = λ k. Occurs k rows in subst P e o
 
 pub occurs_cases : (g : Group) (rows : List Group) (key : Key) → Occurs key (g ∷ rows) → (g.key ≡ key) ⊎ Occurs key rows
 occurs_cases g rows key o =
-    ⊎_elim (λ e. inl (ap key_of e ∙ o.2)) (λ c. inr (o.0, c, o.2)) (contains_cases g rows o.0 o.1)
+    ⊎_elim (λ e. inl (ap key_of e ∙ o.2)) (λ c. inr (o.0, c, o.2)) (Contains-cons g rows o.0 o.1)
 
 pub occurs_left : (a b : List Group) (key : Key) → Occurs key a → Occurs key (a ++ b)
 occurs_left a b key o = (o.0, Contains-append_left a b o.0 o.1, o.2)
@@ -132,7 +131,7 @@ occurs_both a b key o =
     ⊎_elim (λ c. inl (o.0, c, o.2)) (λ c. inr (o.0, c, o.2)) (Contains-append_cases a b o.0 o.1)
 
 pub no_occurrence : (key : Key) → Occurs key [] → ⊥
-no_occurrence key o = contains_none o.0 o.1
+no_occurrence key o = Contains-nil o.0 o.1
 
 same_or : (a b : Key) (o : Ordering) → key_cmp a b ≡ o → (a ≡ b) ⊎ (a ≡ b → ⊥)
 same_or a b Less e = inr (less_apart a b e)
@@ -159,9 +158,9 @@ pub below_rest : (g : Group) (gs : List Group) → InOrder (g ∷ gs) → (h : G
 below_rest g gs s = below_by g gs (sorted_head key_cmp g.key (map key_of gs) s)
   where
     below_by : (g : Group) (gs : List Group) → AllByRecursion (λ k. key_cmp g.key k ≡ Less) (map key_of gs) → (h : Group) → Contains gs h → key_cmp g.key h.key ≡ Less
-    below_by g [] a h c = absurd (contains_none h c)
+    below_by g [] a h c = absurd (Contains-nil h c)
     below_by g (x ∷ xs) a h c =
-        ⊎_elim (λ e. let P : Group → Type 0 = λ y. key_cmp g.key y.key ≡ Less in subst P e a.0) (λ more. below_by g xs a.1 h more) (contains_cases x xs h c)
+        ⊎_elim (λ e. let P : Group → Type 0 = λ y. key_cmp g.key y.key ≡ Less in subst P e a.0) (λ more. below_by g xs a.1 h more) (Contains-cons x xs h c)
 
 pub in_order_rest : (g : Group) (gs : List Group) → InOrder (g ∷ gs) → InOrder gs
 in_order_rest g gs s = sorted_tail key_cmp g.key (map key_of gs) s
@@ -172,14 +171,14 @@ in_order_more g gs below s = (all_below g gs below, s)
   where
     all_below : (g : Group) (gs : List Group) → ((h : Group) → Contains gs h → key_cmp g.key h.key ≡ Less) → AllByRecursion (λ k. key_cmp g.key k ≡ Less) (map key_of gs)
     all_below g [] below = tt
-    all_below g (x ∷ xs) below = (below x (contains_here x xs), all_below g xs (λ h c. below h (contains_there x xs h c)))
+    all_below g (x ∷ xs) below = (below x (Contains-here x xs), all_below g xs (λ h c. below h (Contains-later x xs h c)))
 
 first_is_gone : (g : Group) (gs : List Group) → InOrder (g ∷ gs) → Occurs g.key gs → ⊥
 first_is_gone g gs s o = less_apart g.key o.0.key (below_rest g gs s o.0 o.1) (sym o.2)
 
 -- of groups in order, each alone tells what is counted at its key
 pub at_group : (kind : AggregatorKind) (place : ℕ) (gs : List Group) → InOrder gs → (g : Group) → Contains gs g → at kind g.key place gs ≡ one kind place g
-at_group kind place [] s g c = absurd (contains_none g c)
+at_group kind place [] s g c = absurd (Contains-nil g c)
 at_group kind place (x ∷ xs) s g c =
     ⊎_elim
     (λ e. at-here kind place x xs g.key (sym (ap key_of e))
@@ -187,7 +186,7 @@ at_group kind place (x ∷ xs) s g c =
     ∙ joined-none kind (one kind place x) ∙ ap (one kind place) e)
     (λ more. at-apart kind place x xs g.key (λ e. less_apart x.key g.key (below_rest x xs s g more) (sym e))
     ∙ at_group kind place xs (in_order_rest x xs s) g more)
-    (contains_cases x xs g c)
+    (Contains-cons x xs g c)
 
 -- ---- a result tells at each key what its rows tell
 
@@ -305,20 +304,20 @@ heads_same a b gs hs p q c d =
     ⊎_elim (λ e. sym e)
     (λ more. ⊎_elim (λ e. e)
     (λ less. absurd (greater_of a.key b.key (below_rest a gs p b less) (below_rest b hs q a more)))
-    (contains_cases a gs b d))
-    (contains_cases b hs a c)
+    (Contains-cons a gs b d))
+    (Contains-cons b hs a c)
 
 rest_in : (a b : Group) (gs hs : List Group) → a ≡ b → InOrder (a ∷ gs) → ((g : Group) → Contains (a ∷ gs) g → Contains (b ∷ hs) g) → (g : Group) → Contains gs g → Contains hs g
 rest_in a b gs hs e p to g c =
     ⊎_elim (λ here. absurd (less_apart a.key g.key (below_rest a gs p g c) (ap key_of (e ∙ here)))) (λ more. more)
-    (contains_cases b hs g (to g (contains_there a gs g c)))
+    (Contains-cons b hs g (to g (Contains-later a gs g c)))
 
 pub one_list : (x y : List Group) → InOrder x → InOrder y → ((g : Group) → Contains x g → Contains y g) → ((g : Group) → Contains y g → Contains x g) → x ≡ y
 one_list [] [] p q to back = refl
-one_list [] (b ∷ hs) p q to back = absurd (contains_none b (back b (contains_here b hs)))
-one_list (a ∷ gs) [] p q to back = absurd (contains_none a (to a (contains_here a gs)))
+one_list [] (b ∷ hs) p q to back = absurd (Contains-nil b (back b (Contains-here b hs)))
+one_list (a ∷ gs) [] p q to back = absurd (Contains-nil a (to a (Contains-here a gs)))
 one_list (a ∷ gs) (b ∷ hs) p q to back =
-    let head : a ≡ b = heads_same a b gs hs p q (to a (contains_here a gs)) (back b (contains_here b hs)) in
+    let head : a ≡ b = heads_same a b gs hs p q (to a (Contains-here a gs)) (back b (Contains-here b hs)) in
     let rest : gs ≡ hs =
     one_list gs hs (in_order_rest a gs p) (in_order_rest b hs q) (rest_in a b gs hs head p to) (rest_in b a hs gs (sym head) q back) in
     cc

@@ -7,6 +7,8 @@ use Rattle.std.specs.declared.cmp.Ordering.{Ordering}
 use Rattle.std.specs.declared.cmp.Ordering.TheVariants.{Less, Equal, Greater}
 use Rattle.std.proofs.lemmas.Int.{int_wrap_fits}
 use Rattle.std.proofs.lemmas.List.Elements.{All-head, All-tail, Contains-append_cases}
+use Rattle.druid_base.proofs.ListLemmas.{Contains-here}
+use Rattle.druid_shard.proofs.MemberLemmas.{Contains-later, Contains-nil, Contains-cons}
 use Rattle.druid_query.specs.declared.aggregator.AggregatorKind.{AggregatorKind}
 use Rattle.druid_query.specs.declared.aggregator.AggregatorKind.TheVariants.{Count, LongSum, LongMin, LongMax}
 use Rattle.druid_partial.specs.Groups.{Key, Group, AreWords, key_cmp, InOrder, number_at, Occurs, IsAggregate, IsGroupOf, IsResult, IsMerge, known, column}
@@ -14,7 +16,7 @@ use Rattle.druid_partial.specs.Rows.{HasNumbers}
 use Rattle.druid_partial.specs.Joined.{alone, joined, join_numbers, join_groups, put, merged}
 use Rattle.druid_partial.specs.Orders.{key_cmp-total}
 use Rattle.druid_partial.proofs.OrderLemmas.{no_rows}
-use Rattle.druid_partial.proofs.NumberLemmas.{contains_here, contains_there, contains_none, contains_cases, counted_is, again, joined-none}
+use Rattle.druid_partial.proofs.NumberLemmas.{counted_is, again, joined-none}
 use Rattle.druid_partial.proofs.GroupLemmas.{key_same, less_apart, at, one, at-append, at-here, at-absent, occurs_here, occurs_there, occurs_along, occurs_cases, occurs_left, occurs_right, no_occurrence, below_rest, in_order_rest, in_order_more, number_of, Alike, result_alike, alike_append, alike_swap, alike_itself}
 
 abbrev pub AreKept : List AggregatorKind → List Group → Type 0
@@ -76,7 +78,7 @@ beyond_absent key rows b o = less_apart key o.0.key (b o.0 o.1) (sym o.2)
 pub front_group : (kinds : List AggregatorKind) (g : Group) (front rows groups : List Group) → length g.numbers ≡ length kinds → ((key : Key) → Occurs key front → g.key ≡ key) → Occurs g.key front → ((place : ℕ) (kind : AggregatorKind) → slice_get kinds place ≡ Some kind → number_at place g ≡ at kind g.key place front) → IsResult kinds rows groups → Beyond g.key rows → IsResult kinds (front ++ rows) (g ∷ groups)
 front_group kinds g front rows groups numbers only there tells r b = record {
   ordered = in_order_more g groups (beyond_result kinds g.key rows groups r b) r.ordered;
-  each = λ h c. ⊎_elim (λ e. let P : Group → Type 0 = λ x. IsGroupOf kinds (front ++ rows) x in subst P e first) (λ more. other h more) (contains_cases g groups h c);
+  each = λ h c. ⊎_elim (λ e. let P : Group → Type 0 = λ x. IsGroupOf kinds (front ++ rows) x in subst P e first) (λ more. other h more) (Contains-cons g groups h c);
   whole = λ row c. ⊎_elim
       (λ l. occurs_along (g ∷ groups) g.key row.key (only row.key (row, l, refl)) (occurs_here g groups))
       (λ m. occurs_there g groups row.key (r.whole row m))
@@ -136,10 +138,10 @@ front_two kinds g h rows groups k l e r b =
         ∙ ap (λ x. joined kind x (number_at place h)) (kept_tells kinds g k place kind)
 
 kept_head : (kinds : List AggregatorKind) (g : Group) (gs : List Group) → AreKept kinds (g ∷ gs) → HasNumbers kinds g
-kept_head kinds g gs k = k g (contains_here g gs)
+kept_head kinds g gs k = k g (Contains-here g gs)
 
 kept_rest : (kinds : List AggregatorKind) (g : Group) (gs : List Group) → AreKept kinds (g ∷ gs) → AreKept kinds gs
-kept_rest kinds g gs k h c = k h (contains_there g gs h c)
+kept_rest kinds g gs k h c = k h (Contains-later g gs h c)
 
 -- kept groups in order are the result over themselves
 pub settled : (kinds : List AggregatorKind) (gs : List Group) → InOrder gs → AreKept kinds gs → IsResult kinds gs gs
@@ -155,7 +157,7 @@ beyond_append key a b p q row c = ⊎_elim (p row) (q row) (Contains-append_case
 beyond_cons : (key : Key) (g : Group) (gs : List Group) → key_cmp key g.key ≡ Less → InOrder (g ∷ gs) → Beyond key (g ∷ gs)
 beyond_cons key g gs l s row c =
     ⊎_elim (λ e. let P : Group → Type 0 = λ x. key_cmp key x.key ≡ Less in subst P e l)
-    (λ more. key_cmp-total.trans key g.key row.key l (below_rest g gs s row more)) (contains_cases g gs row c)
+    (λ more. key_cmp-total.trans key g.key row.key l (below_rest g gs s row more)) (Contains-cons g gs row c)
 
 beyond_same : (a b : Key) (gs : List Group) → a ≡ b → Beyond a gs → Beyond b gs
 beyond_same a b gs e p = let P : Key → Type 0 = λ k. Beyond k gs in subst P e p
@@ -171,7 +173,7 @@ alike_move kinds g a b =
 
 put_is_merge : (kinds : List AggregatorKind) (x : Group) (xs : List Group) → ((ys : List Group) → InOrder ys → AreKept kinds ys → IsResult kinds (xs ++ ys) (merged kinds xs ys)) → InOrder (x ∷ xs) → HasNumbers kinds x → (ys : List Group) → InOrder ys → AreKept kinds ys → IsResult kinds (x ∷ (xs ++ ys)) (put kinds x (merged kinds xs) ys)
 put_is_merge kinds x xs rest s k [] t l =
-    front_one kinds x (xs ++ []) (merged kinds xs []) k (rest [] t l) (beyond_append x.key xs [] (below_rest x xs s) (λ row c. absurd (contains_none row c)))
+    front_one kinds x (xs ++ []) (merged kinds xs []) k (rest [] t l) (beyond_append x.key xs [] (below_rest x xs s) (λ row c. absurd (Contains-nil row c)))
 put_is_merge kinds x xs rest s k (y ∷ ys) t l =
     by_order (put_is_merge kinds x xs rest s k ys (in_order_rest y ys t) (kept_rest kinds y ys l)) (key_cmp x.key y.key) refl
   where

@@ -4,27 +4,13 @@ use Rattle.std.specs.Prelude.{Contains, pos}
 use Rattle.std.specs.Int.{int_wrap, int_min, int_max, w64}
 use Rattle.std.proofs.Math.IntN.{+ℤ_assoc}
 use Rattle.std.proofs.lemmas.Int.{ints, clamps, int_wrap_fits, int_wrap-add_left, int_wrap-add_right, SFits-int_wrap, by_lt_z}
-use Rattle.std.proofs.lemmas.List.Elements.{All-contains, All-cons, All-nil, All-weaker, Contains-append_right, Contains-append_cases, Contains-push_cases}
+use Rattle.std.proofs.lemmas.List.Elements.{All-contains, All-cons, All-nil, All-weaker}
+use Rattle.druid_base.proofs.ListLemmas.{Contains-here}
+use Rattle.druid_shard.proofs.MemberLemmas.{Contains-later}
 use Rattle.druid_query.specs.declared.aggregator.AggregatorKind.{AggregatorKind}
 use Rattle.druid_query.specs.declared.aggregator.AggregatorKind.TheVariants.{Count, LongSum, LongMin, LongMax}
 use Rattle.druid_partial.specs.Groups.{known, total, IsLeast, IsGreatest, IsReported, IsAggregate}
 use Rattle.druid_partial.specs.Joined.{alone, join_two, joined}
-
--- ---- lists
-
-pub contains_here : {X : Type 0} (x : X) (xs : List X) → Contains (x ∷ xs) x
-contains_here x xs = (0, omega arith, refl)
-
-pub contains_there : {X : Type 0} (x : X) (xs : List X) (y : X) → Contains xs y → Contains (x ∷ xs) y
-contains_there x xs y c = Contains-append_right (x ∷ []) xs y c
-
-pub contains_none : {X : Type 0} (y : X) → Contains [] y → ⊥
-contains_none y c = omega (arith, c.1)
-
-pub contains_cases : {X : Type 0} (x : X) (xs : List X) (y : X) → Contains (x ∷ xs) y → (x ≡ y) ⊎ Contains xs y
-contains_cases x xs y c =
-    ⊎_elim (λ one. ⊎_elim (λ none. absurd (contains_none y none)) (λ e. inl e) (Contains-push_cases [] x y one)) (λ more. inr more)
-    (Contains-append_cases (x ∷ []) xs y c)
 
 -- ---- two numbers
 
@@ -165,26 +151,26 @@ contains_along xs x y e c = let P : ℤ → Type 0 = λ z. Contains xs z in subs
 
 least_more : (x y : ℤ) (xs : List ℤ) → IsLeast xs y → IsLeast (x ∷ xs) (int_min x y)
 least_more x y xs l = record {
-  one = ⊎_elim (λ e. contains_along (x ∷ xs) x _ e (contains_here x xs)) (λ e. contains_along (x ∷ xs) y _ e (contains_there x xs y l.one)) (min_one_of x y);
+  one = ⊎_elim (λ e. contains_along (x ∷ xs) x _ e (Contains-here x xs)) (λ e. contains_along (x ∷ xs) y _ e (Contains-later x xs y l.one)) (min_one_of x y);
   below = All-cons (λ z. int_min x y ≤ℤ z) x xs (min_left x y)
       (All-weaker (λ z. y ≤ℤ z) (λ z. int_min x y ≤ℤ z) (λ z h. le_trans_ℤ _ y z (min_right x y) h) xs l.below);
 }
 
 greatest_more : (x y : ℤ) (xs : List ℤ) → IsGreatest xs y → IsGreatest (x ∷ xs) (int_max x y)
 greatest_more x y xs l = record {
-  one = ⊎_elim (λ e. contains_along (x ∷ xs) x _ e (contains_here x xs)) (λ e. contains_along (x ∷ xs) y _ e (contains_there x xs y l.one)) (max_one_of x y);
+  one = ⊎_elim (λ e. contains_along (x ∷ xs) x _ e (Contains-here x xs)) (λ e. contains_along (x ∷ xs) y _ e (Contains-later x xs y l.one)) (max_one_of x y);
   above = All-cons (λ z. z ≤ℤ int_max x y) x xs (max_left x y)
       (All-weaker (λ z. z ≤ℤ y) (λ z. z ≤ℤ int_max x y) (λ z h. le_trans_ℤ z y _ h (max_right x y)) xs l.above);
 }
 
 counted_min : (x : ℤ) (xs : List ℤ) → (n : ℤ) × (reported LongMin (x ∷ xs) ≡ Some n) × IsLeast (x ∷ xs) n
-counted_min x [] = (x, refl, record { one = contains_here x []; below = All-cons (λ z. x ≤ℤ z) x [] (le_refl_ℤ x) (All-nil (λ z. x ≤ℤ z)) })
+counted_min x [] = (x, refl, record { one = Contains-here x []; below = All-cons (λ z. x ≤ℤ z) x [] (le_refl_ℤ x) (All-nil (λ z. x ≤ℤ z)) })
 counted_min x (y ∷ ys) =
     let rest = counted_min y ys in
     (int_min x rest.0, ap (joined LongMin (Some x)) rest.1, least_more x rest.0 (y ∷ ys) rest.2)
 
 counted_max : (x : ℤ) (xs : List ℤ) → (n : ℤ) × (reported LongMax (x ∷ xs) ≡ Some n) × IsGreatest (x ∷ xs) n
-counted_max x [] = (x, refl, record { one = contains_here x []; above = All-cons (λ z. z ≤ℤ x) x [] (le_refl_ℤ x) (All-nil (λ z. z ≤ℤ x)) })
+counted_max x [] = (x, refl, record { one = Contains-here x []; above = All-cons (λ z. z ≤ℤ x) x [] (le_refl_ℤ x) (All-nil (λ z. z ≤ℤ x)) })
 counted_max x (y ∷ ys) =
     let rest = counted_max y ys in
     (int_max x rest.0, ap (joined LongMax (Some x)) rest.1, greatest_more x rest.0 (y ∷ ys) rest.2)

@@ -3,7 +3,7 @@ use Rattle.std.proofs.Common.{◌≡◌, ◌||◌, ◌&&◌, Bool, true, false, 
 use Rattle.std.specs.Bool.{nat_le, nat_lt}
 use Rattle.std.specs.Cmp.{first_so, second_so}
 use Rattle.std.specs.List.{filter, list_any}
-use Rattle.std.proofs.lemmas.Bool.{false≢true, or_cases, leb-true, ltb-true}
+use Rattle.std.proofs.lemmas.Bool.{false≢true, or_cases, leb-true, ltb-true, not-true}
 use Rattle.std.proofs.lemmas.List.Elements.{filter_agree}
 use Rattle.druid_time.specs.Extent.{Extent, Has}
 use Rattle.druid_segid.specs.Identifier.{Identifier, same_identifier}
@@ -135,10 +135,6 @@ nothing_counted : (query : Query) (segments : List Segment) → [] ≡ counted_o
 nothing_counted query [] = refl
 nothing_counted query (s ∷ rest) = nothing_counted query rest ∙ (λ i. map (tells query s.fields) (sym (none_pass s.rows) i) ++ counted_once query [] rest)
 
-not_on : (b : Bool) → not b ≡ true → b ≡ false
-not_on true e = absurd (false≢true e)
-not_on false e = refl
-
 pub counted_alike : (query : Query) (segments : List Segment) (asked : List Asked) → HaveOwnSegments segments → stand_apart asked ≡ true → Alike (kinds_of query) (counted_groups query segments asked) (counted_once query asked segments)
 counted_alike query segments [] own apart = alike_equal (kinds_of query) [] (counted_once query [] segments) (nothing_counted query segments)
 counted_alike query segments (a ∷ more) own apart =
@@ -146,7 +142,7 @@ counted_alike query segments (a ∷ more) own apart =
     alike_through kinds (counted_of query segments a ++ counted_groups query segments more) (counted_of query segments a ++ counted_once query more segments) (counted_once query (a ∷ more) segments)
     (alike_append kinds (counted_of query segments a) (counted_of query segments a) (counted_groups query segments more) (counted_once query more segments) (alike_itself kinds (counted_of query segments a))
     (counted_alike query segments more own (second_so (not (list_any (do_overlap a) more)) (stand_apart more) apart)))
-    (one_more query a more segments own (not_on (list_any (do_overlap a) more) (first_so (not (list_any (do_overlap a) more)) (stand_apart more) apart)))
+    (one_more query a more segments own (not-true (list_any (do_overlap a) more) (first_so (not (list_any (do_overlap a) more)) (stand_apart more) apart)))
 
 pub rows_once : (query : Query) (segments : List Segment) (asked : List Asked) (groups : List Group) → HaveOwnSegments segments → StandApart asked
     → IsResult (kinds_of query) (counted_groups query segments asked) groups → IsResult (kinds_of query) (counted_once query asked segments) groups

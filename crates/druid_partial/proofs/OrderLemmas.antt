@@ -4,7 +4,7 @@ use Rattle.std.specs.List.Sorted.{IsStrictlySortedBy}
 use Rattle.std.proofs.lemmas.List.Elements.{All-nil}
 use Rattle.std.specs.declared.cmp.Ordering.TheVariants.{Equal}
 use Rattle.druid_query.specs.declared.aggregator.AggregatorKind.{AggregatorKind}
-use Rattle.druid_partial.proofs.NumberLemmas.{contains_none}
+use Rattle.druid_shard.proofs.MemberLemmas.{Contains-nil}
 use Rattle.druid_partial.specs.Rows.{IsPartial, HasNumbers}
 use Rattle.std.specs.Prelude.{String, string_bytes, string_cmp}
 use Rattle.std.specs.Global.{Global}
@@ -40,7 +40,7 @@ no_groups kinds groups e = let P : List Group → Type 0 = λ gs. IsPartial (rec
 pub no_rows : (kinds : List AggregatorKind) (groups : List Group) → groups ≡ [] → IsResult kinds [] groups
 unfolding IsStrictlySortedBy
 no_rows kinds groups e = let P : List Group → Type 0 = λ gs. IsResult kinds [] gs in
-    subst P (sym e) (record { ordered = tt; each = λ g c. absurd (contains_none g c); whole = λ g c. absurd (contains_none g c) })
+    subst P (sym e) (record { ordered = tt; each = λ g c. absurd (Contains-nil g c); whole = λ g c. absurd (Contains-nil g c) })
 
 -- ---- borrowed texts
 

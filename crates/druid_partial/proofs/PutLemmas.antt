@@ -10,7 +10,10 @@ use Rattle.std.specs.declared.cmp.Ordering.TheVariants.{Less, Equal, Greater}
 use Rattle.std.specs.Cmp.Lexicographic.{slice_cmp}
 use Rattle.std.proofs.lemmas.List.{length-set}
 use Rattle.std.proofs.lemmas.Option.{slice_get-get_or}
+use Rattle.druid_base.proofs.ListLemmas.{Contains-here}
 use Rattle.druid_time.specs.Extent.{Extent}
+use Rattle.druid_segid.proofs.OrderLemmas.{nat_cmp-lt, nat_cmp-gt}
+use Rattle.druid_shard.proofs.MemberLemmas.{Contains-later}
 use Rattle.druid_rows.specs.Segment.{row_at}
 use Rattle.druid_query.specs.declared.aggregator.AggregatorKind.{AggregatorKind}
 use Rattle.druid_partial.specs.Groups.{Group, AreWords, value_cmp, key_cmp}
@@ -20,12 +23,11 @@ use Rattle.druid_partial.specs.Places.{at_place, places_of}
 use Rattle.druid_partial.specs.Cells.{Cell, AreColumns, join_into, with_row}
 use Rattle.druid_partial.specs.Plans.{Plan, counted_at, bucket_at, cell_at, group_at, groups_in, IsCell, AreCells, AreUpto, ComeBefore, IsJoined, IsKept}
 use Rattle.druid_partial.specs.Orders.{key_cmp-total}
-use Rattle.druid_partial.proofs.NumberLemmas.{contains_here, contains_there}
 use Rattle.druid_partial.proofs.GroupLemmas.{key_same}
 use Rattle.druid_partial.proofs.MergedLemmas.{joined_length}
 use Rattle.druid_partial.proofs.JoinLemmas.{joined_words}
 use Rattle.druid_partial.proofs.PlaceLemmas.{values_counted}
-use Rattle.druid_partial.proofs.RadixLemmas.{less_is, equal_is, greater_is, cells_order}
+use Rattle.druid_partial.proofs.RadixLemmas.{equal_is, cells_order}
 use Rattle.druid_partial.proofs.RankLemmas.{next_rank}
 use Rattle.druid_partial.proofs.IntoLemmas.{into_is}
 use Rattle.druid_partial.proofs.TellLemmas.{counted_asked, counted_passed, row_numbers}
@@ -55,7 +57,7 @@ put_first kinds plan g (Some c ∷ cells) each =
 put_cell : (kinds : List AggregatorKind) (plan : Plan) (row : ℕ) (cells : List (Option Cell)) (j : ℕ) → j < length cells → ((i : ℕ) (c : Cell) → slice_get cells i ≡ Some (Some c) → key_cmp (counted_at plan row).key (group_at plan c).key ≡ nat_cmp j i) → ((i : ℕ) (c : Cell) → slice_get cells i ≡ Some (Some c) → length c.numbers ≡ length kinds) → length (counted_at plan row).numbers ≡ length kinds → groups_in plan (set cells j (Some (with_row kinds row (counted_at plan row).numbers (slice_index_or cells j None)))) ≡ put kinds (counted_at plan row) (merged kinds []) (groups_in plan cells)
 put_cell kinds plan row [] j h each wide mine = absurd (omega arith)
 put_cell kinds plan row (None ∷ cells) zero h each wide mine =
-    sym (put_first kinds plan (counted_at plan row) cells (λ i c e. each (suc i) c e ∙ less_is zero (suc i) (omega arith)))
+    sym (put_first kinds plan (counted_at plan row) cells (λ i c e. each (suc i) c e ∙ nat_cmp-lt zero (suc i) (omega arith)))
 put_cell kinds plan row (Some d ∷ cells) zero h each wide mine =
     let g = counted_at plan row in
     let tied : key_cmp g.key (group_at plan d).key ≡ Equal = each 0 d refl ∙ equal_is 0 0 refl in
@@ -69,7 +71,7 @@ put_cell kinds plan row (None ∷ cells) (suc j) h each wide mine =
 put_cell kinds plan row (Some d ∷ cells) (suc j) h each wide mine =
     let g = counted_at plan row in
     let later = put_cell kinds plan row cells j (omega (arith, h)) (λ i c e. each (suc i) c e ∙ sym (next_rank j i)) (λ i c e. wide (suc i) c e) mine in
-    let after : key_cmp g.key (group_at plan d).key ≡ Greater = each 0 d refl ∙ greater_is (suc j) 0 (omega arith) in
+    let after : key_cmp g.key (group_at plan d).key ≡ Greater = each 0 d refl ∙ nat_cmp-gt (suc j) 0 (omega arith) in
     ap (λ l. group_at plan d ∷ l) later
     ∙ sym (ap (λ o. match_ordering o (g ∷ group_at plan d ∷ groups_in plan cells) (join_groups kinds g (group_at plan d) ∷ groups_in plan cells) (group_at plan d ∷ put kinds g (merged kinds []) (groups_in plan cells))) after)
 
@@ -156,9 +158,9 @@ no_cells plan bucket (suc n) (suc place) c e = let k = no_cells plan bucket n pl
 put_after : (kinds : List AggregatorKind) (x : Group) (before ys : List Group) → ((g : Group) → Contains before g → key_cmp g.key x.key ≡ Less) → put kinds x (merged kinds []) (before ++ ys) ≡ before ++ put kinds x (merged kinds []) ys
 put_after kinds x [] ys all = refl
 put_after kinds x (b ∷ bs) ys all =
-    let after : key_cmp x.key b.key ≡ Greater = key_cmp-total.antisymm x.key b.key ∙ ap ordering_reverse (all b (contains_here b bs)) in
+    let after : key_cmp x.key b.key ≡ Greater = key_cmp-total.antisymm x.key b.key ∙ ap ordering_reverse (all b (Contains-here b bs)) in
     ap (λ o. match_ordering o (x ∷ b ∷ (bs ++ ys)) (join_groups kinds x b ∷ (bs ++ ys)) (b ∷ put kinds x (merged kinds []) (bs ++ ys))) after
-    ∙ ap (λ l. b ∷ l) (put_after kinds x bs ys (λ g c. all g (contains_there b bs g c)))
+    ∙ ap (λ l. b ∷ l) (put_after kinds x bs ys (λ g c. all g (Contains-later b bs g c)))
 
 -- a row that is asked for, after groups that come before it
 pub upto_asked : (plan : Plan) (interval : Extent) (from to row : ℕ) (groups now more : List Group) → from ≤ row → row < to → row < length plan.segment.rows → is_asked plan.query interval plan.segment.fields (row_at plan.segment row) ≡ true → AreWords (counted_at plan row).numbers → more ≡ merged (kinds_of plan.query) (counted_at plan row ∷ []) now → ComeBefore plan groups from to → AreUpto plan interval row (groups ++ now) → AreUpto plan interval (row + 1) (groups ++ more)
@@ -206,4 +208,4 @@ words_after plan interval to groups more upto =
   where
     each_of : (gs : List Group) → ((g : Group) → Contains gs g → AreWords g.numbers) → All (λ (g : Group). AreWords g.numbers) gs
     each_of [] f = All-nil (λ (g : Group). AreWords g.numbers)
-    each_of (g ∷ gs) f = All-cons (λ (g : Group). AreWords g.numbers) g gs (f g (contains_here g gs)) (each_of gs (λ h c. f h (contains_there g gs h c)))
+    each_of (g ∷ gs) f = All-cons (λ (g : Group). AreWords g.numbers) g gs (f g (Contains-here g gs)) (each_of gs (λ h c. f h (Contains-later g gs h c)))

@@ -8,20 +8,15 @@ use Rattle.std.specs.declared.cmp.Ordering.TheVariants.{Less, Equal, Greater}
 use Rattle.std.specs.Cmp.{nat_cmp_is}
 use Rattle.std.specs.Cmp.Lexicographic.{slice_cmp}
 use Rattle.std.proofs.lemmas.Cmp.{ranked, by_ranked}
+use Rattle.druid_segid.proofs.OrderLemmas.{ordering_then-assoc, nat_cmp-lt, nat_cmp-gt}
 use Rattle.druid_rows.specs.Segment.{Segment, row_at}
 use Rattle.druid_partial.specs.Groups.{value_cmp}
 use Rattle.druid_partial.specs.Places.{at_place}
 use Rattle.druid_partial.specs.Cells.{Column, code_at, HasCode, cell_from, IsColumn, AreColumns}
 use Rattle.druid_partial.proofs.CellLemmas.{times_rises, one_place}
 
-pub less_is : (x y : ℕ) → x < y → nat_cmp x y ≡ Less
-less_is x y h = sym (nat_cmp_is x y Less h)
-
 pub equal_is : (x y : ℕ) → x ≡ y → nat_cmp x y ≡ Equal
 equal_is x y h = sym (nat_cmp_is x y Equal h)
-
-pub greater_is : (x y : ℕ) → y < x → nat_cmp x y ≡ Greater
-greater_is x y h = sym (nat_cmp_is x y Greater h)
 
 first_less : (m n s a b : ℕ) → a < s → m < n → m * s + a < n * s + b
 first_less m n s a b p h =
@@ -32,22 +27,17 @@ first_less m n s a b p h =
 same_first : (m s a b : ℕ) → nat_cmp (m * s + a) (m * s + b) ≡ nat_cmp a b
 same_first m s a b =
     by_ranked (a < b) (a ≡ b) (b < a) (nat_cmp a b) (ranked a b (nat_cmp a b) refl)
-    (λ o h. less_is (m * s + a) (m * s + b) (omega (arith, h)) ∙ sym o)
+    (λ o h. nat_cmp-lt (m * s + a) (m * s + b) (omega (arith, h)) ∙ sym o)
     (λ o h. equal_is (m * s + a) (m * s + b) (ap (λ k. m * s + k) h) ∙ sym o)
-    (λ o h. greater_is (m * s + a) (m * s + b) (omega (arith, h)) ∙ sym o)
+    (λ o h. nat_cmp-gt (m * s + a) (m * s + b) (omega (arith, h)) ∙ sym o)
 
 -- the first digit counts most
 pub radix : (m n s a b : ℕ) → a < s → b < s → nat_cmp (m * s + a) (n * s + b) ≡ ordering_then (nat_cmp m n) (nat_cmp a b)
 radix m n s a b p q =
     by_ranked (m < n) (m ≡ n) (n < m) (nat_cmp m n) (ranked m n (nat_cmp m n) refl)
-    (λ o h. less_is (m * s + a) (n * s + b) (first_less m n s a b p h) ∙ ap (λ r. ordering_then r (nat_cmp a b)) (sym o))
+    (λ o h. nat_cmp-lt (m * s + a) (n * s + b) (first_less m n s a b p h) ∙ ap (λ r. ordering_then r (nat_cmp a b)) (sym o))
     (λ o h. ap (λ k. nat_cmp (m * s + a) (k * s + b)) (sym h) ∙ same_first m s a b ∙ ap (λ r. ordering_then r (nat_cmp a b)) (sym o))
-    (λ o h. greater_is (m * s + a) (n * s + b) (first_less n m s b a q h) ∙ ap (λ r. ordering_then r (nat_cmp a b)) (sym o))
-
-then_assoc : (p q r : Ordering) → ordering_then (ordering_then p q) r ≡ ordering_then p (ordering_then q r)
-then_assoc Less q r = refl
-then_assoc Equal q r = refl
-then_assoc Greater q r = refl
+    (λ o h. nat_cmp-gt (m * s + a) (n * s + b) (first_less n m s b a q h) ∙ ap (λ r. ordering_then r (nat_cmp a b)) (sym o))
 
 then_nothing : (p : Ordering) → p ≡ ordering_then p Equal
 then_nothing Less = refl
@@ -63,7 +53,7 @@ cells_order segment (place ∷ ps) (c ∷ cs) a b m n are p q =
     let rest = slice_cmp value_cmp (map (at_place (row_at segment a).dimensions) ps) (map (at_place (row_at segment b).dimensions) ps) in
     cells_order segment ps cs a b (m * c.size + code_at c a) (n * c.size + code_at c b) are.1 p q
     ∙ ap (λ o. ordering_then o rest) (radix m n c.size (code_at c a) (code_at c b) (are.0.has a p).below (are.0.has b q).below)
-    ∙ then_assoc (nat_cmp m n) (nat_cmp (code_at c a) (code_at c b)) rest
+    ∙ ordering_then-assoc (nat_cmp m n) (nat_cmp (code_at c a) (code_at c b)) rest
     ∙ ap (λ o. ordering_then (nat_cmp m n) (ordering_then o rest)) (sym (are.0.order a b p q))
 
 -- one column more

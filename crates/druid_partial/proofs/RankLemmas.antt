@@ -14,6 +14,7 @@ use Rattle.std.proofs.lemmas.Map.Lookups.{exact_bytes}
 use Rattle.std.proofs.lemmas.Option.{slice_get-get_or}
 use Rattle.std.proofs.lemmas.List.{get_or-map, length-map}
 use Rattle.std.proofs.lemmas.List.Elements.{All-get_or}
+use Rattle.druid_segid.proofs.OrderLemmas.{nat_cmp-lt, nat_cmp-gt}
 use Rattle.druid_filter.specs.Filters.{same_value}
 use Rattle.druid_rows.specs.Rows.{Row, no_row, texts_of}
 use Rattle.druid_rows.specs.Segment.{Segment, row_at}
@@ -23,7 +24,7 @@ use Rattle.druid_partial.specs.Places.{at_place}
 use Rattle.druid_partial.specs.Cells.{Column, IsColumn}
 use Rattle.druid_partial.specs.Tests.{IsCodeOf}
 use Rattle.druid_partial.proofs.TestLemmas.{value_tie}
-use Rattle.druid_partial.proofs.RadixLemmas.{less_is, equal_is, greater_is}
+use Rattle.druid_partial.proofs.RadixLemmas.{equal_is}
 
 above : (t : List ℕ) (ts : List (List ℕ)) (j : ℕ) (d : List ℕ) → AllByRecursion (λ y. slice_cmp nat_cmp t y ≡ Less) ts → j < length ts → slice_cmp nat_cmp t (get_or ts j d) ≡ Less
 above t [] j d all h = absurd (omega arith)
@@ -49,15 +50,15 @@ some_at ts k h = slice_get-get_or ts k [] h
 pub next_rank : (i j : ℕ) → nat_cmp i j ≡ nat_cmp (suc i) (suc j)
 next_rank i j =
     by_ranked (i < j) (i ≡ j) (j < i) (nat_cmp i j) (ranked i j (nat_cmp i j) refl)
-    (λ o h. o ∙ sym (less_is (suc i) (suc j) (omega (arith, h))))
+    (λ o h. o ∙ sym (nat_cmp-lt (suc i) (suc j) (omega (arith, h))))
     (λ o h. o ∙ sym (equal_is (suc i) (suc j) (omega (arith, h))))
-    (λ o h. o ∙ sym (greater_is (suc i) (suc j) (omega (arith, h))))
+    (λ o h. o ∙ sym (nat_cmp-gt (suc i) (suc j) (omega (arith, h))))
 
 -- values are in the order of their codes
 pub value_rank : (ts : List (List ℕ)) (a b : ℕ) → IsStrictlySortedBy (slice_cmp nat_cmp) ts → a ≤ length ts → b ≤ length ts → value_cmp (value_at ts a) (value_at ts b) ≡ nat_cmp a b
 value_rank ts zero zero s p q = refl
-value_rank ts zero (suc b) s p q = ap (value_cmp None) (some_at ts b (omega (arith, q))) ∙ sym (less_is zero (suc b) (omega arith))
-value_rank ts (suc a) zero s p q = ap (λ v. value_cmp v None) (some_at ts a (omega (arith, p))) ∙ sym (greater_is (suc a) zero (omega arith))
+value_rank ts zero (suc b) s p q = ap (value_cmp None) (some_at ts b (omega (arith, q))) ∙ sym (nat_cmp-lt zero (suc b) (omega arith))
+value_rank ts (suc a) zero s p q = ap (λ v. value_cmp v None) (some_at ts a (omega (arith, p))) ∙ sym (nat_cmp-gt (suc a) zero (omega arith))
 value_rank ts (suc a) (suc b) s p q =
     ap (λ v. value_cmp v (value_at ts (suc b))) (some_at ts a (omega (arith, p)))
     ∙ ap (value_cmp (Some (get_or ts a []))) (some_at ts b (omega (arith, q)))

@@ -21,9 +21,10 @@ use Rattle.druid_partial.specs.Groups.{Key, Group, Occurs, value_cmp, key_cmp}
 use Rattle.druid_partial.specs.Rows.{bucket_of, is_asked, tells, counted_by, kinds_of, HasNumbers, IsGroupFor}
 use Rattle.druid_partial.specs.Plans.{Plan, counted_at, bucket_at, AreCounted, AreUpto, counted_upto, ComeBefore, HaveBucket, BucketsRise, AreApart}
 use Rattle.std.specs.Prelude.{unwrap_or}
+use Rattle.std.proofs.lemmas.Bool.{false_from_ne_true}
+use Rattle.druid_segid.proofs.OrderLemmas.{nat_cmp-lt}
 use Rattle.druid_partial.proofs.OrderLemmas.{no_rows}
 use Rattle.druid_partial.proofs.GroupLemmas.{occurs_both, occurs_cases, no_occurrence}
-use Rattle.druid_partial.proofs.RadixLemmas.{less_is}
 use Rattle.druid_partial.proofs.TellLemmas.{upto_more}
 
 later_bucket : (g : Granularity) (s t e : ℕ) → s ≤ t → unwrap_or (time_bucket g s) e ≤ unwrap_or (time_bucket g t) e
@@ -57,16 +58,12 @@ asked_has query interval segment row e =
     let low = both.0 in let high = both.1 in
     (grind (arith, nat_tests, low), grind (arith, nat_tests, high))
 
-not_true : (b : Bool) → (b ≡ true → ⊥) → b ≡ false
-not_true true f = absurd (f refl)
-not_true false f = refl
-
 -- the rows that lie in the interval stand there
 abbrev pub StandIn : Plan → Extent → ℕ → ℕ → Type 0
 StandIn plan interval start end = (place : ℕ) → place < length plan.segment.rows → Has interval (row_at plan.segment place).time → (start ≤ place) × (place < end)
 
 outside : (plan : Plan) (interval : Extent) (start end row : ℕ) → StandIn plan interval start end → row < length plan.segment.rows → (row < start) ⊎ (end ≤ row) → is_asked plan.query interval plan.segment.fields (row_at plan.segment row) ≡ false
-outside plan interval start end row all h side = not_true _ (λ e.
+outside plan interval start end row all h side = false_from_ne_true _ (λ e.
     let there = all row h (asked_has plan.query interval plan.segment row e) in
     let low = there.0 in let high = there.1 in
     ⊎_elim (λ l. absurd (omega (arith, l, low))) (λ g. absurd (omega (arith, g, high))) side)
@@ -141,7 +138,7 @@ occurs_upto plan interval (suc i) key h o =
     last false e here = absurd (no_occurrence key here)
 
 bucket_less : (a b : Key) → a.bucket < b.bucket → key_cmp a b ≡ Less
-bucket_less a b h = ap (λ o. ordering_then o (slice_cmp value_cmp a.values b.values)) (less_is a.bucket b.bucket h)
+bucket_less a b h = ap (λ o. ordering_then o (slice_cmp value_cmp a.values b.values)) (nat_cmp-lt a.bucket b.bucket h)
 
 -- the groups so far come before the rows of later buckets
 pub come_before : (plan : Plan) (interval : Extent) (start at end to : ℕ) (groups : List Group) → StandIn plan interval start end → at ≤ end → to ≤ end → end ≤ length plan.segment.rows → AreApart plan start at end → AreUpto plan interval at groups → ComeBefore plan groups at to

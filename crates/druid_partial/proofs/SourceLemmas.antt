@@ -1,6 +1,6 @@
 -- Numbers by their sources.
 use Rattle.std.proofs.Common.{◌≡◌, ◌∙◌, ℕ, ◌+◌, ◌<◌, ℤ, List, [], ◌∷◌, ◌++◌, length, map, get_or, take, Option, Some, None, Bool, true, false, refl, sym, subst, rules}
-use Rattle.std.specs.Prelude.{All, IfSome, FitsSigned, option_and_then, pos, if◌then◌else◌}
+use Rattle.std.specs.Prelude.{All, FitsSigned, option_and_then, pos, if◌then◌else◌}
 use Rattle.std.specs.Str.{bytes_eq}
 use Rattle.std.specs.Int.{w64}
 use Rattle.std.proofs.lemmas.List.{take_more}
@@ -17,6 +17,7 @@ use Rattle.druid_partial.specs.Rows.{number_in, one_or, taken, tells}
 use Rattle.druid_partial.specs.Places.{sources_of, source_number}
 use Rattle.druid_partial.specs.Cells.{Column, IsColumn, AreColumns, HasNumber, number_from}
 use Rattle.druid_partial.specs.Plans.{AreFrom, AreNumbers}
+use Rattle.druid_partial.proofs.MergedLemmas.{IsWord}
 use Rattle.druid_partial.proofs.RadixLemmas.{columns_more}
 use Rattle.druid_partial.proofs.PlaceLemmas.{numbers_counted}
 
@@ -57,14 +58,11 @@ row_numbers_are query segment ns row are h = numbers_are segment (sources_of que
 
 -- ---- words
 
-abbrev IsWord : Option ℤ → Type 0
-IsWord x = IfSome x (FitsSigned w64)
-
 either_word : (b : Bool) (x y : Option ℤ) → IsWord x → IsWord y → IsWord (if b then x else y)
 either_word true x y v w = v
 either_word false x y v w = w
 
-number_word : (names : List (List ℕ)) (xs : List (Option ℤ)) (name : List ℕ) → AreWords xs → IsWord (number_in names xs name)
+pub number_word : (names : List (List ℕ)) (xs : List (Option ℤ)) (name : List ℕ) → AreWords xs → IsWord (number_in names xs name)
 number_word [] xs name w = tt
 number_word (n ∷ names) [] name w = tt
 number_word (n ∷ names) (x ∷ xs) name w =
@@ -74,7 +72,7 @@ field_word : (names : List (List ℕ)) (xs : List (Option ℤ)) (field : Option 
 field_word names xs None w = tt
 field_word names xs (Some name) w = number_word names xs name w
 
-one_word : (kind : AggregatorKind) (x : Option ℤ) → IsWord x → IsWord (one_or kind x)
+pub one_word : (kind : AggregatorKind) (x : Option ℤ) → IsWord x → IsWord (one_or kind x)
 one_word Count x w = fits_one
   where
     fits_one : FitsSigned w64 (pos 1)

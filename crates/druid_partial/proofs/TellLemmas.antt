@@ -17,7 +17,7 @@ use Rattle.druid_partial.specs.Joined.{merged}
 use Rattle.druid_partial.specs.Rows.{earliest, one_or, taken, tells, is_asked, kinds_of, HasNumbers, IsGroupFor}
 use Rattle.druid_partial.specs.Plans.{AreCounted, counted_upto}
 use Rattle.druid_partial.proofs.OrderLemmas.{no_rows}
-use Rattle.druid_partial.proofs.NumberLemmas.{contains_none}
+use Rattle.druid_shard.proofs.MemberLemmas.{Contains-nil}
 use Rattle.druid_partial.proofs.GroupLemmas.{merge_of_results, result_swap, in_order_more}
 use Rattle.druid_partial.proofs.MergedLemmas.{settled, merged_is_merge}
 use Rattle.druid_partial.proofs.JoinLemmas.{merged_each, has_joined, group_for, kinds_length}
@@ -74,7 +74,7 @@ counted_and query rows groups more g t n f e =
 
     alone_settled : (kinds : List AggregatorKind) (g : Group) → HasNumbers kinds g → IsResult kinds (g ∷ []) (g ∷ [])
     alone_settled kinds g n =
-        settled kinds (g ∷ []) (in_order_more g [] (λ h c. absurd (contains_none h c)) (no_rows kinds [] refl).ordered)
+        settled kinds (g ∷ []) (in_order_more g [] (λ h c. absurd (Contains-nil h c)) (no_rows kinds [] refl).ordered)
         (λ h c. All-contains (HasNumbers kinds) (g ∷ []) h (All-cons (HasNumbers kinds) g [] n (All-nil (HasNumbers kinds))) c)
 
 pub upto_more : (query : Query) (segment : Segment) (interval : Extent) (i : ℕ) (b : Bool) → i < length segment.rows → is_asked query interval segment.fields (row_at segment i) ≡ b → counted_upto query segment interval (i + 1) ≡ counted_upto query segment interval i ++ cond b (tells query segment.fields (row_at segment i) ∷ []) []

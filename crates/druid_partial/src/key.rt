@@ -1,9 +1,10 @@
-ghost use Rattle.std.specs.Prelude.{◌≡◌, Some, refl, map, IfOk, option_map, string_bytes};
+ghost use Rattle.std.specs.Prelude.{◌≡◌, Some, refl, map, IfOk, option_map};
 ghost use Rattle.std.specs.Ordering.{eq_by_cmp};
 ghost use Rattle.druid_rows.specs.Rows.{nullable_texts_of};
 ghost use Rattle.druid_partial.specs.Groups.{key_cmp};
 ghost use Rattle.druid_partial.specs.Orders as order;
 
+use druid_base::copy_text;
 use druid_time::Instant;
 use std::alloc::{AllocError, Global};
 use std::cmp::Ordering;
@@ -69,15 +70,6 @@ impl<'a> Ord for KeyRef<'a> {
     }
 }
 
-fn copy_of(alloc: Global, text: Option<&str>) -> Result<Option<String>, AllocError>
-    ensures { IfOk result (λ copy. option_map string_bytes copy ≡ option_map (λ text. text.now) text.entry) }
-{
-    match text {
-        Some(text) => Ok(Some(String::from_str(alloc, text)?)),
-        None => Ok(None),
-    }
-}
-
 impl<'a> KeyRef<'a> {
     // The key of these parts.
     pub(crate) fn new(bucket: Instant, values: Vec<Option<&'a str>>) -> KeyRef<'a>
@@ -98,7 +90,7 @@ impl<'a> KeyRef<'a> {
     {
         let mut texts = Vec::with_capacity(alloc, self.values.len())?;
         for value in &self.values {
-            texts.push(copy_of(alloc, *value)?)?;
+            texts.push(copy_text(alloc, *value)?)?;
         }
         Ok(texts)
     }

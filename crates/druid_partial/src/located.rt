@@ -1,5 +1,5 @@
 //! Where the fields that a query names stand in a segment.
-ghost use Rattle.std.specs.Prelude.{◌≡◌, ◌<◌, length, map, All, IfOk, option_map, option_and_then, string_bytes};
+ghost use Rattle.std.specs.Prelude.{◌≡◌, ◌<◌, length, map, All, IfOk, option_map, option_and_then};
 ghost use Rattle.druid_rows.specs.Rows.{texts_of, nullable_texts_of};
 ghost use Rattle.druid_rows.specs.Segment.{row_at};
 ghost use Rattle.druid_partial.specs.Cells.{IsColumn, AreColumns};
@@ -8,6 +8,7 @@ ghost use Rattle.druid_partial.specs.Places.{place_in, at_place, places_of, sour
 
 use crate::cells::Numbers;
 use crate::column::Column;
+use druid_base::copy_text;
 use druid_query::{Aggregator, AggregatorKind, Query};
 use druid_rows::{Schema, Segment};
 use std::alloc::{AllocError, Global};
@@ -173,15 +174,6 @@ pub(crate) fn numbers_of<'a>(
     Ok(numbers)
 }
 
-fn copy_of(alloc: Global, text: Option<&str>) -> Result<Option<String>, AllocError>
-    ensures { IfOk result (λ copy. option_map string_bytes copy ≡ option_map (λ text. text.now) text.entry) }
-{
-    match text {
-        Some(text) => Ok(Some(String::from_str(alloc, text)?)),
-        None => Ok(None),
-    }
-}
-
 // Copies of a row's values at these places.
 pub(crate) fn texts_at(
     alloc: Global,
@@ -195,7 +187,7 @@ pub(crate) fn texts_at(
 {
     let mut texts = Vec::with_capacity(alloc, places.len())?;
     for place in places {
-        texts.push(copy_of(alloc, value_at(segment, row, *place))?)?;
+        texts.push(copy_text(alloc, value_at(segment, row, *place))?)?;
     }
     Ok(texts)
 }

@@ -16,7 +16,7 @@ use Rattle.std.proofs.lemmas.List.Elements.{at_read}
 use borrow.Author.Count.{below_more}
 use Rattle.druid_partial_text.specs.Missed.{IsOfSegment}
 use Rattle.druid_partial_text.specs.Tokens.{tokens_of, rest_of}
-use Rattle.druid_partial_text.proofs.TokenLemmas.{begun, more, ended}
+use Rattle.druid_partial_text.proofs.TokenLemmas.{begun, more, ended, two_joined}
 
 -- ---- a piece
 
@@ -49,15 +49,12 @@ pieces_last front asked i h = ended front (pieces_data (drop i asked)) (ap piece
 
 -- ---- an answer
 
-answer_joined : (t : List Token) (b m r e : Token) (p g : List Token) → (((((t ++ b ∷ []) ++ m ∷ []) ++ p) ++ r ∷ []) ++ g) ++ e ∷ [] ≡ t ++ b ∷ m ∷ (p ++ r ∷ (g ++ e ∷ []))
-answer_joined t b m r e p g = simp append_assoc
-
 pub answer_steps : (missing : List Asked) (groups : List Group) (t0 t1 t2 t3 t4 t5 t6 : List Token) → t1 ≡ t0 ++ begin_object ∷ [] → t2 ≡ t1 ++ key (codes "missing") ∷ []
     → t3 ≡ t2 ++ tokens_of (array (pieces_data missing)) → t4 ≡ t3 ++ key (codes "rows") ∷ [] → t5 ≡ t4 ++ tokens_of (partial_data groups) → t6 ≡ t5 ++ end_object ∷ []
     → t6 ≡ t0 ++ tokens_of (answer_data missing groups)
 answer_steps missing groups t0 t1 t2 t3 t4 t5 t6 e1 e2 e3 e4 e5 e6 =
     rw (e6, e5, e4, e3, e2, e1)
-    (answer_joined t0 begin_object (key (codes "missing")) (key (codes "rows")) end_object (tokens_of (array (pieces_data missing))) (tokens_of (partial_data groups)))
+    (two_joined t0 begin_object (key (codes "missing")) (key (codes "rows")) end_object (tokens_of (array (pieces_data missing))) (tokens_of (partial_data groups)))
 
 pub answer_printed : (a : NodeAnswer) → print (tokens_of (answer_data a.missing a.partial.groups)) ≡ answer_text a
 answer_printed a = print-outline (answer_data a.missing a.partial.groups)

@@ -19,7 +19,7 @@ use Rattle.druid_rows.specs.Rows.{nullable_texts_of}
 use Rattle.druid_query.specs.Query.{Query}
 use Rattle.druid_query.specs.declared.aggregator.AggregatorKind.{AggregatorKind}
 use Rattle.druid_shard.specs.Each.{each_of}
-use Rattle.druid_query.specs.Filters.{value_at}
+use Rattle.druid_base.specs.Fields.{text_or_null}
 use Rattle.druid_shard.proofs.EachLemmas.{with_front, each_of_more, each_of_last, each_of_refused}
 use Rattle.druid_partial.specs.Groups.{Key, Group, key_of, key_cmp, InOrder}
 use Rattle.druid_partial.specs.Orders.{key_cmp-total}
@@ -54,13 +54,13 @@ pub more : {A : Type 0} (f : Data → Option A) (done : List A) (vs : List Value
 more f done vs i v x h is read before = each_of_more f done vs i v x h is read ∙ before
 
 pub values_more : (done : List (Option (String Global))) (vs : List Value) (i : ℕ) (v : Value) (x : Option (String Global)) → i < length vs → v ≡ get_or vs i v
-    → value_at (view v) ≡ Some (option_map string_bytes x) → Made value_at (nullable_texts_of done) vs i → Made value_at (nullable_texts_of (done ++ x ∷ [])) vs (i + 1)
+    → text_or_null (view v) ≡ Some (option_map string_bytes x) → Made text_or_null (nullable_texts_of done) vs i → Made text_or_null (nullable_texts_of (done ++ x ∷ [])) vs (i + 1)
 values_more done vs i v x h is read before =
-    subst (λ (l : List (Option (List ℕ))). Made value_at l vs (i + 1)) (sym (map-append (option_map string_bytes) done x)) (more value_at (nullable_texts_of done) vs i v (option_map string_bytes x) h is read before)
+    subst (λ (l : List (Option (List ℕ))). Made text_or_null l vs (i + 1)) (sym (map-append (option_map string_bytes) done x)) (more text_or_null (nullable_texts_of done) vs i v (option_map string_bytes x) h is read before)
 
-pub values_last : (done : List (Option (String Global))) (vs : List Value) (i : ℕ) → length vs ≤ i → Made value_at (nullable_texts_of done) vs i
-    → each_of value_at (items_view vs) ≡ Some (nullable_texts_of done)
-values_last done vs i h before = ends value_at (nullable_texts_of done) vs i h before
+pub values_last : (done : List (Option (String Global))) (vs : List Value) (i : ℕ) → length vs ≤ i → Made text_or_null (nullable_texts_of done) vs i
+    → each_of text_or_null (items_view vs) ≡ Some (nullable_texts_of done)
+values_last done vs i h before = ends text_or_null (nullable_texts_of done) vs i h before
 
 pub numbers_more : (done : List (Option ℤ)) (vs : List Value) (i : ℕ) (v : Value) (x : Option ℤ) → i < length vs → v ≡ get_or vs i v
     → Some x ≡ number_or_null (view v) → Made number_or_null done vs i → Made number_or_null (done ++ x ∷ []) vs (i + 1)
@@ -85,9 +85,9 @@ some_reads {A} f done vs i v None e h is before reads =
     let none : None ≡ each_of f (items_view vs) = sym (each_of_refused f done vs i v h is e) ∙ before in
     subst (λ (o : Option (List A)). IsSome o) (sym none) reads
 
-pub value_reads : (done : List (Option (String Global))) (vs : List Value) (i : ℕ) (v : Value) → i < length vs → v ≡ get_or vs i v → Made value_at (nullable_texts_of done) vs i
-    → IsSome (each_of value_at (items_view vs)) → IsSome (value_at (view v))
-value_reads done vs i v h is before reads = some_reads value_at (nullable_texts_of done) vs i v (value_at (view v)) refl h is before reads
+pub value_reads : (done : List (Option (String Global))) (vs : List Value) (i : ℕ) (v : Value) → i < length vs → v ≡ get_or vs i v → Made text_or_null (nullable_texts_of done) vs i
+    → IsSome (each_of text_or_null (items_view vs)) → IsSome (text_or_null (view v))
+value_reads done vs i v h is before reads = some_reads text_or_null (nullable_texts_of done) vs i v (text_or_null (view v)) refl h is before reads
 
 pub row_reads : (done : List Group) (vs : List Value) (i : ℕ) (v : Value) → i < length vs → v ≡ get_or vs i v → Made group_at done vs i
     → IsSome (each_of group_at (items_view vs)) → IsSome (group_at (view v))
@@ -105,20 +105,20 @@ both_read bucket None ns reads = absurd (cc)
 both_read bucket (Some xs) None reads = absurd (cc)
 both_read bucket (Some xs) (Some ys) reads = (refl, refl)
 
-lists_read : (d : Data) (parts : Parts) → Some parts ≡ parts_at d → IsSome (group_at d) → IsSome (each_of value_at parts.values) × IsSome (each_of number_or_null parts.numbers)
+lists_read : (d : Data) (parts : Parts) → Some parts ≡ parts_at d → IsSome (group_at d) → IsSome (each_of text_or_null parts.values) × IsSome (each_of number_or_null parts.numbers)
 unfolding group_of
 lists_read d parts row reads =
-    both_read parts.bucket (each_of value_at parts.values) (each_of number_or_null parts.numbers)
+    both_read parts.bucket (each_of text_or_null parts.values) (each_of number_or_null parts.numbers)
     (subst (λ (o : Option Parts). IsSome (option_and_then group_of o)) (sym row) reads)
 
-pub values_read : (d : Data) (row : Borrowed) → Some (parts_borrowed row) ≡ parts_at d → IsSome (group_at d) → IsSome (each_of value_at (items_view row.values.now))
+pub values_read : (d : Data) (row : Borrowed) → Some (parts_borrowed row) ≡ parts_at d → IsSome (group_at d) → IsSome (each_of text_or_null (items_view row.values.now))
 values_read d row is reads = (lists_read d (parts_borrowed row) is reads).0
 
 pub numbers_read : (d : Data) (row : Borrowed) → Some (parts_borrowed row) ≡ parts_at d → IsSome (group_at d) → IsSome (each_of number_or_null (items_view row.numbers.now))
 numbers_read d row is reads = (lists_read d (parts_borrowed row) is reads).1
 
 -- a row whose lists were read
-pub group_made : (d : Data) (parts : Parts) (values : List (Option (List ℕ))) (numbers : List (Option ℤ)) → Some parts ≡ parts_at d → each_of value_at parts.values ≡ Some values
+pub group_made : (d : Data) (parts : Parts) (values : List (Option (List ℕ))) (numbers : List (Option ℤ)) → Some parts ≡ parts_at d → each_of text_or_null parts.values ≡ Some values
     → each_of number_or_null parts.numbers ≡ Some numbers → group_at d ≡ Some (record { key = record { bucket = parts.bucket; values = values }; numbers = numbers })
 unfolding group_of
 group_made d parts values numbers row vs ns = ap (option_and_then group_of) (sym row) ∙ rw (vs, ns) refl

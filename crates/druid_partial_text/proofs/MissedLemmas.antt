@@ -11,6 +11,8 @@ use Rattle.serde_json.specs.Data.{Data, Items, array}
 use Rattle.serde_json.specs.Find.{get, as_array}
 use Rattle.serde_json.specs.View.{view, items_view}
 use Rattle.serde_json.specs.declared.value.Value.{Value}
+use Rattle.druid_base.proofs.ListLemmas.{Contains-here}
+use Rattle.druid_shard.proofs.MemberLemmas.{Contains-later, Contains-nil, Contains-cons}
 use Rattle.druid_shard.specs.Each.{each_of}
 use Rattle.druid_shard.proofs.EachLemmas.{all_reads}
 use Rattle.druid_query.specs.Asked.{Asked, asked_at}
@@ -21,30 +23,29 @@ use Rattle.druid_partial_text.specs.Borrowed.{AreRows}
 use Rattle.druid_partial_text.specs.PieceOrder.{piece_cmp, piece_cmp-total, piece_cmp-ties, same_asked-true}
 use Rattle.druid_partial_text.specs.Answers.{WereAsked, ListsAnswer, TellsAnswer}
 use Rattle.druid_partial_text.specs.Missed.{AreMissed, AreLists, TellBoth}
-use Rattle.druid_partial.proofs.NumberLemmas.{contains_here, contains_there, contains_none, contains_cases}
 use Rattle.druid_partial_text.proofs.MadeLemmas.{Made, more, ends, some_reads}
 
 -- ---- whether pieces were asked for
 
 added : (done : List Asked) (a b : Asked) → Contains (done ++ a ∷ []) b → Contains done b ⊎ (a ≡ b)
-added [] a b c = elim (contains_cases a [] b c) [ inl same ↦ inr same | inr none ↦ inl none ]
+added [] a b c = elim (Contains-cons a [] b c) [ inl same ↦ inr same | inr none ↦ inl none ]
 added (d ∷ done) a b c =
-    elim (contains_cases d (done ++ a ∷ []) b c) [
-      | inl same ↦ inl (subst (λ (x : Asked). Contains (d ∷ done) x) same (contains_here d done))
-      | inr there ↦ elim (added done a b there) [ inl before ↦ inl (contains_there d done b before) | inr same ↦ inr same ]
+    elim (Contains-cons d (done ++ a ∷ []) b c) [
+      | inl same ↦ inl (subst (λ (x : Asked). Contains (d ∷ done) x) same (Contains-here d done))
+      | inr there ↦ elim (added done a b there) [ inl before ↦ inl (Contains-later d done b before) | inr same ↦ inr same ]
     ]
 
 kept : (done : List Asked) (a b : Asked) → Contains done b → Contains (done ++ a ∷ []) b
-kept [] a b c = absurd (contains_none b c)
+kept [] a b c = absurd (Contains-nil b c)
 kept (d ∷ done) a b c =
-    elim (contains_cases d done b c) [
-      | inl same ↦ subst (λ (x : Asked). Contains (d ∷ done ++ a ∷ []) x) same (contains_here d (done ++ a ∷ []))
-      | inr there ↦ contains_there d (done ++ a ∷ []) b (kept done a b there)
+    elim (Contains-cons d done b c) [
+      | inl same ↦ subst (λ (x : Asked). Contains (d ∷ done ++ a ∷ []) x) same (Contains-here d (done ++ a ∷ []))
+      | inr there ↦ Contains-later d (done ++ a ∷ []) b (kept done a b there)
     ]
 
 at_last : (done : List Asked) (a : Asked) → Contains (done ++ a ∷ []) a
-at_last [] a = contains_here a []
-at_last (d ∷ done) a = contains_there d (done ++ a ∷ []) a (at_last done a)
+at_last [] a = Contains-here a []
+at_last (d ∷ done) a = Contains-later d (done ++ a ∷ []) a (at_last done a)
 
 tie_same : (a b : Asked) (o : Ordering) → piece_cmp a b ≡ o → is_eq o ≡ true → a ≡ b
 tie_same a b o e tied = same_asked-true a b (piece_cmp-ties a b ∙ ap is_eq e ∙ tied)
@@ -87,7 +88,7 @@ pub among_all : (asked missing : List Asked) (i : ℕ) → length missing ≤ i 
 among_all asked missing i h among a there = among a (subst (λ (l : List Asked). Contains l a) (sym (take_all i missing h)) there)
 
 pub among_none : (asked missing : List Asked) → length missing ≡ 0 → (a : Asked) → Contains missing a → Contains asked a
-among_none asked [] none a there = absurd (contains_none a there)
+among_none asked [] none a there = absurd (Contains-nil a there)
 among_none asked (b ∷ missing) none a there = absurd (omega arith)
 
 -- ---- one after another

@@ -12,6 +12,7 @@ use Rattle.druid_partial_text.specs.Written.{with_values, with_numbers, label_da
 use Rattle.druid_partial_text.specs.Tokens.{tokens_of}
 use Rattle.druid_partial_text.specs.Named.{column_data, members_by}
 use Rattle.druid_partial_text.specs.declared.results.Column.{Column}
+use Rattle.druid_partial_text.proofs.TokenLemmas.{two_joined}
 
 abbrev Entry : Type 0
 Entry = String Global × Column
@@ -60,9 +61,6 @@ pub columns_last : (front : List Token) (g : Group) (all : List Entry) → all �
 columns_last front g all is = ap (λ (l : List Entry). front ++ rest_by g l) (sym is)
 
 -- ---- rows
-
-two_joined : (front : List Token) (b k m e : Token) (t l : List Token) → (((((front ++ b ∷ []) ++ k ∷ []) ++ t) ++ m ∷ []) ++ l) ++ e ∷ [] ≡ front ++ b ∷ k ∷ (t ++ m ∷ (l ++ e ∷ []))
-two_joined front b k m e t l = simp append_assoc
 
 pub timeseries_written : (front : List Token) (reported : Data) (bucket : ℕ)
     → (((((front ++ begin_object ∷ []) ++ key (codes "result") ∷ []) ++ tokens_of reported) ++ key (codes "timestamp") ∷ []) ++ tokens_of (label_data bucket)) ++ end_object ∷ []

@@ -20,8 +20,9 @@ use Rattle.druid_segid.specs.Identifier.{IsIdentifier}
 use Rattle.druid_shard.proofs.EachLemmas.{each_back as listed_back}
 use Rattle.druid_partial_text.specs.Answers.{AreOfSource, WereAsked, TellsAnswer, answer_data}
 use Rattle.druid_shard.specs.Each.{each_of}
-use Rattle.druid_query.specs.Filters.{value_at}
+use Rattle.druid_base.specs.Fields.{text_or_null}
 use Rattle.druid_query.specs.Written.{value_data}
+use Rattle.druid_query.proofs.BackLemmas.{value_back}
 use Rattle.druid_partial.specs.Groups.{Group, InOrder}
 use Rattle.druid_partial.specs.Rows.{IsGroupFor}
 use Rattle.druid_partial_text.specs.Written.{IsHeld, number_data, group_data, partial_data}
@@ -40,11 +41,6 @@ integer_back : (z : ℤ) → FitsSigned w64 z → as_i64 (of_integer z) ≡ Some
 integer_back (pos n) fits = let below : n < 2 ^ 63 = omega (arith, ints) in rw (lt-ltb n (2 ^ 63) below) refl
 integer_back (negsuc n) fits = refl
 
-value_back : (value : Option (List ℕ)) → value_at (value_data value) ≡ Some value
-unfolding value_at
-value_back None = refl
-value_back (Some text) = refl
-
 number_back : (x : Option ℤ) → IfSome x (FitsSigned w64) → number_or_null (number_data x) ≡ Some x
 unfolding number_or_null
 number_back None fits = refl
@@ -60,7 +56,7 @@ parts_back g held =
 group_back : (g : Group) → IsHeld g → group_at (group_data g) ≡ Some g
 unfolding group_of
 group_back g held =
-    let values = each_back value_data value_at (λ _. Unit {0}) (λ v _. value_back v) g.key.values (λ k d h. tt) in
+    let values = each_back value_data text_or_null (λ _. Unit {0}) (λ v _. value_back v) g.key.values (λ k d h. tt) in
     let numbers = each_back number_data number_or_null (λ x. IfSome x (FitsSigned w64)) number_back g.numbers held.words in
     ap (option_and_then group_of) (parts_back g held) ∙ rw (values, numbers) refl
 

@@ -11,7 +11,7 @@ use Rattle.serde_json.specs.declared.value.Value.{Value}
 use Rattle.druid_time.specs.Options.{◌>>=◌}
 use Rattle.druid_query.specs.Query.{Query, Aggregator}
 use Rattle.druid_shard.specs.Each.{each_of}
-use Rattle.druid_query.specs.Filters.{value_at}
+use Rattle.druid_base.specs.Fields.{text_or_null}
 use Rattle.druid_query.specs.declared.aggregator.AggregatorKind.{AggregatorKind}
 use Rattle.druid_query.specs.declared.aggregator.AggregatorKind.TheVariants.{Count}
 use Rattle.druid_shard.proofs.EachLemmas.{all_reads, each_of_length}
@@ -147,11 +147,11 @@ group_reported q bucket n (Some xs) (Some ys) len h = record {
 }
 
 reported_of : (q : Query) (row : Borrowed) → IsSomeAnd (group_of (parts_borrowed row)) (IsGroupFor q)
-    → Reported q row.bucket (length row.values.now) (each_of value_at (items_view row.values.now)) (each_of number_or_null (items_view row.numbers.now))
+    → Reported q row.bucket (length row.values.now) (each_of text_or_null (items_view row.values.now)) (each_of number_or_null (items_view row.numbers.now))
 unfolding group_of
 reported_of q row h =
-    group_reported q row.bucket (length row.values.now) (each_of value_at (items_view row.values.now)) (each_of number_or_null (items_view row.numbers.now))
-    (λ xs e. each_of_length value_at row.values.now xs e) h
+    group_reported q row.bucket (length row.values.now) (each_of text_or_null (items_view row.values.now)) (each_of number_or_null (items_view row.numbers.now))
+    (λ xs e. each_of_length text_or_null row.values.now xs e) h
 
 -- a row that is such a group has all four
 pub label_of : (q : Query) (row : Borrowed) → IsSomeAnd (group_of (parts_borrowed row)) (IsGroupFor q) → IsBucketOf q row.bucket
@@ -160,20 +160,20 @@ label_of q row h = (reported_of q row h).label
 pub many_of : (q : Query) (row : Borrowed) → IsSomeAnd (group_of (parts_borrowed row)) (IsGroupFor q) → length row.values.now ≡ length q.dimensions
 many_of q row h = (reported_of q row h).many
 
-pub values_of : (q : Query) (row : Borrowed) → IsSomeAnd (group_of (parts_borrowed row)) (IsGroupFor q) → list_all (λ v. is_some (value_at (view v))) row.values.now ≡ true
-values_of q row h = all_reads value_at row.values.now ∙ (reported_of q row h).values
+pub values_of : (q : Query) (row : Borrowed) → IsSomeAnd (group_of (parts_borrowed row)) (IsGroupFor q) → list_all (λ v. is_some (text_or_null (view v))) row.values.now ≡ true
+values_of q row h = all_reads text_or_null row.values.now ∙ (reported_of q row h).values
 
 pub numbers_of : (q : Query) (row : Borrowed) → IsSomeAnd (group_of (parts_borrowed row)) (IsGroupFor q)
     → IsSomeAnd (each_of number_or_null (items_view row.numbers.now)) (AreNumbersFor (map (λ a. a.kind) q.aggregations))
 numbers_of q row h = (reported_of q row h).numbers
 
 -- and one that has them is
-pub group_is : (q : Query) (row : Borrowed) → IsBucketOf q row.bucket → length row.values.now ≡ length q.dimensions → list_all (λ v. is_some (value_at (view v))) row.values.now ≡ true
+pub group_is : (q : Query) (row : Borrowed) → IsBucketOf q row.bucket → length row.values.now ≡ length q.dimensions → list_all (λ v. is_some (text_or_null (view v))) row.values.now ≡ true
     → IsSomeAnd (each_of number_or_null (items_view row.numbers.now)) (AreNumbersFor (map (λ a. a.kind) q.aggregations)) → IsSomeAnd (group_of (parts_borrowed row)) (IsGroupFor q)
 unfolding group_of
 group_is q row label many values numbers =
-    group_there q row.bucket (length row.values.now) (each_of value_at (items_view row.values.now)) (each_of number_or_null (items_view row.numbers.now)) label
-    (λ xs e. each_of_length value_at row.values.now xs e) many (sym (all_reads value_at row.values.now) ∙ values) numbers
+    group_there q row.bucket (length row.values.now) (each_of text_or_null (items_view row.values.now)) (each_of number_or_null (items_view row.numbers.now)) label
+    (λ xs e. each_of_length text_or_null row.values.now xs e) many (sym (all_reads text_or_null row.values.now) ∙ values) numbers
 
 -- ---- rows
 

@@ -110,3 +110,8 @@ group_written front g =
 
 pub partial_printed : (groups : List Group) → print (tokens_of (partial_data groups)) ≡ partial_text groups
 partial_printed groups = print-outline (partial_data groups)
+
+-- ---- an object of two members
+
+pub two_joined : (front : List Token) (b k m e : Token) (t l : List Token) → (((((front ++ b ∷ []) ++ k ∷ []) ++ t) ++ m ∷ []) ++ l) ++ e ∷ [] ≡ front ++ b ∷ k ∷ (t ++ m ∷ (l ++ e ∷ []))
+two_joined front b k m e t l = simp append_assoc

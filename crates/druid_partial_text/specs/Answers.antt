@@ -3,13 +3,13 @@ use Rattle.std.specs.Prelude.{IsUtf8, ◌≡◌, ℕ, List, codes, Contains, Opt
 use Rattle.serde_json.specs.Data.{Data, string, array, object, no_members, member}
 use Rattle.serde_json.specs.Find.{get, as_array}
 use Rattle.serde_json.specs.Written.{compact_text}
+use Rattle.druid_base.specs.Json.{ReadsAs}
 use Rattle.druid_time.specs.Extent.{IsExtent}
 use Rattle.druid_segid.specs.Identifier.{IsIdentifier}
 use Rattle.druid_shard.specs.Each.{each_of}
 use Rattle.druid_query.specs.Query.{Query}
 use Rattle.druid_query.specs.Asked.{Asked, asked_at}
 use Rattle.druid_query.specs.SubQuery.{SubQuery, pieces_data}
-use Rattle.druid_query.specs.Read.{ReadsAs}
 use Rattle.druid_partial.specs.Groups.{Group}
 use Rattle.druid_partial.specs.Rows.{Partial, kinds_of}
 use Rattle.druid_partial_text.specs.Written.{partial_data, result_data}

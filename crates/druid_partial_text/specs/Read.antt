@@ -7,7 +7,7 @@ use Rattle.druid_time.specs.Options.{◌>>=◌}
 use Rattle.druid_time.specs.Instant.{instant_count, unix_epoch}
 use Rattle.druid_query.specs.Query.{Query}
 use Rattle.druid_shard.specs.Each.{each_of}
-use Rattle.druid_query.specs.Filters.{value_at}
+use Rattle.druid_base.specs.Fields.{text_or_null}
 use Rattle.druid_partial.specs.Groups.{Group, InOrder}
 use Rattle.druid_partial.specs.Rows.{Partial, IsGroupFor, kinds_of}
 use Rattle.druid_partial_text.specs.declared.fault.PartialFault.{PartialFault}
@@ -62,7 +62,7 @@ parts_at d = do
 -- each value is a text or null, and each number a whole number of 64 bits or null
 unfoldable pub group_of : Parts → Option Group
 group_of parts = do
-  values ← each_of value_at parts.values
+  values ← each_of text_or_null parts.values
   numbers ← each_of number_or_null parts.numbers
   Some (record { key = record { bucket = parts.bucket; values = values }; numbers = numbers })
 

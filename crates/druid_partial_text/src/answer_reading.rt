@@ -1,6 +1,5 @@
 //! Answers of nodes, read.
-ghost use Rattle.std.specs.Prelude.{◌≡◌, List, Some, IsSome, IfOk, IfSome, IfNone, option_map, option_and_then};
-ghost use Rattle.serde_json.specs.Find.{get, as_array};
+ghost use Rattle.std.specs.Prelude.{◌≡◌, List, Some, IsSome, IfOk, IfSome, IfNone};
 ghost use Rattle.serde_json.specs.View.{view, items_view};
 ghost use Rattle.druid_shard.specs.Each.{each_of};
 ghost use Rattle.druid_query.specs.Asked.{Asked, asked_at};
@@ -13,17 +12,10 @@ ghost use Rattle.druid_partial_text.specs.Missed.{AreLists, TellBoth};
 use crate::missing::{are_pieces, missing_in};
 use crate::reading::{partial_in, rows_in};
 use crate::{NodeAnswer, PartialFault};
+use druid_base::{JsonFault, list_field, parse_json};
 use druid_query::SubQuery;
 use serde_json::Value;
 use std::alloc::{AllocError, Global};
-use std::str;
-
-fn list_at<'a>(value: &'a Value, key: &str) -> Option<&'a [Value]>
-    ensures { option_map (λ vs. items_view vs.now) result ≡ option_and_then as_array (get key.now (view value.now)) }
-{
-    let values = value.get(key).and_then(Value::as_array)?;
-    Some(values.as_slice())
-}
 
 // The lists of an answer, each of whose members reads.
 #[derive(Drop)]
@@ -38,7 +30,7 @@ fn listed_in<'a>(sub: &SubQuery, value: &'a Value) -> Option<Listed<'a>>
     ensures some { IfSome result (λ l. AreLists sub.now (view value.now) (items_view l.missing.now) (items_view l.rows.now)) }
     ensures none { IfNone result (ListsAnswer sub.now (view value.now) → ⊥) }
 {
-    let missing = list_at(value, "missing")?;
+    let missing = list_field(value, "missing")?;
     let rows = value.get("rows")?;
     if !are_pieces(sub.query().source(), missing) {
         return None;
@@ -97,14 +89,9 @@ pub fn read_node_answer(
 ) -> Result<NodeAnswer, PartialFault>
     ensures { IsAnswerOf sub.now bytes.now result }
 {
-    match Value::from_slice(alloc, bytes) {
+    match parse_json(alloc, bytes) {
         Ok(value) => answer_of(alloc, sub, &value),
-        Err(error) => {
-            if error.is_memory() && str::from_utf8(bytes).is_ok() {
-                Err(PartialFault::Memory)
-            } else {
-                Err(PartialFault::NotJson)
-            }
-        }
+        Err(JsonFault::NotJson) => Err(PartialFault::NotJson),
+        Err(JsonFault::Memory) => Err(PartialFault::Memory),
     }
 }

@@ -1,37 +1,27 @@
 //! Partials, read out of JSON.
-ghost use Rattle.std.specs.Prelude.{◌≡◌, ◌↔◌, All, IsTrue, IsSome, is_some, IfOk, IfSome, IfNone, Some, string_bytes, List, length, map, option_map, option_and_then, FitsSigned};
+ghost use Rattle.std.specs.Prelude.{◌≡◌, ◌↔◌, All, IsTrue, IsSome, IfOk, IfSome, IfNone, Some, string_bytes, List, length, map, option_map, option_and_then, FitsSigned};
 ghost use Rattle.std.specs.Int.{w64};
 ghost use Rattle.std.specs.Option.{IsSomeAnd};
-ghost use Rattle.std.specs.List.{AllAdjacentBelow, list_all};
+ghost use Rattle.std.specs.List.{AllAdjacentBelow};
 ghost use Rattle.std.specs.List.Sorted.{IsPermutation, IsSortedByKey};
 ghost use Rattle.serde_json.specs.Data.{array};
 ghost use Rattle.serde_json.specs.View.{view, items_view};
 ghost use Rattle.druid_rows.specs.Rows.{nullable_texts_of};
 ghost use Rattle.druid_shard.specs.Each.{each_of};
-ghost use Rattle.druid_query.specs.Filters.{value_at};
+ghost use Rattle.druid_base.specs.Fields.{text_or_null};
 ghost use Rattle.druid_partial.specs.Groups.{Group, key_of, key_cmp, InOrder, AreWords};
 ghost use Rattle.druid_partial.specs.Rows.{earliest, kinds_of, IsGroupFor, IsPartialFor};
 ghost use Rattle.druid_partial_text.specs.Read.{integer_at, number_or_null, instant_of, three_of, parts_at, group_of, group_at, Lists, TellsGroups, IsRead};
 ghost use Rattle.druid_partial_text.specs.Borrowed.{three_borrowed, parts_borrowed, IsNumberFor, AreNumbersFor, HasWords, AreRows, IsBefore};
 
 use crate::PartialFault;
+use druid_base::{are_texts_or_null, text_or_null};
 use druid_partial::{Group, Partial, earliest, is_bucket, kinds_of};
 use druid_query::{Aggregator, AggregatorKind, Query};
 use druid_time::Instant;
 use serde_json::Value;
 use std::alloc::{AllocError, Global};
 use std::cmp::Ordering;
-
-// A value of a dimension.
-#[tactic(auto, unfolding(druid_query::specs::Filters::value_at))]
-fn value_of(value: &Value) -> Option<Option<&str>>
-    ensures { option_map (option_map (λ s. s.now)) result ≡ value_at (view value.now) }
-{
-    if value.is_null() {
-        return Some(None);
-    }
-    Some(Some(value.as_str()?))
-}
 
 // What an aggregator tells.
 #[tactic(auto, unfolding(crate::specs::Read::number_or_null))]
@@ -103,13 +93,6 @@ fn parts_of(value: &Value) -> Option<Borrowed<'_>>
     })
 }
 
-// Whether each is a text or null.
-fn are_values(values: &[Value]) -> bool
-    ensures { result ≡ list_all (λ value. is_some (value_at (view value))) values.now }
-{
-    values.iter().all(|value| value_of(value).is_some())
-}
-
 // Whether an aggregator may tell it: to count is never null.
 #[tactic(auto, using(crate::proofs::RowLemmas::number_reported, crate::proofs::RowLemmas::null_reported, crate::proofs::RowLemmas::null_counted, crate::proofs::RowLemmas::none_reported))]
 fn is_number_for(aggregator: &Aggregator, value: &Value) -> bool
@@ -151,7 +134,7 @@ fn is_group(query: &Query, first: Instant, row: &Borrowed) -> bool
     if row.values.len() != query.dimensions().len() {
         return false;
     }
-    if !are_values(row.values) {
+    if !are_texts_or_null(row.values) {
         return false;
     }
     are_numbers(query.aggregations(), row.numbers)
@@ -185,8 +168,8 @@ fn are_rows(query: &Query, values: &[Value]) -> bool
 // The values of a row, copied.
 #[tactic(auto, using(crate::proofs::MadeLemmas::values_more, crate::proofs::MadeLemmas::values_last, crate::proofs::MadeLemmas::value_reads))]
 fn values_in(alloc: Global, values: &[Value]) -> Result<Vec<Option<String>>, AllocError>
-    requires { IsSome (each_of value_at (items_view values.now)) }
-    ensures { IfOk result (λ made. each_of value_at (items_view values.now) ≡ Some (nullable_texts_of made.items)) }
+    requires { IsSome (each_of text_or_null (items_view values.now)) }
+    ensures { IfOk result (λ made. each_of text_or_null (items_view values.now) ≡ Some (nullable_texts_of made.items)) }
 {
     let mut made = Vec::with_capacity(alloc, values.len())?;
     for value in values {
@@ -197,10 +180,10 @@ fn values_in(alloc: Global, values: &[Value]) -> Result<Vec<Option<String>>, All
 
 // A value of a dimension, copied.
 fn copy_of(alloc: Global, value: &Value) -> Result<Option<String>, AllocError>
-    requires { IsSome (value_at (view value.now)) }
-    ensures { IfOk result (λ made. value_at (view value.now) ≡ Some (option_map string_bytes made)) }
+    requires { IsSome (text_or_null (view value.now)) }
+    ensures { IfOk result (λ made. text_or_null (view value.now) ≡ Some (option_map string_bytes made)) }
 {
-    match value_of(value) {
+    match text_or_null(value) {
         Some(Some(text)) => Ok(Some(String::from_str(alloc, text)?)),
         Some(None) => Ok(None),
         None => unreachable!(),

@@ -6,7 +6,7 @@ use Rattle.std.specs.Ordering.{nat_cmp, ordering_then, ordering_reverse, is_lt, 
 use Rattle.std.specs.declared.cmp.Ordering.{Ordering}
 use Rattle.std.specs.declared.cmp.Ordering.TheVariants.{Less, Equal, Greater}
 use Rattle.std.specs.Cmp.{first_so, second_so}
-use Rattle.std.proofs.lemmas.Bool.{cases_order, cases_lt, false≢true}
+use Rattle.std.proofs.lemmas.Bool.{cases_order, cases_lt, false≢true, not-true, false_from_ne_true}
 use Rattle.std.proofs.lemmas.Cmp.{tied_itself}
 use Rattle.std.proofs.lemmas.List.{get_or_default}
 use Rattle.std.proofs.lemmas.List.Folds.{list_any_at, list_any_none}
@@ -34,29 +34,21 @@ overlap_reported a b (same, shared) = ap (λ t. t && is_some (common a.1 b.1)) (
 turned : (a b : Asked) → Overlap a b → Overlap b a
 turned a b (same, shared) = (sym same, (shared.0, shared.2, shared.1))
 
-not_true : (b : Bool) → not b ≡ true → b ≡ false
-not_true true h = absurd (cc)
-not_true false h = refl
-
-not_so : (b : Bool) → (b ≡ true → ⊥) → b ≡ false
-not_so true h = absurd (h refl)
-not_so false h = refl
-
 pub apart_seen : (xs : List Asked) → stand_apart xs ≡ true → StandApart xs
 apart_seen [] h i j a li lj o = absurd (omega (arith, li))
 apart_seen (x ∷ xs) h zero zero a li lj o = refl
 apart_seen (x ∷ xs) h zero (suc j) a li lj o =
-    let none = not_true (list_any (do_overlap x) xs) (first_so _ _ h) in
+    let none = not-true (list_any (do_overlap x) xs) (first_so _ _ h) in
     absurd (false≢true (sym none ∙ list_any_at (do_overlap x) xs j a (omega arith) (overlap_reported x (get_or xs j a) o)))
 apart_seen (x ∷ xs) h (suc i) zero a li lj o =
-    let none = not_true (list_any (do_overlap x) xs) (first_so _ _ h) in
+    let none = not-true (list_any (do_overlap x) xs) (first_so _ _ h) in
     absurd (false≢true (sym none ∙ list_any_at (do_overlap x) xs i a (omega arith) (overlap_reported x (get_or xs i a) (turned (get_or xs i a) x o))))
 apart_seen (x ∷ xs) h (suc i) (suc j) a li lj o = ap suc (apart_seen xs (second_so _ _ h) i j a (omega arith) (omega arith) o)
 
 pub apart_reported : (xs : List Asked) → StandApart xs → stand_apart xs ≡ true
 apart_reported [] alone = refl
 apart_reported (x ∷ xs) alone =
-    ap (λ b. not b && stand_apart xs) (list_any_none (do_overlap x) xs (λ k a l. not_so (do_overlap x (get_or xs k a)) (λ h. apart_first k a l h)))
+    ap (λ b. not b && stand_apart xs) (list_any_none (do_overlap x) xs (λ k a l. false_from_ne_true (do_overlap x (get_or xs k a)) (λ h. apart_first k a l h)))
     ∙ apart_reported xs (λ i j a li lj o. let same = alone (suc i) (suc j) a (omega arith) (omega arith) o in omega (arith, same))
   where
     apart_first : (k : ℕ) (a : Asked) → k < length xs → do_overlap x (get_or xs k a) ≡ true → ⊥
@@ -140,7 +132,7 @@ sorted_apart xs valid sorted apart i j a li lj o =
     next k d l = before_next (get_or xs k d) (get_or xs (k + 1) d) (valid (k + 1) d l) (sorted k d (omega arith) l) (apart k d l)
 
 apart_sorted : (xs : List Asked) → StandApart xs → AllAdjacentBelow AreApart xs (length xs)
-apart_sorted xs alone k d l = not_so (do_overlap (get_or xs k d) (get_or xs (k + 1) d)) (λ h.
+apart_sorted xs alone k d l = false_from_ne_true (do_overlap (get_or xs k d) (get_or xs (k + 1) d)) (λ h.
     let same : k ≡ k + 1 = alone k (k + 1) d (omega arith) l (overlap_seen (get_or xs k d) (get_or xs (k + 1) d) h) in
     omega (arith, same))
 
@@ -150,7 +142,7 @@ searched all sorted true valid moved order reported =
     let apart = sorted_apart sorted (All-permutation (λ a. IsExtent a.1) all sorted moved valid) order (reported.0 refl) in
     sym (apart_reported all (alone-permutation Overlap sorted all (IsPermutation-sym all sorted moved) apart))
 searched all sorted false valid moved order reported =
-    sym (not_so (stand_apart all) (λ h. absurd (false≢true (reported.1 (apart_sorted sorted (alone-permutation Overlap all sorted moved (apart_seen all h)))))))
+    sym (false_from_ne_true (stand_apart all) (λ h. absurd (false≢true (reported.1 (apart_sorted sorted (alone-permutation Overlap all sorted moved (apart_seen all h)))))))
 
 -- what holds of each element
 pub all_of_each : {A : Type 0} (P : A → Type 0) (xs : List A) → ((x : A) → Contains xs x → P x) → All P xs

@@ -14,7 +14,8 @@ use Rattle.druid_filter.specs.Filters.{Condition, has, has_among, all_of, any_of
 use Rattle.druid_query.specs.Query.{Dimension, Aggregator}
 use Rattle.druid_shard.specs.Each.{each_of}
 use Rattle.druid_shard.proofs.EachLemmas.{each_back}
-use Rattle.druid_query.specs.Filters.{value_at, selector_in, among_in, filter_at, each_filter}
+use Rattle.druid_base.specs.Fields.{text_or_null}
+use Rattle.druid_query.specs.Filters.{selector_in, among_in, filter_at, each_filter}
 use Rattle.druid_query.specs.Fields.{granularity_of, interval_of, dimension_at, default_dimension, aggregator_at}
 use Rattle.druid_query.specs.Written.{value_data, selector_data, among_data, fields_data, not_data, filter_data, filters_data, granularity_text, interval_data, dimension_data, counting_data, of_field_data, fielded_data, aggregator_data, aggregator_text}
 use Rattle.druid_query.specs.declared.aggregator.AggregatorKind.{AggregatorKind}
@@ -26,8 +27,8 @@ any_back f g xs back = each_back f g xs (λ x _. back x)
 
 -- ---- filters
 
-value_back : (v : Option (List ℕ)) → value_at (value_data v) ≡ Some v
-unfolding value_at
+pub value_back : (v : Option (List ℕ)) → text_or_null (value_data v) ≡ Some v
+unfolding text_or_null
 value_back None = refl
 value_back (Some t) = refl
 
@@ -37,7 +38,7 @@ selector_back d v = let back = value_back v in rw back refl
 
 among_back : (d : List ℕ) (vs : List (Option (List ℕ))) → filter_at (among_data d vs) ≡ Some (has_among d vs)
 unfolding filter_at among_data among_in
-among_back d vs = let back = any_back value_data value_at vs value_back in rw back refl
+among_back d vs = let back = any_back value_data text_or_null vs value_back in rw back refl
 
 and_back : (fs : Items) (cs : Conditions) → each_filter fs ≡ Some cs → filter_at (fields_data (codes "and") fs) ≡ Some (all_of cs)
 unfolding filter_at fields_data

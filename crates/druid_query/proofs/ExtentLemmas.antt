@@ -1,7 +1,7 @@
 -- A text of an interval names one.
-use Rattle.std.proofs.Common.{◌≡◌, ◌==◌, ℕ, ◌<◌, List, Result, Ok, Err, if◌then◌else◌, true, false, Bool, nat_lt, refl, ap, subst, arith}
+use Rattle.std.proofs.Common.{◌≡◌, ◌==◌, ℕ, ◌<◌, List, Result, Ok, Err, if◌then◌else◌, true, false, Bool, nat_lt, refl, ap, subst}
 use Rattle.std.specs.List.{count_by, before_first, after_first}
-use Rattle.std.proofs.lemmas.Bool.Decides.{nat_tests}
+use Rattle.std.proofs.lemmas.Bool.{ltb-true}
 use Rattle.druid_time.specs.Extent.{Extent, IsExtent}
 use Rattle.druid_time.specs.Instant.{IsInstant, instant_count}
 use Rattle.druid_time.specs.Civil.{is_civil, instant_of}
@@ -27,11 +27,8 @@ instant_valid text t h =
     let p = picked (has_form text) (is_civil (civil_parts text)) (instant_of (civil_parts text)) t h in
     subst IsInstant p.1 (IsInstant-instant_of (civil_parts text) (is_civil_to (civil_parts text) p.0))
 
-below : (s t : ℕ) → nat_lt s t ≡ true → s < t
-below s t h = grind (arith, nat_tests)
-
 ordered : (s t : ℕ) (b : Bool) (e : Extent) → nat_lt s t ≡ b → t < instant_count → (if b then Ok (record { start = s; end = t }) else Err Empty) ≡ Ok e → IsExtent e
-ordered s t true e is last h = subst IsExtent (ap (value_or (record { start = s; end = t })) h) (below s t is, last)
+ordered s t true e is last h = subst IsExtent (ap (value_or (record { start = s; end = t })) h) (ltb-true s t is, last)
 ordered s t false e is last h = absurd (cc)
 
 joined : (c : Bool) (s t : Result ℕ TimeFault) (e : Extent) → ((n : ℕ) → t ≡ Ok n → IsInstant n)

@@ -1,17 +1,14 @@
 -- Filters, read out of JSON.
-use Rattle.std.specs.Prelude.{ℕ, List, codes, Option, Some, None, is_some, option_map, option_and_then, if◌then◌else◌}
+use Rattle.std.specs.Prelude.{ℕ, List, codes, Option, Some, None, option_map, option_and_then, if◌then◌else◌}
 use Rattle.std.specs.Ordering.{nat_cmp, match_ordering}
 use Rattle.std.specs.Cmp.Lexicographic.{slice_cmp}
 use Rattle.std.specs.Str.{bytes_eq}
 use Rattle.serde_json.specs.Data.{Data, null, boolean, number, string, array, object, Items, no_items, item, Members, no_members, member}
-use Rattle.serde_json.specs.Find.{get_member, as_null, as_str, as_array}
+use Rattle.serde_json.specs.Find.{get_member, as_str, as_array}
+use Rattle.druid_base.specs.Fields.{text_or_null}
 use Rattle.druid_time.specs.Options.{◌>>=◌}
 use Rattle.druid_shard.specs.Each.{each_of}
 use Rattle.druid_filter.specs.Filters.{Condition, has, has_among, all_of, any_of, is_not, Conditions, no_conditions, condition}
-
--- a value of a dimension: a text or null
-unfoldable pub value_at : Data → Option (Option (List ℕ))
-value_at d = if is_some (as_null d) then Some None else option_map Some (as_str d)
 
 -- the text at a key of an object
 abbrev pub text_in : List ℕ → Members → Option (List ℕ)
@@ -21,7 +18,7 @@ text_in key ms = option_and_then as_str (get_member key ms)
 unfoldable pub selector_in : Members → Option Condition
 selector_in ms = do
   dimension ← text_in (codes "dimension") ms
-  value ← option_and_then value_at (get_member (codes "value") ms)
+  value ← option_and_then text_or_null (get_member (codes "value") ms)
   Some (has dimension value)
 
 -- a dimension has one of some values
@@ -29,7 +26,7 @@ unfoldable pub among_in : Members → Option Condition
 among_in ms = do
   dimension ← text_in (codes "dimension") ms
   values ← option_and_then as_array (get_member (codes "values") ms)
-  wanted ← each_of value_at values
+  wanted ← each_of text_or_null values
   Some (has_among dimension wanted)
 
 -- the filter of that type, where these are the filters of its fields

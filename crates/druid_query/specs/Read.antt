@@ -1,8 +1,8 @@
 -- Queries, read out of JSON: the query, or the first refusal.
 use Rattle.std.specs.Prelude.{◌≡◌, ℕ, Bool, nat_le, List, [], codes, length, Option, Some, None, is_some, Result, Ok, Err, ⊤, IsUtf8, option_and_then, if◌then◌else◌}
 use Rattle.serde_json.specs.Data.{Data, Items}
-use Rattle.serde_json.specs.Read.{read}
 use Rattle.serde_json.specs.Find.{get, as_null}
+use Rattle.druid_base.specs.Json.{ReadsAs}
 use Rattle.druid_time.specs.Extent.{Extent}
 use Rattle.druid_time.specs.Results.{◌>>=◌}
 use Rattle.druid_time.specs.declared.granularity.Granularity.{Granularity}
@@ -108,10 +108,6 @@ query_at d = do
 -- a query is what some JSON reads as
 abbrev pub IsQuery : Query → Type 0
 IsQuery q = (d : Data) × (query_at d ≡ Ok q)
-
--- the bytes are the JSON of d, in UTF-8
-abbrev pub ReadsAs : List ℕ → Data → Type 0
-ReadsAs bytes d = IsUtf8 bytes × (read bytes ≡ Some d)
 
 -- the same out of bytes, which may be no JSON; reading JSON may run out of memory at any byte of a text
 abbrev pub IsReadBy : {A : Type 0} → (Data → Result A Refusal) → List ℕ → Result A QueryFault → Type 0

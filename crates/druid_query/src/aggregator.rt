@@ -1,5 +1,6 @@
-ghost use Rattle.std.specs.Prelude.{◌≡◌, IfOk, option_map, string_bytes};
+ghost use Rattle.std.specs.Prelude.{◌≡◌, IfOk, option_map};
 
+use druid_base::copy_text;
 use std::alloc::{AllocError, Global};
 use std::marker::Model;
 
@@ -37,15 +38,6 @@ impl Model for Aggregator {
     } };
 }
 
-fn copy_of(alloc: Global, text: Option<&str>) -> Result<Option<String>, AllocError>
-    ensures { IfOk result (λ copy. option_map string_bytes copy ≡ option_map (λ s. s.now) text.entry) }
-{
-    match text {
-        Some(text) => Ok(Some(String::from_str(alloc, text)?)),
-        None => Ok(None),
-    }
-}
-
 impl Aggregator {
     /// An aggregator of that name and kind, over that field.
     pub fn new(
@@ -57,7 +49,7 @@ impl Aggregator {
         ensures { IfOk result (λ made. made ≡ record { name = name.now; kind = kind; field = option_map (λ s. s.now) field.entry }) }
     {
         let name = String::from_str(alloc, name)?;
-        let field = copy_of(alloc, field)?;
+        let field = copy_text(alloc, field)?;
         Ok(Aggregator { name, kind, field })
     }
 

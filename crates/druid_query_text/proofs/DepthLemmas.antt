@@ -1,9 +1,9 @@
 -- How deep the JSON of a query nests.
-use Rattle.std.proofs.Common.{◌≡◌, ℕ, ◌+◌, ◌*◌, ◌≤◌, nat_le, List, [], ◌∷◌, map, codes, Option, Some, None, true, false, Bool, ◌&&◌, refl, arith}
-use Rattle.std.proofs.lemmas.Bool.{leb-true}
+use Rattle.std.proofs.Common.{ℕ, ◌+◌, ◌*◌, ◌≤◌, nat_le, List, codes, Option, Some, None, Bool, ◌&&◌, arith}
+use Rattle.std.proofs.lemmas.Bool.{leb-true, and_parts}
 use Rattle.serde_json.specs.Data.{Data, array, Items, depth, items_depth}
-use Rattle.serde_json.specs.View.{items_of}
 use Rattle.druid_time.specs.Extent.{Extent}
+use Rattle.druid_shard.proofs.WrittenLemmas.{items_shallow}
 use Rattle.druid_filter.specs.Filters.{Condition, has, has_among, all_of, any_of, is_not, Conditions, no_conditions, condition}
 use Rattle.druid_query.specs.Query.{Query, Dimension, Aggregator, levels, most_levels, members, fits_texts}
 use Rattle.druid_query.specs.Read.{IsQuery}
@@ -16,10 +16,6 @@ use Rattle.druid_query.specs.declared.query_type.QueryType.TheVariants.{Timeseri
 use Rattle.druid_query.proofs.PartLemmas.{parts_whole}
 use Rattle.druid_query_text.proofs.QueryBackLemmas.{Passes, filter_tells}
 
-items_deep : {A : Type 0} (f : A → Data) (n : ℕ) → ((x : A) → depth (f x) ≤ n) → (xs : List A) → items_depth (items_of (map f xs)) ≤ n
-items_deep f n each [] = omega arith
-items_deep f n each (x ∷ xs) = omega (arith, each x, items_deep f n each xs)
-
 value_deep : (v : Option (List ℕ)) → depth (value_data v) ≤ 0
 value_deep None = omega arith
 value_deep (Some t) = omega arith
@@ -30,7 +26,7 @@ selector_deep d v = omega (arith, value_deep v)
 
 among_deep : (d : List ℕ) (vs : List (Option (List ℕ))) → depth (among_data d vs) ≤ 2
 unfolding among_data
-among_deep d vs = omega (arith, items_deep value_data 0 value_deep vs)
+among_deep d vs = omega (arith, items_shallow value_data 0 value_deep vs)
 
 fields_deep : (kind : List ℕ) (fs : Items) → depth (fields_data kind fs) ≤ items_depth fs + 2
 unfolding fields_data
@@ -52,15 +48,11 @@ mutual
   filters_deep no_conditions = omega arith
   filters_deep (condition c cs) = omega (arith, filter_deep c, filters_deep cs)
 
-both_true : (a b : Bool) → (a && b) ≡ true → (a ≡ true) × (b ≡ true)
-both_true true b h = (refl, h)
-both_true false b h = absurd (cc)
-
 wanted_deep : (o : Option Condition) → Passes o → depth (wanted_data o) ≤ 100
 wanted_deep None h = omega arith
 wanted_deep (Some c) h =
-    let texts = both_true (nat_le (levels c) max_levels && nat_le (members c) max_members) (fits_texts c) h in
-    let limits = both_true (nat_le (levels c) max_levels) (nat_le (members c) max_members) texts.0 in
+    let texts = and_parts (nat_le (levels c) max_levels && nat_le (members c) max_members) (fits_texts c) h in
+    let limits = and_parts (nat_le (levels c) max_levels) (nat_le (members c) max_members) texts.0 in
     let few : levels c ≤ 50 = leb-true (levels c) 50 limits.0 in
     omega (arith, filter_deep c, few)
 
@@ -82,9 +74,9 @@ interval_deep e = omega arith
 kinded_deep : (k : QueryType) (q : Query) → Passes q.filter → depth (kinded_data k q (array (intervals_data q.intervals))) ≤ 127
 unfolding timeseries_data group_by_data
 kinded_deep Timeseries q passes =
-    omega (arith, items_deep aggregator_data 1 aggregator_deep q.aggregations, items_deep interval_data 0 interval_deep q.intervals, wanted_deep q.filter passes)
+    omega (arith, items_shallow aggregator_data 1 aggregator_deep q.aggregations, items_shallow interval_data 0 interval_deep q.intervals, wanted_deep q.filter passes)
 kinded_deep GroupBy q passes =
-    omega (arith, items_deep aggregator_data 1 aggregator_deep q.aggregations, items_deep dimension_data 1 dimension_deep q.dimensions, items_deep interval_data 0 interval_deep q.intervals, wanted_deep q.filter passes)
+    omega (arith, items_shallow aggregator_data 1 aggregator_deep q.aggregations, items_shallow dimension_data 1 dimension_deep q.dimensions, items_shallow interval_data 0 interval_deep q.intervals, wanted_deep q.filter passes)
 
 -- the JSON of a query nests no deeper than a reader takes
 pub query_deep : (q : Query) → IsQuery q → depth (query_data q) ≤ 127
@@ -98,14 +90,14 @@ asked_deep a = omega arith
 
 segments_deep : (asked : List Asked) → depth (segments_data asked) ≤ 3
 unfolding segments_data
-segments_deep asked = omega (arith, items_deep asked_data 1 asked_deep asked)
+segments_deep asked = omega (arith, items_shallow asked_data 1 asked_deep asked)
 
 kinded_sub_deep : (k : QueryType) (q : Query) (segments : Data) → Passes q.filter → depth segments ≤ 3 → depth (kinded_sub_data k q segments) ≤ 127
 unfolding sub_timeseries_data sub_group_by_data
 kinded_sub_deep Timeseries q segments passes few =
-    omega (arith, items_deep aggregator_data 1 aggregator_deep q.aggregations, items_deep interval_data 0 interval_deep q.intervals, wanted_deep q.filter passes, few)
+    omega (arith, items_shallow aggregator_data 1 aggregator_deep q.aggregations, items_shallow interval_data 0 interval_deep q.intervals, wanted_deep q.filter passes, few)
 kinded_sub_deep GroupBy q segments passes few =
-    omega (arith, items_deep aggregator_data 1 aggregator_deep q.aggregations, items_deep dimension_data 1 dimension_deep q.dimensions, items_deep interval_data 0 interval_deep q.intervals, wanted_deep q.filter passes, few)
+    omega (arith, items_shallow aggregator_data 1 aggregator_deep q.aggregations, items_shallow dimension_data 1 dimension_deep q.dimensions, items_shallow interval_data 0 interval_deep q.intervals, wanted_deep q.filter passes, few)
 
 pub subquery_deep : (sub : SubQuery) → IsQuery sub.query → depth (subquery_data sub) ≤ 127
 subquery_deep sub (e, read) =

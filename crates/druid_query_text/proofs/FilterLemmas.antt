@@ -15,7 +15,8 @@ use Rattle.druid_filter.specs.Filters.{Condition, has, has_among, all_of, any_of
 use Rattle.druid_filter.specs.declared.filter.Filter.{Filter}
 use Rattle.std.proofs.lemmas.List.{map-append}
 use Rattle.druid_shard.specs.Each.{each_of}
-use Rattle.druid_query.specs.Filters.{value_at, selector_in, among_in, filter_of_type, filter_at, filter_in, filters_in, filters_at, each_filter}
+use Rattle.druid_base.specs.Fields.{text_or_null}
+use Rattle.druid_query.specs.Filters.{selector_in, among_in, filter_of_type, filter_at, filter_in, filters_in, filters_at, each_filter}
 use Rattle.druid_query_text.specs.Levels.{Layer, selector, among, all, any, negation, selector_layer, among_layer, fields_at, layer_named, layer_at, layer_says, layer_of, IsWithin}
 use Rattle.druid_query_text.specs.declared.filter.Level.{Level}
 
@@ -70,7 +71,7 @@ negation_says (Some d) = refl
 
 selector_says : (ms : Members) → selector_in ms ≡ (selector_layer (object ms) >>= layer_says)
 unfolding selector_in
-selector_says ms = both (text_at (codes "dimension") (object ms)) (option_and_then value_at (get_member (codes "value") ms))
+selector_says ms = both (text_at (codes "dimension") (object ms)) (option_and_then text_or_null (get_member (codes "value") ms))
   where
     both : (a : Option (List ℕ)) (b : Option (Option (List ℕ))) → (a >>= λ dimension. b >>= λ value. Some (has dimension value)) ≡ ((a >>= λ dimension. b >>= λ value. Some (selector dimension value)) >>= layer_says)
     both None b = refl
@@ -85,10 +86,10 @@ among_says ms = both (text_at (codes "dimension") (object ms)) (option_and_then 
     wanted x None = refl
     wanted x (Some w) = refl
 
-    both : (a : Option (List ℕ)) (b : Option Items) → (a >>= λ dimension. b >>= λ values. each_of value_at values >>= λ w. Some (has_among dimension w)) ≡ ((a >>= λ dimension. b >>= λ values. Some (among dimension values)) >>= layer_says)
+    both : (a : Option (List ℕ)) (b : Option Items) → (a >>= λ dimension. b >>= λ values. each_of text_or_null values >>= λ w. Some (has_among dimension w)) ≡ ((a >>= λ dimension. b >>= λ values. Some (among dimension values)) >>= layer_says)
     both None b = refl
     both (Some x) None = refl
-    both (Some x) (Some ds) = wanted x (each_of value_at ds)
+    both (Some x) (Some ds) = wanted x (each_of text_or_null ds)
 
 chosen : (a b c d e : Bool) (u v w x y : Option Condition) (p q r s t : Option Layer)
     → u ≡ (p >>= layer_says) → v ≡ (q >>= layer_says) → w ≡ (r >>= layer_says) → x ≡ (s >>= layer_says) → y ≡ (t >>= layer_says)
@@ -188,7 +189,7 @@ within d l h = through (text_at (codes "type") d) h
     chosen : (a b c e f : Bool)
         → (if a then selector_layer d else (if b then among_layer d else (if c then option_map all (fields_at d) else (if e then option_map any (fields_at d) else (if f then option_map negation (get (codes "field") d) else None))))) ≡ Some l
         → IsWithin (depth d) l
-    chosen true b c e f h = picked (text_at (codes "dimension") d) (option_and_then value_at (get (codes "value") d)) h
+    chosen true b c e f h = picked (text_at (codes "dimension") d) (option_and_then text_or_null (get (codes "value") d)) h
     chosen false true c e f h = wanted (text_at (codes "dimension") d) (option_and_then as_array (get (codes "values") d)) h
     chosen false false true e f h = listed all (λ ds le. le) (fields_at d) (fields_depth d) h
     chosen false false false true f h = listed any (λ ds le. le) (fields_at d) (fields_depth d) h

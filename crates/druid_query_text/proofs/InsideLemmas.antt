@@ -7,7 +7,8 @@ use Rattle.serde_json.specs.declared.value.Value.{Value}
 use Rattle.druid_time.specs.Options.{◌>>=◌}
 use Rattle.druid_filter.specs.Filters.{Condition, has_among, all_of, any_of, is_not, Conditions, condition}
 use Rattle.druid_shard.specs.Each.{each_of}
-use Rattle.druid_query.specs.Filters.{value_at, filter_at, each_filter}
+use Rattle.druid_base.specs.Fields.{text_or_null}
+use Rattle.druid_query.specs.Filters.{filter_at, each_filter}
 use Rattle.druid_query_text.specs.Levels.{Layer, among, all, any, negation, layer_at, layer_says}
 use Rattle.druid_query_text.proofs.FilterLemmas.{joined}
 use Rattle.druid_query_text.proofs.RoomLemmas.{spoken, unspoken}
@@ -26,8 +27,8 @@ no_level d h ok = nothing (filter_at d) (unspoken d h) ok
 said : (d : Data) (l : Layer) → Some l ≡ layer_at d → IsSome (filter_at d) → IsSome (layer_says l)
 said d l h ok = subst (λ o. IsSome o) (sym (spoken d l h)) ok
 
-pub among_reads : (d : Data) (x : List ℕ) (ds : Items) → Some (among x ds) ≡ layer_at d → IsSome (filter_at d) → IsSome (each_of value_at ds)
-among_reads d x ds h ok = some_inside (has_among x) (each_of value_at ds) (said d (among x ds) h ok)
+pub among_reads : (d : Data) (x : List ℕ) (ds : Items) → Some (among x ds) ≡ layer_at d → IsSome (filter_at d) → IsSome (each_of text_or_null ds)
+among_reads d x ds h ok = some_inside (has_among x) (each_of text_or_null ds) (said d (among x ds) h ok)
 
 pub all_reads : (d : Data) (ds : Items) → Some (all ds) ≡ layer_at d → IsSome (filter_at d) → IsSome (each_filter ds)
 all_reads d ds h ok = some_inside all_of (each_filter ds) (said d (all ds) h ok)

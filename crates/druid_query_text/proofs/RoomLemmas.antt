@@ -2,7 +2,7 @@
 use Rattle.std.proofs.Common.{◌≡◌, ◌==◌, ℕ, ◌+◌, ◌-◌, ◌<◌, ◌≤◌, max, nat_le, suc, List, [], ◌∷◌, get_or, drop, length, drop_of_length-le, Option, Some, None, Result, Ok, Err, IfOk, option_map, option_and_then, is_some, if◌then◌else◌, true, false, Bool, ◌&&◌, ◌||◌, refl, sym, ap, ◌∙◌, arith, rules, Vec, Global}
 use Rattle.std.specs.List.{list_all}
 use Rattle.std.specs.declared.alloc.AllocError.{AllocError}
-use Rattle.std.proofs.lemmas.Bool.{leb-true, le-leb}
+use Rattle.std.proofs.lemmas.Bool.{leb-true, le-leb, and_parts, or_right}
 use Rattle.std.proofs.lemmas.List.{drop_more}
 use Rattle.std.proofs.lemmas.Option.{same_Some}
 use Rattle.std.proofs.lemmas.Bool.Decides.{nat_tests}
@@ -13,7 +13,8 @@ use Rattle.druid_time.specs.Options.{◌>>=◌}
 use Rattle.druid_filter.specs.Filters.{Condition, has, has_among, all_of, any_of, is_not, Conditions, no_conditions, condition}
 use Rattle.druid_query.specs.Query.{is_label, is_short, levels, most_levels, members, all_members, fits_texts, fit_texts, fits_filter}
 use Rattle.druid_shard.specs.Each.{each_of}
-use Rattle.druid_query.specs.Filters.{value_at, filter_at, each_filter}
+use Rattle.druid_base.specs.Fields.{text_or_null}
+use Rattle.druid_query.specs.Filters.{filter_at, each_filter}
 use Rattle.druid_filter.specs.Filters.{says, each_says}
 use Rattle.druid_filter.specs.declared.filter.Filter.{Filter, All, Any, Not, the_lemmas}
 use Rattle.std.specs.Box.{box_value}
@@ -36,12 +37,12 @@ all_short (Some x) None b h = grind_false (is_short x) b h
     grind_false false b h = refl
 all_short (Some x) (Some xs) b h = ap (λ c. is_short x && c) (sym h)
 
-each_short : (vs : List Value) → list_all (λ v. holds_in is_short (value_at (view v))) vs ≡ holds_in (list_all is_short) (each_of value_at (items_view vs))
+each_short : (vs : List Value) → list_all (λ v. holds_in is_short (text_or_null (view v))) vs ≡ holds_in (list_all is_short) (each_of text_or_null (items_view vs))
 each_short [] = refl
-each_short (v ∷ vs) = all_short (value_at (view v)) (each_of value_at (items_view vs)) (list_all (λ w. holds_in is_short (value_at (view w))) vs) (sym (each_short vs))
+each_short (v ∷ vs) = all_short (text_or_null (view v)) (each_of text_or_null (items_view vs)) (list_all (λ w. holds_in is_short (text_or_null (view w))) vs) (sym (each_short vs))
 
-pub among_fits : (d : List ℕ) (vs : List Value) → is_label d ≡ true → nat_le (length vs) max_values ≡ true → list_all (λ v. holds_in is_short (value_at (view v))) vs ≡ fits_among d (items_view vs)
-among_fits d vs label few = each_short vs ∙ through (each_of value_at (items_view vs)) (λ xs e. sym (ap (λ n. nat_le n max_values) (each_of_length value_at vs xs e)))
+pub among_fits : (d : List ℕ) (vs : List Value) → is_label d ≡ true → nat_le (length vs) max_values ≡ true → list_all (λ v. holds_in is_short (text_or_null (view v))) vs ≡ fits_among d (items_view vs)
+among_fits d vs label few = each_short vs ∙ through (each_of text_or_null (items_view vs)) (λ xs e. sym (ap (λ n. nat_le n max_values) (each_of_length text_or_null vs xs e)))
   where
     through : (o : Option (List (Option (List ℕ)))) → ((xs : List (Option (List ℕ))) → o ≡ Some xs → nat_le (length vs) max_values ≡ nat_le (length xs) max_values)
         → holds_in (list_all is_short) o ≡ holds_in (λ wanted. is_label d && nat_le (length wanted) max_values && list_all is_short wanted) o
@@ -49,7 +50,7 @@ among_fits d vs label few = each_short vs ∙ through (each_of value_at (items_v
     through (Some xs) same = ap (λ (b : Bool). b && list_all is_short xs) (sym (ap (λ (b : Bool). b && nat_le (length xs) max_values) label ∙ sym (same xs refl) ∙ few))
 
 pub among_label : (d : List ℕ) (ds : Items) → is_label d ≡ false → false ≡ fits_among d ds
-among_label d ds label = through (each_of value_at ds)
+among_label d ds label = through (each_of text_or_null ds)
   where
     through : (o : Option (List (Option (List ℕ)))) → false ≡ holds_in (λ wanted. is_label d && nat_le (length wanted) max_values && list_all is_short wanted) o
     through None = refl
@@ -60,7 +61,7 @@ and_false true = refl
 and_false false = refl
 
 pub among_long : (d : List ℕ) (vs : List Value) → nat_le (length vs) max_values ≡ false → false ≡ fits_among d (items_view vs)
-among_long d vs long = through (each_of value_at (items_view vs)) (λ xs e. ap (λ n. nat_le n max_values) (each_of_length value_at vs xs e) ∙ long)
+among_long d vs long = through (each_of text_or_null (items_view vs)) (λ xs e. ap (λ n. nat_le n max_values) (each_of_length text_or_null vs xs e) ∙ long)
   where
     through : (o : Option (List (Option (List ℕ)))) → ((xs : List (Option (List ℕ))) → o ≡ Some xs → nat_le (length xs) max_values ≡ false)
         → false ≡ holds_in (λ wanted. is_label d && nat_le (length wanted) max_values && list_all is_short wanted) o
@@ -93,12 +94,8 @@ full (Some c) deep room h = full_leaves c deep room h
 pub no_level_left : (o : Option Condition) (deep room : ℕ) → (deep == 0) ≡ true → None ≡ left_by o deep room
 no_level_left o deep room h = full o deep room (ap (λ (b : Bool). b || room == 0) h)
 
-or_true : (a : Bool) → (a || true) ≡ true
-or_true true = refl
-or_true false = refl
-
 pub no_room_left : (o : Option Condition) (deep room : ℕ) → (room == 0) ≡ true → None ≡ left_by o deep room
-no_room_left o deep room h = full o deep room (ap (λ (b : Bool). deep == 0 || b) h ∙ or_true (deep == 0))
+no_room_left o deep room h = full o deep room (ap (λ (b : Bool). deep == 0 || b) h ∙ or_right (deep == 0) true refl)
 
 not_full : (deep room : ℕ) → (deep == 0) ≡ false → (room == 0) ≡ false → is_full deep room ≡ false
 not_full deep room a b = ap (λ (x : Bool). x || room == 0) a ∙ b
@@ -108,8 +105,8 @@ pub left_selector : (d : List ℕ) (v : Option (List ℕ)) (deep room : ℕ) →
 left_selector d v deep room a b = let free = not_full deep room a b in rw free refl
 
 pub left_among : (d : List ℕ) (ds : Items) (deep room : ℕ) → (deep == 0) ≡ false → (room == 0) ≡ false
-    → leaf (fits_among d ds) room ≡ left_by (option_map (has_among d) (each_of value_at ds)) deep room
-left_among d ds deep room a b = through (each_of value_at ds)
+    → leaf (fits_among d ds) room ≡ left_by (option_map (has_among d) (each_of text_or_null ds)) deep room
+left_among d ds deep room a b = through (each_of text_or_null ds)
   where
     through : (o : Option (List (Option (List ℕ)))) → leaf (holds_in (λ wanted. is_label d && nat_le (length wanted) max_values && list_all is_short wanted) o) room ≡ left_by (option_map (has_among d) o) deep room
     through None = refl
@@ -177,7 +174,7 @@ pub selected : (d : Data) (x : List ℕ) (v : Option (List ℕ)) (r : Result Fil
 selected d x v (Ok f) h e = sym (spoken d (selector x v) h) ∙ ap Some (sym e)
 selected d x v (Err a) h e = e
 
-pub wanted : (d : Data) (x : List ℕ) (ds : Items) (r : Result Filter AllocError) → Some (among x ds) ≡ layer_at d → IfOk r (λ f. option_map (has_among x) (each_of value_at ds) ≡ Some (says f)) → IfOk r (λ f. filter_at d ≡ Some (says f))
+pub wanted : (d : Data) (x : List ℕ) (ds : Items) (r : Result Filter AllocError) → Some (among x ds) ≡ layer_at d → IfOk r (λ f. option_map (has_among x) (each_of text_or_null ds) ≡ Some (says f)) → IfOk r (λ f. filter_at d ≡ Some (says f))
 wanted d x ds (Ok f) h e = sym (spoken d (among x ds) h) ∙ e
 wanted d x ds (Err a) h e = e
 
@@ -247,10 +244,6 @@ mutual
       let n = bound (left_after c deep room) (λ m. all_left cs deep m) left h in
       both_took deep room n.0 left (levels c) (members c) (most_levels cs) (all_members cs) (fits_texts c) (fit_texts cs) (took c deep room n.0 n.1) (all_took cs deep n.0 left n.2)
 
-both_true : (a b : Bool) → (a && b) ≡ true → (a ≡ true) × (b ≡ true)
-both_true true b h = (refl, h)
-both_true false b h = absurd (cc)
-
 -- where no limit is passed, all places are left that are not taken
 one_leaves : (b : Bool) (deep room : ℕ) → 1 ≤ deep → 1 ≤ room → b ≡ true → (if is_full deep room then None else leaf b room) ≡ Some (room - 1)
 one_leaves b deep room d r h = let free = is_open deep room d r in rw (free, h) refl
@@ -275,7 +268,7 @@ mutual
   all_leave : (cs : Conditions) (deep room : ℕ) → most_levels cs ≤ deep → all_members cs ≤ room → fit_texts cs ≡ true → all_left cs deep room ≡ Some (room - all_members cs)
   all_leave no_conditions deep room l m t = ap Some (omega arith)
   all_leave (condition c cs) deep room l m t =
-      let texts = both_true (fits_texts c) (fit_texts cs) t in
+      let texts = and_parts (fits_texts c) (fit_texts cs) t in
       let first = leaves c deep room (omega (arith, l)) (omega (arith, m)) texts.0 in
       let rest = all_leave cs deep (room - members c) (omega (arith, l)) (omega (arith, m)) texts.1 in
       let same : room - members c - all_members cs ≡ room - (members c + all_members cs) = omega arith in
@@ -285,8 +278,8 @@ fits_one : (c : Condition) (o : Option ℕ) (b : Bool) → left_after c max_leve
 fits_one c None false e h = refl
 fits_one c (Some n) true e h = refl
 fits_one c None true e h =
-    let texts = both_true (nat_le (levels c) max_levels && nat_le (members c) max_members) (fits_texts c) h in
-    let limits = both_true (nat_le (levels c) max_levels) (nat_le (members c) max_members) texts.0 in
+    let texts = and_parts (nat_le (levels c) max_levels && nat_le (members c) max_members) (fits_texts c) h in
+    let limits = and_parts (nat_le (levels c) max_levels) (nat_le (members c) max_members) texts.0 in
     let left = leaves c max_levels max_members (leb-true (levels c) max_levels limits.0) (leb-true (members c) max_members limits.1) texts.1 in
     let none : None ≡ Some (max_members - members c) = sym e ∙ left in
     absurd (cc)

@@ -11,7 +11,8 @@ use Rattle.druid_filter.specs.Filters.{Condition, has, has_among, all_of, any_of
 use Rattle.druid_query.specs.Query.{is_label, is_short}
 use Rattle.druid_query.specs.Limits.{max_values}
 use Rattle.druid_shard.specs.Each.{each_of}
-use Rattle.druid_query.specs.Filters.{value_at, filter_at, each_filter}
+use Rattle.druid_base.specs.Fields.{text_or_null}
+use Rattle.druid_query.specs.Filters.{filter_at, each_filter}
 use Rattle.druid_query_text.specs.Found.{holds_in}
 use Rattle.druid_query_text.specs.declared.filter.Level.{Level}
 use Rattle.druid_query_text.specs.declared.filter.Level.TheVariants as levels
@@ -27,7 +28,7 @@ pub data Layer : Type 0 where
 abbrev pub selector_layer : Data → Option Layer
 selector_layer d = do
   dimension ← text_at (codes "dimension") d
-  value ← option_and_then value_at (get (codes "value") d)
+  value ← option_and_then text_or_null (get (codes "value") d)
   Some (selector dimension value)
 
 abbrev pub among_layer : Data → Option Layer
@@ -56,7 +57,7 @@ layer_at d = do
 -- the filter, where the filters inside are read
 abbrev pub layer_says : Layer → Option Condition
 layer_says (selector dimension value) = Some (has dimension value)
-layer_says (among dimension values) = option_map (has_among dimension) (each_of value_at values)
+layer_says (among dimension values) = option_map (has_among dimension) (each_of text_or_null values)
 layer_says (all fields) = option_map all_of (each_filter fields)
 layer_says (any fields) = option_map any_of (each_filter fields)
 layer_says (negation field) = option_map is_not (filter_at field)
@@ -101,4 +102,4 @@ abbrev mutual
   all_left (condition c cs) deep room = left_after c deep room >>= λ left. all_left cs deep left
 
 abbrev pub fits_among : List ℕ → Items → Bool
-fits_among dimension values = holds_in (λ wanted. is_label dimension && nat_le (length wanted) max_values && list_all is_short wanted) (each_of value_at values)
+fits_among dimension values = holds_in (λ wanted. is_label dimension && nat_le (length wanted) max_values && list_all is_short wanted) (each_of text_or_null values)

@@ -7,7 +7,7 @@ ghost use Rattle.druid_query.specs.Read.{aggregations_at};
 ghost use Rattle.druid_query_text.specs.Found.{FindsBy, EachReads, readings};
 ghost use Rattle.druid_query.specs.Written.{aggregator_text, counting_data, of_field_data, fielded_data, aggregator_data, aggregations_data};
 
-use crate::item::{Item, are_fit, list_field};
+use crate::item::{Item, are_fit, items_field};
 use druid_query::{Aggregator, AggregatorKind, MAX_AGGREGATORS, QueryFault, is_label};
 use druid_shard::text_field;
 use serde_json::{Value, json};
@@ -117,7 +117,7 @@ pub(crate) fn aggregator_items(value: &Value) -> Result<&[Value], QueryFault>
     ensures read { FindsBy (λ vs. readings aggregator_at vs.now) result (aggregations_at (view value.now)) }
     ensures each { IfOk result (λ vs. EachReads aggregator_at vs.now) }
 {
-    let Some(items) = list_field(value, "aggregations") else {
+    let Some(items) = items_field(value, "aggregations") else {
         return Err(QueryFault::Field("aggregations"));
     };
     match are_fit::<AggregatorRef<'_>>(items, MAX_AGGREGATORS) {

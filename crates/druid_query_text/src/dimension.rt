@@ -9,7 +9,7 @@ ghost use Rattle.druid_query_text.specs.Found.{FindsBy, EachReads, readings};
 ghost use Rattle.druid_query.specs.Written.{dimension_data, dimensions_data};
 
 use crate::fields::typed_text;
-use crate::item::{Item, are_fit, list_field};
+use crate::item::{Item, are_fit, items_field};
 use druid_query::{Dimension, MAX_DIMENSIONS, QueryFault, QueryType, is_label};
 use serde_json::{Value, json};
 use std::alloc::{AllocError, Global};
@@ -103,7 +103,7 @@ fn listed_dimensions(value: &Value) -> Result<&[Value], QueryFault>
     ensures read { FindsBy (λ vs. readings dimension_at vs.now) result (listed_dimensions (view value.now)) }
     ensures each { IfOk result (λ vs. EachReads dimension_at vs.now) }
 {
-    let Some(items) = list_field(value, "dimensions") else {
+    let Some(items) = items_field(value, "dimensions") else {
         return Err(QueryFault::Field("dimensions"));
     };
     match are_fit::<DimensionRef<'_>>(items, MAX_DIMENSIONS) {

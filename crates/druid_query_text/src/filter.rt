@@ -2,10 +2,10 @@
 ghost use Rattle.std.specs.Prelude.{◌&&◌, map, length, nat_le, string_bytes, Ok, ◌≡◌, ◌-◌, ◌≤◌, Some, IfOk, IsSome, IfSome, SomeIff, option_map, option_and_then, is_some, IsTrue};
 ghost use Rattle.std.specs.List.{list_all};
 ghost use Rattle.serde_json.specs.Data.{depth};
-ghost use Rattle.serde_json.specs.Find.{get, as_array};
 ghost use Rattle.serde_json.specs.View.{view, items_view};
 ghost use Rattle.druid_shard.specs.Each.{each_of};
-ghost use Rattle.druid_query.specs.Filters.{value_at, filter_at, each_filter};
+ghost use Rattle.druid_base.specs.Fields.{text_or_null};
+ghost use Rattle.druid_query.specs.Filters.{filter_at, each_filter};
 ghost use Rattle.druid_query_text.specs.Levels.{selector_layer, among_layer, fields_at, layer_named, layer_at, layer_of, leaf, left_after, all_left, fits_among};
 ghost use Rattle.druid_query_text.specs.Found.{FindsBy, Reads, read_of, holds_in};
 ghost use Rattle.druid_query.specs.Read.{filter_field};
@@ -15,6 +15,7 @@ ghost use Rattle.druid_filter.specs.Values.{nullable_texts_of};
 ghost use Rattle.serde_json.specs.View.{items_of};
 ghost use Rattle.druid_query.specs.Written.{value_data, selector_data, among_data, fields_data, not_data, filter_data, filters_data, wanted_data};
 
+use druid_base::{are_texts_or_null, copy_text, list_field, text_or_null};
 use druid_filter::Filter;
 use druid_query::{MAX_LEVELS, MAX_MEMBERS, MAX_VALUES, QueryFault, is_label, is_short};
 use druid_shard::text_field;
@@ -31,29 +32,11 @@ enum Level<'a> {
     Not(&'a Value),
 }
 
-// A value of a dimension.
-#[tactic(auto, unfolding(druid_query::specs::Filters::value_at))]
-fn value_of(value: &Value) -> Option<Option<&str>>
-    ensures { option_map (option_map (λ s. s.now)) result ≡ value_at (view value.now) }
-{
-    if value.is_null() {
-        return Some(None);
-    }
-    Some(Some(value.as_str()?))
-}
-
-fn list_at<'a>(value: &'a Value, key: &str) -> Option<&'a [Value]>
-    ensures { option_map (λ vs. items_view vs.now) result ≡ option_and_then as_array (get key.now (view value.now)) }
-{
-    let values = value.get(key).and_then(Value::as_array)?;
-    Some(values.as_slice())
-}
-
 fn selector_level(value: &Value) -> Option<Level<'_>>
     ensures { option_map layer_of result ≡ selector_layer (view value.now) }
 {
     let dimension = text_field(value, "dimension")?;
-    let wanted = value_of(value.get("value")?)?;
+    let wanted = text_or_null(value.get("value")?)?;
     Some(Level::Selector(dimension, wanted))
 }
 
@@ -61,7 +44,7 @@ fn among_level(value: &Value) -> Option<Level<'_>>
     ensures { option_map layer_of result ≡ among_layer (view value.now) }
 {
     let dimension = text_field(value, "dimension")?;
-    let values = list_at(value, "values")?;
+    let values = list_field(value, "values")?;
     Some(Level::Among(dimension, values))
 }
 
@@ -72,8 +55,8 @@ fn level_named<'a>(kind: &str, value: &'a Value) -> Option<Level<'a>>
     match kind {
         "selector" => selector_level(value),
         "in" => among_level(value),
-        "and" => Some(Level::All(list_at(value, "fields")?)),
-        "or" => Some(Level::Any(list_at(value, "fields")?)),
+        "and" => Some(Level::All(list_field(value, "fields")?)),
+        "or" => Some(Level::Any(list_field(value, "fields")?)),
         "not" => Some(Level::Not(value.get("field")?)),
         _ => None,
     }
@@ -86,12 +69,6 @@ fn level_of(value: &Value) -> Option<Level<'_>>
     level_named(text_field(value, "type")?, value)
 }
 
-fn are_values(values: &[Value]) -> bool
-    ensures { result ≡ list_all (λ value. is_some (value_at (view value))) values.now }
-{
-    values.iter().all(|value| value_of(value).is_some())
-}
-
 // Whether a value is a filter.
 #[cycle(is_filter)]
 fn is_filter(value: &Value) -> bool
@@ -100,7 +77,7 @@ fn is_filter(value: &Value) -> bool
     match level_of(value) {
         None => false,
         Some(Level::Selector(_dimension, _wanted)) => true,
-        Some(Level::Among(_dimension, values)) => are_values(values),
+        Some(Level::Among(_dimension, values)) => are_texts_or_null(values),
         Some(Level::All(fields)) => are_filters(fields),
         Some(Level::Any(fields)) => are_filters(fields),
         Some(Level::Not(field)) => is_filter(field),
@@ -126,16 +103,16 @@ fn fits_selector(dimension: &str, wanted: Option<&str>) -> bool
 }
 
 fn is_short_value(value: &Value) -> bool
-    ensures { result ≡ holds_in is_short (value_at (view value.now)) }
+    ensures { result ≡ holds_in is_short (text_or_null (view value.now)) }
 {
-    match value_of(value) {
+    match text_or_null(value) {
         Some(value) => is_short(value),
         None => false,
     }
 }
 
 fn are_short(values: &[Value]) -> bool
-    ensures { result ≡ list_all (λ value. holds_in is_short (value_at (view value))) values.now }
+    ensures { result ≡ list_all (λ value. holds_in is_short (text_or_null (view value))) values.now }
 {
     values.iter().all(|value| is_short_value(value))
 }
@@ -228,41 +205,32 @@ pub(crate) fn filter_field(value: &Value) -> Result<Option<&Value>, QueryFault>
     Ok(Some(filter))
 }
 
-fn copy_of(alloc: Global, text: Option<&str>) -> Result<Option<String>, AllocError>
-    ensures { IfOk result (λ copy. option_map string_bytes copy ≡ option_map (λ s. s.now) text.entry) }
-{
-    match text {
-        Some(text) => Ok(Some(String::from_str(alloc, text)?)),
-        None => Ok(None),
-    }
-}
-
 fn selector_of(alloc: Global, dimension: &str, wanted: Option<&str>) -> Result<Filter, AllocError>
     ensures { IfOk result (λ f. says f ≡ has dimension.now (option_map (λ s. s.now) wanted.entry)) }
 {
     let dimension = String::from_str(alloc, dimension)?;
-    let wanted = copy_of(alloc, wanted)?;
+    let wanted = copy_text(alloc, wanted)?;
     Ok(Filter::Selector(dimension, wanted))
 }
 
 // The values, each of which is a text or null.
 fn values_of(alloc: Global, values: &[Value]) -> Result<Vec<Option<String>>, AllocError>
-    requires { IsSome (each_of value_at (items_view values.now)) }
-    ensures { IfOk result (λ wanted. each_of value_at (items_view values.now) ≡ Some (nullable_texts_of wanted.items)) }
+    requires { IsSome (each_of text_or_null (items_view values.now)) }
+    ensures { IfOk result (λ wanted. each_of text_or_null (items_view values.now) ≡ Some (nullable_texts_of wanted.items)) }
 {
     let mut wanted = Vec::with_capacity(alloc, values.len())?;
     for value in values {
-        let Some(text) = value_of(value) else {
+        let Some(text) = text_or_null(value) else {
             unreachable!()
         };
-        wanted.push(copy_of(alloc, text)?)?;
+        wanted.push(copy_text(alloc, text)?)?;
     }
     Ok(wanted)
 }
 
 fn among_of(alloc: Global, dimension: &str, values: &[Value]) -> Result<Filter, AllocError>
-    requires { IsSome (each_of value_at (items_view values.now)) }
-    ensures { IfOk result (λ f. option_map (has_among dimension.now) (each_of value_at (items_view values.now)) ≡ Some (says f)) }
+    requires { IsSome (each_of text_or_null (items_view values.now)) }
+    ensures { IfOk result (λ f. option_map (has_among dimension.now) (each_of text_or_null (items_view values.now)) ≡ Some (says f)) }
 {
     let dimension = String::from_str(alloc, dimension)?;
     let wanted = values_of(alloc, values)?;

@@ -1,8 +1,6 @@
 //! Intervals, read out of JSON and written.
-ghost use Rattle.std.specs.Prelude.{◌≡◌, true, IfOk, option_map, is_some};
-ghost use Rattle.std.specs.List.{list_all};
+ghost use Rattle.std.specs.Prelude.{◌≡◌, true, IfOk, option_map};
 ghost use Rattle.serde_json.specs.View.{view, items_view};
-ghost use Rattle.serde_json.specs.Find.{as_str};
 ghost use Rattle.druid_query.specs.Fields.{texts_among, listed_at, interval_texts, listed_texts, interval_of};
 ghost use Rattle.druid_query.specs.Read.{list_of, fit_intervals};
 ghost use Rattle.druid_query.specs.Refusal.{bad_field, bad_interval};
@@ -10,18 +8,13 @@ ghost use Rattle.druid_query_text.specs.Found.{FindsBy, readings};
 ghost use Rattle.druid_query.specs.Written.{interval_data, intervals_data};
 
 use crate::item::{Item, are_fit};
+use druid_base::{are_texts, list_field};
 use druid_query::{MAX_INTERVALS, QueryFault};
 use druid_shard::text_field;
 use druid_time::Interval;
 use serde_json::Value;
 use std::alloc::{AllocError, Global};
 use std::slice;
-
-fn are_texts(values: &[Value]) -> bool
-    ensures { result ≡ list_all (λ value. is_some (as_str (view value))) values.now }
-{
-    values.iter().all(|value| value.is_string())
-}
 
 // The values, where there are some and each is a text.
 #[tactic(auto, using(crate::proofs::EmptyLemmas::texts_there, crate::proofs::EmptyLemmas::no_texts, crate::proofs::EmptyLemmas::not_texts))]
@@ -41,8 +34,7 @@ fn listed_of(value: &Value) -> Option<&[Value]>
     ensures { option_map (λ vs. items_view vs.now) result ≡ listed_at (view value.now) }
 {
     if text_field(value, "type")? == "intervals" {
-        let values = value.get("intervals").and_then(Value::as_array)?;
-        Some(values.as_slice())
+        list_field(value, "intervals")
     } else {
         None
     }

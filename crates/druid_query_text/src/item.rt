@@ -25,7 +25,7 @@ pub(crate) trait Item<'a>: Sized + Drop {
 }
 
 // The list at a key, empty where there is no such key. None where it holds no list.
-pub(crate) fn list_field<'a>(value: &'a Value, key: &str) -> Option<&'a [Value]>
+pub(crate) fn items_field<'a>(value: &'a Value, key: &str) -> Option<&'a [Value]>
     ensures { option_map (λ vs. items_view vs.now) result ≡ items_or_none (get key.now (view value.now)) }
 {
     match value.get(key) {

@@ -17,10 +17,10 @@ use crate::fields::{granularity_text, kind_text};
 use crate::filter::wanted_value;
 use crate::interval::{interval_items, interval_texts, intervals_value};
 use crate::parts::{Head, QueryRef, Tail};
+use druid_base::{JsonFault, parse_json};
 use druid_query::{Query, QueryFault, QueryType};
 use serde_json::{Map, Value, put};
 use std::alloc::{AllocError, Global};
-use std::str;
 
 fn interval_field(value: &Value) -> Option<&[Value]>
     ensures { option_map (λ vs. items_view vs.now) result ≡ option_and_then interval_texts (get (codes "intervals") (view value.now)) }
@@ -65,15 +65,10 @@ pub fn query_of(alloc: Global, value: &Value) -> Result<Query, QueryFault>
 pub fn read_query(alloc: Global, bytes: &[u8]) -> Result<Query, QueryFault>
     ensures { IsReadOf bytes.now result }
 {
-    match Value::from_slice(alloc, bytes) {
+    match parse_json(alloc, bytes) {
         Ok(value) => query_of(alloc, &value),
-        Err(error) => {
-            if error.is_memory() && str::from_utf8(bytes).is_ok() {
-                Err(QueryFault::Memory)
-            } else {
-                Err(QueryFault::NotJson)
-            }
-        }
+        Err(JsonFault::NotJson) => Err(QueryFault::NotJson),
+        Err(JsonFault::Memory) => Err(QueryFault::Memory),
     }
 }
 

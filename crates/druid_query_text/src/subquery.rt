@@ -13,12 +13,12 @@ ghost use Rattle.serde_json.specs.Read.{read};
 use crate::interval::{interval_items, intervals_value, listed_texts};
 use crate::parts::{Head, QueryRef, Tail};
 use crate::query::members_of;
+use druid_base::{JsonFault, parse_json};
 use druid_asked_text::{are_apart, are_inside, asked_items, asked_list, asked_values};
 use druid_query::{Asked, QueryFault, SubQuery};
 use serde_json::{Value, json, put};
 use std::alloc::{AllocError, Global};
 use std::marker::Model;
-use std::str;
 
 fn asked_field(value: &Value) -> Option<&[Value]>
     ensures { option_map (λ vs. items_view vs.now) result ≡ option_and_then asked_items (get (codes "intervals") (view value.now)) }
@@ -144,15 +144,10 @@ pub fn subquery_of(alloc: Global, value: &Value) -> Result<SubQuery, QueryFault>
 pub fn read_subquery(alloc: Global, bytes: &[u8]) -> Result<SubQuery, QueryFault>
     ensures { IsReadBy subquery_at bytes.now result }
 {
-    match Value::from_slice(alloc, bytes) {
+    match parse_json(alloc, bytes) {
         Ok(value) => subquery_of(alloc, &value),
-        Err(error) => {
-            if error.is_memory() && str::from_utf8(bytes).is_ok() {
-                Err(QueryFault::Memory)
-            } else {
-                Err(QueryFault::NotJson)
-            }
-        }
+        Err(JsonFault::NotJson) => Err(QueryFault::NotJson),
+        Err(JsonFault::Memory) => Err(QueryFault::Memory),
     }
 }
 

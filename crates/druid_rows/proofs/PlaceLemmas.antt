@@ -67,7 +67,7 @@ mapped_next f xs now i y d lt is at =
 
 -- ---- values of codes
 
-contains_value : (values : List (List ℕ)) (n : ℕ) (text : List ℕ) → value_at values n ≡ Some text → Contains values text
+pub contains_value : (values : List (List ℕ)) (n : ℕ) (text : List ℕ) → value_at values n ≡ Some text → Contains values text
 contains_value values zero text e = absurd (true≢false (ap is_some (sym e)))
 contains_value values (suc k) text e = (k, slice_get_within values k text e, get_or_from_slice_get values k text text e)
 

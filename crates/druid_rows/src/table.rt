@@ -1,4 +1,4 @@
-ghost use Rattle.std.specs.Prelude.{◌≡◌, ◌↔◌, ◌*◌, List, ℕ, ◌<◌, ◌≤◌, length, map, slice_index_or, string_bytes, None, All, IsTrue, IfOk};
+ghost use Rattle.std.specs.Prelude.{◌≡◌, ◌↔◌, ◌*◌, List, ℕ, ◌<◌, ◌≤◌, length, map, slice_index_or, None, All, IsTrue, IfOk};
 ghost use Rattle.std.specs.List.Sorted.{IsNonDecreasing};
 ghost use Rattle.std.specs.Option.{option_map};
 ghost use Rattle.druid_time.specs.Extent.{Has};
@@ -9,6 +9,7 @@ ghost use Rattle.druid_rows.specs.Table.{table_of};
 use crate::Row;
 use crate::column::Column;
 use crate::numbers::Numbers;
+use druid_base::copy_text;
 use druid_time::{Instant, Interval};
 use std::alloc::{AllocError, Global};
 use std::marker::Model;
@@ -36,15 +37,6 @@ impl Model for Table {
     ghost invariant = { λ a. AreLong (length a.times.items) a.dimensions.items
         × AreLong (length a.times.items) a.metrics.items
         × (IsTrue a.is_rising ↔ IsNonDecreasing a.times.items) };
-}
-
-fn copy_of(alloc: Global, value: Option<&str>) -> Result<Option<String>, AllocError>
-    ensures { IfOk result (λ copy. option_map string_bytes copy ≡ option_map (λ text. text.now) value.entry) }
-{
-    match value {
-        Some(text) => Ok(Some(String::from_str(alloc, text)?)),
-        None => Ok(None),
-    }
 }
 
 impl Table {
@@ -201,7 +193,7 @@ fn texts_across(
 {
     let mut values = Vec::with_capacity(alloc, columns.len())?;
     for column in columns {
-        values.push(copy_of(alloc, column.get(row))?)?;
+        values.push(copy_text(alloc, column.get(row))?)?;
     }
     Ok(values)
 }

@@ -1,5 +1,5 @@
 -- What honest nodes answered, gathered, is what the visible rows tell.
-use Rattle.std.proofs.Common.{◌≡◌, ◌||◌, ◌&&◌, ◌+◌, ◌<◌, ◌≤◌, ℕ, zero, suc, arith, Bool, true, false, not, cond, List, [], ◌∷◌, ◌++◌, length, get_or, map, filter, Option, Some, None, Result, Ok, refl, sym, ap, ◌∙◌, subst, inl, inr, ◌⊎◌}
+use Rattle.std.proofs.Common.{◌≡◌, ◌||◌, ◌&&◌, ◌+◌, ℕ, zero, suc, arith, Bool, true, false, not, cond, List, [], ◌∷◌, ◌++◌, length, get_or, map, filter, Option, Some, None, Result, Ok, refl, sym, ap, ◌∙◌, subst, inl, inr, ◌⊎◌}
 use Rattle.std.specs.Bool.{nat_le, nat_lt}
 use Rattle.std.specs.Cmp.{first_so, second_so, IsTotalOrder}
 use Rattle.std.proofs.lemmas.Cmp.{tied_itself, then_total, on_total, nat_cmp_total}
@@ -7,7 +7,7 @@ use Rattle.std.specs.List.{AllByRecursion, Contains, list_any, flat_map, slice_g
 use Rattle.std.specs.List.Sorted.{IsStrictlySortedBy}
 use Rattle.std.specs.Prelude.{◌↔◌, ⊤}
 use Rattle.std.specs.declared.cmp.Ordering.TheVariants.{Less, Equal}
-use Rattle.std.proofs.lemmas.Bool.{cases_Bool, false≢true, or_cases, leb-true, ltb-true, le-leb, lt-ltb}
+use Rattle.std.proofs.lemmas.Bool.{cases_Bool, false≢true, or_cases, leb-true, ltb-true, le-leb, lt-ltb, not-true, false_from_ne_true, and_from, or_right}
 use Rattle.std.proofs.lemmas.List.Elements.{Contains-get_or, Contains-append_left, Contains-append_right, Contains-append_cases, filter_agree}
 use Rattle.std.proofs.lemmas.List.Concat.{flat_map-append}
 use Rattle.std.proofs.lemmas.List.Folds.{list_any_none}
@@ -24,7 +24,6 @@ use Rattle.druid_timeline.specs.Visible.{IsVisible}
 use Rattle.druid_timeline.specs.Pieces.{Shown, AreRuns, Shows}
 use Rattle.druid_timeline.proofs.HoldingLemmas.{in_filter, from_filter, IsVisible-same}
 use Rattle.druid_chunks.proofs.ChunkLemmas.{same_group-same}
-use Rattle.druid_timeline.proofs.RunsLemmas.{AreRuns-rest, Shows-beyond}
 use Rattle.druid_rows.specs.Rows.{Row}
 use Rattle.druid_filter.specs.Filters.{value_in}
 use Rattle.druid_rows.specs.Segment.{Segment}
@@ -47,20 +46,9 @@ use Rattle.druid_partial.proofs.OnceLemmas.{alike_through, alike_equal, counted_
 use Rattle.druid_scatter.specs.Plan.{Pair, asked_of, place_cmp, IsWanted, IsPlanOf}
 use Rattle.druid_scatter.specs.Gathered.{Exchange, Answers, IsLost, Gives, TellAll, AtOnePlace, IsGathered}
 use Rattle.druid_scatter.specs.Exact.{without, IsHonest, AreServed, Sees, counts, counted_visible}
+use Rattle.druid_scatter.proofs.LawLemmas.{shows_there, one_run}
 
 -- ---- tests over pieces
-
-or_true : (b : Bool) → (b || true) ≡ true
-or_true true = refl
-or_true false = refl
-
-not_true : (b : Bool) → not b ≡ true → b ≡ false
-not_true true h = absurd (false≢true h)
-not_true false h = refl
-
-not_so : (b : Bool) → (b ≡ true → ⊥) → b ≡ false
-not_so true h = absurd (h refl)
-not_so false h = refl
 
 bool_same : (a b : Bool) → (a ≡ true → b ≡ true) → (b ≡ true → a ≡ true) → a ≡ b
 bool_same true b to back = sym (to refl)
@@ -80,7 +68,7 @@ any_counted p [] a there h = absurd (Contains-nil a there)
 any_counted p (x ∷ xs) a there h =
     elim (Contains-cons x xs a there) [
       | inl same ↦ ap (λ b. b || list_any p xs) (ap p same ∙ h)
-      | inr later ↦ ap (λ b. p x || b) (any_counted p xs a later h) ∙ or_true (p x)
+      | inr later ↦ ap (λ b. p x || b) (any_counted p xs a later h) ∙ or_right (p x) true refl
     ]
 
 -- ---- pieces that stand apart
@@ -94,7 +82,7 @@ apart_tested : (xs : List Asked) → AllApart xs → stand_apart xs ≡ true
 apart_tested [] all = refl
 apart_tested (x ∷ xs) all =
     ap (λ b. not b && stand_apart xs)
-    (list_any_none (do_overlap x) xs (λ k a l. not_so (do_overlap x (get_or xs k a)) (λ h. all.0 (get_or xs k a) (Contains-get_or xs k a l) (overlap_seen x (get_or xs k a) h))))
+    (list_any_none (do_overlap x) xs (λ k a l. false_from_ne_true (do_overlap x (get_or xs k a)) (λ h. all.0 (get_or xs k a) (Contains-get_or xs k a l) (overlap_seen x (get_or xs k a) h))))
     ∙ apart_tested xs all.1
 
 apart_append : (xs ys : List Asked) → AllApart xs → AllApart ys → ((a b : Asked) → Contains xs a → Contains ys b → Overlap a b → ⊥) → AllApart (xs ++ ys)
@@ -176,11 +164,11 @@ itself : (a : Asked) → same_asked a a ≡ true
 itself a = same_asked-equiv.refl a
 
 not_listed : (a : Asked) (missing : List Asked) → not (list_any (same_asked a) missing) ≡ true → Contains missing a → ⊥
-not_listed a missing free there = false≢true (sym (not_true _ free) ∙ any_counted (same_asked a) missing a there (itself a))
+not_listed a missing free there = false≢true (sym (not-true _ free) ∙ any_counted (same_asked a) missing a there (itself a))
 
 free : (a : Asked) (missing : List Asked) → (Contains missing a → ⊥) → not (list_any (same_asked a) missing) ≡ true
 free a missing absent =
-    ap not (not_so (list_any (same_asked a) missing) (λ h. let f = any_found (same_asked a) missing h in absent (subst (Contains missing) (sym (same_asked-true a f.0 f.2)) f.1)))
+    ap not (false_from_ne_true (list_any (same_asked a) missing) (λ h. let f = any_found (same_asked a) missing h in absent (subst (Contains missing) (sym (same_asked-true a f.0 f.2)) f.1)))
 
 -- each of them was given by an exchange
 in_given : (query : Query) (es : List Exchange) (rows : List Reported) (tell : TellAll query es rows) (a : Asked) → Contains (pieces_given query es rows tell) a
@@ -251,38 +239,17 @@ given_apart query (e ∷ more) rows (inr t) sorted one once =
 
 -- ---- pieces of a plan
 
-shows_of : (pieces : List Shown) (s : Shown) (t : ℕ) → Contains pieces s → Has s.interval t → Shows pieces t s.group
-shows_of [] s t there has = absurd (Contains-nil s there)
-shows_of (p ∷ ps) s t there has =
-    elim (Contains-cons p ps s there) [
-      | inl same ↦ inl (ap (λ (x : Shown). x.group) same, subst (λ (x : Shown). Has x.interval t) (sym same) has)
-      | inr later ↦ inr (shows_of ps s t later has)
-    ]
-
 piece_of : (pieces : List Shown) (t : ℕ) (g : Chunk) → Shows pieces t g → (s : Shown) × Contains pieces s × (s.group ≡ g) × Has s.interval t
 piece_of [] t g shows = absurd shows
 piece_of (p ∷ ps) t g (inl here) = (p, (0, omega arith, refl), here.0, here.1)
 piece_of (p ∷ ps) t g (inr later) = let f = piece_of ps t g later in (f.0, Contains-later p ps f.0 f.1, f.2, f.3)
-
--- pieces that have an instant in common are one
-shown_one : (pieces : List Shown) → AreRuns pieces → (x y : Shown) (t : ℕ) → Contains pieces x → Contains pieces y → Has x.interval t → Has y.interval t → x ≡ y
-shown_one [] runs x y t in_x in_y hx hy = absurd (Contains-nil x in_x)
-shown_one (p ∷ ps) runs x y t in_x in_y hx hy = by (Contains-cons p ps x in_x) (Contains-cons p ps y in_y) (shown_one ps (AreRuns-rest p ps runs) x y t) where
-  beyond : (z : Shown) → Contains ps z → Has z.interval t → p.interval.end ≤ t
-  beyond z there has = Shows-beyond p ps t z.group runs (shows_of ps z t there has)
-
-  by : (p ≡ x) ⊎ Contains ps x → (p ≡ y) ⊎ Contains ps y → (Contains ps x → Contains ps y → Has x.interval t → Has y.interval t → x ≡ y) → x ≡ y
-  by (inl a) (inl b) rest = sym a ∙ b
-  by (inl a) (inr b) rest = let stops : t < p.interval.end = (subst (λ (z : Shown). Has z.interval t) (sym a) hx).1 in let from = beyond y b hy in absurd (omega arith)
-  by (inr a) (inl b) rest = let stops : t < p.interval.end = (subst (λ (z : Shown). Has z.interval t) (sym b) hy).1 in let from = beyond x a hx in absurd (omega arith)
-  by (inr a) (inr b) rest = rest a b hx hy
 
 -- two pieces of a plan that overlap are one
 wanted_one : (source : List ℕ) (held : List Held) (pieces : List Shown) → AreRuns pieces → (a b : Asked) → IsWanted source held pieces a → IsWanted source held pieces b → Overlap a b → a ≡ b
 wanted_one source held pieces runs a b wa wb o =
     let x : Shown = record { interval = a.1; group = group_of a.0 } in
     let y : Shown = record { interval = b.1; group = group_of b.0 } in
-    let same : x ≡ y = shown_one pieces runs x y o.1.0 wa.shown wb.shown o.1.1 o.1.2 in
+    let same : x ≡ y = one_run pieces runs x y o.1.0 wa.shown wb.shown o.1.1 o.1.2 in
     λ i. (o.0 i, (same i).interval)
 
 -- ---- what is visible
@@ -306,9 +273,6 @@ asked_whole query e s row has passes =
 abbrev passes_row : Query → Segment → Row → Bool
 passes_row query s row = passes_if (value_in s.fields.dimensions row.dimensions) query.filter
 
-both_true : (a b : Bool) → a ≡ true → b ≡ true → (a && b) ≡ true
-both_true a b ha hb = ap (λ x. x && b) ha ∙ hb
-
 -- a row is counted by some of these pieces
 reported_found : (query : Query) (xs : List Asked) (s : Segment) (row : Row) → is_counted query xs s row ≡ true
     → (a : Asked) × Contains xs a × (a.0 ≡ s.descriptor.id) × (is_asked query a.1 s.fields row ≡ true)
@@ -320,7 +284,7 @@ reported_seen : (query : Query) (xs : List Asked) (s : Segment) (row : Row) (a :
     → is_counted query xs s row ≡ true
 reported_seen query xs s row a there same asked =
     any_counted (λ x. same_identifier x.0 s.descriptor.id && is_asked query x.1 s.fields row) xs a there
-    (both_true (same_identifier a.0 s.descriptor.id) (is_asked query a.1 s.fields row) (ap (λ (x : Identifier). same_identifier x s.descriptor.id) same ∙ same_identifier-equiv.refl s.descriptor.id) asked)
+    (and_from (same_identifier a.0 s.descriptor.id) (is_asked query a.1 s.fields row) (ap (λ (x : Identifier). same_identifier x s.descriptor.id) same ∙ same_identifier-equiv.refl s.descriptor.id) asked)
 
 module _ (order : List ℕ → List ℕ) (inventory : List Entry) (query : Query) (pairs : List Pair) (exchanges : List Exchange) (missing : List Asked) (groups : List Reported)
     (segments : List Segment) (held : List Held) (sees : Segment → Row → Bool)
@@ -367,7 +331,7 @@ module _ (order : List ℕ → List ℕ) (inventory : List Entry) (query : Query
   seen_by a s row in_s there same has =
       let w = wanted a there in
       let x : Shown = record { interval = a.1; group = group_of a.0 } in
-      let shows = (plan.visible.shows row.time (group_of a.0)).0 (shows_of plan.pieces x row.time w.shown has) in
+      let shows = (plan.visible.shows row.time (group_of a.0)).0 (shows_there plan.pieces x row.time w.shown has) in
       let visible = IsVisible-same plan.held held row.time (group_of a.0) same_held shows.1 in
       (seen s row in_s).1 (subst (λ (id : Identifier). IsVisible held row.time (group_of id)) same visible, shows.0)
 
@@ -408,9 +372,9 @@ module _ (order : List ℕ → List ℕ) (inventory : List Entry) (query : Query
   counted_to s in_s row h =
       let f = reported_found query given s row h in
       let parts = asked_parts query f.0.1 s row f.3 in
-      both_true (sees s row && passes_row query s row) (not (is_counted query missing s row))
-      (both_true (sees s row) (passes_row query s row) (seen_by f.0 s row in_s (given_planned f.0 f.1) f.2 parts.0) parts.1)
-      (ap not (not_so (is_counted query missing s row) (no_miss s row f.0 f.1 f.2 parts.0)))
+      and_from (sees s row && passes_row query s row) (not (is_counted query missing s row))
+      (and_from (sees s row) (passes_row query s row) (seen_by f.0 s row in_s (given_planned f.0 f.1) f.2 parts.0) parts.1)
+      (ap not (false_from_ne_true (is_counted query missing s row) (no_miss s row f.0 f.1 f.2 parts.0)))
 
   counted_back : (s : Segment) → Contains segments s → (row : Row) → counts query sees missing s row ≡ true → is_counted query given s row ≡ true
   counted_back s in_s row h =
@@ -420,7 +384,7 @@ module _ (order : List ℕ → List ℕ) (inventory : List Entry) (query : Query
       elim (given_or_missing p.0 p.1) [
         | inl here ↦ reported_seen query given s row p.0 here p.2 asked
         | inr lost ↦
-            absurd (false≢true (sym (not_true (is_counted query missing s row) (second_so (sees s row && passes_row query s row) (not (is_counted query missing s row)) h))
+            absurd (false≢true (sym (not-true (is_counted query missing s row) (second_so (sees s row && passes_row query s row) (not (is_counted query missing s row)) h))
             ∙ reported_seen query missing s row p.0 lost p.2 asked))
       ]
 

@@ -7,8 +7,10 @@ use Rattle.std.specs.declared.cmp.Ordering.{Ordering}
 use Rattle.std.specs.declared.cmp.Ordering.TheVariants.{Less, Equal}
 use Rattle.std.proofs.lemmas.Cmp.{nat_cmp_total, tied_itself}
 use Rattle.std.proofs.lemmas.List.Elements.{All-head, All-tail, Contains-get_or}
+use Rattle.druid_base.proofs.ListLemmas.{IsStrictlyIncreasing-tail, IsStrictlyIncreasing-first}
 use Rattle.druid_time.specs.Instant.{instant_count}
 use Rattle.druid_time.specs.Extent.{Has, AnyHas}
+use Rattle.druid_segid.proofs.OrderLemmas.{nat_cmp-lt}
 use Rattle.druid_segid.specs.Group.{group_of}
 use Rattle.druid_segid.specs.Identifier.{Identifier, IsIdentifier}
 use Rattle.druid_shard.specs.Described.{Described, IsDescribed}
@@ -25,7 +27,7 @@ use Rattle.druid_query.specs.Query.{Query}
 use Rattle.druid_query.specs.Asked.{Asked, LiesInside, Overlap}
 use Rattle.druid_query.specs.SubQuery.{IsAsked}
 use Rattle.druid_scatter.specs.Plan.{Pair, asked_of, place_cmp, IsWanted, AreReplicas, IsPlanOf}
-use Rattle.druid_scatter.proofs.PlanLemmas.{each_less, less_each, is_less_nat, rest_rises, first_below, runs_beyond, same_id}
+use Rattle.druid_scatter.proofs.PlanLemmas.{each_less, less_each, runs_beyond, same_id}
 use Rattle.druid_scatter.proofs.StepLemmas.{place_cmp-total}
 
 -- ---- one list
@@ -73,7 +75,7 @@ one_list {K} R o (x ∷ xs) (y ∷ ys) s t to back =
 rising_sorted : (xs : List ℕ) → IsStrictlyIncreasing xs → IsStrictlySortedBy nat_cmp xs
 unfolding IsStrictlySortedBy
 rising_sorted [] up = tt
-rising_sorted (x ∷ xs) up = (each_less nat_cmp x xs (λ y c. is_less_nat x y (first_below x xs up y c)), rising_sorted xs (rest_rises x xs up))
+rising_sorted (x ∷ xs) up = (each_less nat_cmp x xs (λ y c. nat_cmp-lt x y (IsStrictlyIncreasing-first x xs y up c)), rising_sorted xs (IsStrictlyIncreasing-tail x xs up))
 
 -- ---- one plan
 
@@ -124,7 +126,7 @@ stretch_of (x ∷ more) r s c = elim (Contains-cons x more s c) [
   | inr there ↦ stretch_of more (AreRuns-rest x more r) s there
 ]
 
-shows_there : (pieces : List Shown) (s : Shown) (t : ℕ) → Contains pieces s → Has s.interval t → Shows pieces t s.group
+pub shows_there : (pieces : List Shown) (s : Shown) (t : ℕ) → Contains pieces s → Has s.interval t → Shows pieces t s.group
 shows_there [] s t c h = absurd (Contains-nil s c)
 shows_there (x ∷ more) s t c h = elim (Contains-cons x more s c) [
   | inl same ↦ inl (ap (λ (y : Shown). y.group) same, subst (λ (y : Shown). Has y.interval t) (sym same) h)
@@ -132,7 +134,7 @@ shows_there (x ∷ more) s t c h = elim (Contains-cons x more s c) [
 ]
 
 -- at one instant is one run
-one_run : (pieces : List Shown) → AreRuns pieces → (a b : Shown) (t : ℕ) → Contains pieces a → Contains pieces b → Has a.interval t → Has b.interval t → a ≡ b
+pub one_run : (pieces : List Shown) → AreRuns pieces → (a b : Shown) (t : ℕ) → Contains pieces a → Contains pieces b → Has a.interval t → Has b.interval t → a ≡ b
 one_run [] r a b t c d h k = absurd (Contains-nil a c)
 one_run (x ∷ more) r a b t c d h k = elim (Contains-cons x more a c) [
   | inl first ↦ elim (Contains-cons x more b d) [

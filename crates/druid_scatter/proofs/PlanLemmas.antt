@@ -1,16 +1,16 @@
 -- The pieces of a plan are all that are wanted, once each and in order.
-use Rattle.std.proofs.Common.{◌≡◌, ◌∙◌, ◌↔◌, ◌==◌, inl, inr, ℕ, suc, ◌+◌, ◌<◌, ◌≤◌, Bool, true, false, not, cond, List, [], ◌∷◌, ◌++◌, length, get_or, map, filter, take, All, Contains, append_assoc, refl, sym, ap, subst, arith}
+use Rattle.std.proofs.Common.{◌≡◌, ◌∙◌, ◌↔◌, ◌==◌, inl, inr, ℕ, ◌+◌, ◌<◌, ◌≤◌, Bool, true, false, not, cond, List, [], ◌∷◌, ◌++◌, length, get_or, map, filter, take, All, Contains, append_assoc, refl, sym, ap, subst, arith}
 use Rattle.std.specs.List.{AllByRecursion}
 use Rattle.std.specs.List.Sorted.{IsStrictlyIncreasing, IsStrictlySortedBy}
 use Rattle.std.specs.Ordering.{nat_cmp, ordering_then, MatchOrdering}
-use Rattle.std.proofs.lemmas.List.Kept.{AllPairs-from_increasing}
 use Rattle.std.specs.declared.cmp.Ordering.{Ordering}
 use Rattle.std.specs.declared.cmp.Ordering.TheVariants.{Less, Equal, Greater}
 use Rattle.std.proofs.lemmas.Cmp.{ranked}
 use borrow.Author.Tests.{eqb-true}
-use Rattle.std.proofs.lemmas.Bool.{cases_Bool, false≢true}
+use Rattle.std.proofs.lemmas.Bool.{cases_Bool, false≢true, not-true}
 use Rattle.std.proofs.lemmas.List.Elements.{All-weaker, Contains-get_or, Contains-append_cases, All-contains, All-head, All-tail, All-from_recursion}
 use Rattle.std.proofs.lemmas.List.{map_push, map_more, take_more, take_all, flat_map_more}
+use Rattle.druid_base.proofs.ListLemmas.{IsStrictlyIncreasing-tail, IsStrictlyIncreasing-first}
 use Rattle.druid_time.specs.Extent.{Extent, AnyHas, SameInstants}
 use Rattle.druid_segid.specs.Group.{Group, group_of, same_group}
 use Rattle.druid_segid.specs.Identifier.{Identifier}
@@ -53,9 +53,6 @@ is_less a b Less m h = refl
 is_less a b Equal m h = absurd (omega arith)
 is_less a b Greater m h = absurd (omega arith)
 
-pub is_less_nat : (a b : ℕ) → a < b → nat_cmp a b ≡ Less
-is_less_nat a b h = is_less a b (nat_cmp a b) (ranked a b (nat_cmp a b) refl) h
-
 is_equal : (a b : ℕ) (r : Ordering) → MatchOrdering r (a < b) (a ≡ b) (b < a) → a ≡ b → r ≡ Equal
 is_equal a b Less m h = absurd (omega arith)
 is_equal a b Equal m h = refl
@@ -72,15 +69,6 @@ lower_before a b e h =
     ap (λ (o : Ordering). ordering_then o (nat_cmp a.0.partition b.0.partition)) (is_equal a.1.start b.1.start (nat_cmp a.1.start b.1.start) (ranked a.1.start b.1.start (nat_cmp a.1.start b.1.start) refl) e)
     ∙ is_less a.0.partition b.0.partition (nat_cmp a.0.partition b.0.partition) (ranked a.0.partition b.0.partition (nat_cmp a.0.partition b.0.partition) refl) h
 
-pub rest_rises : (p : ℕ) (parts : List ℕ) → IsStrictlyIncreasing (p ∷ parts) → IsStrictlyIncreasing parts
-rest_rises p parts h = λ k within. let e : suc k + 1 ≡ suc (k + 1) = omega arith in
-    subst (λ (n : ℕ). get_or (p ∷ parts) (suc k) 0 < get_or (p ∷ parts) n 0) e (h (suc k) (omega arith))
-
-pub first_below : (p : ℕ) (parts : List ℕ) → IsStrictlyIncreasing (p ∷ parts) → (q : ℕ) → Contains parts q → p < q
-first_below p parts h q c =
-    let up = AllPairs-from_increasing (p ∷ parts) h 0 (suc c.0) q (omega arith) (omega (arith, c.1)) in
-    subst (λ (n : ℕ). p < n) c.2 up
-
 -- the partitions of a piece
 part_order : (source : List ℕ) (t : Reported) (parts : List ℕ) → IsStrictlyIncreasing parts → IsStrictlySortedBy place_cmp (map (asked_at source t) parts)
 unfolding IsStrictlySortedBy
@@ -88,8 +76,8 @@ part_order source t [] h = tt
 part_order source t (p ∷ parts) h = (
   each_less place_cmp (asked_at source t p) (map (asked_at source t) parts)
       (λ y c. let of = Contains-map (asked_at source t) parts y c in
-      subst (λ (b : Asked). place_cmp (asked_at source t p) b ≡ Less) of.2 (lower_before (asked_at source t p) (asked_at source t of.0) refl (first_below p parts h of.0 of.1))),
-  part_order source t parts (rest_rises p parts h),
+      subst (λ (b : Asked). place_cmp (asked_at source t p) b ≡ Less) of.2 (lower_before (asked_at source t p) (asked_at source t of.0) refl (IsStrictlyIncreasing-first p parts of.0 h of.1))),
+  part_order source t parts (IsStrictlyIncreasing-tail p parts h),
 )
 
 -- each run after the first starts where that ends, or later
@@ -156,10 +144,6 @@ served_new serving p a nodes e up all = subst (IsServedBy serving) (sym e) (reco
 pub same_id : (d : Described) (id : Identifier) → d.id.source ≡ id.source → group_of d.id ≡ group_of id → d.id.partition ≡ id.partition → d.id ≡ id
 same_id d id s g p i = record { source = s i; interval = (g i).interval; version = (g i).version; partition = p i }
 
-not_true : (b : Bool) → not b ≡ true → b ≡ false
-not_true true e = absurd (false≢true e)
-not_true false e = refl
-
 pub replicas_of : (inventory : List Entry) (serving : Serving) (source : List ℕ) → serving.source ≡ source → IsHoldingOf inventory source serving.held
     → (p : Pair) → p.asked.0.source ≡ source → IsServedBy serving p → AreReplicas inventory p.asked.0 p.nodes
 replicas_of inventory serving source e held p of_source s = record {
@@ -169,7 +153,7 @@ replicas_of inventory serving source e held p of_source s = record {
         let node : n ≡ from.0 = sym h.4 ∙ ap (λ (x : Held). x.member.node) from.4 in
         let group : group_of from.1.id ≡ group_of p.asked.0 = ap (λ (x : Held). x.group) (sym from.4) ∙ h.2 in
         let partition : from.1.id.partition ≡ p.asked.0.partition = ap (λ (x : Held). x.member.partition) (sym from.4) ∙ h.3 in
-        let rows : from.1.tombstone ≡ false = not_true from.1.tombstone (ap (λ (x : Held). x.member.serves) (sym from.4) ∙ h.5) in
+        let rows : from.1.tombstone ≡ false = not-true from.1.tombstone (ap (λ (x : Held). x.member.serves) (sym from.4) ∙ h.5) in
         (from.1, subst (λ (k : ℕ). Serves inventory k from.1) (sym node) from.2, same_id from.1 p.asked.0 (from.3 ∙ sym of_source) group partition, rows),
     λ r. let d = r.0 in
         (s.all n).1 (

@@ -6,7 +6,7 @@ use Rattle.std.proofs.lemmas.Bool.{false≢true, eq-eqb}
 use Rattle.std.proofs.lemmas.Option.{same_Some}
 use Rattle.serde_json.specs.Data.{Data}
 use Rattle.druid_query.specs.Asked.{Asked}
-use Rattle.druid_query.specs.Read.{ReadsAs}
+use Rattle.druid_base.specs.Json.{ReadsAs}
 use Rattle.druid_query.specs.Query.{Query}
 use Rattle.druid_query.specs.SubQuery.{SubQuery}
 use Rattle.druid_partial_text.specs.Answers.{IsAnswerOf, TellsAnswer}

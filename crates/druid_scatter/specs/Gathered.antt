@@ -3,7 +3,7 @@ use Rattle.std.specs.Prelude.{◌≡◌, ◌≢◌, ◌<◌, ◌⊎◌, ℕ, Lis
 use Rattle.std.specs.List.Sorted.{IsStrictlySortedBy}
 use Rattle.druid_query.specs.Query.{Query}
 use Rattle.druid_query.specs.Asked.{Asked}
-use Rattle.druid_query.specs.Read.{ReadsAs}
+use Rattle.druid_base.specs.Json.{ReadsAs}
 use Rattle.druid_query.specs.SubQuery.{SubQuery, subquery_text}
 use Rattle.druid_partial_text.specs.Answers.{TellsAnswer}
 use Rattle.druid_partial.specs.Groups.{Group, IsResult}

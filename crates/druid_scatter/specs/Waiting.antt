@@ -5,7 +5,7 @@ use Rattle.std.specs.Ordering.{nat_cmp, ordering_then}
 use Rattle.std.specs.List.Sorted.{IsPermutation, IsStrictlySortedBy}
 use Rattle.druid_query.specs.Asked.{Asked}
 use Rattle.druid_query.specs.Query.{Query}
-use Rattle.druid_query.specs.Read.{ReadsAs}
+use Rattle.druid_base.specs.Json.{ReadsAs}
 use Rattle.druid_query.specs.SubQuery.{SubQuery}
 use Rattle.druid_partial_text.specs.Answers.{TellsAnswer, IsAnswerOf}
 use Rattle.druid_partial_text.specs.declared.fault.PartialFault.TheVariants as faults

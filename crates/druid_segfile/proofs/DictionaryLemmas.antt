@@ -1,5 +1,5 @@
 -- A dimension, read and written: its texts rise, and each has a row.
-use Rattle.std.proofs.Common.{◌≡◌, ℕ, zero, suc, ◌-◌, ◌^◌, ◌<◌, ◌≤◌, true, eqb, List, [], ◌∷◌, ◌++◌, length, get_or, map, Option, Some, None, is_some, Ordering, Less, Equal, Greater, Ok, refl, sym, ap, subst, ◌∙◌, append_assoc, arith, ⊎_elim, leb}
+use Rattle.std.proofs.Common.{◌≡◌, ℕ, zero, suc, ◌-◌, ◌^◌, ◌<◌, ◌≤◌, true, eqb, List, [], ◌∷◌, ◌++◌, length, get_or, map, Option, Some, None, Ordering, Less, Equal, Greater, Ok, refl, sym, ap, subst, ◌∙◌, append_assoc, arith, ⊎_elim, leb}
 use Rattle.std.specs.Prelude.{All, Contains}
 use Rattle.std.specs.List.{flat_map, list_any, AllByRecursion}
 use Rattle.std.specs.List.Sorted.{IsStrictlySortedBy}
@@ -13,11 +13,12 @@ use Rattle.std.proofs.lemmas.List.Concat.{flat_map-cons}
 use Rattle.std.proofs.lemmas.List.Elements.{All-nil, All-cons, All-head, All-tail, All-contains}
 use Rattle.std.proofs.lemmas.List.Folds.{list_any_at, Any-from_list_any}
 use Rattle.std.proofs.lemmas.Map.Steps.{le-length_from_below}
-use Rattle.std.proofs.lemmas.Option.{slice_get-get_or, get_or_from_slice_get, slice_get_within}
+use Rattle.std.proofs.lemmas.Option.{slice_get-get_or}
 use Rattle.druid_shard.proofs.MemberLemmas.{Contains-map, Contains-map_back}
 use Rattle.druid_rows.specs.Columns.{value_at, IsDictionary, AreCodes}
 use Rattle.druid_rows.specs.Segment.{max_rows}
 use Rattle.druid_rows.proofs.ColumnLemmas.{IsDictionary_unique, AreCodes_unique, one_code}
+use Rattle.druid_rows.proofs.PlaceLemmas.{contains_value}
 use Rattle.druid_segfile.specs.declared.fault.FileFault.{FileFault}
 use Rattle.druid_segfile.specs.ColumnSpelling.{Coded, value, dimension, IsCoded}
 use Rattle.druid_time.specs.Results.{◌>>=◌}
@@ -224,10 +225,6 @@ no_more_texts count codes e =
 
 -- ---- a dictionary, and codes in it
 
-text_coded : (texts : List (List ℕ)) (code : ℕ) (text : List ℕ) → value_at texts code ≡ Some text → Contains texts text
-text_coded texts zero text e = absurd (true≢false (ap is_some (sym e)))
-text_coded texts (suc k) text e = (k, slice_get_within texts k text e, get_or_from_slice_get texts k text text e)
-
 pub is_dictionary : (texts : List (List ℕ)) (codes : List ℕ) → IsStrictlySortedBy text_cmp texts → have_rows (length texts) codes ≡ true → IsDictionary (map (value_at texts) codes) texts
 is_dictionary texts codes sorted used = record {
   rising = sorted;
@@ -237,7 +234,7 @@ is_dictionary texts codes sorted used = record {
         subst (Contains (map (value_at texts) codes)) (slice_get-get_or texts there.0 text there.1 ∙ ap Some there.2) (Contains-map_back (value_at texts) codes (suc there.0) row),
     λ there.
         let code = Contains-map (value_at texts) codes (Some text) there in
-        text_coded texts code.0 text code.2,
+        contains_value texts code.0 text code.2,
   );
 }
 

@@ -1,9 +1,10 @@
 -- Instants, and their milliseconds since 1970.
-use Rattle.std.proofs.Common.{◌≡◌, ℕ, ℤ, pos, negsuc, neg_ℤ, ◌+ℤ◌, ◌≤ℤ◌, ◌<◌, Bool, true, false, cond, ltb, Option, Some, None, refl, sym, ap, ◌∙◌, arith}
+use Rattle.std.proofs.Common.{◌≡◌, ℕ, ℤ, pos, negsuc, neg_ℤ, ◌+ℤ◌, ◌≤ℤ◌, ◌<◌, Bool, true, false, ltb, Option, Some, None, refl, sym, ap, ◌∙◌, arith}
 use Rattle.std.specs.Prelude.{◌↔◌, IsSome, IfSome, FitsSigned}
 use Rattle.std.specs.Int.{w64}
 use Rattle.std.proofs.lemmas.Bool.{lt-ltb, ltb-true, false≢true}
 use Rattle.std.proofs.lemmas.Int.{ints}
+use Rattle.std.proofs.lemmas.Option.{cond_some}
 use Rattle.druid_time.specs.Instant.{instant_count, unix_epoch, unix_ms, IsInstant}
 use Rattle.druid_segfile.specs.Parts.{instant_from_first, instant_of}
 
@@ -13,13 +14,9 @@ instant_of-unix_ms t h =
     let back : unix_ms t +ℤ pos unix_epoch ≡ pos t = omega (arith, ints) in
     ap instant_from_first back ∙ rw (lt-ltb t instant_count h) refl
 
-some_chosen : (b : Bool) (s t : ℕ) → cond b (Some s) None ≡ Some t → (b ≡ true) × (s ≡ t)
-some_chosen true s t e = (refl, cc)
-some_chosen false s t e = absurd cc
-
 from_first : (z : ℤ) (t : ℕ) → instant_from_first z ≡ Some t → (z ≡ pos t) × (t < instant_count)
 from_first (pos n) t e =
-    let c = some_chosen (ltb n instant_count) n t e in
+    let c = cond_some (ltb n instant_count) n t e in
     (ap pos c.1, omega (arith, ltb-true n instant_count c.0, c.1))
 from_first (negsuc n) t e = absurd cc
 

@@ -1,9 +1,10 @@
 -- Rows, read and written.
-use Rattle.std.proofs.Common.{◌≡◌, ℕ, ℤ, zero, suc, ◌^◌, ◌≤◌, Bool, true, false, ◌&&◌, cond, ltb, leb, List, [], ◌∷◌, ◌++◌, length, Option, Some, None, Ok, refl, sym, ap, subst, ◌∙◌, append_assoc, arith}
+use Rattle.std.proofs.Common.{◌≡◌, ℕ, ℤ, zero, suc, ◌^◌, ◌≤◌, Bool, ◌&&◌, ltb, leb, List, [], ◌∷◌, ◌++◌, length, Option, Some, None, Ok, refl, sym, ap, subst, ◌∙◌, append_assoc, arith}
 use Rattle.std.specs.Prelude.{ok_or, IfSome, FitsSigned, All}
 use Rattle.std.specs.List.{flat_map}
 use Rattle.std.specs.Int.{w32, w64, to_be_bytes}
 use Rattle.std.proofs.lemmas.Bool.{and_parts, ltb-true, lt-ltb, leb-true, le-leb}
+use Rattle.std.proofs.lemmas.Option.{cond_some}
 use Rattle.druid_time.specs.Extent.{Extent, Has}
 use Rattle.druid_time.specs.Instant.{unix_ms, IsInstant}
 use Rattle.druid_rows.specs.Rows.{Row}
@@ -19,14 +20,10 @@ use Rattle.druid_segfile.proofs.HeadLemmas.{ok_or_ok}
 
 -- ---- the instant of a row
 
-some_chosen : (b : Bool) (s t : ℕ) → cond b (Some s) None ≡ Some t → (b ≡ true) × (s ≡ t)
-some_chosen true s t e = (refl, cc)
-some_chosen false s t e = absurd cc
-
 instant_in_has : (interval : Extent) (o : Option ℕ) (t : ℕ) → instant_in interval o ≡ Some t → (o ≡ Some t) × Has interval t
 instant_in_has interval None t e = absurd cc
 instant_in_has interval (Some s) t e =
-    let c = some_chosen (leb interval.start s && ltb s interval.end) s t e in
+    let c = cond_some (leb interval.start s && ltb s interval.end) s t e in
     let both = and_parts (leb interval.start s) (ltb s interval.end) c.0 in
     (ap Some c.1, (omega (arith, c.1, leb-true interval.start s both.0), omega (arith, c.1, ltb-true s interval.end both.1)))
 

@@ -2,7 +2,7 @@
 use Rattle.std.specs.Prelude.{◌≡◌, ℕ, List, [], ◌∷◌, ◌++◌, ⊤, Some, Result, Ok, Err}
 use Rattle.serde_json.specs.Data.{Data}
 use Rattle.druid_config.specs.Configs.{Reported, config_at}
-use Rattle.druid_config.specs.Read.{ReadsAs}
+use Rattle.druid_base.specs.Json.{ReadsAs}
 use Rattle.druid_serve.specs.Faults.{status_of, fault_text}
 use Rattle.druid_serve.specs.declared.fault.ServeFault.{ServeFault}
 use Rattle.druid_serve.specs.declared.fault.ServeFault.TheVariants.{BadConfig, BadFolder, Device}

@@ -1,11 +1,12 @@
 -- An ask that was written is read back.
-use Rattle.std.proofs.Common.{◌≡◌, ◌≢◌, ◌⊎◌, inl, ◌<◌, ◌≤◌, ◌^◌, ℕ, arith, Bool, true, false, ◌&&◌, ◌==◌, not, List, [], ◌∷◌, ◌++◌, All, codes, length, decimal, append_assoc, length-append, Some, Result, Ok, Err, IfOk, refl, sym, subst, ap, ◌∙◌, le-leb}
+use Rattle.std.proofs.Common.{◌≡◌, ◌≢◌, ◌⊎◌, inl, ◌<◌, ◌≤◌, ◌^◌, ℕ, arith, Bool, true, ◌==◌, not, List, [], ◌∷◌, ◌++◌, All, codes, length, decimal, append_assoc, length-append, Some, Result, Ok, Err, IfOk, refl, sym, subst, ap, ◌∙◌, le-leb}
 use Rattle.std.specs.List.{list_all}
 use Rattle.std.specs.Str.Parse.{AllDigits}
 use Rattle.std.proofs.lemmas.Bool.Decides.{nat_tests}
 use Rattle.std.proofs.lemmas.Fmt.{decimal_is_IsNumeral}
 use Rattle.std.proofs.lemmas.Str.Parse.{digit_from_value}
 use Rattle.std.proofs.lemmas.List.Elements.{All-nil, All-cons, All-append}
+use Rattle.std.proofs.lemmas.Bool.{and_parts}
 use Rattle.form_urlencoded.specs.Form.{split_once, split_pair, raw_pairs}
 use Rattle.form_urlencoded.proofs.FormLemmas.{raw_pairs-nil, raw_pairs_first, split_once_before_at, split_once_after_at, split_once_before_none, split_once_after_none}
 use Rattle.druid_segid.proofs.NumberLemmas.{number_at-found}
@@ -17,15 +18,11 @@ use Rattle.druid_sync.specs.Written.{IsWord}
 
 -- ---- bytes that separate nothing
 
-both_hold : (x y : Bool) → (x && y) ≡ true → (x ≡ true) × (y ≡ true)
-both_hold true y both = (refl, both)
-both_hold false y both = absurd cc
-
 -- the test of it
 free_of : (s : ℕ) (bytes : List ℕ) → list_all (λ b. not (b == s)) bytes ≡ true → All (λ b. b ≢ s) bytes
 free_of s [] free = All-nil (λ b. b ≢ s)
 free_of s (b ∷ bytes) free =
-    let both = both_hold (not (b == s)) (list_all (λ x. not (x == s)) bytes) free in
+    let both = and_parts (not (b == s)) (list_all (λ x. not (x == s)) bytes) free in
     All-cons (λ x. x ≢ s) b bytes (λ same. absurd (grind (arith, nat_tests, same, both.0))) (free_of s bytes both.1)
 
 -- digits are neither `&` nor `=`

@@ -3,7 +3,7 @@ use Rattle.std.proofs.Common.{◌≡◌, ℕ, ◌+◌, ◌<◌, ◌≤◌, Bool,
 use Rattle.std.specs.List.{AllWithin}
 use Rattle.std.proofs.lemmas.List.{drop_more, get_or_default}
 use Rattle.std.proofs.lemmas.List.Elements.{AllWithin-more}
-use Rattle.std.proofs.lemmas.Bool.Decides.{nat_tests}
+use Rattle.std.proofs.lemmas.Bool.{lt-ltb}
 use Rattle.serde_json.proofs.OnLiterals.{serde_json_on_literals}
 use Rattle.serde_json.specs.Data.{Data}
 use Rattle.serde_json.specs.View.{items_of}
@@ -32,16 +32,13 @@ from_plain (Some m) = refl
 
 -- ---- changes, one after another
 
-above_none : (i : ℕ) → true ≡ nat_lt 0 (i + 1)
-above_none i = grind (arith, nat_tests)
-
 -- what is written of a list before a place, and what the rest from that place on will be
 pub item_next : {A : Type 0} (f : A → Data) (front : List ℕ) (later : Bool) (xs : List A) (i : ℕ) (x : A) → i < length xs → x ≡ get_or xs i x
     → (front ++ (comma_if later ++ compact_text (f x))) ++ items_text (nat_lt 0 (i + 1)) (items_of (map f (drop (i + 1) xs)))
     ≡ front ++ items_text later (items_of (map f (drop i xs)))
 item_next {A} f front later xs i x h is =
     let rest = drop (i + 1) xs in
-    ap (λ (b : Bool). (front ++ (comma_if later ++ compact_text (f x))) ++ items_text b (items_of (map f rest))) (sym (above_none i))
+    ap (λ (b : Bool). (front ++ (comma_if later ++ compact_text (f x))) ++ items_text b (items_of (map f rest))) (lt-ltb 0 (i + 1) (omega arith))
     ∙ append_assoc front (comma_if later ++ compact_text (f x)) (items_text true (items_of (map f rest)))
     ∙ ap (λ (l : List ℕ). front ++ l) (append_assoc (comma_if later) (compact_text (f x)) (items_text true (items_of (map f rest))))
     ∙ ap (λ (y : A). front ++ (comma_if later ++ (compact_text (f y) ++ items_text true (items_of (map f rest))))) is

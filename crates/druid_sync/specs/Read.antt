@@ -2,8 +2,8 @@
 use Rattle.std.specs.Prelude.{◌≡◌, ℕ, ◌<◌, ◌≤◌, ◌||◌, List, codes, length, nat_le, ⊤, IsUtf8, Bool, Option, Some, None, is_some, Result, Ok, Err, option_and_then, if◌then◌else◌}
 use Rattle.std.specs.Str.{bytes_eq}
 use Rattle.serde_json.specs.Data.{Data, Items, no_items, item}
-use Rattle.serde_json.specs.Read.{read}
 use Rattle.serde_json.specs.Find.{get, as_null, as_bool, as_array, as_str}
+use Rattle.druid_base.specs.Json.{ReadsAs}
 use Rattle.druid_time.specs.Options.{◌>>=◌}
 use Rattle.druid_shard.specs.Described.{Described}
 use Rattle.druid_shard.specs.Mark.{Point}
@@ -19,10 +19,6 @@ use Rattle.druid_shard.specs.declared.reply.Body.TheVariants.{Delta, Snapshot, P
 use Rattle.druid_shard.specs.Each.{each_of}
 use Rattle.druid_sync.specs.declared.fault.SyncFault.{SyncFault}
 use Rattle.druid_sync.specs.declared.fault.SyncFault.TheVariants as faults
-
--- the bytes are the JSON of d, in UTF-8
-abbrev pub ReadsAs : List ℕ → Data → Type 0
-ReadsAs bytes d = IsUtf8 bytes × (read bytes ≡ Some d)
 
 -- a mark of an incarnation, which is at least 1
 unfoldable pub mark_at : Data → Option Point

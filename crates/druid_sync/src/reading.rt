@@ -8,13 +8,13 @@ ghost use Rattle.druid_sync.specs.Borrowed.{five_borrowed};
 ghost use Rattle.druid_sync.specs.Read.{mark_at, change_at, load_at, cause_at, five_at, begun_again, none_in, reset_at, snapshot_at, delta_at, changes_at, page_at, paged_at, tells_page, unpaged_at, form_at, MayBePage, Answers, IsRead, IsReadOf};
 
 use crate::SyncFault;
+use druid_base::{JsonFault, list_field, parse_json};
 use druid_shard::{
     Cause, Change, Descriptor, MAX_CHANGES, MAX_PAGE, MAX_PAGES, MAX_SEGMENTS, Mark, Reply,
     ReplyFault, check_descriptor, limited_field, number_field, read_descriptor, text_field,
 };
 use serde_json::Value;
 use std::alloc::{AllocError, Global};
-use std::str;
 
 // A mark of an incarnation.
 #[tactic(auto, unfolding(crate::specs::Read::mark_at))]
@@ -145,7 +145,7 @@ fn five_of(value: &Value) -> Option<Borrowed<'_>>
 {
     let at = mark_of(value.get("counter")?)?;
     let from = value.get("from")?;
-    let requests = value.get("requests").and_then(Value::as_array)?.as_slice();
+    let requests = list_field(value, "requests")?;
     let cause = value.get("resetCause")?;
     let reset = value.get("resetCounter").and_then(Value::as_bool)?;
     Some(Borrowed {
@@ -365,14 +365,9 @@ pub fn reply_of(alloc: Global, value: &Value) -> Result<Reply, SyncFault>
 pub fn read_reply(alloc: Global, bytes: &[u8]) -> Result<Reply, SyncFault>
     ensures { IsReadOf bytes.now result }
 {
-    match Value::from_slice(alloc, bytes) {
+    match parse_json(alloc, bytes) {
         Ok(value) => reply_of(alloc, &value),
-        Err(error) => {
-            if error.is_memory() && str::from_utf8(bytes).is_ok() {
-                Err(SyncFault::Memory)
-            } else {
-                Err(SyncFault::NotJson)
-            }
-        }
+        Err(JsonFault::NotJson) => Err(SyncFault::NotJson),
+        Err(JsonFault::Memory) => Err(SyncFault::Memory),
     }
 }

@@ -3,7 +3,8 @@ use Rattle.serde_json.specs.Data.{depth, items_depth}
 use Rattle.serde_json.specs.View.{view, items_view}
 use Rattle.druid_filter.specs.Filters.{has_among, all_of, any_of, is_not}
 use Rattle.druid_shard.specs.Each.{each_of}
-use Rattle.druid_query.specs.Filters.{value_at, filter_at, each_filter}
+use Rattle.druid_base.specs.Fields.{text_or_null}
+use Rattle.druid_query.specs.Filters.{filter_at, each_filter}
 use Rattle.druid_query_text.specs.Levels.{selector, among, all, any, negation}
 use Rattle.druid_shard.proofs.EachLemmas.{all_reads}
 use Rattle.druid_query_text.proofs.FilterLemmas.{within, item_depth, judged, none_judged, filters_more, filters_refused, filters_last, map_some, reported}
@@ -57,7 +58,7 @@ pub is_filter-returns-in-Some-Among : goal.is_filter-returns-in-Some-Among
 is_filter-returns-in-Some-Among t c =
     let d = c.in-Some-Among._dimension.now in
     let vs = c.in-Some-Among.values.now in
-    c.are_values.ensures ∙ all_reads value_at vs ∙ map_some (has_among d) (each_of value_at (items_view vs))
+    c.are_texts_or_null.ensures ∙ all_reads text_or_null vs ∙ map_some (has_among d) (each_of text_or_null (items_view vs))
     ∙ judged (view c.args.value.now) (among d (items_view vs)) (reported c.in-Some-Among.field-0 (levels.Among c.in-Some-Among._dimension c.in-Some-Among.values) (view c.args.value.now) c.in-Some-Among.field-0-is c.in-Some-Among.ensures)
 
 pub is_filter-returns-in-Some-All : goal.is_filter-returns-in-Some-All

@@ -2,9 +2,9 @@ use Rattle.std.proofs.Common.{◌≡◌, drop}
 use Rattle.serde_json.specs.View.{items_view}
 use Rattle.druid_filter.specs.Values.{nullable_texts_of}
 use Rattle.druid_shard.specs.Each.{each_of}
-use Rattle.druid_query.specs.Filters.{value_at}
+use Rattle.druid_base.specs.Fields.{text_or_null}
 use Rattle.druid_shard.proofs.EachLemmas.{with_front}
 use Rattle.druid_query_text.proofs.filter.values_of.Given as goal
 
 abbrev pub invariant-loop-value : goal.invariant-loop-value
-invariant-loop-value l = with_front (nullable_texts_of l.wanted.items) (each_of value_at (items_view (drop l.value-index l.values))) ≡ each_of value_at (items_view l.values)
+invariant-loop-value l = with_front (nullable_texts_of l.wanted.items) (each_of text_or_null (items_view (drop l.value-index l.values))) ≡ each_of text_or_null (items_view l.values)

@@ -1,0 +1,3 @@
+-- what public contracts rest on
+pub mod Json
+pub mod Fields
