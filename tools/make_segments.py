@@ -364,7 +364,7 @@ def decoded(data):
     if magic == b'DSG2' and len(encoded(segment)) > MAX_FILE:
         raise Refused('F5: more bytes by rows than a segment file may have')
     if parts.is_longer or parts.place < len(parts.data):
-        raise Refused('F6: bytes behind the last row')
+        raise Refused('F6: bytes after the last row')
     return segment
 
 

@@ -134,7 +134,7 @@ impl<'a> AskedRef<'a> {
     }
 
     // A copy, whose source is that name.
-    fn owned(&self, alloc: Global, source: &Name) -> Result<Asked, AllocError>
+    fn to_owned_in(&self, alloc: Global, source: &Name) -> Result<Asked, AllocError>
         requires { source.now ≡ self.now.0.source }
         ensures { IfOk result (λ copy. copy ≡ self.now) }
     {
@@ -272,7 +272,7 @@ pub fn asked_list(alloc: Global, source: &Name, values: &[Value]) -> Result<Vec<
         let Some(piece) = inside_of(source.as_str(), value) else {
             unreachable!()
         };
-        all.push(piece.owned(alloc, source)?)?;
+        all.push(piece.to_owned_in(alloc, source)?)?;
     }
     Ok(all)
 }
@@ -360,5 +360,5 @@ pub fn read_asked(alloc: Global, source: &Name, value: &Value) -> Result<Option<
     let Some(asked) = asked_of(source.as_str(), value) else {
         return Ok(None);
     };
-    Ok(Some(asked.owned(alloc, source)?))
+    Ok(Some(asked.to_owned_in(alloc, source)?))
 }

@@ -32,13 +32,13 @@ fn read_by<J: Publication>(view: &mut View<J>) -> Result<Arc<Inventory, Global>,
 }
 
 // What a publisher has is what its list makes of the opening inventory.
-fn known<J: Publication, R: Wait + Drop>(publisher: &Publisher<J, R>)
+fn inventory_is_fold<J: Publication, R: Wait + Drop>(publisher: &Publisher<J, R>)
     ensures fold { publisher.now.inventory ≡ fold_of J.opening publisher.now.published }
 {
     let _ = publisher.inventory();
 }
 
-fn publish_beyond<J: Publication, R: Wait + Drop>(
+fn publish_newer<J: Publication, R: Wait + Drop>(
     node: NodeNo,
     reply: &Reply,
     publisher: &mut Publisher<J, R>,
@@ -48,7 +48,7 @@ fn publish_beyond<J: Publication, R: Wait + Drop>(
         × (r.1 ≡ before ++ (node, reply.now) ∷ [])) }
     ensures err { IfErr result (λ fault. (before : Published) × RefusesTurn (fold_of J.opening before) node reply.now fault) }
 {
-    known(publisher);
+    inventory_is_fold(publisher);
     publish_reply(node, reply, publisher)
 }
 
@@ -65,7 +65,7 @@ fn publish_locked<W: Wait, J: Publication, R: Wait + Drop>(
     ensures err { IfErr result (λ fault. (before : Published) × RefusesTurn (fold_of J.opening before) node reply.now fault) }
 {
     let mut publisher = publisher.lock(rt);
-    publish_beyond(node, reply, &mut publisher)
+    publish_newer(node, reply, &mut publisher)
 }
 
 /// A turn of one of the threads that share a publisher: fetches what changed of a node by what the view reads, page by page where it

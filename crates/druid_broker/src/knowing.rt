@@ -60,7 +60,7 @@ pub(crate) fn tell_sources(alloc: Global, inventory: &Inventory) -> Result<Respo
 {
     let sources = inventory.sources()?;
     let text = names_text(alloc, &sources)?;
-    Ok(Response::made(StatusCode::OK, text))
+    Ok(Response::of_text(StatusCode::OK, text))
 }
 
 // Whether each node was synced.
@@ -84,9 +84,9 @@ pub(crate) fn tell_load_status(inventory: &Inventory) -> Response
     ensures { Tells 200 (loaded_text (is_loaded inventory.now)) result.status result.body }
 {
     if is_loaded(inventory) {
-        Response::fixed(StatusCode::OK, "{\"inventoryInitialized\":true}")
+        Response::of_static(StatusCode::OK, "{\"inventoryInitialized\":true}")
     } else {
-        Response::fixed(StatusCode::OK, "{\"inventoryInitialized\":false}")
+        Response::of_static(StatusCode::OK, "{\"inventoryInitialized\":false}")
     }
 }
 
@@ -94,14 +94,14 @@ pub(crate) fn tell_load_status(inventory: &Inventory) -> Response
 pub(crate) fn unknown_node() -> Response
     ensures { Tells 404 (codes "{\"error\":\"V2\"}") result.status result.body }
 {
-    Response::fixed(StatusCode::NOT_FOUND, "{\"error\":\"V2\"}")
+    Response::of_static(StatusCode::NOT_FOUND, "{\"error\":\"V2\"}")
 }
 
 fn tell_reply(alloc: Global, reply: &Reply) -> Response
     ensures { OrOutOfMemory (Tells 200 (reply_text reply.now)) result.status result.body }
 {
     match reply_text(alloc, reply) {
-        Ok(text) => Response::made(StatusCode::OK, text),
+        Ok(text) => Response::of_text(StatusCode::OK, text),
         Err(_) => Response::out_of_memory(),
     }
 }
@@ -113,7 +113,7 @@ fn tell_node(alloc: Global, inventory: &Inventory, node: NodeNo, ask: &Ask) -> R
     match inventory.entry_page(node, ask) {
         Ok(reply) => tell_reply(alloc, &reply),
         Err(InventoryFault::UnknownNode) => unknown_node(),
-        Err(InventoryFault::NotSynced) => Response::fixed(
+        Err(InventoryFault::NotSynced) => Response::of_static(
             StatusCode::NOT_FOUND,
             "{\"error\":\"V3\"}",
         ),
@@ -140,7 +140,7 @@ fn tell_number(alloc: Global, inventory: &Inventory, number: &[u8], ask: &Ask) -
 pub(crate) fn no_ask() -> Response
     ensures { Tells 400 (codes "{\"error\":\"Y6\"}") result.status result.body }
 {
-    Response::fixed(StatusCode::BAD_REQUEST, "{\"error\":\"Y6\"}")
+    Response::of_static(StatusCode::BAD_REQUEST, "{\"error\":\"Y6\"}")
 }
 
 /// What is known of the node of that number, as the parameters ask.

@@ -22,7 +22,7 @@ fn refuse_field(alloc: Global, fault: QueryFault) -> Response
     ensures { Tells 400 (refusal_text fault) result.status result.body ⊎ IsOutOfMemory result.status result.body }
 {
     match refusal_text(alloc, fault) {
-        Ok(text) => Response::made(StatusCode::BAD_REQUEST, text),
+        Ok(text) => Response::of_text(StatusCode::BAD_REQUEST, text),
         Err(_) => Response::out_of_memory(),
     }
 }
@@ -30,7 +30,7 @@ fn refuse_field(alloc: Global, fault: QueryFault) -> Response
 fn refuse(text: &'static str) -> Response
     ensures { Tells 400 text.now result.status result.body }
 {
-    Response::fixed(StatusCode::BAD_REQUEST, text)
+    Response::of_static(StatusCode::BAD_REQUEST, text)
 }
 
 /// The answer to what is no query. Memory is taken only to name a field.
@@ -58,10 +58,10 @@ fn tell_rows(alloc: Global, query: &Query, answer: &Answer) -> Result<Response, 
     let (missing, partial) = (answer.missing(), answer.partial());
     if missing.is_empty() {
         let text = result_text(alloc, query, partial)?;
-        return Ok(Response::made(StatusCode::OK, text));
+        return Ok(Response::of_text(StatusCode::OK, text));
     }
     let text = shortfall_text(alloc, query, missing, partial)?;
-    Ok(Response::made(StatusCode::SERVICE_UNAVAILABLE, text))
+    Ok(Response::of_text(StatusCode::SERVICE_UNAVAILABLE, text))
 }
 
 fn answer_rows<T: Threads + Sync, P: Pick, L: Link + Send>(

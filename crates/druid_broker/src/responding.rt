@@ -56,7 +56,7 @@ fn health(request: &Request) -> Response
     if !request.has_method("GET") {
         return Response::other_method();
     }
-    Response::fixed(StatusCode::OK, "true")
+    Response::of_static(StatusCode::OK, "true")
 }
 
 // What is answered of a node where the inventory is not taken.
@@ -86,7 +86,7 @@ fn answer_anyway<L: Link>(route: &Route, request: &Request) -> Response
         Route::Sources => Response::other_method(),
         Route::LoadStatus => Response::other_method(),
         Route::Entry(number) => answer_no_node(number, request),
-        Route::Nowhere => Response::fixed(StatusCode::NOT_FOUND, "{\"error\":\"NoRoute\"}"),
+        Route::Nowhere => Response::of_static(StatusCode::NOT_FOUND, "{\"error\":\"NoRoute\"}"),
     }
 }
 

@@ -29,7 +29,7 @@ impl Model for Response {
 
 impl Response {
     /// An answer with a fixed body.
-    pub(crate) fn fixed(status: StatusCode, text: &'static str) -> Response
+    pub(crate) fn of_static(status: StatusCode, text: &'static str) -> Response
         ensures { Tells status text.now result.status result.body }
     {
         Response {
@@ -39,7 +39,7 @@ impl Response {
     }
 
     /// An answer with a body that was made for it.
-    pub(crate) fn made(status: StatusCode, text: String) -> Response
+    pub(crate) fn of_text(status: StatusCode, text: String) -> Response
         ensures { Tells status (string_bytes text) result.status result.body }
     {
         Response {
@@ -52,21 +52,21 @@ impl Response {
     pub(crate) fn other_method() -> Response
         ensures { Tells 405 (codes "{\"error\":\"Method\"}") result.status result.body }
     {
-        Response::fixed(StatusCode::METHOD_NOT_ALLOWED, "{\"error\":\"Method\"}")
+        Response::of_static(StatusCode::METHOD_NOT_ALLOWED, "{\"error\":\"Method\"}")
     }
 
     /// The answer where memory runs out.
     pub(crate) fn out_of_memory() -> Response
         ensures { IsOutOfMemory result.status result.body }
     {
-        Response::fixed(StatusCode::INTERNAL_SERVER_ERROR, "{\"error\":\"Memory\"}")
+        Response::of_static(StatusCode::INTERNAL_SERVER_ERROR, "{\"error\":\"Memory\"}")
     }
 
     /// The answer where what was found is older than what the view knows.
     pub(crate) fn no_reading() -> Response
         ensures { Tells 500 (codes "{\"error\":\"NoReading\"}") result.status result.body }
     {
-        Response::fixed(
+        Response::of_static(
             StatusCode::INTERNAL_SERVER_ERROR,
             "{\"error\":\"NoReading\"}",
         )

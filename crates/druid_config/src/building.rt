@@ -8,8 +8,7 @@ ghost use Rattle.druid_shard.specs.Each.{each_of};
 ghost use Rattle.druid_config.specs.Configs.{asked_of, reported_of, name_at, loads_at, tombstone_at, tombstones_at, node_at, broker_at, query_at, nodes_at, brokers_at, queries_at, config_at};
 
 use crate::fields::{
-    address_field, chunk_field, count_field, name_field, object_field, place_field,
-    some_field,
+    address_field, chunk_field, count_field, name_field, object_field, place_field, some_field,
 };
 use crate::{BrokerConfig, Config, MAX_KEPT, MAX_WORKERS, NodeConfig, QueryConfig};
 use druid_base::list_field;
@@ -239,7 +238,7 @@ fn queries_of(alloc: Global, value: &Value, brokers: usize) -> Result<Vec<QueryC
 
 // The config that a value is.
 #[tactic(auto, using(crate::proofs::PartLemmas::connections_read, crate::proofs::PartLemmas::kept_read, crate::proofs::PartLemmas::turns_read, crate::proofs::PartLemmas::nodes_read, crate::proofs::PartLemmas::brokers_read, crate::proofs::PartLemmas::queries_read), unfolding(crate::specs::Configs::config_at))]
-pub(crate) fn built(alloc: Global, value: &Value) -> Result<Config, AllocError>
+pub(crate) fn build_config(alloc: Global, value: &Value) -> Result<Config, AllocError>
     requires reads { IsSome (config_at (view value.now)) }
     requires shallow { depth (view value.now) ≤ max_depth }
     ensures { IfOk result (λ config. config_at (view value.now) ≡ Some (reported_of config)) }

@@ -13,8 +13,7 @@ ghost use Rattle.druid_config.specs.Borrowed.{text_or, names_in};
 
 use crate::bad_field::{BadField, BrokerRule, NodeRule, QueryRule, WholeRule};
 use crate::fields::{
-    address_field, chunk_field, count_field, name_field, object_field, place_field,
-    some_field,
+    address_field, chunk_field, count_field, name_field, object_field, place_field, some_field,
 };
 use crate::{MAX_KEPT, MAX_SERVERS, MAX_WORKERS};
 use druid_base::{are_texts, list_field};

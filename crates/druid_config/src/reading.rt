@@ -6,7 +6,7 @@ ghost use Rattle.serde_json.specs.View.{view};
 ghost use Rattle.druid_config.specs.Configs.{config_at};
 ghost use Rattle.druid_config.specs.Read.{Gives, IsReadOf, IsFoundIn};
 
-use crate::building::built;
+use crate::building::build_config;
 use crate::judging::bad_field_of;
 use crate::{BadField, Config, ConfigFault};
 use druid_base::{JsonFault, parse_json};
@@ -22,7 +22,7 @@ pub fn config_of(alloc: Global, value: &Value) -> Result<Config, ConfigFault>
     if bad_field_of(value).is_some() {
         return Err(ConfigFault::Refused);
     }
-    match built(alloc, value) {
+    match build_config(alloc, value) {
         Ok(config) => Ok(config),
         Err(AllocError) => Err(ConfigFault::Memory),
     }

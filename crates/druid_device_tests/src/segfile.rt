@@ -632,7 +632,7 @@ const TEXTS_OF_FAULTS: [(FileFault, &str); 9] = [
     (FileFault::Field, "F3: a bad field"),
     (FileFault::RowOutside, "F4: a row outside the interval"),
     (FileFault::TooLong, "F5: too long"),
-    (FileFault::Trailing, "F6: bytes behind the last row"),
+    (FileFault::Trailing, "F6: bytes after the last row"),
     (FileFault::Read, "F7: a read failed"),
     (FileFault::Write, "F8: a write failed"),
     (FileFault::Memory, "F9: out of memory"),

@@ -237,17 +237,17 @@ impl Inventory {
             → IsErrOf result fault ↔ RefusedAt self.now node reply.now fault }
         ensures reported { IfErr result (Tells self.now node reply.now) }
     {
-        self.stepped(node, reply.body())
+        self.step_of(node, reply.body())
     }
 
     // What a reply of a node makes of the inventory, and its outcome.
-    fn stepped(&self, node: NodeNo, body: &Body) -> Result<(Inventory, Outcome), ApplyFault>
+    fn step_of(&self, node: NodeNo, body: &Body) -> Result<(Inventory, Outcome), ApplyFault>
         requires { IsReply body.now }
         ensures ok { IfOk result (λ r. (new : Entry) × StepsAt self.now node body.now r.1 new
             × (r.0 ≡ slice_set self.now node new)) }
         ensures reported { IfErr result (Tells self.now node body.now) }
     {
-        let outcome = match self.judged(node, body) {
+        let outcome = match self.outcome_of(node, body) {
             Ok(outcome) => outcome,
             Err(fault) => return Err(fault),
         };
@@ -271,18 +271,18 @@ impl Inventory {
             → IsErrOf result fault ↔ RefusedAt self.old node reply.now fault }
         ensures reported { IfErr result (Tells self.old node reply.now) }
     {
-        self.advanced(node, reply.body())
+        self.step_in_place(node, reply.body())
     }
 
     // Applies a reply of a node in place, and its outcome.
-    fn advanced(&mut self, node: NodeNo, body: &Body) -> Result<Outcome, ApplyFault>
+    fn step_in_place(&mut self, node: NodeNo, body: &Body) -> Result<Outcome, ApplyFault>
         requires { IsReply body.now }
         ensures ok { IfOk result (λ outcome. (new : Entry) × StepsAt self.old node body.now outcome new
             × (self.new ≡ slice_set self.old node new)) }
         ensures err { OnErr result (self.new ≡ self.old) }
         ensures reported { IfErr result (Tells self.old node body.now) }
     {
-        let outcome = match self.judged(node, body) {
+        let outcome = match self.outcome_of(node, body) {
             Ok(outcome) => outcome,
             Err(fault) => return Err(fault),
         };
@@ -293,7 +293,7 @@ impl Inventory {
     }
 
     // The outcome of a reply of a node, or why it is refused.
-    fn judged(&self, node: NodeNo, body: &Body) -> Result<Outcome, ApplyFault>
+    fn outcome_of(&self, node: NodeNo, body: &Body) -> Result<Outcome, ApplyFault>
         requires { IsReply body.now }
         ensures ok { IfOk result (λ outcome. (new : Entry) × StepsAt self.now node body.now outcome new) }
         ensures reported { IfErr result (Tells self.now node body.now) }
@@ -340,7 +340,7 @@ impl Inventory {
                 self.replay(node, *to, &changes.as_slice()[skipped..])
             }
             Body::Snapshot { .. } => {
-                let moved = self.moved(node, known, body)?;
+                let moved = self.with_reply(node, known, body)?;
                 *self = moved;
                 Ok(())
             }
@@ -389,7 +389,7 @@ impl Inventory {
             × (inventory ≡ slice_set self.now node new)) }
     {
         match outcome {
-            Outcome::Moved => self.moved(node, known, body),
+            Outcome::Moved => self.with_reply(node, known, body),
             Outcome::AlreadyHave => self.shared(),
             Outcome::AskWhole => self.shared(),
             Outcome::AskPages => self.shared(),
@@ -397,7 +397,7 @@ impl Inventory {
     }
 
     // The inventory after a reply that moves the entry of a node.
-    fn moved(&self, node: NodeNo, known: &Known, body: &Body) -> Result<Inventory, AllocError>
+    fn with_reply(&self, node: NodeNo, known: &Known, body: &Body) -> Result<Inventory, AllocError>
         requires known { slice_get self.now node ≡ Some known.now }
         requires valid { IsReply body.now }
         requires moves { (new : Entry) × Steps known.now body.now Moved new }
@@ -407,7 +407,7 @@ impl Inventory {
         match body {
             Body::Delta { from, to, changes } => {
                 let skipped = (known.mark().count() - from.count()) as usize;
-                self.replayed(node, known, *to, &changes.as_slice()[skipped..])
+                self.with_changes(node, known, *to, &changes.as_slice()[skipped..])
             }
             Body::Snapshot { at, segments } => {
                 let set = copy_of(self.alloc, segments.as_slice())?;
@@ -420,7 +420,7 @@ impl Inventory {
 
     // The inventory with an entry at another mark, after changes of its set. It shares the other entries with this one,
     // and the timelines of the sources that no change is of.
-    fn replayed(
+    fn with_changes(
         &self,
         node: NodeNo,
         known: &Known,
@@ -529,14 +529,14 @@ impl Inventory {
         if let Some(node) = first_conflict(entries, others) {
             return Err(JoinFault::Conflict(node));
         }
-        match self.joined(other) {
+        match self.join_entries(other) {
             Ok(inventory) => Ok(inventory),
             Err(_) => Err(JoinFault::Memory),
         }
     }
 
     // What this inventory and another are together, which agree.
-    fn joined(&self, other: &Inventory) -> Result<Inventory, AllocError>
+    fn join_entries(&self, other: &Inventory) -> Result<Inventory, AllocError>
         requires same_nodes { names_of self.now ≡ names_of other.now }
         requires agree { (node : ℕ) → ConflictAt self.now other.now node → ⊥ }
         ensures { IfOk result (λ inventory. inventory ≡ later_each self.now other.now) }

@@ -114,7 +114,7 @@ struct Timer {
 
 impl Timer {
     // What is left of it, which is not zero. `None` once it is over, or where the clock cannot be read.
-    fn left<C: Clock>(&self, clock: &C) -> Option<Duration> {
+    fn time_left<C: Clock>(&self, clock: &C) -> Option<Duration> {
         let Ok(elapsed) = self.start.elapsed(clock) else {
             return None;
         };
@@ -138,23 +138,23 @@ fn ask<N: Net + Clock>(
         return Err(WireFault::Connect);
     };
     let timer = Timer { start, limit };
-    let Some(mut stream) = connected(net, &timer, address) else {
+    let Some(mut stream) = connect(net, &timer, address) else {
         return Err(WireFault::Connect);
     };
-    exchanged(alloc, net, &timer, &mut stream, request)
+    exchange_over(alloc, net, &timer, &mut stream, request)
 }
 
 // A connection to the server at an address, made within the time.
-fn connected<N: Net + Clock>(net: &N, timer: &Timer, address: &str) -> Option<N::Stream> {
+fn connect<N: Net + Clock>(net: &N, timer: &Timer, address: &str) -> Option<N::Stream> {
     let Ok(address) = address.parse::<SocketAddr>() else {
         return None;
     };
-    let left = timer.left(net)?;
+    let left = timer.time_left(net)?;
     TcpStream::connect_timeout(net, &address, left).ok()
 }
 
 // One exchange over a stream, within the time: the request is sent whole, and then the answer is all that the stream has left.
-fn exchanged<C: Clock, S: Read + Write + OpenStream>(
+fn exchange_over<C: Clock, S: Read + Write + OpenStream>(
     alloc: Global,
     clock: &C,
     timer: &Timer,
@@ -201,7 +201,7 @@ fn send_some<C: Clock, S: Write + OpenStream>(
     ensures err { IfErr result (λ fault. (fault ≡ WireFault.Read) ⊎ (fault ≡ WireFault.Write)) }
 {
     for _ in 0..MAX_TRIES {
-        let Some(left) = timer.left(clock) else {
+        let Some(left) = timer.time_left(clock) else {
             return Err(WireFault::Read);
         };
         if stream.set_write_timeout(Some(left)).is_err() {
@@ -257,7 +257,7 @@ fn receive_some<C: Clock, S: Read + OpenStream>(
     ensures err { IfErr result (λ fault. fault ≡ WireFault.Read) }
 {
     for _ in 0..MAX_TRIES {
-        let Some(left) = timer.left(clock) else {
+        let Some(left) = timer.time_left(clock) else {
             return Err(WireFault::Read);
         };
         if stream.set_read_timeout(Some(left)).is_err() {

@@ -33,7 +33,7 @@ pub enum NodeFault {
     #[error("N7: a tombstone of another partition than 0")]
     NotPartitionZero,
     /// N8: its state is older than the mark that the caller has seen. It tells the state's mark.
-    #[error("N8: behind what was seen")]
+    #[error("N8: older than what was seen")]
     Behind(Mark),
     /// N9: out of memory.
     #[error("N9: out of memory")]

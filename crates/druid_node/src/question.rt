@@ -26,7 +26,7 @@ pub(crate) enum Question {
     Answer(SubQuery),
 }
 
-fn settled(alloc: Global, status: StatusCode, text: &str) -> Result<Question, NodeFault>
+fn fixed_answer(alloc: Global, status: StatusCode, text: &str) -> Result<Question, NodeFault>
     ensures ok { IfOk result (λ q. Asks q (λ old new code body. (new ≡ old) × Tells status text.now code body)) }
     ensures err { IfErr result (λ fault. fault ≡ NodeFault.Memory) }
 {
@@ -40,7 +40,7 @@ fn other_method(alloc: Global) -> Result<Question, NodeFault>
     ensures ok { IfOk result (λ q. Asks q (λ old new status body. (new ≡ old) × Tells 405 (codes "{\"error\":\"Method\"}") status body)) }
     ensures err { IfErr result (λ fault. fault ≡ NodeFault.Memory) }
 {
-    settled(
+    fixed_answer(
         alloc,
         StatusCode::METHOD_NOT_ALLOWED,
         "{\"error\":\"Method\"}",
@@ -67,7 +67,7 @@ fn of_parameters(alloc: Global, parameters: &str) -> Result<Question, NodeFault>
 {
     match read_ask(parameters) {
         Ok(ask) => Ok(Question::Reply(ask)),
-        Err(_) => settled(alloc, StatusCode::BAD_REQUEST, "{\"error\":\"Y6\"}"),
+        Err(_) => fixed_answer(alloc, StatusCode::BAD_REQUEST, "{\"error\":\"Y6\"}"),
     }
 }
 
@@ -88,7 +88,7 @@ fn health(alloc: Global, request: &Request) -> Result<Question, NodeFault>
     if !request.has_method("GET") {
         return other_method(alloc);
     }
-    settled(alloc, StatusCode::OK, "true")
+    fixed_answer(alloc, StatusCode::OK, "true")
 }
 
 fn segments(alloc: Global, request: &Request) -> Result<Question, NodeFault>
@@ -119,7 +119,7 @@ fn question_at(alloc: Global, route: Route, request: &Request) -> Result<Questio
         Route::Health => health(alloc, request),
         Route::Segments => segments(alloc, request),
         Route::Query => query(alloc, request),
-        Route::Nowhere => settled(alloc, StatusCode::NOT_FOUND, "{\"error\":\"NoRoute\"}"),
+        Route::Nowhere => fixed_answer(alloc, StatusCode::NOT_FOUND, "{\"error\":\"NoRoute\"}"),
     }
 }
 

@@ -103,7 +103,7 @@ impl Opened {
     }
 
     // Its word under a name, and a receipt for nothing.
-    pub(crate) fn named<J: Publication>(self) -> (Head<J>, Receipt<J>)
+    pub(crate) fn with_name<J: Publication>(self) -> (Head<J>, Receipt<J>)
         requires { self ≡ J.book }
         ensures { result.1 ≡ [] }
     {

@@ -35,7 +35,7 @@ fn writer_of<J: Publication>(
     ensures log { IfOk result (λ r. r.1.seen.log ≡ []) }
     ensures inventory { IfOk result (λ r. arc_value r.1.inventory ≡ arc_value inventory.now) }
 {
-    let shown = nothing.shown(Arc::try_clone(inventory)?);
+    let shown = nothing.show_with(Arc::try_clone(inventory)?);
     let first = shown.again()?;
     let second = shown.again()?;
     let writer = Writer::new(alloc, first, second, places as usize)?;
@@ -108,7 +108,7 @@ pub fn open<J: Publication, R: Wait + Drop>(
     ensures views { IfOk result (λ r. r.1.items ≡ replicate places []) }
     ensures fault { IfErr result (λ fault. fault ≡ PublishFault.Memory) }
 {
-    let (head, seen) = opened.named::<J>();
+    let (head, seen) = opened.with_name::<J>();
     let Ok(inventory) = Arc::new(alloc, inventory) else {
         return Err(PublishFault::Memory);
     };

@@ -96,7 +96,7 @@ impl<J: Publication, R: Wait + Drop> Drop for Publisher<J, R> {
 }
 
 // The inventory, to be shared, and an owner more of it.
-fn shared(
+fn share(
     alloc: Global,
     inventory: Inventory,
 ) -> Result<(Arc<Inventory, Global>, Arc<Inventory, Global>), AllocError>
@@ -156,12 +156,12 @@ impl<J: Publication, R: Wait + Drop> Publisher<J, R> {
         ensures refused { (fault : ApplyFault) → fault ≢ ApplyFault.UnknownNode → fault ≢ ApplyFault.Memory
             → IsErrOf result (PublishFault.Apply fault) ↔ RefusedAt self.old.inventory node reply.now fault }
     {
-        self.applied(node, reply)
+        self.apply_reply(node, reply)
     }
 
     // The same, with the fault made in one place.
     #[tactic(auto, using(crate::proofs::FoldLemmas::made_by))]
-    fn applied(
+    fn apply_reply(
         &mut self,
         node: NodeNo,
         reply: &Reply,
@@ -202,7 +202,7 @@ impl<J: Publication, R: Wait + Drop> Publisher<J, R> {
         if seen.len() >= MOST || !seen.add(&self.head, node, reply) {
             return Err(AllocError);
         }
-        let shown = seen.shown(inventory);
+        let shown = seen.show_with(inventory);
         Ok((seen, shown))
     }
 
@@ -220,7 +220,7 @@ impl<J: Publication, R: Wait + Drop> Publisher<J, R> {
         ensures fold { self.new.inventory ≡ fold_of J.opening self.new.published }
         ensures stays { OnErr result (self.new ≡ self.old) }
     {
-        let (mine, theirs) = shared(self.alloc, inventory)?;
+        let (mine, theirs) = share(self.alloc, inventory)?;
         let (seen, shown) = self.step(node, reply, theirs)?;
         replace_with(&mut self.writer, &self.rt, |writer, rt| {
             show::<J, R>(rt, writer, shown)

@@ -60,7 +60,7 @@ impl<J: Publication> Receipt<J> {
     }
 
     // What views are shown of it, with its inventory.
-    pub(crate) fn shown(&self, inventory: Arc<Inventory, Global>) -> Shown
+    pub(crate) fn show_with(&self, inventory: Arc<Inventory, Global>) -> Shown
         ensures inventory { arc_value result.inventory ≡ arc_value inventory }
         ensures published { result.seen.log ≡ self.now }
         ensures book { result.seen.book ≡ J.book }

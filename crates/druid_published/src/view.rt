@@ -25,7 +25,7 @@ pub type ReaderPlace = Reader<Shown, Known, OneOpening>;
 
 // What is shown, and its list, unless that is shorter than what was seen.
 #[tactic(auto, using(crate::proofs::FoldLemmas::names_of_fold))]
-fn taken<J: Publication>(
+fn load_shown<J: Publication>(
     shown: &Shown,
     seen: &Receipt<J>,
 ) -> Result<(Arc<Inventory, Global>, Receipt<J>), PublishFault>
@@ -64,7 +64,7 @@ fn read_by<J: Publication>(
 {
     match place.enter_as::<Looks>() {
         Ok(reading) => {
-            let found = taken(reading.get(), seen);
+            let found = load_shown(reading.get(), seen);
             (reading.leave(), found)
         }
         Err(place) => (place, Err(PublishFault::NoReading)),

@@ -531,7 +531,13 @@ fn assert_steps<R: Abort + Wait>(rt: &R, alloc: Global, layout: Layout) {
         assert_goes_on(rt, alloc, layout, &node, rows, &mut seen);
     }
     let mut ahead = Mark::new(9, 0);
-    assert_reported(rt, alloc, &node, " = N8: behind what was seen", &mut ahead);
+    assert_reported(
+        rt,
+        alloc,
+        &node,
+        " = N8: older than what was seen",
+        &mut ahead,
+    );
     assert!(rt; seen == Mark::new(1, 3) && ahead == Mark::new(9, 0));
 }
 

@@ -43,7 +43,7 @@ impl<'a> AggregatorRef<'a> {
     }
 
     // A copy.
-    fn owned(&self, alloc: Global) -> Result<Aggregator, AllocError>
+    fn to_owned_in(&self, alloc: Global) -> Result<Aggregator, AllocError>
         ensures { IfOk result (λ copy. copy ≡ self.now) }
     {
         Aggregator::new(alloc, self.name, self.kind, self.field)
@@ -136,7 +136,7 @@ pub(crate) fn aggregator_list(alloc: Global, items: &[Value]) -> Result<Vec<Aggr
         let Some(aggregator) = aggregator_of(item) else {
             continue;
         };
-        all.push(aggregator.owned(alloc)?)?;
+        all.push(aggregator.to_owned_in(alloc)?)?;
     }
     Ok(all)
 }

@@ -38,7 +38,7 @@ impl<'a> DimensionRef<'a> {
     }
 
     // A copy.
-    fn owned(&self, alloc: Global) -> Result<Dimension, AllocError>
+    fn to_owned_in(&self, alloc: Global) -> Result<Dimension, AllocError>
         ensures { IfOk result (λ copy. copy ≡ self.now) }
     {
         Dimension::new(alloc, self.dimension, self.output_name)
@@ -133,7 +133,7 @@ pub(crate) fn dimension_list(alloc: Global, items: &[Value]) -> Result<Vec<Dimen
         let Some(dimension) = dimension_of(item) else {
             continue;
         };
-        all.push(dimension.owned(alloc)?)?;
+        all.push(dimension.to_owned_in(alloc)?)?;
     }
     Ok(all)
 }

@@ -186,7 +186,7 @@ impl<'a> QueryRef<'a> {
     }
 
     // A copy.
-    pub(crate) fn owned(&self, alloc: Global) -> Result<Query, AllocError>
+    pub(crate) fn to_owned_in(&self, alloc: Global) -> Result<Query, AllocError>
         requires { IsQuery self.now }
         ensures { IfOk result (λ query. query ≡ self.now) }
     {

@@ -54,7 +54,7 @@ pub fn query_of(alloc: Global, value: &Value) -> Result<Query, QueryFault>
     ensures { Gives result (query_at (view value.now)) }
 {
     let parts = parts_of(value)?;
-    match parts.owned(alloc) {
+    match parts.to_owned_in(alloc) {
         Ok(query) => Ok(query),
         Err(AllocError) => Err(QueryFault::Memory),
     }

@@ -13,8 +13,8 @@ ghost use Rattle.serde_json.specs.Read.{read};
 use crate::interval::{interval_items, intervals_value, listed_texts};
 use crate::parts::{Head, QueryRef, Tail};
 use crate::query::members_of;
-use druid_base::{JsonFault, parse_json};
 use druid_asked_text::{are_apart, are_inside, asked_items, asked_list, asked_values};
+use druid_base::{JsonFault, parse_json};
 use druid_query::{Asked, QueryFault, SubQuery};
 use serde_json::{Value, json, put};
 use std::alloc::{AllocError, Global};
@@ -114,11 +114,11 @@ impl<'a> SubQueryRef<'a> {
 
     // A copy.
     #[tactic(auto, using(crate::proofs::ListLemmas::all_readings))]
-    fn owned(&self, alloc: Global) -> Result<SubQuery, AllocError>
+    fn to_owned_in(&self, alloc: Global) -> Result<SubQuery, AllocError>
         requires { IsQuery self.now.query }
         ensures { IfOk result (λ sub. sub ≡ self.now) }
     {
-        let query = self.query.owned(alloc)?;
+        let query = self.query.to_owned_in(alloc)?;
         let asked = asked_list(alloc, query.source(), self.asked)?;
         Ok(SubQuery::new(query, asked))
     }
@@ -133,7 +133,7 @@ pub fn subquery_of(alloc: Global, value: &Value) -> Result<SubQuery, QueryFault>
     ensures { GivesSub (view value.now) result }
 {
     let parts = SubQueryRef::of(alloc, value)?;
-    match parts.owned(alloc) {
+    match parts.to_owned_in(alloc) {
         Ok(subquery) => Ok(subquery),
         Err(AllocError) => Err(QueryFault::Memory),
     }

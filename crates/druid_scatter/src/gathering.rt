@@ -45,7 +45,7 @@ impl Gathering {
     }
 
     // After an answer of a node.
-    fn reported(
+    fn take_answer(
         self,
         alloc: Global,
         round: usize,
@@ -84,7 +84,7 @@ impl Gathering {
         ensures err { OnErr result (MayLackMemory (came_of came.now)) }
     {
         match answer_of(alloc, sub, came)? {
-            Some(answer) => self.reported(alloc, round, node, answer),
+            Some(answer) => self.take_answer(alloc, round, node, answer),
             None => Ok(self),
         }
     }
@@ -115,7 +115,7 @@ impl Gathering {
     }
 
     // After the exchanges of a round.
-    fn settled(
+    fn settle_round(
         self,
         alloc: Global,
         query: &Query,
@@ -170,7 +170,7 @@ impl Gathering {
     {
         let subs = self.wanted_subs(alloc, query, round, links.len())?;
         let came = ask(rt, alloc, &subs, links)?;
-        self.settled(alloc, query, round, &subs, &came)
+        self.settle_round(alloc, query, round, &subs, &came)
     }
 
     pub(crate) fn into_answer(self, alloc: Global) -> Result<Answer, GatherFault>

@@ -19,7 +19,7 @@ use std::thread::Threads;
 // What the nodes answered, place by place.
 pub(crate) type Came = Vec<Option<Result<Vec<u8>, WireFault>>>;
 
-fn wanted(
+fn slices_for(
     alloc: Global,
     waiting: &[Waiting],
     round: usize,
@@ -47,7 +47,7 @@ fn sub_for(
 ) -> Result<Option<SubQuery>, AllocError>
     ensures { IfOk result (λ sub. sub ≡ sub_if query.now (wanted_of round waiting.now node)) }
 {
-    let asked = wanted(alloc, waiting, round, node)?;
+    let asked = slices_for(alloc, waiting, round, node)?;
     if asked.is_empty() {
         return Ok(None);
     }

@@ -23,7 +23,7 @@ fn place_of(asked: &Asked) -> Place
 }
 
 // The nodes, as they are picked.
-fn picked<P: Pick>(
+fn order_of<P: Pick>(
     alloc: Global,
     nodes: &[NodeNo],
     turn: u64,
@@ -61,7 +61,7 @@ impl Waiting {
         ensures permuted { IfOk result (λ w. IsPermutation pair.now.nodes w.order) }
         ensures once { IfOk result (λ w. StandsOnce w.order) }
     {
-        let order = picked(alloc, pair.nodes(), turn, pick)?;
+        let order = order_of(alloc, pair.nodes(), turn, pick)?;
         let (segment, piece) = pair.asked();
         Ok(Waiting {
             asked: (segment.clone()?, *piece),
@@ -154,7 +154,7 @@ fn stays(piece: &Waiting, round: usize, node: usize, missing: &BTreeSet<Place>) 
 }
 
 // The pieces that still wait.
-fn kept(
+fn still_waiting(
     alloc: Global,
     waiting: Vec<Waiting>,
     round: usize,
@@ -184,7 +184,7 @@ pub(crate) fn keep_missing(
     ensures { IfOk result (λ kept. Keeps round node missing.now waiting.items kept.items) }
 {
     let places = places_of(alloc, missing)?;
-    Ok(kept(alloc, waiting, round, node, &places)?)
+    Ok(still_waiting(alloc, waiting, round, node, &places)?)
 }
 
 pub(crate) fn into_pieces(alloc: Global, waiting: Vec<Waiting>) -> Result<Vec<Asked>, AllocError>

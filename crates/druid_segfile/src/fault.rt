@@ -23,7 +23,7 @@ pub enum FileFault {
     #[error("F5: too long")]
     TooLong,
     /// F6: a byte follows the last part.
-    #[error("F6: bytes behind the last row")]
+    #[error("F6: bytes after the last row")]
     Trailing,
     /// F7: the reader failed.
     #[error("F7: a read failed")]

@@ -134,7 +134,7 @@ impl Rank<'_> {
         ensures answer { IsTrue result ↔ Outranks self.now other.now }
         ensures counted { meter.new ≡ meter.old + 1 }
     {
-        *meter = meter.counted();
+        *meter = meter.one_more();
         let (mine, theirs) = (self.group, other.group);
         let version = mine.version.as_str().cmp(theirs.version.as_str());
         let start = mine.interval.start().cmp(&theirs.interval.start());

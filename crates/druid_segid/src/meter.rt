@@ -30,7 +30,7 @@ impl Meter {
     }
 
     // The meter after one comparison more.
-    pub(crate) fn counted(&self) -> Meter
+    pub(crate) fn one_more(&self) -> Meter
         ensures { result ≡ self.now + 1 }
     {
         Meter {

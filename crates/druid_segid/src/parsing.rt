@@ -146,7 +146,7 @@ impl SegmentId {
         let Some(partition) = partition_of(tail) else {
             return Err(IdFault::BadPartition);
         };
-        let version = Version::copied(alloc, version)?;
+        let version = Version::copy_of(alloc, version)?;
         Ok(SegmentId::new(source.clone()?, interval, version, partition))
     }
 }

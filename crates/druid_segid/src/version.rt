@@ -69,10 +69,10 @@ impl Version {
         if !Version::accepts(text) {
             return Err(IdFault::BadVersion);
         }
-        Ok(Version::copied(alloc, text)?)
+        Ok(Version::copy_of(alloc, text)?)
     }
 
-    pub(crate) fn copied(alloc: Global, text: &str) -> Result<Version, AllocError>
+    pub(crate) fn copy_of(alloc: Global, text: &str) -> Result<Version, AllocError>
         requires { IsVersion text.now }
         ensures { IfOk result (λ version. version ≡ text.now) }
     {

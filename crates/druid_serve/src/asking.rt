@@ -35,7 +35,7 @@ fn number_of(fault: WireFault) -> &'static str
 }
 
 // All that a server answers to a query.
-fn posted<L: Link>(alloc: Global, query: &str, link: &mut L) -> Result<Vec<u8>, WireFault> {
+fn post_query<L: Link>(alloc: Global, query: &str, link: &mut L) -> Result<Vec<u8>, WireFault> {
     let target = String::from_str(alloc, QUERY_PATH)?;
     let body = query.as_bytes().to_vec(alloc)?;
     let request = request_bytes(alloc, &Request::new(Method::POST, target, body))?;
@@ -86,6 +86,6 @@ pub(crate) fn ask<R: Net + Clock + Copy, W: Write>(
         × Appends (W.contents out.old) (W.contents out.new) text) }
 {
     let mut link = TcpLink::new(*rt, String::from_str(alloc, address)?);
-    let answer = posted(alloc, query, &mut link);
+    let answer = post_query(alloc, query, &mut link);
     print(&answer, out)
 }

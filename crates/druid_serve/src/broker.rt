@@ -299,7 +299,7 @@ pub(crate) struct Opening {
 }
 
 // A publisher of an inventory, with a view for each node and for each worker.
-fn opened<J: Publication, R: Wait + Drop + Copy>(
+fn open_views<J: Publication, R: Wait + Drop + Copy>(
     rt: &R,
     alloc: Global,
     opened: Opened,
@@ -388,7 +388,7 @@ pub(crate) fn start_broker<
         turns,
     } = opening;
     let gate = Arc::new(alloc, Gate::new())?;
-    let (publisher, mut views) = opened::<J, R>(rt, alloc, list, inventory, workers)?;
+    let (publisher, mut views) = open_views::<J, R>(rt, alloc, list, inventory, workers)?;
     let syncers = start_syncers(rt, alloc, turns, nodes, &publisher, &mut views)?;
     for view in views {
         let worker = worker_of(rt, alloc, view, nodes, &publisher)?;

@@ -181,7 +181,7 @@ fn first_state<F: Folder>(
 }
 
 // A node that goes on from that state, with the segments of a folder.
-fn loaded<R: Wait, F: Folder, I: Incarnation>(
+fn load_node<R: Wait, F: Folder, I: Incarnation>(
     rt: &R,
     alloc: Global,
     folder: &mut F,
@@ -343,7 +343,7 @@ where
     requires own { state.history.incarnation ≡ I.number }
     requires has { F.is_honest folder.old → F.content folder.old number_file ≡ Some (number_text state.history.incarnation) }
 {
-    let node: Arc<DataNode<I>, Global> = Arc::new(alloc, loaded(rt, alloc, folder, state)?)?;
+    let node: Arc<DataNode<I>, Global> = Arc::new(alloc, load_node(rt, alloc, folder, state)?)?;
     place_tombstones(rt, &node, config.tombstones())?;
     let Ok(listener) = listen(rt, config.address()) else {
         return Err(StartFault::device(Cause::Listener));

@@ -90,7 +90,7 @@ impl<R: Files + AllocGlobal + Clone + Drop, D: Device> Folder for DiskFolder<R, 
         ensures fault { IfErr result IsOwnFault }
     {
         let found = files_in(&self.rt, alloc, folder_path(&self.path));
-        let answer = counted(&mut self.faults, found);
+        let answer = count_fault(&mut self.faults, found);
         self.log = self.log.then(&Note::List(&answer));
         answer
     }
@@ -106,7 +106,7 @@ impl<R: Files + AllocGlobal + Clone + Drop, D: Device> Folder for DiskFolder<R, 
         ensures fault { IfErr result IsOwnFault }
     {
         let found = read_named(&self.rt, alloc, &self.path, name);
-        let answer = counted(&mut self.faults, found);
+        let answer = count_fault(&mut self.faults, found);
         self.log = self.log.then(&Note::Read(name, &answer));
         answer
     }
@@ -131,7 +131,7 @@ impl<R: Files + AllocGlobal + Clone + Drop, D: Device> Folder for DiskFolder<R, 
             return Err(StoreFault::BadName);
         }
         let done = write_named(&self.rt, &self.path, name, bytes);
-        let answer = counted(&mut self.faults, done);
+        let answer = count_fault(&mut self.faults, done);
         self.log = self.log.then(&Note::Write(name, bytes, answer.is_ok()));
         answer
     }
@@ -142,7 +142,7 @@ impl<R: Files + AllocGlobal + Clone + Drop, D: Device> Folder for DiskFolder<R, 
         ensures fault { IfErr result IsOwnFault }
     {
         let done = sync_folder(&self.rt, folder_path(&self.path));
-        let answer = counted(&mut self.faults, done);
+        let answer = count_fault(&mut self.faults, done);
         self.log = self.log.then(&Note::Sync(answer.is_ok()));
         answer
     }
@@ -164,7 +164,7 @@ impl<R: Files + AllocGlobal + Clone + Drop, D: Device> Folder for DiskFolder<R, 
             return Err(StoreFault::BadName);
         }
         let done = rename_named(&self.rt, &self.path, from, to);
-        let answer = counted(&mut self.faults, done);
+        let answer = count_fault(&mut self.faults, done);
         self.log = self.log.then(&Note::Rename(from, to, answer.is_ok()));
         answer
     }
@@ -183,7 +183,7 @@ impl<R: Files + AllocGlobal + Clone + Drop, D: Device> Folder for DiskFolder<R, 
             return Err(StoreFault::BadName);
         }
         let done = remove_named(&self.rt, &self.path, name);
-        let answer = counted(&mut self.faults, done);
+        let answer = count_fault(&mut self.faults, done);
         self.log = self.log.then(&Note::Remove(name, answer.is_ok()));
         answer
     }
@@ -194,7 +194,7 @@ impl<R: Files + AllocGlobal + Clone + Drop, D: Device> Folder for DiskFolder<R, 
 }
 
 // What a call of the system answered, as the folder's answer. A failure of the device counts.
-fn counted<T>(faults: &mut u64, answer: io::Result<T>) -> Result<T, StoreFault>
+fn count_fault<T>(faults: &mut u64, answer: io::Result<T>) -> Result<T, StoreFault>
     ensures reported { TellsFault answer result }
     ensures counted { faults.new ≡ faults_after result faults.old }
     ensures fault { IfErr result IsOwnFault }

@@ -161,7 +161,7 @@ fn names_in(alloc: Global, calls: &[Call]) -> Result<Vec<String>, AllocError>
 {
     let mut names = Vec::new(alloc);
     for call in calls {
-        if let Some(name) = named(call) {
+        if let Some(name) = file_of(call) {
             if find(calls, name.text.as_bytes()).is_some() {
                 names.push(String::from_str(alloc, name.text.as_str())?)?;
             }
@@ -171,7 +171,7 @@ fn names_in(alloc: Global, calls: &[Call]) -> Result<Vec<String>, AllocError>
 }
 
 // The name under which a call may have put a file.
-fn named(call: &Call) -> Option<&FileName>
+fn file_of(call: &Call) -> Option<&FileName>
     ensures { option_map (λ name. string_bytes name.now.text) result ≡ puts call.now }
 {
     match call {

@@ -33,7 +33,7 @@ impl IntervalSet {
     {
         let mut sorted = Vec::from_slice(alloc, intervals)?;
         sorted.sort_unstable_by_key(|interval| interval.start());
-        let parts = merged(alloc, &sorted)?;
+        let parts = merge_sorted(alloc, &sorted)?;
         Ok(IntervalSet { parts })
     }
 
@@ -56,7 +56,7 @@ impl IntervalSet {
 
 // The parts of the set of the instants that lie in one of the intervals, which are sorted by their
 // starts.
-fn merged(alloc: Global, sorted: &[Interval]) -> Result<Vec<Interval>, AllocError>
+fn merge_sorted(alloc: Global, sorted: &[Interval]) -> Result<Vec<Interval>, AllocError>
     requires { IsNonDecreasingBy (λ e. e.start) sorted.now }
     ensures parts { IfOk result (λ v. AreParts v.items) }
     ensures instants { IfOk result (λ v. SameInstants v.items sorted.now) }

@@ -8,14 +8,14 @@ use Rattle.druid_shard.proofs.MemberLemmas.{Contains-nil, Contains-cons, Contain
 use Rattle.druid_timeline.specs.Candidates.{IsCandidateOf, IsBest}
 
 -- a group that is the best one so far, or that it outranks
-abbrev pub IsBeyond : Option Group → Group → Type 0
-IsBeyond best g = MatchOption best ⊥ (λ b. (g ≡ b) ⊎ Outranks b g)
+abbrev pub IsNoBetter : Option Group → Group → Type 0
+IsNoBetter best g = MatchOption best ⊥ (λ b. (g ≡ b) ⊎ Outranks b g)
 
 -- the best of the chunks that are passed: those that are left are rest
 pub record IsBestSoFar (chunks rest : List Group) (t : ℕ) (best : Option Group) : Type 0 where
   pub among : (g : Group) → Contains rest g → Contains chunks g
   pub found : MatchOption best (Unit {0}) (IsCandidateOf chunks t)
-  pub passed : (g : Group) → IsCandidateOf chunks t g → IsCandidateOf rest t g ⊎ IsBeyond best g
+  pub passed : (g : Group) → IsCandidateOf chunks t g → IsCandidateOf rest t g ⊎ IsNoBetter best g
 
 no_candidate : (t : ℕ) (g : Group) → IsCandidateOf [] t g → ⊥
 no_candidate t g (there, has) = Contains-nil g there
@@ -29,7 +29,7 @@ IsBestSoFar-end chunks t (Some b) h = record {
   candidate = h.found;
   greatest = λ other there. by_place other (h.passed other there);
 } where
-  by_place : (other : Group) → IsCandidateOf [] t other ⊎ IsBeyond (Some b) other → (other ≡ b) ⊎ Outranks b other
+  by_place : (other : Group) → IsCandidateOf [] t other ⊎ IsNoBetter (Some b) other → (other ≡ b) ⊎ Outranks b other
   by_place other (inl left) = absurd (no_candidate t other left)
   by_place other (inr beyond) = beyond
 
@@ -43,10 +43,10 @@ first_or_rest e rest t g (there, has) = elim (Contains-cons e rest g there) [
   | inr later ↦ inr (later, has)
 ]
 
-beyond_better : (e : Group) (t : ℕ) (best : Option Group) (g : Group) → IsBetter e t best → IsBeyond best g → Outranks e g
-beyond_better e t None g better beyond = absurd beyond
-beyond_better e t (Some b) g better (inl same) = subst (Outranks e) (sym same) better.1
-beyond_better e t (Some b) g better (inr below) = Outranks-onward e b g better.1 below
+no_better_than : (e : Group) (t : ℕ) (best : Option Group) (g : Group) → IsBetter e t best → IsNoBetter best g → Outranks e g
+no_better_than e t None g better beyond = absurd beyond
+no_better_than e t (Some b) g better (inl same) = subst (Outranks e) (sym same) better.1
+no_better_than e t (Some b) g better (inr below) = Outranks-onward e b g better.1 below
 
 pub IsBestSoFar-better : (chunks rest : List Group) (t : ℕ) (best : Option Group) (e : Group) → IsBestSoFar chunks (e ∷ rest) t best → IsBetter e t best → IsBestSoFar chunks rest t (Some e)
 IsBestSoFar-better chunks rest t best e h better = record {
@@ -54,14 +54,14 @@ IsBestSoFar-better chunks rest t best e h better = record {
   found = (h.among e (0, omega arith, refl), better.0);
   passed = λ g there. by_place g (h.passed g there);
 } where
-  by_place : (g : Group) → IsCandidateOf (e ∷ rest) t g ⊎ IsBeyond best g → IsCandidateOf rest t g ⊎ IsBeyond (Some e) g
+  by_place : (g : Group) → IsCandidateOf (e ∷ rest) t g ⊎ IsNoBetter best g → IsCandidateOf rest t g ⊎ IsNoBetter (Some e) g
   by_place g (inl left) = elim (first_or_rest e rest t g left) [
     | inl here ↦ inr (inl here.0)
     | inr later ↦ inl later
   ]
-  by_place g (inr beyond) = inr (inr (beyond_better e t best g better beyond))
+  by_place g (inr beyond) = inr (inr (no_better_than e t best g better beyond))
 
-beyond_best : (e : Group) (t : ℕ) (best : Option Group) → (IsBetter e t best → ⊥) → Has e.interval t → IsBeyond best e
+beyond_best : (e : Group) (t : ℕ) (best : Option Group) → (IsBetter e t best → ⊥) → Has e.interval t → IsNoBetter best e
 beyond_best e t None not has = absurd (not (has, tt))
 beyond_best e t (Some b) not has = elim (Outranks-cases e b) [
   | inl above ↦ absurd (not (has, above))
@@ -75,9 +75,9 @@ IsBestSoFar-not_better chunks rest t best e h not = record {
   found = h.found;
   passed = λ g there. by_place g (h.passed g there);
 } where
-  by_place : (g : Group) → IsCandidateOf (e ∷ rest) t g ⊎ IsBeyond best g → IsCandidateOf rest t g ⊎ IsBeyond best g
+  by_place : (g : Group) → IsCandidateOf (e ∷ rest) t g ⊎ IsNoBetter best g → IsCandidateOf rest t g ⊎ IsNoBetter best g
   by_place g (inl left) = elim (first_or_rest e rest t g left) [
-    | inl here ↦ inr (subst (IsBeyond best) (sym here.0) (beyond_best e t best not here.1))
+    | inl here ↦ inr (subst (IsNoBetter best) (sym here.0) (beyond_best e t best not here.1))
     | inr later ↦ inl later
   ]
   by_place g (inr beyond) = inr beyond

@@ -9,7 +9,7 @@ returns c = record {
   all = c.in_ok-sources.ensures.all;
   ordered = c.in_ok-sources.ensures.rising;
   reported = record {
-    status_is = c.made.ensures.status_is;
-    body_is = c.made.ensures.body_is ∙ c.in_ok-text.ensures ∙ ap (λ names. compact_text (names_data names)) c.deref.ensures.value;
+    status_is = c.of_text.ensures.status_is;
+    body_is = c.of_text.ensures.body_is ∙ c.in_ok-text.ensures ∙ ap (λ names. compact_text (names_data names)) c.deref.ensures.value;
   };
 }

@@ -4,4 +4,4 @@ use Rattle.druid_published.proofs.opening.writer_of.Goals as goal
 
 pub new-requires-clause-rule : goal.new-requires-clause-rule
 new-requires-clause-rule g c =
-    opens c.in_ok-first.first _ (ap (λ s. s.log) c.in_ok-first.ensures.seen ∙ (c.shown-shown.ensures.published ∙ c.requires.nothing)) refl
+    opens c.in_ok-first.first _ (ap (λ s. s.log) c.in_ok-first.ensures.seen ∙ (c.show_with-shown.ensures.published ∙ c.requires.nothing)) refl

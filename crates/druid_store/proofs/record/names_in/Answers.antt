@@ -15,8 +15,8 @@ loop-call-preserved c =
     take_more calls c.loop-call.call-index c.call-item.result (omega arith) ∙ ap (λ x. take c.loop-call.call-index calls ++ x ∷ []) (sym c.call-item.is) in
     let so_far = take c.loop-call.call-index calls in
     let P = λ (l : List (String Global)). Collected (content_after nothing calls) (so_far ++ c.call-item.result ∷ []) (names_of l) in
-    subst (λ l. Collected (content_after nothing calls) l (names_of c.match-named.names.items)) (sym more)
-    (elim c.match-named.branch as (λ x. P c.match-named.names.items) [
+    subst (λ l. Collected (content_after nothing calls) l (names_of c.match-file_of.names.items)) (sym more)
+    (elim c.match-file_of.branch as (λ x. P c.match-file_of.names.items) [
       | in-Some+then-is_some+in_ok-from_str+in_ok-push w ↦ subst P (sym (ap (λ names. names.items) w.names-is))
           (turn_found calls so_far c.call-item.result c.loop-call.names.items w.in-Some.name.now w.as_bytes.result.now w.find.result c.loop-call.invariant w.in-Some.ensures w.as_bytes.ensures.value w.find.ensures
           w.in_ok-from_str.field-0 w.push.new.self.items (sym w.is_some.ensures ∙ w.if-is_some.true) (w.in_ok-from_str.ensures.ok ∙ w.as_str.ensures.value) w.in_ok-push.ensures.items)

@@ -8,8 +8,8 @@ returns-in-Some-clause-reported c =
     refused_at _ _ c.args.self.now c.args.other.now c.in-Some.node c.entries-entries.ensures.value c.entries-others.ensures.value
     (c.are_of_same_nodes.ensures.0 c.if-not-are_of_same_nodes.false) c.in-Some.ensures
 
-pub joined-requires-clause-agree : goal.joined-requires-clause-agree
-joined-requires-clause-agree c =
+pub join_entries-requires-clause-agree : goal.join_entries-requires-clause-agree
+join_entries-requires-clause-agree c =
     agreeing _ _ c.args.self.now c.args.other.now c.entries-entries.ensures.value c.entries-others.ensures.value c.in_default.ensures
 
 pub returns-in-Ok-clause-ok : goal.returns-in-Ok-clause-ok

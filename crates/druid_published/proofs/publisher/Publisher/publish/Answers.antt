@@ -4,10 +4,10 @@ use Rattle.druid_published.proofs.publisher.Publisher.publish.Goals as goal
 
 pub returns-clause-unknown : goal.returns-clause-unknown
 returns-clause-unknown g c =
-    unknown_exact c.applied.result c.args.self.now.inventory c.args.node c.args.reply.now
-    (IfOk-weaker c.applied.result _ _ (λ r h. (r.0, h.0, h.1)) c.applied.ensures.ok) c.applied.ensures.fault
+    unknown_exact c.apply_reply.result c.args.self.now.inventory c.args.node c.args.reply.now
+    (IfOk-weaker c.apply_reply.result _ _ (λ r h. (r.0, h.0, h.1)) c.apply_reply.ensures.ok) c.apply_reply.ensures.fault
 
 pub returns-clause-refused : goal.returns-clause-refused
 returns-clause-refused g c =
-    refused_exact c.applied.result c.args.self.now.inventory c.args.node c.args.reply.now
-    (IfOk-weaker c.applied.result _ _ (λ r h. (r.0, h.0, h.1)) c.applied.ensures.ok) c.applied.ensures.fault
+    refused_exact c.apply_reply.result c.args.self.now.inventory c.args.node c.args.reply.now
+    (IfOk-weaker c.apply_reply.result _ _ (λ r h. (r.0, h.0, h.1)) c.apply_reply.ensures.ok) c.apply_reply.ensures.fault

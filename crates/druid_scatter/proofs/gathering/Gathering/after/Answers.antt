@@ -13,17 +13,17 @@ returns-in-Some-clause-took c =
     let sub = c.args.sub.now in
     let came = came_of c.args.came.now in
     let answer = c.in-Some.answer in
-    took_of sub.query c.args.round c.args.node c.args.self (exchange_of sub came c.args.node) answer.missing answer.partial c.reported.result c.requires.kinds
+    took_of sub.query c.args.round c.args.node c.args.self (exchange_of sub came c.args.node) answer.missing answer.partial c.take_answer.result c.requires.kinds
     (at_some c.in_ok-answer.field-0 answer (λ a. a.partial.kinds ≡ kinds_of sub.query) c.in-Some.is c.in_ok-answer.ensures.kinds)
     (at_some c.in_ok-answer.field-0 answer (λ a. (node : ℕ) → Answers sub.query (exchange_of sub came node) a.missing a.partial.groups) c.in-Some.is c.in_ok-answer.ensures.some c.args.node)
-    c.reported.ensures.kept c.reported.ensures.merged c.reported.ensures.itself
+    c.take_answer.ensures.kept c.take_answer.ensures.merged c.take_answer.ensures.itself
 
 pub returns-in-Some-clause-of_query : goal.returns-in-Some-clause-of_query
 returns-in-Some-clause-of_query c =
     let sub = c.args.sub.now in
     let came = came_of c.args.came.now in
     let answer = c.in-Some.answer in
-    c.reported.ensures.of_query sub.query c.requires
+    c.take_answer.ensures.of_query sub.query c.requires
     (partial_reported sub.query (exchange_of sub came c.args.node) answer.missing answer.partial
     (at_some c.in_ok-answer.field-0 answer (λ a. (node : ℕ) → Answers sub.query (exchange_of sub came node) a.missing a.partial.groups) c.in-Some.is c.in_ok-answer.ensures.some c.args.node)
     (at_some c.in_ok-answer.field-0 answer (λ a. a.partial.kinds ≡ kinds_of sub.query) c.in-Some.is c.in_ok-answer.ensures.kinds))
@@ -44,6 +44,6 @@ returns-in-Some-clause-err c =
     let sub = c.args.sub.now in
     let came = came_of c.args.came.now in
     let answer = c.in-Some.answer in
-    always_err c.reported.result _
+    always_err c.take_answer.result _
     (answer_may sub came c.args.node answer.missing answer.partial.groups
     (at_some c.in_ok-answer.field-0 answer (λ a. (node : ℕ) → Answers sub.query (exchange_of sub came node) a.missing a.partial.groups) c.in-Some.is c.in_ok-answer.ensures.some c.args.node))

@@ -12,13 +12,13 @@ ask-requires-after_bounds g c κs within =
     sym (ap length c.deref.ensures.value
     ∙ as_many_subs (λ node. sub_if c.args.query.now (wanted_of c.args.round c.args.self.waiting node)) c.in_ok-subs.subs.items (length c.args.links.now) c.in_ok-subs.ensures)
 
-pub settled-requires-clause-subs : goal.settled-requires-clause-subs
-settled-requires-clause-subs g c =
+pub settle_round-requires-clause-subs : goal.settle_round-requires-clause-subs
+settle_round-requires-clause-subs g c =
     subs_again (λ node. sub_if c.args.query.now (wanted_of c.args.round c.args.self.waiting node)) c.in_ok-subs.subs.items c.deref-2.result.now (length c.args.links.now)
     c.deref-2.ensures.value c.in_ok-subs.ensures
 
-pub settled-requires-clause-matched : goal.settled-requires-clause-matched
-settled-requires-clause-matched g c =
+pub settle_round-requires-clause-matched : goal.settle_round-requires-clause-matched
+settle_round-requires-clause-matched g c =
     matched g.L.Link.exchanges c.args.links.now c.deref-2.result.now (map (option_map came_of) c.deref-3.result.now) c.ask.new.links
     (answered_there g.L.Link.exchanges (option_map came_of) c.args.links.now c.ask.new.links c.deref.result.now c.deref-2.result.now c.in_ok-came.came.items c.deref-3.result.now
     (c.deref.ensures.value ∙ sym c.deref-2.ensures.value) c.deref-3.ensures.value c.in_ok-came.ensures.ok)
@@ -26,13 +26,13 @@ settled-requires-clause-matched g c =
 pub returns-clause-ok : goal.returns-clause-ok
 returns-clause-ok g c =
     let wanted = wanted_of c.args.round c.args.self.waiting in
-    round_ok g.L.Link.exchanges c.args.query.now c.args.round c.args.links.now c.ask.new.links c.args.self c.settled.result c.in_ok-subs.subs.items c.deref-2.result.now
+    round_ok g.L.Link.exchanges c.args.query.now c.args.round c.args.links.now c.ask.new.links c.args.self c.settle_round.result c.in_ok-subs.subs.items c.deref-2.result.now
     (map (option_map came_of) c.deref-3.result.now) c.deref-2.ensures.value c.in_ok-subs.ensures
     (made_by g.L.Link.exchanges c.args.query.now wanted c.args.links.now c.ask.new.links c.in_ok-subs.subs.items c.deref-2.result.now (map (option_map came_of) c.deref-3.result.now)
     c.deref-2.ensures.value c.in_ok-subs.ensures
     (answered_there g.L.Link.exchanges (option_map came_of) c.args.links.now c.ask.new.links c.deref.result.now c.deref-2.result.now c.in_ok-came.came.items c.deref-3.result.now
     (c.deref.ensures.value ∙ sym c.deref-2.ensures.value) c.deref-3.ensures.value c.in_ok-came.ensures.ok))
-    c.settled.ensures.goes
+    c.settle_round.ensures.goes
 
 pub returns-clause-err : goal.returns-clause-err
 returns-clause-err g c =
@@ -40,8 +40,8 @@ returns-clause-err g c =
     let came = map (option_map came_of) c.deref-3.result.now in
     let answered = answered_there g.L.Link.exchanges (option_map came_of) c.args.links.now c.ask.new.links c.deref.result.now c.deref-2.result.now c.in_ok-came.came.items c.deref-3.result.now
     (c.deref.ensures.value ∙ sym c.deref-2.ensures.value) c.deref-3.ensures.value c.in_ok-came.ensures.ok in
-    round_err g.L.Link.exchanges c.args.query.now c.args.round c.args.links.now c.ask.new.links c.args.self c.settled.result c.in_ok-subs.subs.items c.deref-2.result.now came
-    c.deref-2.ensures.value c.in_ok-subs.ensures answered c.settled.ensures.err
+    round_err g.L.Link.exchanges c.args.query.now c.args.round c.args.links.now c.ask.new.links c.args.self c.settle_round.result c.in_ok-subs.subs.items c.deref-2.result.now came
+    c.deref-2.ensures.value c.in_ok-subs.ensures answered c.settle_round.ensures.err
 
 pub returns-in_err-subs-clause-err : goal.returns-in_err-subs-clause-err
 returns-in_err-subs-clause-err g c = always_err c.from_residual.result _ (unsent g.L.Link.exchanges c.args.query.now c.args.round c.args.self c.args.links.now c.args.links.now refl)

@@ -4,8 +4,8 @@ use Rattle.druid_time.specs.Extent.{Extent}
 use Rattle.druid_time.proofs.ExtentLemmas.{SameInstants-sorted}
 use Rattle.druid_time.proofs.interval_set.IntervalSet.of.Goals as goal
 
-pub merged-requires : goal.merged-requires
-merged-requires c =
+pub merge_sorted-requires : goal.merge_sorted-requires
+merge_sorted-requires c =
     rw c.deref.ensures.value
     (IsNonDecreasingBy-from_sort_by_key (λ (e : Extent). e.start) _ c.sort_unstable_by_key.ensures.sorted (λ a r q k. search rules))
 

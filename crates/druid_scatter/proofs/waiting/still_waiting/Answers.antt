@@ -2,7 +2,7 @@ use Rattle.std.proofs.Common.{◌∙◌, sym}
 use Rattle.std.specs.BTreeSet.{contains}
 use Rattle.druid_scatter.specs.Waiting.{at_cmp, stays}
 use Rattle.druid_scatter.proofs.WaitLemmas.{kept_more, kept_less}
-use Rattle.druid_scatter.proofs.waiting.kept.Goals as goal
+use Rattle.druid_scatter.proofs.waiting.still_waiting.Goals as goal
 
 pub loop-piece-preserved-in-Continue-branch-2 : goal.loop-piece-preserved-in-Continue-branch-2
 loop-piece-preserved-in-Continue-branch-2 c =

@@ -6,7 +6,7 @@ use Rattle.std.specs.Arc.{arc_value}
 use Rattle.std.proofs.Common.{map}
 use Rattle.druid_inventory.specs.Entry.{Entry}
 use Rattle.druid_inventory.proofs.EditLemmas.{replay_start, replay_end}
-use Rattle.druid_inventory.proofs.inventory.Inventory.replayed.Goals as goal
+use Rattle.druid_inventory.proofs.inventory.Inventory.with_changes.Goals as goal
 
 pub advance_set-requires-clause-over :
     goal.advance_set-requires-clause-over

@@ -1,7 +1,7 @@
 use Rattle.std.proofs.Common.{subst}
 use Rattle.druid_partial.specs.Rows.{IsPartial}
 use Rattle.druid_scatter.proofs.StateLemmas.{tells_itself}
-use Rattle.druid_scatter.proofs.gathering.Gathering.reported.Goals as goal
+use Rattle.druid_scatter.proofs.gathering.Gathering.take_answer.Goals as goal
 
 pub returns-in-Ok-clause-itself : goal.returns-in-Ok-clause-itself
 returns-in-Ok-clause-itself c =

@@ -2,7 +2,7 @@ use Rattle.std.proofs.Common.{◌≡◌, ◌≤◌, ℕ, map, option_map, take}
 use Rattle.druid_partial.specs.Rows.{IsPartialFor}
 use Rattle.druid_link.specs.Links.{came_of}
 use Rattle.druid_scatter.specs.Waiting.{Goes, wanted_of, made_from}
-use Rattle.druid_scatter.proofs.gathering.Gathering.settled.Given as goal
+use Rattle.druid_scatter.proofs.gathering.Gathering.settle_round.Given as goal
 
 abbrev pub invariant-loop-node : goal.invariant-loop-node
 invariant-loop-node l = record {

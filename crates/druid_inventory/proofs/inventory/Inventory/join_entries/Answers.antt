@@ -2,7 +2,7 @@ use Rattle.std.proofs.Common.{sym, ◌∙◌}
 use Rattle.std.proofs.lemmas.Result.{IfOk-weaker}
 use Rattle.druid_inventory.specs.Judged.{NoneLater}
 use Rattle.druid_inventory.proofs.JoinLemmas.{none_later-of, names_long, none_later-left, none_later-right}
-use Rattle.druid_inventory.proofs.inventory.Inventory.joined.Goals as goal
+use Rattle.druid_inventory.proofs.inventory.Inventory.join_entries.Goals as goal
 
 pub returns-then-not-has_later : goal.returns-then-not-has_later
 returns-then-not-has_later c =

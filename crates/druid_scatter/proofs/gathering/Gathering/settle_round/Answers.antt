@@ -5,7 +5,7 @@ use Rattle.druid_scatter.specs.Waiting.{wanted_of}
 use Rattle.druid_scatter.proofs.RoundLemmas.{mapped_at}
 use Rattle.druid_scatter.proofs.StateLemmas.{of_query_at, settled_step, beyond_step, settled_all, inside_came}
 use Rattle.druid_scatter.proofs.AskedLemmas.{lacking_at}
-use Rattle.druid_scatter.proofs.gathering.Gathering.settled.Goals as goal
+use Rattle.druid_scatter.proofs.gathering.Gathering.settle_round.Goals as goal
 
 pub bounds-came-node : goal.bounds-came-node
 bounds-came-node c = inside_came c.args.subs.now (option_map came_of) c.args.came.now c.loop-node.node c.requires.matched (omega arith)

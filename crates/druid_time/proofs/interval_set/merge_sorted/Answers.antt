@@ -1,7 +1,7 @@
 use Rattle.std.proofs.Common.{◌<◌, arith, length}
 use Rattle.druid_time.proofs.MergeLemmas.{IsMerged-first, IsMerged-touching, IsMerged-beyond, starts_after_first, starts_after}
-use Rattle.druid_time.proofs.interval_set.merged.Goals as goal
-use Rattle.druid_time.proofs.interval_set.merged.Goals.{then-le, else-le+in_ok-push}
+use Rattle.druid_time.proofs.interval_set.merge_sorted.Goals as goal
+use Rattle.druid_time.proofs.interval_set.merge_sorted.Goals.{then-le, else-le+in_ok-push}
 
 pub loop-next-init : goal.loop-next-init
 loop-next-init c =
