@@ -12,11 +12,11 @@ use Rattle.httparse.proofs.GrammarLemmas.{print_request-append, print_response-a
 use Rattle.druid_wire.specs.Frame.{IsFramed}
 use Rattle.druid_message.specs.Requests.{RequestValue}
 use Rattle.druid_wire.specs.Messages.{IsRequest, IsResponse, request_length, response_length, body_length, length_or}
-use Rattle.druid_wire.specs.Heads.{length_reported}
+use Rattle.druid_wire.specs.Heads.{length_value}
 use Rattle.druid_wire.specs.Written.{fields_text, request_head, request_text, phrase_of, response_head, response_text}
 use Rattle.druid_wire.specs.Limits.{max_head, max_body}
 use Rattle.druid_wire.proofs.GrammarLines.{request_framed, response_framed}
-use Rattle.druid_wire.proofs.DecimalLemmas.{decimal_values, decimal_trimmed, decimal_digits, decimal_code, short_decimal, length_reported_again}
+use Rattle.druid_wire.proofs.DecimalLemmas.{decimal_values, decimal_trimmed, decimal_digits, decimal_code, short_decimal, length_value_again}
 
 -- ---- the fields of each message
 
@@ -57,7 +57,7 @@ shared_fields n low =
 
 -- the length is given once, and is read back
 said : (needed : Bool) (n : ℕ) → n ≤ max_body → body_length needed (map name_and_value (shared (decimal n))) ≡ Ok n
-said needed n low = ap (λ (l : List ℕ). length_or needed (length_reported l)) (decimal_trimmed n (omega arith)) ∙ ap (length_or needed) (length_reported_again n low)
+said needed n low = ap (λ (l : List ℕ). length_or needed (length_value l)) (decimal_trimmed n (omega arith)) ∙ ap (length_or needed) (length_value_again n low)
 
 -- ---- requests
 

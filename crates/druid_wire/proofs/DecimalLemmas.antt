@@ -11,7 +11,7 @@ use Rattle.std.proofs.lemmas.Fmt.{decimal_is_IsNumeral, decimal_digit, decimal_s
 use Rattle.http.specs.StatusCode.{code_digits}
 use Rattle.httparse.specs.Grammar.{AllPass, is_ows, is_value_byte, skip_ows, trim_ows}
 use Rattle.httparse.proofs.TrimLemmas.{skip_ows_no, trim_ows_space, AllPass-reverse}
-use Rattle.druid_wire.specs.Heads.{is_length, length_reported}
+use Rattle.druid_wire.specs.Heads.{is_length, length_value}
 use Rattle.druid_wire.specs.declared.length.Length.TheVariants.{Is}
 use Rattle.druid_wire.specs.Limits.{max_body, max_digits}
 
@@ -69,8 +69,8 @@ decimal_values n low = All-cons (λ b. IsTrue (is_value_byte b)) 32 (decimal n) 
 pub short_decimal : (n : ℕ) → n ≤ max_body → length (decimal n) ≤ 8
 short_decimal n low = length-decimal-le 8 n (omega arith) (omega arith) (omega arith)
 
-pub length_reported_again : (n : ℕ) → n ≤ max_body → length_reported (decimal n) ≡ Is n
-length_reported_again n low =
+pub length_value_again : (n : ℕ) → n ≤ max_body → length_value (decimal n) ≡ Is n
+length_value_again n low =
     let numeral = decimal_is_IsNumeral n (omega arith) in
     let short = short_decimal n low in
     let all : is_length (decimal n) ≡ true =

@@ -15,7 +15,7 @@ use Rattle.std.proofs.lemmas.Slice.Eq.{bytes_eq-Decides}
 use Rattle.std.proofs.lemmas.List.{take_more, get_or-map, map-append, take-append-drop, length-map}
 use Rattle.std.proofs.lemmas.List.Elements.{filter-append}
 use Rattle.std.proofs.lemmas.List.Folds.{list_any-append, list_any_at}
-use Rattle.druid_wire.specs.Heads.{NameAndValue, is_named, values_of, is_length, length_reported, length_said, length_in, is_coded}
+use Rattle.druid_wire.specs.Heads.{NameAndValue, is_named, values_of, is_length, length_value, length_said, length_in, is_coded}
 use Rattle.druid_wire.specs.declared.length.Length.{Length}
 use Rattle.druid_wire.specs.declared.length.Length.TheVariants.{Unsaid, Unclear, TooLong, Is}
 use Rattle.druid_message.specs.declared.fault.WireFault.{WireFault}
@@ -104,8 +104,8 @@ all_lengths {X} h xs i =
     ap (λ l. lengths (map h l)) (sym (take-append-drop i xs)) ∙ ap lengths (map-append h (take i xs) (drop i xs))
     ∙ lengths-append (map h (take i xs)) (map h (drop i xs))
 
-reported_some : (text : List ℕ) → length_reported text ≡ Unsaid → ⊥
-reported_some text e =
+value_some : (text : List ℕ) → length_value text ≡ Unsaid → ⊥
+value_some text e =
     elim (cases_Bool (is_length text)) [
       | inl good ↦
           elim (cases_Bool (nat_le (digits_value 10 text) max_body)) [
@@ -115,9 +115,9 @@ reported_some text e =
       | inr bad ↦ let f = rw bad at e in absurd cc
     ]
 
-said_once : (vs : List (List ℕ)) (v : List ℕ) → length_said vs ≡ Unsaid → length_said (vs ++ v ∷ []) ≡ length_reported v
+said_once : (vs : List (List ℕ)) (v : List ℕ) → length_said vs ≡ Unsaid → length_said (vs ++ v ∷ []) ≡ length_value v
 said_once [] v e = refl
-said_once (x ∷ []) v e = absurd (reported_some x e)
+said_once (x ∷ []) v e = absurd (value_some x e)
 said_once (x ∷ y ∷ more) v e = absurd cc
 
 said_twice : (vs : List (List ℕ)) (v : List ℕ) (more : List (List ℕ)) → (length_said vs ≡ Unsaid → ⊥) → length_said ((vs ++ v ∷ []) ++ more) ≡ Unclear
@@ -132,7 +132,7 @@ length_passed {X} h xs i d lt other =
 
 pub length_here : {X : Type 0} (h : X → NameAndValue) (xs : List X) (i : ℕ) (d : X) → i < length xs
     → is_named (codes "content-length") (h (get_or xs i d)) ≡ true → length_in (map h (take i xs)) ≡ Unsaid
-    → length_in (map h (take (i + 1) xs)) ≡ length_reported ((h (get_or xs i d)).1)
+    → length_in (map h (take (i + 1) xs)) ≡ length_value ((h (get_or xs i d)).1)
 length_here {X} h xs i d lt here before =
     ap length_said (more_lengths h xs i d lt ∙ ap (λ l. lengths (map h (take i xs)) ++ l) (lengths_one (h (get_or xs i d)) here))
     ∙ said_once (lengths (map h (take i xs))) ((h (get_or xs i d)).1) before
@@ -147,27 +147,27 @@ length_again {X} h xs i d lt here before =
 
 -- ---- a body is within its limit
 
-reported_within : (text : List ℕ) (n : ℕ) → length_reported text ≡ Is n → n ≤ max_body
-reported_within text n e = reported (is_length text) (nat_le (digits_value 10 text) max_body) refl refl
+value_within : (text : List ℕ) (n : ℕ) → length_value text ≡ Is n → n ≤ max_body
+value_within text n e = within (is_length text) (nat_le (digits_value 10 text) max_body) refl refl
   where
-    reported : (a b : Bool) → is_length text ≡ a → nat_le (digits_value 10 text) max_body ≡ b → n ≤ max_body
-    reported true true p q =
+    within : (a b : Bool) → is_length text ≡ a → nat_le (digits_value 10 text) max_body ≡ b → n ≤ max_body
+    within true true p q =
         let same : ◌≡◌ {A = Length} (Is (digits_value 10 text)) (Is n) = sym (rw p (rw q refl)) ∙ e in
         let value : digits_value 10 text ≡ n = cc in
         subst (λ (m : ℕ). m ≤ max_body) value (leb-true (digits_value 10 text) max_body q)
-    reported true false p q =
+    within true false p q =
         let same : ◌≡◌ {A = Length} TooLong (Is n) = sym (rw p (rw q refl)) ∙ e in
         absurd cc
-    reported false b p q =
+    within false b p q =
         let same : ◌≡◌ {A = Length} Unclear (Is n) = sym (rw p refl) ∙ e in
         absurd cc
 
 said_within : (texts : List (List ℕ)) (n : ℕ) → length_said texts ≡ Is n → n ≤ max_body
 said_within [] n e = absurd cc
-said_within (text ∷ []) n e = reported_within text n e
+said_within (text ∷ []) n e = value_within text n e
 said_within (text ∷ other ∷ more) n e = absurd cc
 
-length_within : (needed : Bool) (reported : Length) (n : ℕ) → ((m : ℕ) → reported ≡ Is m → m ≤ max_body) → length_or needed reported ≡ Ok n → n ≤ max_body
+length_within : (needed : Bool) (said : Length) (n : ℕ) → ((m : ℕ) → said ≡ Is m → m ≤ max_body) → length_or needed said ≡ Ok n → n ≤ max_body
 length_within true Unsaid n low e = absurd cc
 length_within false Unsaid n low e = let value : 0 ≡ n = cc in omega (arith, value)
 length_within needed Unclear n low e = absurd cc

@@ -3,11 +3,11 @@ use Rattle.std.proofs.Common.{◌≡◌, ℕ, ◌<◌, Bool, true, false, List, 
 use Rattle.httparse.specs.Spans.{name_and_value}
 use Rattle.druid_wire.specs.Frame.{IsFramed}
 use Rattle.druid_wire.specs.Heads.{NameAndValue, is_coded, length_in}
-use Rattle.druid_wire.specs.Reported.{TellsResponse, LacksHead}
+use Rattle.druid_wire.specs.HeadParts.{TellsResponse, LacksHead}
 use Rattle.druid_wire.specs.Messages.{length_or, body_length, HasFault, IsOfBytes, IsResponse, RequestSays, ResponseSays}
 use Rattle.druid_message.specs.declared.fault.WireFault.{WireFault}
 use Rattle.druid_message.specs.declared.fault.WireFault.TheVariants.{Cut, Read, Write, BadHead, HeadTooLong, NoLength, BodyTooLong, Connect, Memory}
-use Rattle.druid_wire.specs.declared.head.ResponseReported.{ResponseReported}
+use Rattle.druid_wire.specs.declared.head.ResponseParts.{ResponseParts}
 use Rattle.druid_wire.specs.declared.length.Length.{Length}
 use Rattle.druid_wire.specs.declared.length.Length.TheVariants.{Unsaid, Unclear, TooLong, Is}
 use Rattle.druid_wire.proofs.MessageLemmas.{response_said}
@@ -33,7 +33,7 @@ of_this e f is same = let names : e ≡ f = cc in subst IsOfHead names is
 not_said : (n : ℕ) (f : WireFault) → ◌≡◌ {A = Result ℕ WireFault} (Ok n) (Err f) → IsOfHead f
 not_said n f e = absurd (cc)
 
-of_length : (needed : Bool) (reported : Length) (f : WireFault) → length_or needed reported ≡ Err f → IsOfHead f
+of_length : (needed : Bool) (said : Length) (f : WireFault) → length_or needed said ≡ Err f → IsOfHead f
 of_length true Unsaid f e = of_this NoLength f tt e
 of_length false Unsaid f e = not_said 0 f e
 of_length needed Unclear f e = of_this BadHead f tt e
@@ -91,8 +91,8 @@ request_head_faulty (Some input) b bytes kept f h e says =
 pub response_head_faulty : (input head rest : List ℕ) (f : WireFault) → IsFramed input head rest → ResponseSays head (Err f) → HasFault ResponseSays input f
 response_head_faulty input head rest f framed says = head_faulty ResponseSays input head rest f framed says (of_response head f says)
 
-pub body_cut : (input head rest : List ℕ) (reported : ResponseReported) → IsFramed input head rest → TellsResponse head reported → length rest < reported.length → HasFault ResponseSays input Cut
-body_cut input head rest reported framed tells short = inr (head, rest, reported.length, framed, response_said head reported tells, short)
+pub body_cut : (input head rest : List ℕ) (parts : ResponseParts) → IsFramed input head rest → TellsResponse head parts → length rest < parts.length → HasFault ResponseSays input Cut
+body_cut input head rest parts framed tells short = inr (head, rest, parts.length, framed, response_said head parts tells, short)
 
 bytes_fault : (f : WireFault) → IsOfHead f → IsOfBytes f
 bytes_fault Cut is = tt

@@ -7,10 +7,10 @@ use Rattle.druid_stream.proofs.TakenLemmas.{takes_more}
 use Rattle.druid_message.specs.declared.fault.WireFault.{WireFault}
 use Rattle.druid_message.specs.declared.fault.WireFault.TheVariants.{Cut, Read, Write, BadHead, HeadTooLong, NoLength, BodyTooLong, Connect, Memory}
 use Rattle.druid_wire.specs.Frame.{text_of, IsFramed}
-use Rattle.druid_wire.specs.Reported.{TellsRequest, TellsResponse, LacksBody}
+use Rattle.druid_wire.specs.HeadParts.{TellsRequest, TellsResponse, LacksBody}
 use Rattle.druid_wire.specs.Limits.{max_head, max_body, most_taken}
-use Rattle.druid_wire.specs.declared.head.RequestReported.{RequestReported}
-use Rattle.druid_wire.specs.declared.head.ResponseReported.{ResponseReported}
+use Rattle.druid_wire.specs.declared.head.RequestParts.{RequestParts}
+use Rattle.druid_wire.specs.declared.head.ResponseParts.{ResponseParts}
 use Rattle.druid_wire.proofs.LengthLemmas.{body_within}
 
 -- a head was read off the reader's front
@@ -56,9 +56,9 @@ memory_refused n f a b c head e took more fits = subst (λ (g : WireFault). Take
 
 -- ---- what a head says of the body is within the limit
 
-pub request_within : (bytes : List ℕ) (reported : RequestReported) → TellsRequest bytes reported → reported.length ≤ max_body
-request_within bytes reported tells =
-    body_within (bytes_eq tells.head.method (codes "POST")) (map name_and_value tells.head.fields) reported.length tells.whole
+pub request_within : (bytes : List ℕ) (parts : RequestParts) → TellsRequest bytes parts → parts.length ≤ max_body
+request_within bytes parts tells =
+    body_within (bytes_eq tells.head.method (codes "POST")) (map name_and_value tells.head.fields) parts.length tells.whole
 
-pub response_within : (bytes : List ℕ) (reported : ResponseReported) → TellsResponse bytes reported → reported.length ≤ max_body
-response_within bytes reported tells = body_within true (map name_and_value tells.head.fields) reported.length tells.whole
+pub response_within : (bytes : List ℕ) (parts : ResponseParts) → TellsResponse bytes parts → parts.length ≤ max_body
+response_within bytes parts tells = body_within true (map name_and_value tells.head.fields) parts.length tells.whole

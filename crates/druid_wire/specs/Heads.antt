@@ -24,13 +24,13 @@ values_of name fields = map (λ field. field.1) (filter (is_named name) fields)
 abbrev pub is_length : List ℕ → Bool
 is_length text = nat_le 1 (length text) && nat_le (length text) max_digits && list_all is_ascii_digit text
 
-abbrev pub length_reported : List ℕ → Length
-length_reported text = if is_length text then (if nat_le (digits_value 10 text) max_body then Is (digits_value 10 text) else TooLong) else Unclear
+abbrev pub length_value : List ℕ → Length
+length_value text = if is_length text then (if nat_le (digits_value 10 text) max_body then Is (digits_value 10 text) else TooLong) else Unclear
 
 -- what the values of `Content-Length` say: it may stand once
 abbrev pub length_said : List (List ℕ) → Length
 length_said [] = Unsaid
-length_said (text ∷ []) = length_reported text
+length_said (text ∷ []) = length_value text
 length_said (text ∷ other ∷ more) = Unclear
 
 abbrev pub length_in : List NameAndValue → Length

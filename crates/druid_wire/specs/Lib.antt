@@ -9,4 +9,4 @@ pub mod Served
 -- words of private contracts
 pub mod Parts
 pub mod Bodies
-pub mod Reported
+pub mod HeadParts

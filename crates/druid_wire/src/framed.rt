@@ -2,7 +2,7 @@
 ghost use Rattle.std.specs.Prelude.{◌≡◌, ◌∷◌, ◌++◌, IfSome, IfNone, IfOk, IfErr};
 ghost use Rattle.druid_wire.specs.Frame.{IsPlain, IsFramed};
 ghost use Rattle.druid_wire.specs.Messages.{IsOfBytes};
-ghost use Rattle.druid_wire.specs.Reported.{LacksHead};
+ghost use Rattle.druid_wire.specs.HeadParts.{LacksHead};
 
 use crate::frame::{MAX_HEAD, is_blank};
 use druid_message::WireFault;

@@ -2,7 +2,7 @@
 ghost use Rattle.std.specs.Prelude.{◌≡◌, ◌≤◌, length, map, All, IfOk, IfErr, Err};
 ghost use Rattle.httparse.specs.Spans.{IsHeaderWithin, header_bytes, IsRequestWithin, IsResponseWithin, IsRequestOf, IsResponseOf};
 ghost use Rattle.druid_wire.specs.Messages.{body_length, RequestSays, ResponseSays};
-ghost use Rattle.druid_wire.specs.Reported.{TellsRequest, TellsResponse};
+ghost use Rattle.druid_wire.specs.HeadParts.{TellsRequest, TellsResponse};
 
 use crate::length::{Length, is_coded, length_in};
 use druid_message::WireFault;
@@ -17,7 +17,7 @@ pub const MAX_FIELDS: usize = 64;
 
 /// What the head of a request says.
 #[derive(Clone, Copy, Debug)]
-pub(crate) struct RequestReported {
+pub(crate) struct RequestParts {
     pub(crate) method: Span,
     pub(crate) target: Span,
     // How many bytes the body has.
@@ -26,7 +26,7 @@ pub(crate) struct RequestReported {
 
 /// What the head of a response says.
 #[derive(Clone, Copy, Debug)]
-pub(crate) struct ResponseReported {
+pub(crate) struct ResponseParts {
     pub(crate) status: StatusCode,
     // How many bytes the body has.
     pub(crate) length: usize,
@@ -59,7 +59,7 @@ fn whole_request(
     head: &[u8],
     fields: &[HeaderSpan],
     spans: RequestSpans,
-) -> Result<RequestReported, WireFault>
+) -> Result<RequestParts, WireFault>
     requires within { IsRequestWithin head.now fields.now spans }
     requires found { IsRequestOf head.now fields.now spans }
     requires room { length fields.now ≤ MAX_FIELDS }
@@ -71,7 +71,7 @@ fn whole_request(
     }
     let needed = spans.method.of(head) == b"POST".as_slice();
     match body_length(head, &fields[..spans.headers], needed) {
-        Ok(length) => Ok(RequestReported {
+        Ok(length) => Ok(RequestParts {
             method: spans.method,
             target: spans.path,
             length,
@@ -81,7 +81,7 @@ fn whole_request(
 }
 
 // What a framed head says, if it is the head of a request. Does not allocate.
-pub(crate) fn request_reported(head: &[u8]) -> Result<RequestReported, WireFault>
+pub(crate) fn parse_request_head(head: &[u8]) -> Result<RequestParts, WireFault>
     ensures ok { IfOk result (TellsRequest head.now) }
     ensures err { IfErr result (λ fault. RequestSays head.now (Err fault)) }
 {
@@ -99,7 +99,7 @@ fn whole_response(
     head: &[u8],
     fields: &[HeaderSpan],
     spans: ResponseSpans,
-) -> Result<ResponseReported, WireFault>
+) -> Result<ResponseParts, WireFault>
     requires within { IsResponseWithin head.now fields.now spans }
     requires found { IsResponseOf head.now fields.now spans }
     requires room { length fields.now ≤ MAX_FIELDS }
@@ -113,13 +113,13 @@ fn whole_response(
         return Err(WireFault::BadHead);
     };
     match body_length(head, &fields[..spans.headers], true) {
-        Ok(length) => Ok(ResponseReported { status, length }),
+        Ok(length) => Ok(ResponseParts { status, length }),
         Err(fault) => Err(fault),
     }
 }
 
 // What a framed head says, if it is the head of a response. Does not allocate.
-pub(crate) fn response_reported(head: &[u8]) -> Result<ResponseReported, WireFault>
+pub(crate) fn parse_response_head(head: &[u8]) -> Result<ResponseParts, WireFault>
     ensures ok { IfOk result (TellsResponse head.now) }
     ensures err { IfErr result (λ fault. ResponseSays head.now (Err fault)) }
 {

@@ -3,7 +3,7 @@ ghost use Rattle.std.specs.Prelude.{◌≡◌, ◌≤◌, length, map, All, IfSo
 ghost use Rattle.std.specs.List.{list_all};
 ghost use Rattle.std.specs.Char.{is_ascii_digit};
 ghost use Rattle.httparse.specs.Spans.{IsHeaderWithin, header_bytes};
-ghost use Rattle.druid_wire.specs.Heads.{is_named, is_length, length_reported, length_in, is_coded};
+ghost use Rattle.druid_wire.specs.Heads.{is_named, is_length, length_value, length_in, is_coded};
 
 use httparse::spans::HeaderSpan;
 use std::str;
@@ -41,8 +41,8 @@ fn is_length(text: &[u8]) -> bool
 
 // The length that a text names.
 #[tactic(auto, using(crate::proofs::LengthLemmas::length_text, crate::proofs::LengthLemmas::length_numeral))]
-fn length_reported(text: &[u8]) -> Length
-    ensures { result ≡ length_reported text.now }
+fn length_value(text: &[u8]) -> Length
+    ensures { result ≡ length_value text.now }
 {
     if !is_length(text) {
         return Length::Unclear;
@@ -71,16 +71,16 @@ pub(crate) fn length_in(head: &[u8], fields: &[HeaderSpan]) -> Length
     requires { All (IsHeaderWithin (length head.now)) fields.now }
     ensures { result ≡ length_in (map (header_bytes head.now) fields.now) }
 {
-    let mut reported = Length::Unsaid;
+    let mut length = Length::Unsaid;
     for field in fields {
         if is_named(head, *field, b"content-length") {
-            match reported {
-                Length::Unsaid => reported = length_reported(field.value.of(head)),
+            match length {
+                Length::Unsaid => length = length_value(field.value.of(head)),
                 _ => return Length::Unclear,
             }
         }
     }
-    reported
+    length
 }
 
 // Whether the body is sent in another form than whole.

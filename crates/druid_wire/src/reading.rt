@@ -6,12 +6,12 @@ ghost use Rattle.druid_stream.specs.Taken.{TakesAtMost};
 ghost use Rattle.druid_wire.specs.Frame.{IsFramed};
 ghost use Rattle.druid_wire.specs.Limits.{max_head, max_body, most_taken};
 ghost use Rattle.druid_wire.specs.Bodies.{EndsBody};
-ghost use Rattle.druid_wire.specs.Reported.{TellsRequest, LacksHead, LacksBody};
+ghost use Rattle.druid_wire.specs.HeadParts.{TellsRequest, LacksHead, LacksBody};
 ghost use Rattle.druid_wire.specs.Messages.{IsRequest, IsResponse, HasFault, RequestSays, ResponseSays};
 
 use crate::body::read_body;
 use crate::frame::{Found, find_head};
-use crate::head::{RequestReported, request_reported, response_reported};
+use crate::head::{RequestParts, parse_request_head, parse_response_head};
 use druid_message::{Request, WireFault};
 use http::method::MethodError;
 use http::{Method, StatusCode};
@@ -63,20 +63,20 @@ fn take_body<R: BufRead>(reader: &mut R, body: &mut Vec<u8>, length: usize) -> R
 fn request_of(
     alloc: Global,
     head: &[u8],
-    reported: RequestReported,
+    parts: RequestParts,
     body: Vec<u8>,
 ) -> Result<Request, WireFault>
-    requires { TellsRequest head.now reported }
-    ensures ok { IfOk result (λ request. (request.method ≡ span_bytes head.now reported.method)
-        × (request.target ≡ span_bytes head.now reported.target) × (request.body ≡ body.items)) }
+    requires { TellsRequest head.now parts }
+    ensures ok { IfOk result (λ request. (request.method ≡ span_bytes head.now parts.method)
+        × (request.target ≡ span_bytes head.now parts.target) × (request.body ≡ body.items)) }
     ensures err { IfErr result (λ fault. fault ≡ WireFault.Memory) }
 {
-    let method = match Method::from_bytes(alloc, reported.method.of(head)) {
+    let method = match Method::from_bytes(alloc, parts.method.of(head)) {
         Ok(method) => method,
         Err(MethodError::OutOfMemory) => return Err(WireFault::Memory),
         Err(MethodError::Invalid) => unreachable!(),
     };
-    let Ok(target) = str::from_utf8(reported.target.of(head)) else {
+    let Ok(target) = str::from_utf8(parts.target.of(head)) else {
         unreachable!()
     };
     let target = String::from_str(alloc, target)?;
@@ -101,16 +101,16 @@ pub fn read_request<R: BufRead>(alloc: Global, reader: &mut R) -> Result<Request
         Ok(()) => {}
         Err(fault) => return Err(fault),
     }
-    let reported = match request_reported(&head) {
-        Ok(reported) => reported,
+    let parts = match parse_request_head(&head) {
+        Ok(parts) => parts,
         Err(fault) => return Err(fault),
     };
     let mut body = Vec::new(alloc);
-    match take_body(reader, &mut body, reported.length) {
+    match take_body(reader, &mut body, parts.length) {
         Ok(()) => {}
         Err(fault) => return Err(fault),
     }
-    request_of(alloc, &head, reported, body)
+    request_of(alloc, &head, parts, body)
 }
 
 /// Reads a response, its status and its body, as `read_request` does a request. A status below 100 is `BadHead`.
@@ -129,14 +129,14 @@ pub fn read_response<R: BufRead>(
         Ok(()) => {}
         Err(fault) => return Err(fault),
     }
-    let reported = match response_reported(&head) {
-        Ok(reported) => reported,
+    let parts = match parse_response_head(&head) {
+        Ok(parts) => parts,
         Err(fault) => return Err(fault),
     };
     let mut body = Vec::new(alloc);
-    match take_body(reader, &mut body, reported.length) {
+    match take_body(reader, &mut body, parts.length) {
         Ok(()) => {}
         Err(fault) => return Err(fault),
     }
-    Ok((reported.status, body))
+    Ok((parts.status, body))
 }

@@ -3,7 +3,7 @@ ghost use Rattle.std.specs.Prelude.{ℕ, List, IfOk, IfErr, OnErr};
 ghost use Rattle.druid_wire.specs.Messages.{IsResponse, HasFault, IsOfBytes, ResponseSays};
 
 use crate::framed::split_head;
-use crate::head::response_reported;
+use crate::head::parse_response_head;
 use druid_message::WireFault;
 use http::StatusCode;
 
@@ -21,13 +21,13 @@ pub fn response_of(bytes: &[u8]) -> Result<(StatusCode, &[u8]), WireFault>
         Ok(parts) => parts,
         Err(fault) => return Err(fault),
     };
-    let reported = match response_reported(head) {
-        Ok(reported) => reported,
+    let parts = match parse_response_head(head) {
+        Ok(parts) => parts,
         Err(fault) => return Err(fault),
     };
-    if rest.len() < reported.length {
+    if rest.len() < parts.length {
         return Err(WireFault::Cut);
     }
-    let (body, _) = rest.split_at(reported.length);
-    Ok((reported.status, body))
+    let (body, _) = rest.split_at(parts.length);
+    Ok((parts.status, body))
 }

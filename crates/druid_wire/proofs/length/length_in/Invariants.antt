@@ -4,4 +4,4 @@ use Rattle.druid_wire.specs.Heads.{length_in}
 use Rattle.druid_wire.proofs.length.length_in.Given as goal
 
 abbrev pub invariant-loop-field : goal.invariant-loop-field
-invariant-loop-field l = l.reported ≡ length_in (map (header_bytes l.head) (take l.field-index l.fields))
+invariant-loop-field l = l.length ≡ length_in (map (header_bytes l.head) (take l.field-index l.fields))

@@ -6,17 +6,17 @@ use Rattle.druid_message.specs.declared.fault.WireFault.TheVariants.{Cut, Read, 
 use Rattle.httparse.specs.Grammar.{RequestHead, ResponseHead, status_code}
 use Rattle.httparse.specs.Spans.{IsWithin, span_bytes}
 use Rattle.druid_wire.specs.Messages.{IsRequestHead, IsResponseHead, request_length, response_length}
-use Rattle.druid_wire.specs.declared.head.RequestReported.{RequestReported}
-use Rattle.druid_wire.specs.declared.head.ResponseReported.{ResponseReported}
+use Rattle.druid_wire.specs.declared.head.RequestParts.{RequestParts}
+use Rattle.druid_wire.specs.declared.head.ResponseParts.{ResponseParts}
 
-pub record TellsRequest (bytes : List ℕ) (reported : RequestReported) : Type 0 where
+pub record TellsRequest (bytes : List ℕ) (parts : RequestParts) : Type 0 where
   pub head : RequestHead
   pub reads : IsRequestHead bytes head
-  pub method : span_bytes bytes reported.method ≡ head.method
-  pub target : span_bytes bytes reported.target ≡ head.target
-  pub method_within : IsWithin (length bytes) reported.method
-  pub target_within : IsWithin (length bytes) reported.target
-  pub whole : request_length head ≡ Ok reported.length
+  pub method : span_bytes bytes parts.method ≡ head.method
+  pub target : span_bytes bytes parts.target ≡ head.target
+  pub method_within : IsWithin (length bytes) parts.method
+  pub target_within : IsWithin (length bytes) parts.target
+  pub whole : request_length head ≡ Ok parts.length
 
 -- the input is no head, whatever the grammar
 abbrev pub LacksHead : List ℕ → WireFault → Type 0
@@ -42,8 +42,8 @@ LacksBody input count BodyTooLong = ⊥
 LacksBody input count Connect = ⊥
 LacksBody input count Memory = ⊤
 
-pub record TellsResponse (bytes : List ℕ) (reported : ResponseReported) : Type 0 where
+pub record TellsResponse (bytes : List ℕ) (parts : ResponseParts) : Type 0 where
   pub head : ResponseHead
   pub reads : IsResponseHead bytes head
-  pub code : reported.status ≡ status_code head
-  pub whole : response_length head ≡ Ok reported.length
+  pub code : parts.status ≡ status_code head
+  pub whole : response_length head ≡ Ok parts.length
