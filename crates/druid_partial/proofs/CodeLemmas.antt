@@ -6,11 +6,11 @@ use Rattle.std.specs.List.{list_any}
 use Rattle.druid_filter.specs.Filters.{same_value}
 use Rattle.druid_rows.specs.Segment.{Segment, row_at}
 use Rattle.druid_rows.specs.Columns.{column, value_at, AreCodes}
-use Rattle.druid_partial.specs.declared.test.Test.{Same, Is, Among}
+use Rattle.druid_partial.specs.declared.code_filter.CodeFilter.{Same, Is, Among}
 use Rattle.druid_partial.specs.Places.{at_place, place_in}
-use Rattle.druid_partial.specs.Tests.{code_is, code_among, found_is, holds, value_of, IsCodeOf}
+use Rattle.druid_partial.specs.CodeFilters.{code_is, code_among, found_is, holds, value_of, IsCodeOf}
 use Rattle.druid_partial.proofs.PlaceLemmas.{value_is}
-use Rattle.druid_partial.proofs.TestLemmas.{holds_same, holds_is, holds_among}
+use Rattle.druid_partial.proofs.CodeFilterLemmas.{holds_same, holds_is, holds_among}
 use Rattle.druid_partial.proofs.RankLemmas.{row_code, row_value, row_bounded}
 
 value_none : (segment : Segment) (row : ℕ) (name : List ℕ) → place_in segment.fields.dimensions name ≡ None → value_of segment row name ≡ None

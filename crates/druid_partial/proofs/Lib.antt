@@ -7,7 +7,7 @@ pub mod BucketLemmas
 pub mod PlaceLemmas
 pub mod EntryLemmas
 pub mod TellLemmas
-pub mod TestLemmas
+pub mod CodeFilterLemmas
 pub mod OnceLemmas
 pub mod CellLemmas
 pub mod RadixLemmas

@@ -22,8 +22,8 @@ use Rattle.druid_rows.specs.Columns.{column, value_at, IsDictionary, AreCodes}
 use Rattle.druid_partial.specs.Groups.{value_cmp}
 use Rattle.druid_partial.specs.Places.{at_place}
 use Rattle.druid_partial.specs.Cells.{Column, IsColumn}
-use Rattle.druid_partial.specs.Tests.{IsCodeOf}
-use Rattle.druid_partial.proofs.TestLemmas.{value_tie}
+use Rattle.druid_partial.specs.CodeFilters.{IsCodeOf}
+use Rattle.druid_partial.proofs.CodeFilterLemmas.{value_tie}
 use Rattle.druid_partial.proofs.RadixLemmas.{equal_is}
 
 above : (t : List ℕ) (ts : List (List ℕ)) (j : ℕ) (d : List ℕ) → AllByRecursion (λ y. slice_cmp nat_cmp t y ≡ Less) ts → j < length ts → slice_cmp nat_cmp t (get_or ts j d) ≡ Less

@@ -8,6 +8,6 @@ pub mod Joined
 pub mod First
 pub mod Places
 pub mod Entries
-pub mod Tests
+pub mod CodeFilters
 pub mod Plans
 pub mod Cells

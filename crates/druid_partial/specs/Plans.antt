@@ -11,9 +11,9 @@ use Rattle.druid_partial.specs.Joined.{merged}
 use Rattle.druid_partial.specs.Rows.{earliest, passes_if, kinds_of, tells, is_asked, HasNumbers, IsGroupFor}
 use Rattle.druid_partial.specs.Places.{places_of, sources_of, source_number}
 use Rattle.druid_filter.specs.Filters.{value_in}
-use Rattle.druid_partial.specs.Tests.{judge_if}
+use Rattle.druid_partial.specs.CodeFilters.{judge_if}
 use Rattle.druid_partial.specs.Cells.{Column, Cell, AreColumns, HasNumber, number_from, cell_from}
-use Rattle.druid_partial.specs.declared.test.Test.{Test}
+use Rattle.druid_partial.specs.declared.code_filter.CodeFilter.{CodeFilter}
 use Rattle.druid_partial.specs.declared.located.Source.{Source}
 use Rattle.druid_partial.specs.declared.cells.Numbers.{Numbers}
 
@@ -35,7 +35,7 @@ AreNumbers segment (s ∷ ss) [] = ⊥
 AreNumbers segment (s ∷ ss) (n ∷ ns) = AreFrom segment s n × AreNumbers segment ss ns
 
 -- where it looks
-pub record IsPlan (query : Query) (segment : Segment) (times : List ℕ) (first : ℕ) (places : List (Option ℕ)) (columns : List Column) (numbers : List Numbers) (kinds : List AggregatorKind) (test : Option Test) : Type 0 where
+pub record IsPlan (query : Query) (segment : Segment) (times : List ℕ) (first : ℕ) (places : List (Option ℕ)) (columns : List Column) (numbers : List Numbers) (kinds : List AggregatorKind) (code_filter : Option CodeFilter) : Type 0 where
   pub words : HaveWords segment
   pub times_are : times ≡ map (λ row. row.time) segment.rows
   pub first_is : first ≡ earliest query.intervals
@@ -43,7 +43,7 @@ pub record IsPlan (query : Query) (segment : Segment) (times : List ℕ) (first 
   pub columns_are : AreColumns segment (places_of query segment.fields) columns
   pub numbers_are : AreNumbers segment (sources_of query segment.fields) numbers
   pub kinds_are : kinds ≡ kinds_of query
-  pub test_is : (row : ℕ) → row < length segment.rows → judge_if test row ≡ passes_if (value_in segment.fields.dimensions (row_at segment row).dimensions) query.filter
+  pub filter_is : (row : ℕ) → row < length segment.rows → judge_if code_filter row ≡ passes_if (value_in segment.fields.dimensions (row_at segment row).dimensions) query.filter
 
 -- what the row at a place tells
 abbrev pub counted_at : Plan → ℕ → Group

@@ -3,7 +3,9 @@
 
 mod buckets;
 mod cells;
+mod code_filter;
 mod column;
+mod counting;
 mod found;
 mod group;
 mod joining;
@@ -12,10 +14,9 @@ mod laws;
 mod located;
 mod merging;
 mod partial;
-mod telling;
-mod test;
 
 pub use buckets::{earliest, is_bucket};
+pub use counting::{partial_of, partial_over};
 pub use group::Group;
 pub use laws::{
     merge_is_the_result_of_both, merges_commute, merges_regroup, no_rows_change_nothing,
@@ -23,4 +24,3 @@ pub use laws::{
 };
 pub use merging::{MergeRefused, merge};
 pub use partial::{Partial, kinds_of};
-pub use telling::{partial_of, partial_over};

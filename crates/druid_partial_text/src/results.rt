@@ -111,7 +111,7 @@ fn push_column(out: &mut Writer, column: &Column, group: &Group) -> Result<(), A
 
 // Writes what a result tells of a group, by name.
 #[tactic(auto, using(crate::proofs::NamedLemmas::column_next, crate::proofs::NamedLemmas::columns_first, crate::proofs::NamedLemmas::columns_last))]
-fn push_reported(out: &mut Writer, columns: &Columns, group: &Group) -> Result<(), AllocError>
+fn push_columns(out: &mut Writer, columns: &Columns, group: &Group) -> Result<(), AllocError>
     ensures ok { OnOk result (out.new.tokens ≡ out.old.tokens ++ tokens_of (object (members_by group.now columns.now.entries))) }
     ensures before { out.new.before ≡ out.old.before }
 {
@@ -141,7 +141,7 @@ fn push_timeseries(out: &mut Writer, columns: &Columns, group: &Group) -> Result
 {
     out.begin_object()?;
     out.key("result")?;
-    push_reported(out, columns, group)?;
+    push_columns(out, columns, group)?;
     out.key("timestamp")?;
     push_label(out, group.bucket())?;
     out.end_object()
@@ -155,7 +155,7 @@ fn push_group_by(out: &mut Writer, columns: &Columns, group: &Group) -> Result<(
 {
     out.begin_object()?;
     out.key("event")?;
-    push_reported(out, columns, group)?;
+    push_columns(out, columns, group)?;
     out.key("timestamp")?;
     push_label(out, group.bucket())?;
     out.key("version")?;

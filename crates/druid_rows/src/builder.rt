@@ -2,7 +2,7 @@ ghost use Rattle.std.specs.Prelude.{◌≡◌, ◌↔◌, ◌-◌, [], true, fal
 ghost use Rattle.druid_rows.specs.Rows.{texts_by, row_of, IsSchema, HasShape, IsInside, HasWords};
 ghost use Rattle.druid_rows.specs.Segment.{Segment, IsWithinLimits, HaveWords, IsSegment, segment_of, with_row, text_length, max_text};
 
-use crate::borrowed::RowRef;
+use crate::row_ref::RowRef;
 use crate::segment::judge;
 use crate::table_builder::TableBuilder;
 use crate::{MAX_ROWS, Row, RowFault, Schema, Segment};
@@ -112,7 +112,7 @@ impl SegmentBuilder {
             ↔ (IsWithinLimits (with_row self.old row.now) × HasShape self.old.fields row.now
             × (¬ IsInside self.old.descriptor.id.interval row.now)) }
     {
-        self.push_borrowed(&row.lend())
+        self.push_ref(&row.lend())
     }
 
     /// Adds a row of these values after the others, as `push` does. Each text is copied once, to where it stays.
@@ -132,10 +132,10 @@ impl SegmentBuilder {
             ↔ (IsWithinLimits (with_row self.old (row_of time (texts_by T.text dimensions.entry.now) metrics.now)) × HasShape self.old.fields (row_of time (texts_by T.text dimensions.entry.now) metrics.now)
             × (¬ IsInside self.old.descriptor.id.interval (row_of time (texts_by T.text dimensions.entry.now) metrics.now))) }
     {
-        self.push_borrowed(&RowRef::new(time, dimensions, metrics))
+        self.push_ref(&RowRef::new(time, dimensions, metrics))
     }
 
-    fn push_borrowed<T: AsStr>(&mut self, row: &RowRef<'_, T>) -> Result<(), RowFault>
+    fn push_ref<T: AsStr>(&mut self, row: &RowRef<'_, T>) -> Result<(), RowFault>
         ensures ok { OnOk result (self.new ≡ with_row self.old row.now) }
         ensures err { OnErr result (self.new ≡ self.old) }
         ensures accepts { IsSegment (with_row self.old row.now) → IsOkUnless result RowFault.Memory }

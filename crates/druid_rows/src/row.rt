@@ -1,7 +1,7 @@
 ghost use Rattle.std.specs.Prelude.{◌≡◌};
 ghost use Rattle.druid_rows.specs.Rows.{nullable_texts_of};
 
-use crate::borrowed::RowRef;
+use crate::row_ref::RowRef;
 use druid_time::Instant;
 use std::marker::Model;
 

@@ -4,7 +4,7 @@ ghost use Rattle.druid_rows.specs.Names.{is_field_byte, is_field_name, IsFieldNa
 ghost use Rattle.druid_rows.specs.Rows.{texts_of, IsSchema, HasShape};
 ghost use Rattle.druid_rows.specs.Segment.{names_length};
 
-use crate::borrowed::RowRef;
+use crate::row_ref::RowRef;
 use std::convert::AsStr;
 use std::marker::Model;
 

@@ -6,9 +6,9 @@ ghost use Rattle.druid_rows.specs.Rows.{IsSchema, HasShape, IsInside, HasShortVa
 ghost use Rattle.druid_rows.specs.Columns.{column, IsDictionary, AreCodes, rows_in, AreLong};
 ghost use Rattle.druid_rows.specs.Segment.{Segment, IsWithinLimits, HaveShape, AreInside, HaveWords, IsSegment, row_at, segment_of, with_row, row_length, head_length, text_length, max_text};
 
-use crate::borrowed::read_numbers;
 use crate::column::Column;
 use crate::numbers::Numbers;
+use crate::row_ref::read_numbers;
 use crate::table::Table;
 use crate::table_builder::table_of_rows;
 use crate::{Row, RowFault, Schema};

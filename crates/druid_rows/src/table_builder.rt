@@ -5,10 +5,10 @@ ghost use Rattle.druid_rows.specs.Columns.{AreLong};
 ghost use Rattle.druid_rows.specs.Table.{HasWidths, with_values, with_one_more};
 
 use crate::Row;
-use crate::borrowed::RowRef;
 use crate::column::Column;
 use crate::column_builder::ColumnBuilder;
 use crate::numbers::Numbers;
+use crate::row_ref::RowRef;
 use crate::table::Table;
 use druid_time::Instant;
 use std::alloc::{AllocError, Global};

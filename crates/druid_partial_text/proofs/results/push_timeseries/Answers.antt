@@ -8,5 +8,5 @@ pub returns-clause-ok : goal.returns-clause-ok
 returns-clause-ok c =
     on_ok_weaker c.end_object.result
     (timeseries_steps (object (members_by c.args.group.now c.args.columns.now.entries)) c.args.group.now.key.bucket c.args.out.now.tokens c.begin_object.new.self.tokens c.key.new.self.tokens
-    c.push_reported.new.out.tokens c.key-2.new.self.tokens c.push_label.new.out.tokens c.end_object.new.self.tokens c.in_ok-begin_object.ensures.ok c.in_ok-key.ensures.ok c.in_ok-push_reported.ensures.ok c.in_ok-key-2.ensures.ok (rw (← c.bucket.ensures.value) c.in_ok-push_label.ensures.ok))
+    c.push_columns.new.out.tokens c.key-2.new.self.tokens c.push_label.new.out.tokens c.end_object.new.self.tokens c.in_ok-begin_object.ensures.ok c.in_ok-key.ensures.ok c.in_ok-push_columns.ensures.ok c.in_ok-key-2.ensures.ok (rw (← c.bucket.ensures.value) c.in_ok-push_label.ensures.ok))
     c.end_object.ensures.ok
