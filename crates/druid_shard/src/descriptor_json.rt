@@ -8,7 +8,7 @@ use crate::descriptor::MAX_CORE;
 use crate::{Descriptor, Shard, ShardFault};
 use druid_segid::{Name, SegmentId, Version};
 use druid_time::Interval;
-use serde_json::{Value, json};
+use serde_json::{Value, json, put};
 use std::alloc::{AllocError, Global};
 use std::marker::Model;
 
@@ -29,15 +29,12 @@ fn segment_value(alloc: Global, descriptor: &Descriptor) -> Result<Value, AllocE
     ensures { IfOk result (λ v. view v ≡ flagged_data false descriptor.now) }
 {
     let id = descriptor.id();
-    let interval = id.interval().text(alloc)?;
-    let version = id.version().text(alloc)?;
-    let shard = shard_value(alloc, descriptor)?;
     json!(in alloc; {
         "dataSource": id.source().as_str(),
-        "interval": interval.as_str(),
-        "shardSpec": shard,
+        "interval": id.interval().text(alloc)?,
+        "shardSpec": shard_value(alloc, descriptor)?,
         "size": descriptor.size(),
-        "version": version.as_str(),
+        "version": id.version().text(alloc)?,
     })
 }
 
@@ -46,18 +43,13 @@ fn segment_value(alloc: Global, descriptor: &Descriptor) -> Result<Value, AllocE
 fn tombstone_value(alloc: Global, descriptor: &Descriptor) -> Result<Value, AllocError>
     ensures { IfOk result (λ v. view v ≡ flagged_data true descriptor.now) }
 {
-    let id = descriptor.id();
-    let interval = id.interval().text(alloc)?;
-    let version = id.version().text(alloc)?;
-    let shard = shard_value(alloc, descriptor)?;
-    json!(in alloc; {
-        "dataSource": id.source().as_str(),
-        "interval": interval.as_str(),
-        "shardSpec": shard,
-        "size": descriptor.size(),
-        "tombstone": true,
-        "version": version.as_str(),
-    })
+    match segment_value(alloc, descriptor)? {
+        Value::Object(mut members) => {
+            put(&mut members, alloc, "tombstone", Value::Bool(true))?;
+            Ok(Value::Object(members))
+        }
+        _ => unreachable!(),
+    }
 }
 
 /// The JSON of a descriptor: `dataSource`, `interval`, `shardSpec`, `size`, `"tombstone":true` where it is one, and
