@@ -22,7 +22,8 @@ use Rattle.druid_sync.specs.declared.fault.SyncFault.TheVariants as replies
 use Rattle.druid_inventory.specs.declared.fault.JoinFault.{JoinFault}
 use Rattle.druid_inventory.proofs.JoinLemmas.{refused_or_joined, one_refusal}
 use Rattle.druid_cluster.specs.Commands.{Opening, Command, reply, lookup, marks, join, equal}
-use Rattle.druid_cluster.specs.Serving.{TakesBrokers, unread, not_applied, not_joined, RefusesReply, TakesReply, IsFound, LooksUp, Holds, JoinsInto, Does, Answers, IsNoCommand, IsAnswered, IsBad}
+use Rattle.druid_cluster.specs.declared.reason.BadLine.{BadLine}
+use Rattle.druid_cluster.specs.Serving.{TakesBrokers, unread, not_applied, not_joined, RefusesReply, TakesReply, IsFound, LooksUp, Holds, JoinsInto, Does, Answers, IsNoCommand, IsAnswered, IsBad, IsBadFor, fault_in}
 use Rattle.druid_cluster.specs.declared.answer.Refusal.{Refusal}
 use Rattle.druid_cluster.specs.declared.answer.Refusal.TheVariants as refusals
 use Rattle.druid_cluster.specs.declared.answer.Answer.{Answer}
@@ -324,5 +325,22 @@ is_command (Some brokers) next d answer given none = let read = given.1 in cc
 
 -- and is not bad
 pub answered_not_bad : (state next : Option (List (List Entry))) (line : List ℕ) (answer : Answer) → IsAnswered state line answer next → IsBad state line → ⊥
-answered_not_bad state next line answer given (inl long) = absurd (omega (arith, given.0))
-answered_not_bad state next line answer given (inr bad) = is_command state next given.1 answer given.3 (bad given.1 given.2)
+answered_not_bad state next line answer given (why, inl long) = absurd (omega (arith, given.0, long.0))
+answered_not_bad state next line answer given (why, inr (inl bad)) = bad.1 given.1 given.2
+answered_not_bad state next line answer given (why, inr (inr bad)) =
+    let same : bad.1 ≡ given.1 = same_Some bad.1 given.1 (sym bad.2.1 ∙ given.2.1) in
+    is_command state next given.1 answer given.3 (subst (IsNoCommand state) same bad.3)
+
+-- a line is bad for one reason
+pub bad_once : (state : Option (List (List Entry))) (line : List ℕ) (a b : BadLine) → IsBadFor state line a → IsBadFor state line b → a ≡ b
+bad_once state line a b (inl x) (inl y) = x.1 ∙ sym y.1
+bad_once state line a b (inl x) (inr (inl y)) = absurd (omega (arith, x.0, y.0))
+bad_once state line a b (inl x) (inr (inr y)) = absurd (omega (arith, x.0, y.0))
+bad_once state line a b (inr (inl x)) (inl y) = absurd (omega (arith, x.0, y.0))
+bad_once state line a b (inr (inl x)) (inr (inl y)) = x.2 ∙ sym y.2
+bad_once state line a b (inr (inl x)) (inr (inr y)) = absurd (x.1 y.1 y.2)
+bad_once state line a b (inr (inr x)) (inl y) = absurd (omega (arith, x.0, y.0))
+bad_once state line a b (inr (inr x)) (inr (inl y)) = absurd (y.1 x.1 x.2)
+bad_once state line a b (inr (inr x)) (inr (inr y)) =
+    let same : x.1 ≡ y.1 = same_Some x.1 y.1 (sym x.2.1 ∙ y.2.1) in
+    x.4 ∙ ap (fault_in state) same ∙ sym y.4

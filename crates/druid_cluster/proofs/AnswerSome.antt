@@ -30,7 +30,8 @@ use Rattle.druid_inventory.specs.declared.fault.JoinFault.TheVariants as joins
 use Rattle.druid_inventory.proofs.JoinLemmas.{join_some, same_entries-decides}
 use Rattle.druid_cluster.specs.Commands.{Opening, Command, reply, lookup, marks, join, equal, is_among, opening_at, asked_at, command_at}
 use Rattle.druid_cluster.specs.Seen.{AreAmong}
-use Rattle.druid_cluster.specs.Serving.{TakesBrokers, TakesReply, LooksUp, Holds, JoinsInto, Does, Answers, IsNoCommand, IsAnswered, IsBad, max_line}
+use Rattle.druid_cluster.specs.declared.reason.BadLine.TheVariants.{TooLong, NotJson}
+use Rattle.druid_cluster.specs.Serving.{TakesBrokers, TakesReply, LooksUp, Holds, JoinsInto, Does, Answers, IsNoCommand, IsAnswered, IsBad, fault_in, max_line}
 use Rattle.druid_cluster.specs.declared.answer.Refusal.TheVariants as refusals
 use Rattle.druid_cluster.specs.declared.answer.Answer.{Answer}
 use Rattle.druid_cluster.specs.declared.answer.Answer.TheVariants.{Refused, Taken, Stepped, Found, Marked, Joined, Compared}
@@ -219,11 +220,11 @@ line_some state line =
     by (cases_lt max_line (length line)) (by_test (IsUtf8 line) (is_utf8 line) (IsUtf8-from_is_utf8 line) (is_utf8-from_IsUtf8 line)) (read line) refl where
       given : length line ≤ max_line → IsUtf8 line → (d : Data) → read line ≡ Some d → IsNoCommand state d ⊎ IsAnswerable state d → IsBad state line ⊎ ((answer : Answer) × (next : Option (List (List Entry))) × IsAnswered state line answer next)
       given short text d is (inl none) =
-          inl (inr (λ other h. subst (IsNoCommand state) (same_Some d other (sym is ∙ h.1)) none))
+          inl (fault_in state d, inr (inr (short, d, (text, is), none, refl)))
       given short text d is (inr all) = inr (all.0, all.1, (short, d, (text, is), all.2))
 
       by : (max_line < length line) ⊎ (length line ≤ max_line) → Decided (IsUtf8 line) → (o : Option Data) → read line ≡ o → IsBad state line ⊎ ((answer : Answer) × (next : Option (List (List Entry))) × IsAnswered state line answer next)
-      by (inl long) text o is = inl (inl long)
-      by (inr short) (inr none) o is = inl (inr (λ d h. absurd (none h.0)))
-      by (inr short) (inl text) None is = inl (inr (λ d h. let other : read line ≡ Some d = h.1 in absurd cc))
+      by (inl long) text o is = inl (TooLong, inl (long, refl))
+      by (inr short) (inr none) o is = inl (NotJson, inr (inl (short, (λ d h. absurd (none h.0)), refl)))
+      by (inr short) (inl text) None is = inl (NotJson, inr (inl (short, (λ d h. let other : read line ≡ Some d = h.1 in absurd cc), refl)))
       by (inr short) (inl text) (Some d) is = given short text d is (given_some state d)

@@ -1,9 +1,9 @@
 -- Two runs over one input are one, where no device fails.
-use Rattle.std.proofs.Common.{◌≡◌, ℕ, ◌+◌, List, [], ◌∷◌, ◌++◌, Option, ◌⊎◌, inl, inr, sym, subst, ◌∙◌}
+use Rattle.std.proofs.Common.{◌≡◌, ℕ, ◌+◌, List, [], ◌∷◌, ◌++◌, Option, ◌⊎◌, inl, inr, ap, sym, subst, ◌∙◌}
 use Rattle.druid_inventory.specs.Entry.{Entry}
 use Rattle.druid_cluster.specs.Answers.{line_text}
-use Rattle.druid_cluster.specs.Runs.{End, done, broken_at, NoDeviceFails, Runs}
-use Rattle.druid_cluster.proofs.AnswerOnce.{answered_once, answered_not_bad}
+use Rattle.druid_cluster.specs.Runs.{End, done, bad_at, broken_at, NoDeviceFails, Runs}
+use Rattle.druid_cluster.proofs.AnswerOnce.{answered_once, answered_not_bad, bad_once}
 
 ended : (end : End) (n : ℕ) → NoDeviceFails end → (end ≡ done) ⊎ (end ≡ broken_at n) → end ≡ done
 ended end n whole (inl all) = all
@@ -13,13 +13,13 @@ pub runs_once : (state : Option (List (List Entry))) (n : ℕ) (lines : List (Li
     → Runs state n lines out end → Runs state n lines other last → NoDeviceFails end → NoDeviceFails last → (out ≡ other) × (end ≡ last)
 runs_once state n [] out other end last x y whole too =
     (x.0 ∙ sym y.0, ended end n whole x.1 ∙ sym (ended last n too y.1))
-runs_once state n (line ∷ more) out other end last (inl x) (inl y) whole too = (x.1 ∙ sym y.1, x.2 ∙ sym y.2)
+runs_once state n (line ∷ more) out other end last (inl x) (inl y) whole too = (x.2 ∙ sym y.2, x.3 ∙ ap (bad_at n) (bad_once state line x.0 y.0 x.1 y.1) ∙ sym y.3)
 runs_once state n (line ∷ more) out other end last (inl x) (inr (inl y)) whole too = absurd (too n y.1)
 runs_once state n (line ∷ more) out other end last (inl x) (inr (inr y)) whole too =
-    absurd (answered_not_bad state y.1 line y.0 y.2 x.0)
+    absurd (answered_not_bad state y.1 line y.0 y.2 (x.0, x.1))
 runs_once state n (line ∷ more) out other end last (inr (inl x)) y whole too = absurd (whole n x.1)
 runs_once state n (line ∷ more) out other end last (inr (inr x)) (inl y) whole too =
-    absurd (answered_not_bad state x.1 line x.0 x.2 y.0)
+    absurd (answered_not_bad state x.1 line x.0 x.2 (y.0, y.1))
 runs_once state n (line ∷ more) out other end last (inr (inr x)) (inr (inl y)) whole too = absurd (too n y.1)
 runs_once state n (line ∷ more) out other end last (inr (inr x)) (inr (inr y)) whole too =
     let one = answered_once state line x.0 y.0 x.1 y.1 x.2 y.2 in

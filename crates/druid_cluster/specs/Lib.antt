@@ -1,5 +1,6 @@
 -- what public contracts rest on
 pub mod Commands
+pub mod Reasons
 pub mod Answers
 pub mod Serving
 pub mod Lines

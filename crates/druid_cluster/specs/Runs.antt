@@ -3,16 +3,19 @@ use Rattle.std.specs.Prelude.{◌≡◌, ◌⊎◌, ℕ, ◌+◌, ◌-◌, ◌^�
 use Rattle.std.specs.Io.KnownBytes.{Appends, Keeps}
 use Rattle.druid_inventory.specs.Entry.{Entry}
 use Rattle.druid_cluster.specs.Answers.{line_text}
-use Rattle.druid_cluster.specs.Serving.{IsAnswered, IsBad}
+use Rattle.druid_cluster.specs.Serving.{IsAnswered, IsBadFor}
 use Rattle.druid_cluster.specs.Lines.{lines_of}
 use Rattle.druid_cluster.specs.declared.answer.Answer.{Answer}
+use Rattle.druid_cluster.specs.declared.reason.BadLine.{BadLine}
+use Rattle.druid_cluster.specs.declared.reason.Reason.{Reason}
+use Rattle.druid_cluster.specs.declared.reason.Reason.TheVariants.{Line as ForLine}
 use Rattle.druid_cluster.specs.declared.fault.ReplayFault.{ReplayFault}
 use Rattle.druid_cluster.specs.declared.fault.ReplayFault.TheVariants.{BadCommand, Device}
 
--- how a run ends: all lines are answered, the line of this number is bad, or a device failed there
+-- how a run ends: all lines are answered, the line of this number is bad for this reason, or a device failed there
 pub data End : Type 0 where
   done : End
-  bad_at : (number : ℕ) → End
+  bad_at : (number : ℕ) → (bad : BadLine) → End
   broken_at : (number : ℕ) → End
 
 -- no device failed
@@ -31,7 +34,7 @@ IsFront state line out =
 abbrev pub Runs : Option (List (List Entry)) → ℕ → List (List ℕ) → List ℕ → End → Type 0
 Runs state number [] out end = (out ≡ []) × ((end ≡ done) ⊎ (end ≡ broken_at number))
 Runs state number (line ∷ more) out end =
-    (IsBad state line × (out ≡ []) × (end ≡ bad_at number))
+    ((bad : BadLine) × IsBadFor state line bad × (out ≡ []) × (end ≡ bad_at number bad))
     ⊎ (IsFront state line out × (end ≡ broken_at number))
     ⊎ ((answer : Answer) × (next : Option (List (List Entry))) × IsAnswered state line answer next
     × (rest : List ℕ) × (out ≡ line_text answer ++ rest) × Runs next (number + 1) more rest end)
@@ -43,12 +46,19 @@ Writes input old new end =
 
 -- what a fault of a run tells; a number that does not fit its type is given as the greatest that does
 abbrev pub EndsBy : Option (List ℕ) → Option (List ℕ) → Option (List ℕ) → ReplayFault → Type 0
-EndsBy input old new (BadCommand number) = Writes input old new (bad_at number)
+EndsBy input old new (BadCommand number) = (bad : BadLine) × Writes input old new (bad_at number bad)
 EndsBy input old new (Device number) =
     (line : ℕ) × (number ≡ min line (2 ^ 64 - 1)) × Writes input old new (broken_at line)
 
+-- the same with what ended the run: of a bad line, what is wrong with it
+abbrev pub EndsFor : Option (List ℕ) → Option (List ℕ) → Option (List ℕ) → ReplayFault → Reason → Type 0
+EndsFor input old new (BadCommand number) reason =
+    (bad : BadLine) × (reason ≡ ForLine bad) × Writes input old new (bad_at number bad)
+EndsFor input old new (Device number) reason = EndsBy input old new (Device number)
+
 -- the same of one line
-abbrev pub TellsLine : Option (List (List Entry)) → List ℕ → ℕ → Option (List ℕ) → Option (List ℕ) → ReplayFault → Type 0
-TellsLine state line number old new (BadCommand reported) = (reported ≡ number) × IsBad state line × Keeps old new
-TellsLine state line number old new (Device reported) =
+abbrev pub TellsLine : Option (List (List Entry)) → List ℕ → ℕ → Option (List ℕ) → Option (List ℕ) → ReplayFault → Reason → Type 0
+TellsLine state line number old new (BadCommand reported) reason =
+    (reported ≡ number) × (bad : BadLine) × (reason ≡ ForLine bad) × IsBadFor state line bad × Keeps old new
+TellsLine state line number old new (Device reported) reason =
     (reported ≡ number) × (out : List ℕ) × IsFront state line out × Appends old new out

@@ -20,6 +20,9 @@ use Rattle.druid_inventory.specs.Sources.{HasSource, IsHoldingOf}
 use Rattle.druid_sync.specs.Read.{IsRead}
 use Rattle.druid_sync.specs.declared.fault.SyncFault.{SyncFault}
 use Rattle.druid_sync.specs.declared.fault.SyncFault.TheVariants as replies
+use Rattle.druid_cluster.specs.Reasons.{opening_fault, command_fault}
+use Rattle.druid_cluster.specs.declared.reason.BadLine.{BadLine}
+use Rattle.druid_cluster.specs.declared.reason.BadLine.TheVariants.{TooLong, NotJson}
 use Rattle.druid_cluster.specs.Commands.{Opening, Command, reply, lookup, marks, join, equal, opening_at, command_at}
 use Rattle.druid_cluster.specs.declared.answer.Refusal.{Refusal}
 use Rattle.druid_cluster.specs.declared.answer.Refusal.TheVariants as refusals
@@ -180,6 +183,18 @@ abbrev pub IsAnswered : Option (List (List Entry)) → List ℕ → Answer → O
 IsAnswered state line answer next =
     (length line ≤ max_line) × (d : Data) × ReadsAs line d × Answers state d answer next
 
--- a line ends the run: it is too long, no JSON, or no command
+-- why JSON is no command here
+abbrev pub fault_in : Option (List (List Entry)) → Data → BadLine
+fault_in None d = opening_fault d
+fault_in (Some brokers) d = command_fault (length brokers) d
+
+-- a line ends the run for this reason: it is too long, no JSON, or no command
+abbrev pub IsBadFor : Option (List (List Entry)) → List ℕ → BadLine → Type 0
+IsBadFor state line bad =
+    ((max_line < length line) × (bad ≡ TooLong))
+    ⊎ ((length line ≤ max_line) × ((d : Data) → ReadsAs line d → ⊥) × (bad ≡ NotJson))
+    ⊎ ((length line ≤ max_line) × (d : Data) × ReadsAs line d × IsNoCommand state d × (bad ≡ fault_in state d))
+
+-- a line ends the run
 abbrev pub IsBad : Option (List (List Entry)) → List ℕ → Type 0
-IsBad state line = (max_line < length line) ⊎ ((d : Data) → ReadsAs line d → IsNoCommand state d)
+IsBad state line = (bad : BadLine) × IsBadFor state line bad

@@ -1,11 +1,12 @@
 //! Commands, read out of JSON.
-ghost use Rattle.std.specs.Prelude.{◌≡◌, ◌≤◌, length, option_map, is_none, nat_lt, IfNone, IfOk, IfSome};
+ghost use Rattle.std.specs.Prelude.{◌≡◌, ◌≤◌, length, option_map, is_none, nat_lt, IfErr, IfNone, IfOk, IfSome};
 ghost use Rattle.std.specs.Result.{result_ok};
 ghost use Rattle.serde_json.specs.Find.{as_str};
 ghost use Rattle.serde_json.specs.View.{view, items_view};
 ghost use Rattle.druid_inventory.specs.Entry.{max_nodes};
 ghost use Rattle.druid_shard.specs.Each.{each_of};
 ghost use Rattle.druid_cluster.specs.Commands.{brokers_at, opening_at, reply_at, lookup_at, marks_at, join_at, equal_at, asked_at, is_among, command_at};
+ghost use Rattle.druid_cluster.specs.Reasons.{brokers_fault, opening_fault, reply_fault, lookup_fault, join_fault, equal_fault, asked_fault, missing_fault, command_fault};
 ghost use Rattle.druid_cluster.specs.Seen.{text_in, texts_in, command_seen, opening_seen, AreAmong};
 
 use crate::reason::{BadLine, BrokerKey};
@@ -89,11 +90,12 @@ fn texts_of(values: &[Value]) -> Option<&[Value]>
 }
 
 // 1 to 64 brokers, over 1 to 64 names.
-#[tactic(auto, unfolding(crate::specs::Commands::brokers_at))]
+#[tactic(auto, unfolding(crate::specs::Commands::brokers_at, crate::specs::Reasons::brokers_fault, crate::specs::Reasons::names_at))]
 fn brokers_of(value: &Value) -> Result<Opening<'_>, BadLine>
     ensures value { option_map opening_seen (result_ok result) ≡ brokers_at (view value.now) }
     ensures some { IfOk result (λ opening. 1 ≤ length opening.nodes.now) }
     ensures few { IfOk result (λ opening. length opening.nodes.now ≤ max_nodes) }
+    ensures fault { IfErr result (λ bad. bad ≡ brokers_fault (view value.now)) }
 {
     let Some(count) = number_field(value, "count") else {
         return Err(BadLine::Count);
@@ -112,11 +114,12 @@ fn brokers_of(value: &Value) -> Result<Opening<'_>, BadLine>
 }
 
 /// The brokers that the value asks for: the first command does, and no other. Does not allocate.
-#[tactic(auto, unfolding(crate::specs::Commands::opening_at))]
+#[tactic(auto, unfolding(crate::specs::Commands::opening_at, crate::specs::Reasons::opening_fault))]
 pub fn opening_of(value: &Value) -> Result<Opening<'_>, BadLine>
     ensures value { option_map opening_seen (result_ok result) ≡ opening_at (view value.now) }
     ensures some { IfOk result (λ opening. 1 ≤ length opening.nodes.now) }
     ensures few { IfOk result (λ opening. length opening.nodes.now ≤ max_nodes) }
+    ensures fault { IfErr result (λ bad. bad ≡ opening_fault (view value.now)) }
 {
     if text_field(value, "do") == Some("brokers") {
         brokers_of(value)
@@ -126,9 +129,10 @@ pub fn opening_of(value: &Value) -> Result<Opening<'_>, BadLine>
 }
 
 // That a broker takes a reply.
-#[tactic(auto, unfolding(crate::specs::Commands::reply_at))]
+#[tactic(auto, unfolding(crate::specs::Commands::reply_at, crate::specs::Reasons::reply_fault))]
 fn reply_asked(value: &Value) -> Result<Command<'_>, BadLine>
-    ensures { option_map command_seen (result_ok result) ≡ reply_at (view value.now) }
+    ensures value { option_map command_seen (result_ok result) ≡ reply_at (view value.now) }
+    ensures fault { IfErr result (λ bad. bad ≡ reply_fault (view value.now)) }
 {
     let Some(broker) = number_field(value, "broker") else {
         return Err(BadLine::NoNumber(BrokerKey::Broker));
@@ -147,9 +151,10 @@ fn reply_asked(value: &Value) -> Result<Command<'_>, BadLine>
 }
 
 // A lookup.
-#[tactic(auto, unfolding(crate::specs::Commands::lookup_at))]
+#[tactic(auto, unfolding(crate::specs::Commands::lookup_at, crate::specs::Reasons::lookup_fault))]
 fn lookup_asked(value: &Value) -> Result<Command<'_>, BadLine>
-    ensures { option_map command_seen (result_ok result) ≡ lookup_at (view value.now) }
+    ensures value { option_map command_seen (result_ok result) ≡ lookup_at (view value.now) }
+    ensures fault { IfErr result (λ bad. bad ≡ lookup_fault (view value.now)) }
 {
     let Some(broker) = number_field(value, "broker") else {
         return Err(BadLine::NoNumber(BrokerKey::Broker));
@@ -170,7 +175,8 @@ fn lookup_asked(value: &Value) -> Result<Command<'_>, BadLine>
 // A broker's marks.
 #[tactic(auto, unfolding(crate::specs::Commands::marks_at))]
 fn marks_asked(value: &Value) -> Result<Command<'_>, BadLine>
-    ensures { option_map command_seen (result_ok result) ≡ marks_at (view value.now) }
+    ensures value { option_map command_seen (result_ok result) ≡ marks_at (view value.now) }
+    ensures fault { IfErr result (λ bad. bad ≡ BadLine.NoNumber BrokerKey.Broker) }
 {
     let Some(broker) = number_field(value, "broker") else {
         return Err(BadLine::NoNumber(BrokerKey::Broker));
@@ -179,9 +185,10 @@ fn marks_asked(value: &Value) -> Result<Command<'_>, BadLine>
 }
 
 // A join.
-#[tactic(auto, unfolding(crate::specs::Commands::join_at))]
+#[tactic(auto, unfolding(crate::specs::Commands::join_at, crate::specs::Reasons::join_fault))]
 fn join_asked(value: &Value) -> Result<Command<'_>, BadLine>
-    ensures { option_map command_seen (result_ok result) ≡ join_at (view value.now) }
+    ensures value { option_map command_seen (result_ok result) ≡ join_at (view value.now) }
+    ensures fault { IfErr result (λ bad. bad ≡ join_fault (view value.now)) }
 {
     let Some(from) = number_field(value, "from") else {
         return Err(BadLine::NoNumber(BrokerKey::From));
@@ -193,9 +200,10 @@ fn join_asked(value: &Value) -> Result<Command<'_>, BadLine>
 }
 
 // A comparison.
-#[tactic(auto, unfolding(crate::specs::Commands::equal_at))]
+#[tactic(auto, unfolding(crate::specs::Commands::equal_at, crate::specs::Reasons::equal_fault))]
 fn equal_asked(value: &Value) -> Result<Command<'_>, BadLine>
-    ensures { option_map command_seen (result_ok result) ≡ equal_at (view value.now) }
+    ensures value { option_map command_seen (result_ok result) ≡ equal_at (view value.now) }
+    ensures fault { IfErr result (λ bad. bad ≡ equal_fault (view value.now)) }
 {
     let Some(left) = number_field(value, "left") else {
         return Err(BadLine::NoNumber(BrokerKey::Left));
@@ -207,9 +215,10 @@ fn equal_asked(value: &Value) -> Result<Command<'_>, BadLine>
 }
 
 // The command that a value asks for, whether its brokers stand or not.
-#[tactic(auto, unfolding(crate::specs::Commands::asked_at))]
+#[tactic(auto, unfolding(crate::specs::Commands::asked_at, crate::specs::Reasons::asked_fault))]
 fn command_asked(value: &Value) -> Result<Command<'_>, BadLine>
-    ensures { option_map command_seen (result_ok result) ≡ asked_at (view value.now) }
+    ensures value { option_map command_seen (result_ok result) ≡ asked_at (view value.now) }
+    ensures fault { IfErr result (λ bad. bad ≡ asked_fault (view value.now)) }
 {
     match text_field(value, "do") {
         Some("reply") => reply_asked(value),
@@ -223,7 +232,8 @@ fn command_asked(value: &Value) -> Result<Command<'_>, BadLine>
 
 // The broker at a key, where it is not one of this many.
 fn missing(key: BrokerKey, broker: u64, count: u64) -> Option<BadLine>
-    ensures { is_none result ≡ nat_lt broker count }
+    ensures test { is_none result ≡ nat_lt broker count }
+    ensures fault { IfSome result (λ bad. bad ≡ BadLine.NoBroker key) }
 {
     if broker < count {
         None
@@ -236,6 +246,7 @@ fn missing(key: BrokerKey, broker: u64, count: u64) -> Option<BadLine>
 fn missing_broker(command: &Command<'_>, count: u64) -> Option<BadLine>
     ensures test { is_none result ≡ is_among count (command_seen command.now) }
     ensures among { IfNone result (AreAmong count (command_seen command.now)) }
+    ensures fault { IfSome result (λ bad. bad ≡ missing_fault count (command_seen command.now)) }
 {
     match command {
         Command::Reply { broker, .. } => missing(BrokerKey::Broker, *broker, count),
@@ -258,10 +269,11 @@ fn missing_broker(command: &Command<'_>, count: u64) -> Option<BadLine>
 
 /// The command that a value asks for once that many brokers stand; where it is none, or of a broker that is not there, the first
 /// field that is wrong.
-#[tactic(auto, unfolding(crate::specs::Commands::command_at))]
+#[tactic(auto, unfolding(crate::specs::Commands::command_at, crate::specs::Reasons::command_fault))]
 pub fn command_of(value: &Value, count: u64) -> Result<Command<'_>, BadLine>
     ensures value { option_map command_seen (result_ok result) ≡ command_at count (view value.now) }
     ensures among { IfOk result (λ command. AreAmong count (command_seen command)) }
+    ensures fault { IfErr result (λ bad. bad ≡ command_fault count (view value.now)) }
 {
     let command = match command_asked(value) {
         Ok(command) => command,

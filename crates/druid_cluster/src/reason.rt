@@ -1,6 +1,7 @@
 //! Why a run ends before the end of its input: which field of the line, or which device.
 ghost use Rattle.std.specs.Prelude.{◌≡◌};
 ghost use Rattle.druid_cluster.specs.declared.fault.ReplayFault.TheVariants.{BadCommand, Device};
+ghost use Rattle.druid_cluster.specs.declared.reason.Reason.TheVariants.{Line as ForLine};
 
 use crate::fault::ReplayFault;
 use thiserror::Error;
@@ -101,7 +102,8 @@ pub struct Stop {
 impl Stop {
     // The end at a bad line.
     pub(crate) fn bad(line: u64, bad: BadLine) -> Stop
-        ensures { result.fault ≡ BadCommand line }
+        ensures fault { result.fault ≡ BadCommand line }
+        ensures reason { result.reason ≡ ForLine bad }
     {
         Stop {
             fault: ReplayFault::BadCommand(line),

@@ -4,7 +4,7 @@ ghost use Rattle.std.specs.Io.KnownBytes.{Appends, Keeps};
 ghost use Rattle.std.specs.IoError.{error_kind};
 ghost use Rattle.druid_cluster.specs.Answers.{line_text};
 ghost use Rattle.druid_cluster.specs.Serving.{IsAnswered, max_line};
-ghost use Rattle.druid_cluster.specs.Runs.{done, broken_at, Writes, EndsBy, TellsLine};
+ghost use Rattle.druid_cluster.specs.Runs.{done, broken_at, Writes, EndsBy, EndsFor, TellsLine};
 ghost use Rattle.druid_cluster.specs.declared.answer.Answer.{Answer};
 
 use crate::brokers::Brokers;
@@ -44,7 +44,7 @@ fn answer_to<W: Write>(
     ensures ok { IfOk result (λ next. (answer : Answer) × IsAnswered state line.now answer next
         × Appends (W.contents writer.old) (W.contents writer.new) (line_text answer)) }
     ensures err { IfErr result
-        (λ stop. TellsLine state line.now number (W.contents writer.old) (W.contents writer.new) stop.fault) }
+        (λ stop. TellsLine state line.now number (W.contents writer.old) (W.contents writer.new) stop.fault stop.reason) }
 {
     let Ok(served) = serve_line(alloc, state, line) else {
         return Err(Stop::device(number, Reason::Memory));
@@ -60,7 +60,7 @@ fn answer_to<W: Write>(
 }
 
 // Answers the lines of an input, and gives how many there are.
-#[tactic(auto, using(crate::proofs::RunLemmas::starts, crate::proofs::RunLemmas::ends, crate::proofs::RunLemmas::breaks, crate::proofs::RunLemmas::stops, crate::proofs::RunLemmas::long_is_bad))]
+#[tactic(auto, using(crate::proofs::RunLemmas::starts, crate::proofs::RunLemmas::ends, crate::proofs::RunLemmas::stops, crate::proofs::RunLemmas::stops_long))]
 fn answer_lines<R: BufRead, W: Write>(
     alloc: Global,
     reader: &mut R,
@@ -71,7 +71,7 @@ fn answer_lines<R: BufRead, W: Write>(
         × Writes (R.remaining reader.old) (W.contents writer.old) (W.contents writer.new)
         (broken_at (count + 1))) }
     ensures err { IfErr result
-        (λ stop. EndsBy (R.remaining reader.old) (W.contents writer.old) (W.contents writer.new) stop.fault) }
+        (λ stop. EndsFor (R.remaining reader.old) (W.contents writer.old) (W.contents writer.new) stop.fault stop.reason) }
 {
     let mut state = None;
     let mut line = Vec::new(alloc);
@@ -94,7 +94,7 @@ fn answer_lines<R: BufRead, W: Write>(
 }
 
 /// As `replay`, and says what ended the run too: of a bad line what is wrong with it, of a device which it was.
-#[tactic(auto, using(crate::proofs::RunLemmas::flushed))]
+#[tactic(auto, using(crate::proofs::RunLemmas::flushed, crate::proofs::RunLemmas::ended_flushed))]
 pub fn replay_explained<R: BufRead, W: Write>(
     alloc: Global,
     reader: &mut R,
@@ -103,7 +103,7 @@ pub fn replay_explained<R: BufRead, W: Write>(
     ensures ok { OnOk result
         (Writes (R.remaining reader.old) (W.contents writer.old) (W.contents writer.new) done) }
     ensures err { IfErr result
-        (λ stop. EndsBy (R.remaining reader.old) (W.contents writer.old) (W.contents writer.new) stop.fault) }
+        (λ stop. EndsFor (R.remaining reader.old) (W.contents writer.old) (W.contents writer.new) stop.fault stop.reason) }
 {
     let end = answer_lines(alloc, reader, writer);
     let flushed = writer.flush();

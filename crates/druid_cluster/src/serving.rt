@@ -1,11 +1,11 @@
 //! Commands, carried out.
-ghost use Rattle.std.specs.Prelude.{◌≡◌, ◌↔◌, ◌≤◌, ◌<◌, ℕ, List, All, Some, None, get_or, length, map, IsTrue, IsUtf8, IfOk, OnErr};
+ghost use Rattle.std.specs.Prelude.{◌≡◌, ◌↔◌, ◌≤◌, ◌<◌, ℕ, List, All, Some, None, get_or, length, map, IsTrue, IsUtf8, IfErr, IfOk, OnErr};
 ghost use Rattle.druid_segid.specs.Names.{IsName};
 ghost use Rattle.druid_inventory.specs.Entry.{HaveOwnNames, max_nodes};
 ghost use Rattle.serde_json.specs.View.{view};
 ghost use Rattle.druid_cluster.specs.Commands as commands;
 ghost use Rattle.druid_cluster.specs.Seen.{texts_in, command_seen, AreAmong};
-ghost use Rattle.druid_cluster.specs.Serving.{TakesBrokers, unread, not_applied, not_joined, TakesReply, AreFoundIn, LooksUp, Does, Answers, IsNoCommand, IsAnswered, IsBad, AreNodes, ReplyWants, LookupWants, CommandWants, WantsMemory, max_line};
+ghost use Rattle.druid_cluster.specs.Serving.{TakesBrokers, unread, not_applied, not_joined, TakesReply, AreFoundIn, LooksUp, Does, Answers, IsNoCommand, fault_in, IsAnswered, IsBadFor, AreNodes, ReplyWants, LookupWants, CommandWants, WantsMemory, max_line};
 
 use crate::answer::{Answer, Marks, Pieces, Refusal};
 use crate::brokers::Brokers;
@@ -305,7 +305,7 @@ fn answer_command(alloc: Global, brokers: Brokers, value: &Value) -> Result<Serv
     ensures answered { IfOk result (λ found.
         IfOk found (λ r. Answers (Some brokers) (view value.now) r.0 r.1)) }
     ensures none { IfOk result (λ found.
-        OnErr found (IsNoCommand (Some brokers) (view value.now))) }
+        IfErr found (λ bad. IsNoCommand (Some brokers) (view value.now) × (bad ≡ fault_in (Some brokers) (view value.now)))) }
     ensures memory { OnErr result (WantsMemory (Some brokers) (view value.now)) }
 {
     let command = match command_of(value, brokers.count()) {
@@ -320,7 +320,8 @@ fn answer_command(alloc: Global, brokers: Brokers, value: &Value) -> Result<Serv
 fn answer_opening(alloc: Global, value: &Value) -> Result<Served, AllocError>
     ensures answered { IfOk result (λ found.
         IfOk found (λ r. Answers None (view value.now) r.0 r.1)) }
-    ensures none { IfOk result (λ found. OnErr found (IsNoCommand None (view value.now))) }
+    ensures none { IfOk result (λ found.
+        IfErr found (λ bad. IsNoCommand None (view value.now) × (bad ≡ fault_in None (view value.now)))) }
     ensures memory { OnErr result (WantsMemory None (view value.now)) }
 {
     let opening = match opening_of(value) {
@@ -336,7 +337,7 @@ pub fn serve_line(alloc: Global, state: Option<Brokers>, line: &[u8]) -> Result<
     requires { length line.now ≤ max_line }
     ensures answered { IfOk result (λ found.
         IfOk found (λ r. IsAnswered state line.now r.0 r.1)) }
-    ensures bad { IfOk result (λ found. OnErr found (IsBad state line.now)) }
+    ensures bad { IfOk result (λ found. IfErr found (IsBadFor state line.now)) }
     ensures memory { OnErr result (IsUtf8 line.now) }
 {
     let value = match parse_json(alloc, line) {

@@ -12,6 +12,6 @@ loop-count-preserved g c =
 
 pub returns-in-Err-answer_to-clause-err : goal.returns-in-Err-answer_to-clause-err
 returns-in-Err-answer_to-clause-err g c =
-    reported_of c.in-Err-answer_to.stop.fault _ _ _ _ _ _ c.loop-count.state (c.loop-count.count + 1) c.next_line.new.line.items c.loop-count.invariant (found_line c.in-Ok-Line.field-0 (g.R.Read.remaining c.loop-count.reader) (g.R.Read.remaining c.next_line.new.reader) c.next_line.new.line.items c.in-Ok-Line.field-0-is c.in-Ok-Line.ensures.found)
+    reported_of c.in-Err-answer_to.stop.fault c.in-Err-answer_to.stop.reason _ _ _ _ _ _ c.loop-count.state (c.loop-count.count + 1) c.next_line.new.line.items c.loop-count.invariant (found_line c.in-Ok-Line.field-0 (g.R.Read.remaining c.loop-count.reader) (g.R.Read.remaining c.next_line.new.reader) c.next_line.new.line.items c.in-Ok-Line.field-0-is c.in-Ok-Line.ensures.found)
     (omega (arith, c.loop-count-test.true))
-    (subst (λ (l : List ℕ). TellsLine c.loop-count.state l (c.loop-count.count + 1) (g.W.Write.contents c.loop-count.writer) (g.W.Write.contents c.answer_to.new.writer) c.in-Err-answer_to.stop.fault) c.deref.ensures.value c.in-Err-answer_to.ensures.err)
+    (subst (λ (l : List ℕ). TellsLine c.loop-count.state l (c.loop-count.count + 1) (g.W.Write.contents c.loop-count.writer) (g.W.Write.contents c.answer_to.new.writer) c.in-Err-answer_to.stop.fault c.in-Err-answer_to.stop.reason) c.deref.ensures.value c.in-Err-answer_to.ensures.err)
