@@ -6,7 +6,7 @@ use Rattle.std.proofs.lemmas.Bool.{eqb-true}
 use Rattle.std.proofs.lemmas.List.{length-map}
 use Rattle.std.proofs.lemmas.Option.{same_Some, none-some}
 use Rattle.druid_shard.specs.Described.{Described}
-use Rattle.druid_shard.specs.Mark.{Point, never}
+use Rattle.druid_shard.specs.Mark.{Point, IsWord, never}
 use Rattle.druid_shard.specs.Reply.{max_pages}
 use Rattle.druid_shard.specs.ReplyBody.{IsSnapshotOf}
 use Rattle.druid_shard.specs.declared.change.Ask.{Ask}
@@ -15,7 +15,6 @@ use Rattle.druid_shard.specs.declared.change.Change.{Change}
 use Rattle.druid_shard.specs.declared.reply.Body.{Body}
 use Rattle.druid_shard.specs.declared.reply.Body.TheVariants as bodies
 use Rattle.druid_sync.specs.Read.{Form, followed, whole, paged, begun_again, Answers}
-use Rattle.druid_sync.specs.Written.{IsWord}
 use Rattle.druid_pages.specs.Pages.{page_at, IsCutInto}
 use Rattle.druid_pages.specs.Assembly.{Parts, AreOf}
 use Rattle.druid_pages.proofs.SetLemmas.{cut_into, set_is_whole}

@@ -4,11 +4,10 @@ use Rattle.std.specs.Prelude.{◌≡◌, ◌<◌, ◌≤◌, ◌^◌, ⊤, ℕ, 
 use Rattle.std.specs.List.{AllByRecursion}
 use Rattle.druid_changes.specs.Kept.{StandsFor, frozen_count}
 use Rattle.druid_shard.specs.Described.{Described, IsDescribed}
-use Rattle.druid_shard.specs.Mark.{Point}
+use Rattle.druid_shard.specs.Mark.{Point, IsWord}
 use Rattle.druid_shard.specs.declared.change.Ask.{Ask}
 use Rattle.druid_shard.specs.declared.change.Ask.TheVariants.{Whole, Since, Page}
 use Rattle.druid_shard.specs.declared.reply.Body.{Body}
-use Rattle.druid_sync.specs.Written.{IsWord}
 use Rattle.druid_timeline.specs.Holding.{Held, held_of}
 use Rattle.druid_rows.specs.Segment.{Segment}
 use Rattle.druid_rows.specs.Rows.{Row}

@@ -1,11 +1,13 @@
 -- Filters whose names are looked up.
 use Rattle.std.proofs.Common.{◌≡◌, ◌∙◌, ℕ, ◌+◌, ◌<◌, List, [], ◌∷◌, ◌++◌, length, get_or, take, Bool, true, false, cond, ◌&&◌, ◌||◌, Option, Some, None, refl, sym, ap, String, Global, string_bytes, option_map}
 use Rattle.std.proofs.Common.{rules, Vec, Bor}
-use Rattle.std.specs.Prelude.{slice_get}
+use Rattle.std.specs.Prelude.{not, slice_get}
+use Rattle.std.specs.Box.{box_value}
+use Rattle.std.specs.Global.{Box}
 use Rattle.std.specs.List.{list_any}
-use Rattle.druid_filter.specs.Filters.{has, has_among}
-use Rattle.druid_filter.specs.declared.filter.Filter.{Selector, Among as FilterAmong, the_lemmas as filter_lemmas}
-use Rattle.druid_partial.specs.declared.code_filter.CodeFilter.{Same, Is, Among, the_lemmas as code_filter_lemmas}
+use Rattle.druid_filter.specs.Filters.{has, has_among, is_not}
+use Rattle.druid_filter.specs.declared.filter.Filter.{Selector, Among as FilterAmong, Not as FilterNot, the_lemmas as filter_lemmas}
+use Rattle.druid_partial.specs.declared.code_filter.CodeFilter.{Same, Is, Among, Not, the_lemmas as code_filter_lemmas}
 use Rattle.std.specs.Ordering.{is_eq}
 use Rattle.std.proofs.lemmas.Cmp.{nat_list_eq_equiv}
 use Rattle.std.proofs.lemmas.List.{take_more}
@@ -111,3 +113,13 @@ holds_is codes wanted row = search (rules, code_filter_lemmas)
 
 pub holds_among : (codes : Bor (List ℕ)) (marks : Vec Bool Global) (row : ℕ) → holds (Among codes marks) row ≡ code_among (slice_get codes.now row) marks.items
 holds_among codes marks row = search (rules, code_filter_lemmas)
+
+pub holds_not : (inner : Box CodeFilter) (row : ℕ) → holds (Not inner) row ≡ not (holds (box_value inner) row)
+holds_not inner row = search (rules, code_filter_lemmas)
+
+says_not : (inner : Box Filter) → says (FilterNot inner) ≡ is_not (says (box_value inner))
+says_not inner = search (rules, filter_lemmas)
+
+-- it passes what the other does not
+pub not_passes : (value : List ℕ → Option (List ℕ)) (f : Filter) (inner : Box Filter) → f ≡ FilterNot inner → not (passes value (says (box_value inner))) ≡ passes value (says f)
+not_passes value f inner e = sym (ap (λ g. passes value (says g)) e ∙ ap (passes value) (says_not inner))

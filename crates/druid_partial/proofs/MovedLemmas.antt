@@ -3,7 +3,7 @@ use Rattle.std.proofs.Common.{◌≡◌, ◌∙◌, ◌⊎◌, ◌<◌, ℕ, zer
 use Rattle.std.specs.List.{flat_map}
 use Rattle.std.specs.Prelude.{set, swap}
 use Rattle.std.specs.List.Sorted.{IsPermutation}
-use Rattle.std.proofs.lemmas.List.{set-set, set_comm, set-get_or, take-append-drop}
+use Rattle.std.proofs.lemmas.List.{append-nil, set-set, set_comm, set-get_or, take-append-drop}
 use Rattle.std.proofs.lemmas.List.Concat.{flat_map-append}
 use Rattle.std.proofs.lemmas.List.Edits.{swap_is}
 use Rattle.std.proofs.lemmas.List.Sorted.{IsPermutation-keeps}
@@ -93,3 +93,7 @@ halves_result query tells xs front back n left right both e f p of_query q merge
     let whole : flat_map tells front ++ flat_map tells back ≡ flat_map tells xs = sym (flat_map-append tells front back) ∙ ap (flat_map tells) ((λ i. e i ++ f i) ∙ take-append-drop n xs) in
     subst (λ (rows : List Group). IsResult (kinds_of query) rows both.groups) whole
     (merge_of_results (kinds_of query) (flat_map tells front) (flat_map tells back) left.groups right.groups both.groups p q merged)
+
+-- what one piece tells alone
+pub piece_result : {X : Type 0} (query : Query) (tells : X → List Group) (x : X) (groups : List Group) → IsResult (kinds_of query) (flat_map tells (x ∷ [])) groups → IsResult (kinds_of query) (tells x) groups
+piece_result query tells x groups result = subst (λ rows. IsResult (kinds_of query) rows groups) (append-nil (tells x)) result

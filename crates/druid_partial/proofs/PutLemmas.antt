@@ -194,6 +194,14 @@ pub group_skipped : (plan : Plan) (before whole : List Group) (o : Option Cell) 
 group_skipped plan before whole o left rest l n e =
     ap (λ x. before ++ groups_in plan (x ∷ rest)) (sym n) ∙ ap (λ x. before ++ groups_in plan x) (sym l) ∙ e
 
+each_kept : (plan : Plan) (cells : List (Option Cell)) → ((place : ℕ) (c : Cell) → slice_get cells place ≡ Some (Some c) → IsKept plan (Some c)) → All (IsKept plan) cells
+each_kept plan [] are = All-nil (IsKept plan)
+each_kept plan (None ∷ cells) are = All-cons (IsKept plan) None cells tt (each_kept plan cells (λ place. are (suc place)))
+each_kept plan (Some c ∷ cells) are = All-cons (IsKept plan) (Some c) cells (are zero c refl) (each_kept plan cells (λ place. are (suc place)))
+
+pub all_cells_kept : (plan : Plan) (bucket : ℕ) (cells : List (Option Cell)) → AreCells plan bucket cells → All (IsKept plan) cells
+all_cells_kept plan bucket cells are = each_kept plan cells (λ place c e. let is = are place c e in (is.inside, is.numbers))
+
 pub kept_rest : (plan : Plan) (o : Option Cell) (left rest : List (Option Cell)) → left ≡ o ∷ rest → All (IsKept plan) left → All (IsKept plan) rest
 kept_rest plan o left rest l k = let P : List (Option Cell) → Type 0 = All (IsKept plan) in All-tail (IsKept plan) o rest (subst P l k)
 

@@ -1,5 +1,5 @@
 //! Filters over the rows of one segment, by the codes of their values.
-ghost use Rattle.std.specs.Prelude.{◌≡◌, ◌<◌, ◌≤◌, List, Option, ℕ, None, IfOk, IfSome, length, slice_get, slice_index_or, replicate, false, option_map, string_bytes};
+ghost use Rattle.std.specs.Prelude.{◌≡◌, ◌<◌, ◌≤◌, List, Option, ℕ, None, IfOk, IfSome, length, slice_get, slice_index_or, false, not, option_map, string_bytes};
 ghost use Rattle.std.specs.List.{list_any};
 ghost use Rattle.std.specs.List.Sorted.{IsStrictlySortedBy};
 ghost use Rattle.std.specs.Ordering.{nat_cmp};
@@ -61,16 +61,6 @@ fn has_null(wanted: &[Option<String>]) -> bool
     false
 }
 
-fn no_marks(alloc: Global, len: usize) -> Result<Vec<bool>, AllocError>
-    ensures { IfOk result (λ marks. marks.items ≡ replicate len false) }
-{
-    let mut marks = Vec::with_capacity(alloc, len)?;
-    for _ in 0..len {
-        marks.push(false)?;
-    }
-    Ok(marks)
-}
-
 // A mark for each code of these texts: whether its value is among those.
 fn marks_of(
     alloc: Global,
@@ -80,7 +70,7 @@ fn marks_of(
     ensures { IfOk result (λ marks. IsStrictlySortedBy (slice_cmp nat_cmp) (texts_of texts.now) → (code : ℕ) → code ≤ length (texts_of texts.now)
         → slice_index_or marks.items code false ≡ list_any (same_value (value_at (texts_of texts.now) code)) (nullable_texts_of wanted.now)) }
 {
-    let mut marks = no_marks(alloc, texts.len() + 1)?;
+    let mut marks = vec![in alloc; false; texts.len() + 1]?;
     for value in wanted {
         if let Some(code) = code_of(texts, value) {
             marks[code] = true;
@@ -128,6 +118,14 @@ fn among_of<'a>(
     Ok(CodeFilter::Among(segment.codes(place), marks))
 }
 
+// It does not pass that filter.
+#[tactic(auto, using(crate::proofs::CodeFilterLemmas::holds_not))]
+fn negation_of(alloc: Global, code_filter: CodeFilter<'_>) -> Result<CodeFilter<'_>, AllocError>
+    ensures { IfOk result (λ negation. (row : ℕ) → holds negation row ≡ not (holds code_filter.entry row)) }
+{
+    Ok(CodeFilter::Not(Box::new(alloc, code_filter)?))
+}
+
 // The filter, over the rows of that segment.
 #[cycle(code_filter_of)]
 fn code_filter_of<'a>(
@@ -143,10 +141,7 @@ fn code_filter_of<'a>(
         Filter::Among(name, wanted) => among_of(alloc, segment, name.as_str(), wanted),
         Filter::All(filters) => Ok(CodeFilter::All(code_filters_of(alloc, segment, filters)?)),
         Filter::Any(filters) => Ok(CodeFilter::Any(code_filters_of(alloc, segment, filters)?)),
-        Filter::Not(filter) => {
-            let code_filter = code_filter_of(alloc, segment, filter)?;
-            Ok(CodeFilter::Not(Box::new(alloc, code_filter)?))
-        }
+        Filter::Not(filter) => negation_of(alloc, code_filter_of(alloc, segment, filter)?),
     }
 }
 

@@ -527,7 +527,7 @@ pub fn partial_of(
         IsResult (kinds_of query.now) (counted_by query.now segment.now interval) partial.groups) }
     ensures of_query { IfOk result (IsPartialFor query.now) }
 {
-    Plan::new(alloc, query, segment)?.partial(alloc, interval)
+    partial_over(alloc, query, segment, &[interval])
 }
 
 /// The same of several intervals, each of them for itself: a row that lies in two of them counts twice. The names of the query

@@ -14,7 +14,7 @@ use druid_rows::{Schema, Segment};
 use std::alloc::{AllocError, Global};
 
 // Where a number of a row comes from.
-#[derive(Clone, Copy, Debug)]
+#[derive(Clone, Copy)]
 pub(crate) enum Source {
     // Each row is one.
     One,

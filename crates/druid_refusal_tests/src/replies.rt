@@ -4,10 +4,8 @@ use crate::values::{descriptor, name};
 use druid_changes::{History, HistoryFault};
 use druid_inventory::{ApplyFault, Assembly, Inventory, InventoryFault, JoinFault, Outcome};
 use druid_pages::page_of;
-use druid_shard::{Ask, Body, Change, Mark, Reply};
-use druid_sync::{
-    SyncFault, ask_target, ask_target_at, mark_value, read_reply, reply_of, reply_text,
-};
+use druid_shard::{Ask, Body, Change, Mark, Reply, mark_value};
+use druid_sync::{SyncFault, ask_target, ask_target_at, read_reply, reply_of, reply_text};
 use druid_world::{AskKind, Event, Sim, SimFault};
 use serde_json::Value;
 use std::alloc::Global;

@@ -11,7 +11,7 @@ use std::marker::Model;
 use std::str;
 
 // The bytes that are left, and the fault where a part passes their end. A call that fails leaves it anywhere.
-#[derive(Debug, Drop)]
+#[derive(Drop)]
 pub(crate) struct Cursor<'a> {
     rest: &'a [u8],
     short: FileFault,

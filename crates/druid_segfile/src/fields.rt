@@ -19,7 +19,7 @@ use std::str;
 type Names<'a> = ArrayVec<&'a str, MAX_FIELDS>;
 
 // The names of the dimensions and of the metrics.
-#[derive(Debug, Drop)]
+#[derive(Drop)]
 pub(crate) struct FieldNames<'a> {
     dimensions: Names<'a>,
     metrics: Names<'a>,

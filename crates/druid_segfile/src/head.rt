@@ -15,7 +15,7 @@ use std::marker::Model;
 use std::str;
 
 // What is announced of a segment, with texts that lie in its bytes.
-#[derive(Debug, Drop)]
+#[derive(Drop)]
 pub(crate) struct Announced<'a> {
     source: &'a str,
     interval: Interval,

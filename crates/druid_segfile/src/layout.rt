@@ -8,7 +8,7 @@ use crate::cursor::Cursor;
 use crate::spelling::{COLUMN_MAGIC, MAGIC};
 
 // Whether the rows follow each other, or their columns.
-#[derive(Clone, Copy, Debug)]
+#[derive(Clone, Copy)]
 pub(crate) enum Layout {
     ByRows,
     ByColumns,

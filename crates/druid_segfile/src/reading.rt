@@ -84,7 +84,7 @@ fn first_bytes<R: Read>(alloc: Global, reader: &mut R) -> Result<Vec<u8>, FileFa
 }
 
 // A segment whose bytes were judged. What stands before the rows is read, and the rows are not.
-#[derive(Debug, Drop)]
+#[derive(Drop)]
 struct Judged<'a> {
     layout: Layout,
     announced: Announced<'a>,

@@ -18,7 +18,7 @@ use std::alloc::AllocError;
 use std::marker::Model;
 
 // How a row is read: the interval that it lies in, and how many dimensions and metrics it has.
-#[derive(Clone, Copy, Debug)]
+#[derive(Clone, Copy)]
 pub(crate) struct Shape {
     pub(crate) interval: Interval,
     pub(crate) dimensions: usize,
@@ -46,7 +46,7 @@ type Texts<'a> = ArrayVec<Option<&'a str>, MAX_FIELDS>;
 type Numbers = ArrayVec<Option<i64>, MAX_FIELDS>;
 
 // The values of one row after the other. They do not allocate.
-#[derive(Debug, Drop)]
+#[derive(Drop)]
 pub(crate) struct RowValues<'a> {
     texts: Texts<'a>,
     numbers: Numbers,

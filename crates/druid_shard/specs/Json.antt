@@ -1,4 +1,4 @@
--- The JSON of a descriptor.
+-- The JSON of a descriptor, and of a mark.
 use Rattle.std.specs.Prelude.{◌≡◌, ◌==◌, ◌&&◌, ℕ, Bool, false, true, List, codes, Option, Some, None, Result, Ok, Err, IsOk, ⊤, option_and_then, nat_le, if◌then◌else◌}
 use Rattle.std.specs.Str.{bytes_eq}
 use Rattle.serde_json.specs.Data.{Data, null, boolean, number, string, array, object, Members, member, no_members, unsigned}
@@ -8,6 +8,7 @@ use Rattle.druid_time.specs.Results.{◌>>=◌}
 use Rattle.druid_time.specs.Texts.{extent_text, extent_at}
 use Rattle.druid_segid.specs.Names.{is_name, is_version}
 use Rattle.druid_shard.specs.Described.{Described, Place, max_core}
+use Rattle.druid_shard.specs.Mark.{Point}
 use Rattle.druid_shard.specs.declared.fault.ShardFault.{ShardFault}
 use Rattle.druid_shard.specs.declared.fault.ShardFault.TheVariants as faults
 
@@ -35,6 +36,12 @@ flagged_data flag d =
 
 abbrev pub descriptor_data : Described → Data
 descriptor_data d = flagged_data d.tombstone d
+
+-- a mark: `counter` is the count, and `hash` the incarnation
+unfoldable pub mark_data : Point → Data
+mark_data m =
+    object (member (codes "counter") (number (unsigned m.count))
+    (member (codes "hash") (number (unsigned m.incarnation)) no_members))
 
 -- ---- read
 

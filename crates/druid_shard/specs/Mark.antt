@@ -1,5 +1,5 @@
 -- How far a node's history has been followed.
-use Rattle.std.specs.Prelude.{ℕ, Bool, ◌==◌, ◌&&◌}
+use Rattle.std.specs.Prelude.{◌<◌, ◌^◌, ℕ, Bool, ◌==◌, ◌&&◌}
 use Rattle.std.specs.declared.cmp.Ordering.{Ordering}
 use Rattle.std.specs.Ordering.{nat_cmp, ordering_then}
 
@@ -7,6 +7,11 @@ use Rattle.std.specs.Ordering.{nat_cmp, ordering_then}
 pub record Point : Type 0 where
   pub incarnation : ℕ
   pub count : ℕ
+
+-- both numbers of a mark fit 64 bits
+pub record IsWord (m : Point) : Type 0 where
+  pub incarnation : m.incarnation < 2 ^ 64
+  pub count : m.count < 2 ^ 64
 
 abbrev pub never : Point
 never = record { incarnation = 0; count = 0 }

@@ -8,6 +8,7 @@ mod fault;
 mod items;
 mod laws;
 mod mark;
+mod mark_json;
 mod reply;
 mod sets;
 
@@ -21,6 +22,7 @@ pub use fault::ShardFault;
 pub use items::Items;
 pub use laws::{changes_change_one_segment, descriptors_are_read_back, replays_go_on};
 pub use mark::Mark;
+pub use mark_json::mark_value;
 pub use reply::{
     Body, Changes, Descriptors, MAX_CHANGES, MAX_PAGE, MAX_PAGES, MAX_SEGMENTS, Reply, ReplyFault,
 };

@@ -10,11 +10,10 @@ use Rattle.std.proofs.lemmas.Bool.{and_parts}
 use Rattle.form_urlencoded.specs.Form.{split_once, split_pair, raw_pairs}
 use Rattle.form_urlencoded.proofs.FormLemmas.{raw_pairs-nil, raw_pairs_first, split_once_before_at, split_once_after_at, split_once_before_none, split_once_after_none}
 use Rattle.druid_segid.proofs.NumberLemmas.{number_at-found}
-use Rattle.druid_shard.specs.Mark.{Point}
+use Rattle.druid_shard.specs.Mark.{Point, IsWord}
 use Rattle.druid_shard.specs.declared.change.Ask.{Ask}
 use Rattle.druid_shard.specs.declared.change.Ask.TheVariants.{Whole, Since, Page}
 use Rattle.druid_sync.specs.Asks.{query_text, parameters_of, IsOfIncarnation, mark_of, page_of, page_at, page_query, ask_at, ask_of}
-use Rattle.druid_sync.specs.Written.{IsWord}
 
 -- ---- bytes that separate nothing
 

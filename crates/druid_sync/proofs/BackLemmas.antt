@@ -7,14 +7,14 @@ use Rattle.druid_segid.proofs.NameLemmas.{is_name-true, is_version-true}
 use Rattle.druid_shard.specs.Mark.{Point}
 use Rattle.druid_shard.proofs.EachLemmas.{each_back}
 use Rattle.druid_shard.specs.Described.{Described, IsDescribed, IsWholeChunk}
-use Rattle.druid_shard.specs.Json.{text_at, descriptor_at, segment_at, place_at, tombstone_at}
+use Rattle.druid_shard.specs.Json.{mark_data, text_at, descriptor_at, segment_at, place_at, tombstone_at}
 use Rattle.druid_shard.specs.declared.change.Change.{Change}
 use Rattle.druid_shard.specs.declared.change.Change.TheVariants.{Load, Drop}
 use Rattle.druid_shard.specs.declared.change.Cause.{Cause}
 use Rattle.druid_shard.specs.declared.change.Cause.TheVariants.{OtherIncarnation, Ahead, TooOld}
 use Rattle.serde_json.specs.Find.{as_null}
 use Rattle.druid_shard.specs.declared.reply.Body.TheVariants.{Delta, Snapshot, Page, Reset}
-use Rattle.druid_sync.specs.Written.{mark_data, from_data, flagged_request, request_data, change_data, load_data, segment_of, cause_data, five_fields, reply_data}
+use Rattle.druid_sync.specs.Written.{from_data, flagged_request, request_data, change_data, load_data, segment_of, cause_data, five_fields, reply_data}
 use Rattle.druid_sync.specs.Read.{mark_at, change_at, load_at, cause_at, five_at, followed, whole, paged, begun_again, reset_at, snapshot_at, delta_at, changes_at, page_at, paged_at, form_at}
 
 -- ---- marks

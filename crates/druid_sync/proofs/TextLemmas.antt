@@ -4,17 +4,20 @@ use Rattle.std.specs.List.{AllWithin}
 use Rattle.std.proofs.lemmas.List.{drop_more, get_or_default}
 use Rattle.std.proofs.lemmas.List.Elements.{AllWithin-more}
 use Rattle.std.proofs.lemmas.Bool.{lt-ltb}
+use Rattle.std.proofs.lemmas.Option.{same_Some}
 use Rattle.serde_json.proofs.OnLiterals.{serde_json_on_literals}
-use Rattle.serde_json.specs.Data.{Data}
+use Rattle.serde_json.specs.Data.{Data, Members, no_members, object, string, put}
+use Rattle.serde_json.specs.Find.{as_object}
 use Rattle.serde_json.specs.View.{items_of}
 use Rattle.serde_json.specs.Written.{compact_text, items_text, comma_if, has_float}
 use Rattle.druid_shard.specs.Mark.{Point}
+use Rattle.druid_shard.specs.Json.{mark_data, flagged_data, descriptor_data}
 use Rattle.druid_shard.specs.Described.{Described}
 use Rattle.druid_shard.specs.declared.change.Change.{Change}
 use Rattle.druid_shard.specs.declared.change.Cause.{Cause}
 use Rattle.druid_shard.specs.declared.change.Cause.TheVariants.{OtherIncarnation, Ahead, TooOld}
 use Rattle.druid_shard.specs.declared.reply.Body.TheVariants.{Delta, Snapshot, Page, Reset}
-use Rattle.druid_sync.specs.Written.{mark_data, from_data, flagged_request, request_data, change_data, load_data, five_fields, reply_data, numbers_text, front_text, back_text, reply_text}
+use Rattle.druid_sync.specs.Written.{from_data, flagged_request, request_data, change_data, load_data, five_fields, reply_data, numbers_text, front_text, back_text, reply_text}
 
 -- no reply has a float
 flagged_plain : (flag : Bool) (action : List ℕ) (d : Described) → has_float (flagged_request flag action d) ≡ false
@@ -24,6 +27,23 @@ flagged_plain true action d = refl
 
 pub request_plain : (action : List ℕ) (d : Described) → has_float (request_data action d) ≡ false
 request_plain action d = flagged_plain d.tombstone action d
+
+abbrev members_of : Data → Members
+members_of (object ms) = ms
+members_of other = no_members
+
+-- what a change does stands before the members of its segment
+pub request_members : (action : List ℕ) (d : Described) (v : Data) (ms : Members) → v ≡ descriptor_data d → Some ms ≡ as_object v → object (put (codes "action") (string action) ms) ≡ request_data action d
+unfolding flagged_request flagged_data
+request_members action d v ms is found = ap (λ (m : Members). object (put (codes "action") (string action) m)) (same_Some ms (members_of (descriptor_data d)) (found ∙ ap as_object is))
+
+-- a descriptor is an object
+pub descriptor_members : (v : Data) (d : Described) → v ≡ descriptor_data d → as_object v ≡ None → ⊥
+unfolding flagged_data
+descriptor_members v d e none = absurd (none_some (sym none ∙ ap as_object e))
+  where
+    none_some : {A : Type 0} {x : A} → None ≡ Some x → ⊥
+    none_some p = cc
 
 pub from_plain : (from : Option Point) → has_float (from_data from) ≡ false
 unfolding mark_data

@@ -6,7 +6,8 @@ use Rattle.serde_json.specs.Data.{Data, depth, items_depth}
 use Rattle.serde_json.specs.View.{items_of}
 use Rattle.serde_json.specs.Read.{read}
 use Rattle.serde_json.proofs.Numbers.{number_of-decimal}
-use Rattle.druid_shard.specs.Mark.{Point}
+use Rattle.druid_shard.specs.Mark.{Point, IsWord}
+use Rattle.druid_shard.specs.Json.{mark_data}
 use Rattle.druid_shard.specs.Described.{Described, IsDescribed}
 use Rattle.druid_shard.specs.declared.change.Change.{Change}
 use Rattle.druid_shard.specs.declared.change.Change.TheVariants.{Load, Drop}
@@ -18,7 +19,7 @@ use Rattle.druid_shard.specs.ReplyBody.{IsReply}
 use Rattle.druid_sync.specs.Back.{IsReadBack}
 use Rattle.druid_sync.proofs.BackLemmas.{delta_back, snapshot_back, page_back, reset_back}
 use Rattle.druid_sync.specs.Read.{form_at, form_of}
-use Rattle.druid_sync.specs.Written.{mark_data, from_data, flagged_request, request_data, change_data, load_data, segment_of, cause_data, five_fields, reply_data, reply_text, IsOfDescriptors, IsWord, IsOfWords}
+use Rattle.druid_sync.specs.Written.{from_data, flagged_request, request_data, change_data, load_data, segment_of, cause_data, five_fields, reply_data, reply_text, IsOfDescriptors, IsOfWords}
 
 mark_back : (m : Point) → IsWord m → IsBack (mark_data m)
 unfolding mark_data

@@ -4,21 +4,15 @@ use Rattle.serde_json.specs.Data.{Data, Members, null, boolean, object, member, 
 use Rattle.serde_json.specs.View.{items_of}
 use Rattle.serde_json.specs.Written.{compact_text}
 use Rattle.druid_time.specs.Texts.{extent_text}
-use Rattle.druid_shard.specs.Mark.{Point}
+use Rattle.druid_shard.specs.Mark.{Point, IsWord}
 use Rattle.druid_shard.specs.Described.{Described, IsDescribed}
-use Rattle.druid_shard.specs.Json.{shard_data, flagged}
+use Rattle.druid_shard.specs.Json.{shard_data, flagged, mark_data}
 use Rattle.druid_shard.specs.declared.change.Change.{Change}
 use Rattle.druid_shard.specs.declared.change.Change.TheVariants.{Load, Drop}
 use Rattle.druid_shard.specs.declared.change.Cause.{Cause}
 use Rattle.druid_shard.specs.declared.change.Cause.TheVariants.{OtherIncarnation, Ahead, TooOld}
 use Rattle.druid_shard.specs.declared.reply.Body.{Body}
 use Rattle.druid_shard.specs.declared.reply.Body.TheVariants.{Delta, Snapshot, Page, Reset}
-
--- a mark: `counter` is the count, and `hash` the incarnation
-unfoldable pub mark_data : Point → Data
-mark_data m =
-    object (member (codes "counter") (number (unsigned m.count))
-    (member (codes "hash") (number (unsigned m.incarnation)) no_members))
 
 -- the word that tells what a change does
 abbrev pub action_of : Change → List ℕ
@@ -114,12 +108,7 @@ IsOfDescriptors (Snapshot at segments) = (d : Described) → Contains segments d
 IsOfDescriptors (Page at page of segments) = (d : Described) → Contains segments d → IsDescribed d
 IsOfDescriptors (Reset cause at) = ⊤
 
--- both numbers of a mark fit 64 bits
-pub record IsWord (m : Point) : Type 0 where
-  pub incarnation : m.incarnation < 2 ^ 64
-  pub count : m.count < 2 ^ 64
-
--- so do those of each mark of a reply, and those of a page
+-- the numbers of each mark of a reply fit 64 bits, and so do those of a page
 abbrev pub IsOfWords : Body → Type 0
 IsOfWords (Delta from to changes) = IsWord from × IsWord to
 IsOfWords (Snapshot at segments) = IsWord at

@@ -3,10 +3,10 @@ ghost use Rattle.std.specs.Prelude.{◌≡◌, ◌≤◌, ℕ, [], Some};
 ghost use Rattle.serde_json.specs.Read.{read};
 ghost use Rattle.druid_shard.specs.ReplyBody.{IsReply};
 ghost use Rattle.druid_shard.specs.declared.reply.Body.{Body};
-ghost use Rattle.druid_shard.specs.Mark.{Point};
+ghost use Rattle.druid_shard.specs.Mark.{Point, IsWord};
 ghost use Rattle.druid_shard.specs.declared.change.Ask.TheVariants.{Whole, Since, Page};
 ghost use Rattle.druid_sync.specs.Asks.{query_text, page_query, ask_at};
-ghost use Rattle.druid_sync.specs.Written.{reply_data, reply_text, IsOfDescriptors, IsWord, IsOfWords};
+ghost use Rattle.druid_sync.specs.Written.{reply_data, reply_text, IsOfDescriptors, IsOfWords};
 ghost use Rattle.druid_sync.specs.Read.{form_at, form_of};
 
 /// The text of a reply is JSON, which has the form of that reply, so it is read back as what was written.

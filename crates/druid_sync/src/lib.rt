@@ -11,4 +11,4 @@ pub use ask::{ask_target, ask_target_at, read_ask};
 pub use fault::{AskFault, SyncFault};
 pub use laws::{asks_are_read_back, replies_are_read_back};
 pub use reading::{read_reply, reply_of};
-pub use writing::{mark_value, reply_text};
+pub use writing::reply_text;

@@ -1,85 +1,46 @@
 //! Replies, written.
-ghost use Rattle.std.specs.Prelude.{◌≡◌, ◌++◌, false, true, codes, map, All, Some, IfSome, IfOk, OnOk, string_bytes};
+ghost use Rattle.std.specs.Prelude.{◌≡◌, ◌++◌, false, codes, map, All, Some, IfSome, IfOk, OnOk, string_bytes};
 ghost use Rattle.serde_json.specs.Read.{read};
-ghost use Rattle.serde_json.specs.View.{view, items_of};
+ghost use Rattle.serde_json.specs.Data.{string, put};
+ghost use Rattle.serde_json.specs.View.{view, items_of, members_view};
 ghost use Rattle.serde_json.specs.Written.{compact_text, comma_if, items_text};
+ghost use Rattle.druid_shard.specs.Mark.{IsWord};
 ghost use Rattle.druid_shard.specs.Described.{IsDescribed};
 ghost use Rattle.druid_sync.specs.Back.{IsReadBack};
-ghost use Rattle.druid_sync.specs.Written.{mark_data, from_data, flagged_request, request_data, change_data, load_data, segment_of, IsWord, numbers_text, front_text, back_text, reply_data, reply_text};
+ghost use Rattle.druid_sync.specs.Written.{from_data, request_data, change_data, load_data, segment_of, numbers_text, front_text, back_text, reply_data, reply_text};
 
-use druid_shard::{Body, Cause, Change, Descriptor, Mark, Reply, shard_value};
-use serde_json::{Value, json};
+use druid_shard::{Body, Cause, Change, Descriptor, Mark, Reply, descriptor_value, mark_value};
+use serde_json::{Map, Value};
 use std::alloc::{AllocError, Global};
 
-/// The JSON of a mark: its count as `counter`, and its incarnation as `hash`.
-#[tactic(auto, unfolding(crate::specs::Written::mark_data))]
-pub fn mark_value(alloc: Global, mark: Mark) -> Result<Value, AllocError>
-    ensures value { IfOk result (λ v. view v ≡ mark_data mark) }
-    ensures words { IfOk result (λ _. IsWord mark) }
-{
-    json!(in alloc; {
-        "counter": mark.count(),
-        "hash": mark.incarnation(),
-    })
-}
-
-// The JSON of a change that does this with a tombstone.
-#[tactic(auto, unfolding(crate::specs::Written::flagged_request))]
-fn tombstone_request(
+// Adds what a change does to the members that describe its segment.
+fn put_action(
     alloc: Global,
+    members: &mut Map<String, Value>,
     action: &str,
-    descriptor: &Descriptor,
-) -> Result<Value, AllocError>
-    ensures { IfOk result (λ v. view v ≡ flagged_request true action.now descriptor.now) }
+) -> Result<(), AllocError>
+    ensures { OnOk result (members_view members.new.entries ≡ put (codes "action") (string action.now) (members_view members.old.entries)) }
 {
-    let id = descriptor.id();
-    let interval = id.interval().text(alloc)?;
-    let version = id.version().text(alloc)?;
-    let shard = shard_value(alloc, descriptor)?;
-    json!(in alloc; {
-        "action": action,
-        "dataSource": id.source().as_str(),
-        "interval": interval.as_str(),
-        "shardSpec": shard,
-        "size": descriptor.size(),
-        "tombstone": true,
-        "version": version.as_str(),
-    })
-}
-
-// The JSON of a change that does this with an ordinary segment.
-#[tactic(auto, unfolding(crate::specs::Written::flagged_request))]
-fn segment_request(
-    alloc: Global,
-    action: &str,
-    descriptor: &Descriptor,
-) -> Result<Value, AllocError>
-    ensures { IfOk result (λ v. view v ≡ flagged_request false action.now descriptor.now) }
-{
-    let id = descriptor.id();
-    let interval = id.interval().text(alloc)?;
-    let version = id.version().text(alloc)?;
-    let shard = shard_value(alloc, descriptor)?;
-    json!(in alloc; {
-        "action": action,
-        "dataSource": id.source().as_str(),
-        "interval": interval.as_str(),
-        "shardSpec": shard,
-        "size": descriptor.size(),
-        "version": version.as_str(),
-    })
+    let key = String::from_str(alloc, "action")?;
+    let action = Value::from(String::from_str(alloc, action)?);
+    members.insert(key, action)?;
+    Ok(())
 }
 
 // The JSON of a change that does this with a segment.
+#[tactic(auto, using(crate::proofs::TextLemmas::descriptor_members))]
 fn request_value(alloc: Global, action: &str, descriptor: &Descriptor) -> Result<Value, AllocError>
     ensures value { IfOk result (λ v. view v ≡ request_data action.now descriptor.now) }
     ensures described { IfOk result (λ _. IsDescribed descriptor.now) }
 {
-    if descriptor.is_tombstone() {
-        tombstone_request(alloc, action, descriptor)
-    } else {
-        segment_request(alloc, action, descriptor)
-    }
+    // For the proof: reading it exposes the invariant of its type.
+    let _ = descriptor.size();
+    let mut request = descriptor_value(alloc, descriptor)?;
+    let Some(members) = request.as_object_mut() else {
+        unreachable!()
+    };
+    put_action(alloc, members, action)?;
+    Ok(request)
 }
 
 // What stands before an item of a list.

@@ -1,8 +1,11 @@
-use Rattle.std.proofs.Common.{◌∙◌, ap, arith}
+use Rattle.std.proofs.Common.{◌≡◌, ◌∙◌, ◌<◌, ℕ, length, ap, sym, arith, not}
+use Rattle.std.specs.Box.{box_value}
+use Rattle.std.proofs.lemmas.Result.{IfOk-weaker}
 use Rattle.std.proofs.lemmas.List.{take_all}
-use Rattle.druid_filter.specs.Filters.{all_pass, any_passes, each_says}
-use Rattle.druid_partial.specs.CodeFilters.{value_of}
-use Rattle.druid_partial.proofs.CodeFilterLemmas.{all_more, any_more}
+use Rattle.druid_filter.specs.Filters.{passes, says, all_pass, any_passes, each_says}
+use Rattle.druid_partial.specs.CodeFilters.{holds, value_of}
+use Rattle.druid_partial.specs.declared.code_filter.CodeFilter.{CodeFilter}
+use Rattle.druid_partial.proofs.CodeFilterLemmas.{all_more, any_more, not_passes}
 use Rattle.druid_partial.proofs.code_filter.+code_filter_of.Goals as goal
 
 pub code_filters_of-loop-filter-preserved : goal.code_filters_of-loop-filter-preserved
@@ -24,3 +27,12 @@ pub code_filters_of-returns-clause-any : goal.code_filters_of-returns-clause-any
 code_filters_of-returns-clause-any t c = λ row h.
     c.loop-filter.invariant.any row h
     ∙ ap (λ l. any_passes (value_of c.args.segment.now row) (each_says l)) (take_all c.loop-filter.filter-index c.args.filters.now (omega arith))
+
+pub code_filter_of-returns-in_ok-code_filter_of-in-Not : goal.code_filter_of-returns-in_ok-code_filter_of-in-Not
+code_filter_of-returns-in_ok-code_filter_of-in-Not t c =
+    let segment = c.args.segment.now in
+    let P : CodeFilter → Type 0 = λ negation. (row : ℕ) → holds negation row ≡ not (holds c.in_ok-code_filter_of-in-Not.field-0 row) in
+    let Q : CodeFilter → Type 0 = λ negation. (row : ℕ) → row < length segment.rows → holds negation row ≡ passes (value_of segment row) (says c.args.filter.now) in
+    IfOk-weaker c.negation_of.result P Q
+    (λ negation same row h. same row ∙ ap not (c.in_ok-code_filter_of-in-Not.ensures row h ∙ ap (λ f. passes (value_of segment row) (says f)) c.deref-in-Not.ensures) ∙ not_passes (value_of segment row) c.args.filter.now c.in-Not.filter c.in-Not.is)
+    c.negation_of.ensures
