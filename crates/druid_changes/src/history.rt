@@ -1,12 +1,12 @@
-ghost use Rattle.std.specs.Prelude.{◌≡◌, ◌≢◌, ◌↔◌, ◌≤◌, ◌<◌, ◌+◌, if◌then◌else◌, ◌++◌, [], ◌∷◌, List, length, drop, Some, None, IsTrue, IfOk, IfErr, OnOk, OnErr, IsErrOf};
+ghost use Rattle.std.specs.Prelude.{◌≡◌, ◌≢◌, ◌↔◌, ◌≤◌, ◌<◌, ◌+◌, ◌⊎◌, if◌then◌else◌, ◌++◌, [], ◌∷◌, List, length, drop, Some, None, IsTrue, IfOk, IfErr, OnOk, OnErr, IsErrOf};
 ghost use Rattle.druid_shard.specs.Reply.{max_page, max_changes};
 ghost use Rattle.druid_pages.specs.Pages.{pages_in};
-ghost use Rattle.druid_shard.specs.Replay.{replay, IsSegmentSet};
+ghost use Rattle.druid_shard.specs.Replay.{replay, is_strict, has_room, after, IsSegmentSet};
 ghost use Rattle.std.specs.Option.{option_copied};
 ghost use Rattle.druid_shard.specs.declared.change.Change.{Change as Event};
 ghost use Rattle.druid_shard.specs.declared.change.Change.TheVariants.{Load, Drop as Dropped};
 ghost use Rattle.druid_shard.specs.declared.reply.Body.TheVariants.{Delta, Snapshot};
-ghost use Rattle.druid_changes.specs.Kept.{StandsFor, IsKept, IsDrop, described_named, frozen_after, frozen_count, with_frozen, KeepsOrFreezes, refusal_of_set, refusal_of_count, refusal};
+ghost use Rattle.druid_changes.specs.Kept.{StandsFor, IsKept, IsDrop, described_named, frozen_after, frozen_count, last_changes, with_frozen, KeepsOrFreezes, refusal_of_set, refusal_of_count, refusal};
 ghost use Rattle.druid_changes.specs.Answer.{answer, page_of, whole_answer, asked_page, HasCopies, cause_of, mark_after};
 
 use crate::HistoryFault;
@@ -52,6 +52,35 @@ fn give_up(frozen: &mut Option<Frozen>, count: u64, limit: usize)
     if is_past(frozen, count, limit) {
         *frozen = None;
     }
+}
+
+// Makes the change of the set, unless it is refused.
+fn change_set(
+    segments: &mut Segments,
+    change: &Change,
+    refused: Option<HistoryFault>,
+) -> Result<(), HistoryFault>
+    requires strict { refused ≡ None → IsTrue (is_strict segments.old change.now) }
+    requires room { refused ≡ None → IsTrue (has_room segments.old change.now) }
+    ensures taken { OnOk result (refused ≡ None) }
+    ensures changed { OnOk result (segments.new ≡ after segments.old change.now) }
+    ensures fault { IfErr result (λ fault. (refused ≡ Some fault)
+        ⊎ ((refused ≡ None) × (fault ≡ HistoryFault.Memory) × (IsDrop change.now → ⊥))) }
+    ensures unchanged { OnErr result (segments.new ≡ segments.old) }
+{
+    if let Some(fault) = refused {
+        return Err(fault);
+    }
+    segments.apply(change)?;
+    Ok(())
+}
+
+// Keeps a change; the oldest one goes where there are as many as are kept.
+fn keep(changes: &mut HeapCircularBuffer<Change>, change: Change)
+    ensures kept { changes.new.items ≡ last_changes changes.old.capacity (changes.old.items ++ change ∷ []) }
+    ensures capacity { changes.new.capacity ≡ changes.old.capacity }
+{
+    changes.push_back(change);
 }
 
 /// The changes of one incarnation of a node: how many there were, the set of segments and tombstones after them, and the
@@ -193,11 +222,11 @@ impl History {
         ensures unchanged { OnErr result (self.new ≡ self.old) }
         ensures frozen { OnOk result (self.new.frozen ≡ frozen_after self.old.limit (self.old.count + 1) self.old.frozen) }
     {
-        if let Some(fault) = self.refusal(&change) {
+        let refused = self.refusal(&change);
+        if let Err(fault) = change_set(&mut self.segments, &change, refused) {
             return Err(fault);
         }
-        self.segments.apply(&change)?;
-        self.changes.push_back(change);
+        keep(&mut self.changes, change);
         self.count += 1;
         give_up(&mut self.frozen, self.count, self.changes.capacity());
         Ok(())
