@@ -1,4 +1,4 @@
-ghost use Rattle.std.specs.Prelude.{◌≡◌, IfOk};
+ghost use Rattle.std.specs.Prelude.{◌≡◌, ◌++◌, IfOk, OnOk};
 ghost use Rattle.druid_pages.specs.Pages.{page_at, pages_in, IsCutInto};
 
 use druid_shard::{Descriptor, MAX_PAGE};
@@ -12,6 +12,17 @@ pub fn pages_of(segments: usize) -> usize
     segments.div_ceil(MAX_PAGE)
 }
 
+// Puts copies of segments to others.
+#[tactic(auto, using(crate::proofs::SameLemmas::appended))]
+pub(crate) fn append_copies(
+    set: &mut Vec<Descriptor>,
+    segments: &[Descriptor],
+) -> Result<(), AllocError>
+    ensures { OnOk result (set.new.items ≡ set.old.items ++ segments.now) }
+{
+    set.extend_from_slice(segments)
+}
+
 // Copies of segments, in their order.
 pub(crate) fn copies_of(
     alloc: Global,
@@ -19,10 +30,8 @@ pub(crate) fn copies_of(
 ) -> Result<Vec<Descriptor>, AllocError>
     ensures { IfOk result (λ copies. copies.items ≡ segments.now) }
 {
-    let mut copies = Vec::with_capacity(alloc, segments.len())?;
-    for segment in segments {
-        copies.push(segment.clone()?)?;
-    }
+    let mut copies = Vec::new(alloc);
+    append_copies(&mut copies, segments)?;
     Ok(copies)
 }
 

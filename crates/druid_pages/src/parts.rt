@@ -1,12 +1,12 @@
 //! The pages of one snapshot that have come.
-ghost use Rattle.std.specs.Prelude.{◌≡◌, ◌↔◌, ◌++◌, ◌≤◌, ◌<◌, List, IsTrue, Some, length, option_map, slice_get, IfOk, OnOk, OnErr};
+ghost use Rattle.std.specs.Prelude.{◌≡◌, ◌↔◌, ◌≤◌, ◌<◌, List, IsTrue, Some, length, option_map, slice_get, IfOk, OnOk, OnErr};
 ghost use Rattle.druid_shard.specs.Described.{Described};
 ghost use Rattle.druid_shard.specs.Reply.{max_page, max_pages, max_segments, AreSorted};
 ghost use Rattle.druid_pages.specs.Assembly.{IsPage, no_pages, with_page, whole_of};
 ghost use Rattle.druid_pages.specs.Fitting.{AllThere, OthersThere, EndsBefore, FitsAs};
 
 use crate::PageFault;
-use crate::pages::copies_of;
+use crate::pages::{append_copies, copies_of};
 use druid_shard::{Descriptor, Descriptors, Items, Mark};
 use std::alloc::{AllocError, Global};
 use std::cmp::Ordering;
@@ -57,16 +57,6 @@ fn are_same(a: &[Descriptor], b: &[Descriptor]) -> bool
     a == b
 }
 
-// Puts copies of segments to others.
-fn append_copies(set: &mut Vec<Descriptor>, segments: &[Descriptor]) -> Result<(), AllocError>
-    ensures { OnOk result (set.new.items ≡ set.old.items ++ segments.now) }
-{
-    for segment in segments {
-        set.push(segment.clone()?)?;
-    }
-    Ok(())
-}
-
 impl Parts {
     // None of so many pages.
     pub(crate) fn new(alloc: Global, at: Mark, of: u16) -> Result<Parts, AllocError>
@@ -75,7 +65,7 @@ impl Parts {
     {
         let mut pages = Vec::with_capacity(alloc, of as usize)?;
         for _ in 0..of {
-            pages.push(None)?;
+            pages.push_reserved(None);
         }
         Ok(Parts { at, pages })
     }

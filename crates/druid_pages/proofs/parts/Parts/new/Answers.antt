@@ -7,6 +7,6 @@ use Rattle.druid_pages.proofs.parts.Parts.new.Goals as goal
 -- no page is there
 pub invariant_of-result : goal.invariant_of-result
 invariant_of-result c = record {
-  not_many = omega (arith, ap length c.loop.invariant, length-replicate {A = Option (List Described)} c.loop.counter None, c.loop.auto.counter-end, c.requires);
-  each = λ page segments is. absurd (none_there c.loop.pages.items c.loop.counter page segments c.loop.invariant is);
+  not_many = omega (arith, ap length c.loop.invariant.0, length-replicate {A = Option (List Described)} c.loop.counter None, c.loop.auto.counter-end, c.requires);
+  each = λ page segments is. absurd (none_there c.loop.pages.items c.loop.counter page segments c.loop.invariant.0 is);
 }
