@@ -100,10 +100,10 @@ pub(crate) fn push_run(
         return Ok(());
     };
     if goes_on(&last, stretch, key) {
-        runs.push(extend_run(last, stretch))?;
+        runs.push_reserved(extend_run(last, stretch));
         return Ok(());
     }
-    runs.push(last)?;
+    runs.push_reserved(last);
     runs.push((stretch, key.clone()?))?;
     Ok(())
 }

@@ -5,9 +5,9 @@ ghost use Rattle.druid_members.specs.Members.{HoldsPlace};
 ghost use Rattle.druid_chunks.specs.Chunks.{members_at};
 ghost use Rattle.druid_timeline.specs.Active.{StartInOrder};
 ghost use Rattle.druid_timeline.specs.Chunks.{held_in};
-ghost use Rattle.druid_timeline.specs.Edited.{AreAlikeBut, ArePiecesTurned, HasOthers, spliced};
+ghost use Rattle.druid_timeline.specs.Edited.{AreAlikeBut, ArePiecesTurned, AreRunsEdited, HasOthers, spliced};
 ghost use Rattle.druid_timeline.specs.Holding.{Held, IsCompleteIn, held_of, AddsHeld, RemovesHeld, RemovesOneHeld, SameHeld};
-ghost use Rattle.druid_timeline.specs.Pieces.{ArePieces, shown_at};
+ghost use Rattle.druid_timeline.specs.Pieces.{ArePieces, AreRuns, shown_at};
 ghost use Rattle.druid_timeline.specs.Exchanges.{CanExchange, ExchangesBack, exchanged};
 
 use crate::edit::{Edit, edit_in, exchange};
@@ -38,6 +38,30 @@ fn sorted_candidates<'a>(
     Ok(found)
 }
 
+// What the runs become inside the interval of a chunk if its completeness turns, by the other chunks that overlap it.
+fn turn_among(
+    alloc: Global,
+    runs: &[(Interval, GroupKey)],
+    others: &[&GroupKey],
+    own: &GroupKey,
+    is_complete: bool,
+    meter: &mut Meter,
+) -> Result<Edit, AllocError>
+    requires { AreRuns (map shown_at runs.now) }
+    ensures inside { IfOk result (λ edit. (edit.from ≤ edit.to) × (edit.to ≤ length runs.now)) }
+    ensures edited { IfOk result (λ edit. (found : List Group)
+        × ((g : Group) → Contains found g ↔ (Contains (map (λ c. c.now) others.now) g ⊎ ((g ≡ own.now) × (is_complete ≡ false))))
+        × AreRunsEdited own.now.interval found (map shown_at runs.now)
+        (map shown_at (spliced runs.now edit.from edit.to edit.runs.items))) }
+    ensures counted { meter.old ≤ meter.new }
+    ensures bound { meter.new ≤ meter.old + (2 * length others.now + 1) * (length others.now + 1) }
+{
+    let part = own.interval();
+    let candidates = sorted_candidates(alloc, others, own, is_complete)?;
+    let bounds = bounds_in(alloc, part, others)?;
+    edit_in(alloc, runs, part, &candidates, &bounds, meter)
+}
+
 // What the runs become if the completeness of a segment's chunk turns. Only what lies in its interval is looked at.
 fn turn_of(
     alloc: Global,
@@ -56,9 +80,7 @@ fn turn_of(
 {
     let own = id.group()?;
     let others = chunks.overlapping(id)?;
-    let candidates = sorted_candidates(alloc, &others, &own, chunks.is_complete(id))?;
-    let bounds = bounds_in(alloc, id.interval(), &others)?;
-    edit_in(alloc, runs, id.interval(), &candidates, &bounds, meter)
+    turn_among(alloc, runs, &others, &own, chunks.is_complete(id), meter)
 }
 
 // Room for so many runs in place of an edit's own.
