@@ -102,7 +102,8 @@ impl Timeline {
             → meter.new ≤ meter.old + (2 * length others + 1) * (length others + 1) }
     {
         let id = descriptor.id();
-        if id.source() != &self.source {
+        let is_own = self.is_source_of(id);
+        if !is_own {
             return Err(TimelineFault::OtherSource);
         }
         if self.chunks.holds(id, node) {

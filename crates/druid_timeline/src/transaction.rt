@@ -103,7 +103,7 @@ impl Transaction {
             → meter.new ≤ meter.old + (2 * length others + 1) * (length others + 1) }
     {
         let id = descriptor.id();
-        if id.source() != &self.source {
+        if !self.is_source_of(id) {
             return Err(TimelineFault::OtherSource);
         }
         if self.is_held(id, node) {
