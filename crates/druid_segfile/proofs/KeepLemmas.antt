@@ -231,9 +231,13 @@ first_ok (Ok x) f ok = refl
 first_ok (Err fault) f ok = absurd cc
 
 module _ (short : FileFault) (shape other : Shape) (count : ℕ) (bytes : List ℕ) (k0 : Cursor) (same : shape ≡ other) (at : k0 ≡ record { rest = bytes; short = short }) where
-  whole_ok : IsOk (columns_at short other count bytes) → IsOk (columns_at k0.short shape count k0.rest)
+  pub whole_ok : IsOk (columns_at short other count bytes) → IsOk (columns_at k0.short shape count k0.rest)
   whole_ok ok =
       subst (λ (k : Cursor). IsOk (columns_at k.short shape count k.rest)) (sym at) (subst (λ (w : Shape). IsOk (columns_at short w count bytes)) (sym same) ok)
+
+  pub whole_read : (x : Columns × List ℕ) → columns_at k0.short shape count k0.rest ≡ Ok x → columns_at short other count bytes ≡ Ok x
+  whole_read x e =
+      subst (λ (w : Shape). columns_at short w count bytes ≡ Ok x) same (subst (λ (k : Cursor). columns_at k.short shape count k.rest ≡ Ok x) at e)
 
   pub times_ok : IsOk (columns_at short other count bytes) → IsOk (each_at (row_time_at k0.short shape.interval) count k0.rest)
   unfolding columns_at

@@ -1,14 +1,16 @@
 -- A segment that is judged first, and then built of the rows or the columns that are read.
-use Rattle.std.specs.Prelude.{◌≡◌, ℕ, ℤ, ◌+◌, ◌≤◌, Bool, false, true, List, [], ◌++◌, length, drop, Option, None, Some, Result, Ok, Err, IsOk}
+use Rattle.std.specs.Prelude.{◌≡◌, ℕ, ℤ, ◌+◌, ◌≤◌, Bool, false, true, List, [], ◌++◌, length, map, drop, Option, None, Some, Result, Ok, Err, IsOk}
 use Rattle.druid_shard.specs.Described.{Described}
 use Rattle.druid_rows.specs.Rows.{Schema, Row}
 use Rattle.druid_rows.specs.Segment.{Segment, IsSegment, segment_of, text_length, max_rows, max_text}
+use Rattle.druid_rows.specs.Columns.{AreLong}
+use Rattle.druid_segfile.specs.ColumnSpelling.{Coded}
 use Rattle.druid_segfile.specs.declared.fault.FileFault.{FileFault}
 use Rattle.druid_segfile.specs.declared.layout.Layout.{Layout}
 use Rattle.druid_segfile.specs.declared.layout.Layout.TheVariants.{ByRows, ByColumns}
 use Rattle.druid_time.specs.Results.{◌>>=◌}
 use Rattle.druid_segfile.specs.Parts.{signed_at, descriptor_at, fields_at, row_count_at, Shape, shape_of, each_at, values_at}
-use Rattle.druid_segfile.specs.ColumnReading.{Columns, columns_at, rows_of, column_content_at}
+use Rattle.druid_segfile.specs.ColumnReading.{Columns, columns_at, decoded, rows_of, column_content_at}
 use Rattle.druid_segfile.specs.Reading.{Cursor, row_content_at, content_at}
 
 -- the same of a part of which something could be kept
@@ -20,6 +22,16 @@ Skips old new (Err fault) read = read ≡ Err fault
 pub record Keeps {A : Type 0} (old new : Cursor) (part : A) (read : Result (A × List ℕ) FileFault) : Type 0 where
   pub is : read ≡ Ok (part, new.rest)
   pub short : new.short ≡ old.short
+
+-- columns that were read and kept: their texts and numbers, as many as there are rows in each
+pub record AreKept (old new : Cursor) (shape : Shape) (rows : ℕ) (times : List ℕ) (texts : List (List (Option (List ℕ)))) (metrics : List (List (Option ℤ))) : Type 0 where
+  pub dimensions : List Coded
+  pub read : columns_at old.short shape rows old.rest ≡ Ok (record { times = times; dimensions = dimensions; metrics = metrics }, new.rest)
+  pub same : texts ≡ map decoded dimensions
+  pub texts_long : AreLong (length times) texts
+  pub numbers_long : AreLong (length times) metrics
+  pub dimensions_are : length texts ≡ shape.dimensions
+  pub metrics_are : length metrics ≡ shape.metrics
 
 -- the number of a row that has one
 abbrev pub present_value_at : FileFault → Bool → List ℕ → Result (Option ℤ × List ℕ) FileFault

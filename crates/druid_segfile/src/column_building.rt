@@ -4,19 +4,28 @@ ghost use Rattle.druid_rows.specs.Rows.{texts_of};
 ghost use Rattle.druid_rows.specs.Segment.{max_rows};
 ghost use Rattle.druid_segfile.specs.ColumnSpelling.{Coded};
 ghost use Rattle.druid_segfile.specs.Parts.{each_at, row_time_at};
-ghost use Rattle.druid_segfile.specs.ColumnReading.{value_texts_at, code_at, dimension_at, metric_at, decoded};
+ghost use Rattle.druid_segfile.specs.ColumnReading.{value_texts_at, code_at, dimension_at, metric_at, columns_at, decoded};
 ghost use Rattle.druid_segfile.specs.Reading.{TakesAs};
-ghost use Rattle.druid_segfile.specs.Building.{Keeps, present_value_at};
+ghost use Rattle.druid_segfile.specs.Building.{Keeps, AreKept, present_value_at};
 
 use crate::FileFault;
 use crate::cursor::Cursor;
+use crate::rows::Shape;
 use druid_rows::{Column, Numbers};
 use druid_time::{Instant, Interval};
 use std::alloc::{AllocError, Global};
 
+// The columns of a segment.
+#[derive(Drop)]
+pub(crate) struct Columns {
+    pub(crate) times: Vec<Instant>,
+    pub(crate) dimensions: Vec<Column>,
+    pub(crate) metrics: Vec<Numbers>,
+}
+
 impl<'a> Cursor<'a> {
     // The instants of that many rows.
-    pub(crate) fn times(
+    fn times(
         &mut self,
         alloc: Global,
         interval: Interval,
@@ -88,7 +97,7 @@ impl<'a> Cursor<'a> {
     }
 
     // That many dimensions.
-    pub(crate) fn dimensions(
+    fn dimensions(
         &mut self,
         alloc: Global,
         dimensions: usize,
@@ -142,7 +151,7 @@ impl<'a> Cursor<'a> {
     }
 
     // That many metrics.
-    pub(crate) fn metrics(
+    fn metrics(
         &mut self,
         alloc: Global,
         metrics: usize,
@@ -158,5 +167,27 @@ impl<'a> Cursor<'a> {
             columns.push(self.metric(alloc, rows)?)?;
         }
         Ok(columns)
+    }
+
+    // The columns of that many rows.
+    pub(crate) fn columns(
+        &mut self,
+        alloc: Global,
+        shape: Shape,
+        rows: usize,
+    ) -> Result<Columns, AllocError>
+        requires few { rows ≤ max_rows }
+        requires judged { IsOk (columns_at self.old.short shape rows self.old.rest) }
+        ensures { IfOk result (λ columns. AreKept self.old self.new shape rows
+            columns.times.items columns.dimensions.items columns.metrics.items) }
+    {
+        let times = self.times(alloc, shape.interval, rows)?;
+        let dimensions = self.dimensions(alloc, shape.dimensions, rows)?;
+        let metrics = self.metrics(alloc, shape.metrics, rows)?;
+        Ok(Columns {
+            times,
+            dimensions,
+            metrics,
+        })
     }
 }

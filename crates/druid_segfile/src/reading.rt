@@ -12,6 +12,7 @@ ghost use Rattle.druid_segfile.specs.Reading.{GivesInMemory, GivesOfReader, Take
 ghost use Rattle.druid_segfile.specs.Building.{IsHead, IsWhole, IsWholeByColumns, IsJudged, CanBuild, IsBuilt};
 
 use crate::FileFault;
+use crate::column_building::Columns;
 use crate::cursor::{Cursor, at_most};
 use crate::fields::FieldNames;
 use crate::head::Announced;
@@ -208,11 +209,14 @@ impl Judged<'_> {
     {
         let shape = shape_of(&self.announced, &self.fields);
         let mut cursor = Cursor::new(self.rows, short);
-        let times = cursor.times(alloc, shape.interval, self.count)?;
-        let dimensions = cursor.dimensions(alloc, shape.dimensions, self.count)?;
-        let metrics = cursor.metrics(alloc, shape.metrics, self.count)?;
+        let columns = cursor.columns(alloc, shape, self.count)?;
         let descriptor = self.announced.descriptor(alloc)?;
         let schema = self.fields.schema(alloc)?;
+        let Columns {
+            times,
+            dimensions,
+            metrics,
+        } = columns;
         Ok(Segment::of_columns(alloc, descriptor, schema, times, dimensions, metrics))
     }
 
