@@ -1,5 +1,5 @@
 -- An ask that was written is read back.
-use Rattle.std.proofs.Common.{◌≡◌, ◌≢◌, ◌⊎◌, inl, ◌<◌, ◌≤◌, ◌^◌, ℕ, arith, Bool, true, ◌==◌, not, List, [], ◌∷◌, ◌++◌, All, codes, length, decimal, append_assoc, length-append, Some, Result, Ok, Err, IfOk, refl, sym, subst, ap, ◌∙◌, le-leb}
+use Rattle.std.proofs.Common.{◌≡◌, ◌≢◌, ◌⊎◌, inl, ◌<◌, ◌≤◌, ◌^◌, ℕ, arith, true, ◌==◌, not, List, [], ◌∷◌, ◌++◌, All, codes, length, decimal, append_assoc, length-append, Some, Result, Ok, Err, IfOk, refl, sym, subst, ap, ◌∙◌, le-leb}
 use Rattle.std.specs.List.{list_all}
 use Rattle.std.specs.Str.Parse.{AllDigits}
 use Rattle.std.proofs.lemmas.Bool.Decides.{nat_tests}

@@ -1,4 +1,4 @@
-use Rattle.std.proofs.Common.{◌∙◌, ℕ, List, codes, string_bytes, ap}
+use Rattle.std.proofs.Common.{◌∙◌, ℕ, List, codes, ap}
 use Rattle.serde_json.specs.Data.{Data, string, put}
 use Rattle.serde_json.specs.View.{view, members_view}
 use Rattle.serde_json.proofs.Views.{members_view-insert_entry}
