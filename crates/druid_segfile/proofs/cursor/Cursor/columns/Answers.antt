@@ -1,4 +1,4 @@
-use Rattle.std.proofs.Common.{◌∙◌, length, map, refl, sym, subst, ap, List, ℕ, Option}
+use Rattle.std.proofs.Common.{◌∙◌, length, refl, sym, subst, ap, List, ℕ, Option}
 use Rattle.std.proofs.lemmas.List.{length-map}
 use Rattle.druid_rows.specs.Columns.{AreLong}
 use Rattle.druid_segfile.specs.Parts.{Shape}
