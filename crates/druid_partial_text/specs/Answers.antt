@@ -1,5 +1,5 @@
 -- Answers of nodes: their text, and how they are read.
-use Rattle.std.specs.Prelude.{IsUtf8, ◌≡◌, ℕ, List, codes, Contains, Option, Some, Result, Ok, Err, ⊤, option_and_then}
+use Rattle.std.specs.Prelude.{IsUtf8, ◌≡◌, ℕ, List, codes, Contains, Option, Some, Result, Ok, Err, option_and_then}
 use Rattle.serde_json.specs.Data.{Data, string, array, object, no_members, member}
 use Rattle.serde_json.specs.Find.{get, as_array}
 use Rattle.serde_json.specs.Written.{compact_text}
