@@ -31,7 +31,7 @@ grown_taken part old new room a b c taken p =
 pub grown_length : (part : Part) (old new : List ℕ) (room : ℕ) (b c : Option (List ℕ)) → IsPart part old new room b c → length new ≤ length old + room
 grown_length part old new room b c p = omega (arith, p.short, ap length p.grown, length-append old p.front)
 
-pub finds_more : (old new : List ℕ) (room : ℕ) (a b c : Option (List ℕ)) → Consumes a b old → IsPart More old new room b c → Consumes a c new
+finds_more : (old new : List ℕ) (room : ℕ) (a b c : Option (List ℕ)) → Consumes a b old → IsPart More old new room b c → Consumes a c new
 finds_more old new room a b c taken p = subst (Consumes a c) (append-nil new) (grown_taken More old new room a b c taken p)
 
 pub finds_long : (limit : ℕ) (new feed : List ℕ) (a c : Option (List ℕ)) → IsPlain new → limit < length new → Consumes a c (new ++ feed) → IfSome a (λ xs. (0 < length xs) × (limit < length (line_at xs)))
@@ -71,7 +71,7 @@ finds_last old new room (Some xs) (Some ys) (Some zs) plain taken p some =
       ap Some (parts.1 ∙ sym (ap (drop_through 10) whole ∙ drop_through-append 10 old [] plain)),
     )
 
-pub finds_end : (old new : List ℕ) (room : ℕ) (a b c : Option (List ℕ)) → Consumes a b old → IsPart Ended old new room b c → length new ≡ 0 → IfSome a (λ xs. xs ≡ [])
+finds_end : (old new : List ℕ) (room : ℕ) (a b c : Option (List ℕ)) → Consumes a b old → IsPart Ended old new room b c → length new ≡ 0 → IfSome a (λ xs. xs ≡ [])
 finds_end old new room None b c taken p none = tt
 finds_end old new room (Some xs) None c taken p none = absurd taken
 finds_end old new room (Some xs) (Some ys) c taken p none =
@@ -91,3 +91,9 @@ finds_feed_at More old new room a b c e plain taken p = absurd cc
 finds_feed_at Feed old new room a b c e plain taken p =
     finds_feed new a c (grown_plain Feed old new room b c plain p) (grown_taken Feed old new room a b c taken p)
 finds_feed_at Ended old new room a b c e plain taken p = absurd cc
+
+pub finds_more_at : (part : Part) (old new : List ℕ) (room : ℕ) (a b c : Option (List ℕ)) → part ≡ More → Consumes a b old → IsPart part old new room b c → Consumes a c new
+finds_more_at part old new room a b c e taken p = finds_more old new room a b c taken (subst (λ q. IsPart q old new room b c) e p)
+
+pub finds_end_at : (part : Part) (old new : List ℕ) (room : ℕ) (a b c : Option (List ℕ)) → part ≡ Ended → Consumes a b old → IsPart part old new room b c → length new ≡ 0 → IfSome a (λ xs. xs ≡ [])
+finds_end_at part old new room a b c e taken p none = finds_end old new room a b c taken (subst (λ q. IsPart q old new room b c) e p) none

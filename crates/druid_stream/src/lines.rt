@@ -78,7 +78,6 @@ fn append_part<R: BufRead>(reader: &mut R, line: &mut Vec<u8>, room: usize) -> i
 
 /// Appends what the reader has at hand of a line, but no more bytes than there is room for, and takes the line feed after
 /// them. An interrupted read is retried, 1,000 times in a row at most. Where it fails, nothing is taken.
-#[tactic(auto, using(crate::proofs::PartLemmas::resumed, crate::proofs::PartLemmas::still))]
 pub fn next_part<R: BufRead>(reader: &mut R, line: &mut Vec<u8>, room: usize) -> io::Result<Part>
     ensures part { IfOk result (λ part. IsPart part line.old.items line.new.items room
         (R.remaining reader.old) (R.remaining reader.new)) }
@@ -89,11 +88,13 @@ pub fn next_part<R: BufRead>(reader: &mut R, line: &mut Vec<u8>, room: usize) ->
     for _ in 0..MAX_TRIES {
         let before = line.len();
         let part = append_part(reader, line, room)?;
-        if !matches!(part, Part::More) {
-            return Ok(part);
-        }
-        if line.len() != before {
-            return Ok(part);
+        match part {
+            Part::More => {
+                if line.len() != before {
+                    return Ok(part);
+                }
+            }
+            Part::Feed | Part::Ended => return Ok(part),
         }
     }
     Err(ErrorKind::Interrupted.into())
@@ -112,7 +113,6 @@ pub enum Next {
 
 /// Reads the next line, without its line feed, in place of what `line` had. Of a line of more bytes than the limit it keeps
 /// one byte more than that, and the reader stands somewhere in it. An interrupted read is retried, 1,000 times in a row at most.
-#[tactic(auto, using(crate::proofs::LineLemmas::grown_plain, crate::proofs::LineLemmas::grown_taken, crate::proofs::LineLemmas::grown_length, crate::proofs::LineLemmas::finds_more, crate::proofs::LineLemmas::finds_long, crate::proofs::LineLemmas::finds_end))]
 pub fn next_line<R: BufRead>(reader: &mut R, line: &mut Vec<u8>, limit: usize) -> io::Result<Next>
     ensures found { IfOk result (λ next. IfSome (R.remaining reader.old)
         (λ xs. Finds limit next xs line.new.items (R.remaining reader.new))) }

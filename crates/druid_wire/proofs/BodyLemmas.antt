@@ -21,15 +21,15 @@ nothing_taken more old new room b c e same w =
     (w.grown ∙ ap (λ l. old ++ l) none ∙ append-nil old, subst (Consumes b c) none w.taken)
 
 -- bytes after tries that brought nothing
-pub taken_again : (more : Bool) (start old new : List ℕ) (room : ℕ) (a b c : Option (List ℕ)) → old ≡ start → Consumes a b [] → IsTaken more old new room b c
-    → IsTaken more start new room a c
-taken_again more start old new room a b c same none w = record {
+pub taken_again : (more is : Bool) (start old new : List ℕ) (room : ℕ) (a b c : Option (List ℕ)) → more ≡ is → old ≡ start → Consumes a b [] → IsTaken more old new room b c
+    → IsTaken is start new room a c
+taken_again more is start old new room a b c e same none w = subst (λ m. IsTaken m start new room a c) e (record {
   front = w.front;
   grown = w.grown ∙ ap (λ l. l ++ w.front) same;
   short = w.short;
   taken = Consumes-trans a b c [] w.front none w.taken;
   ended = λ e. end_before a b none (w.ended e);
-}
+})
 
 -- ---- the whole
 

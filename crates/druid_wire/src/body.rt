@@ -32,7 +32,6 @@ fn append_bytes<R: BufRead>(reader: &mut R, body: &mut Vec<u8>, room: usize) -> 
 }
 
 // The same, with another try where the reader is interrupted and nothing was at hand.
-#[tactic(auto, using(crate::proofs::BodyLemmas::taken_again, crate::proofs::BodyLemmas::nothing_taken))]
 fn next_bytes<R: BufRead>(reader: &mut R, body: &mut Vec<u8>, room: usize) -> io::Result<bool>
     ensures more { IfOk result (λ more. IsTaken more body.old.items body.new.items room
         (R.remaining reader.old) (R.remaining reader.new)) }

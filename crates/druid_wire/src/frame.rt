@@ -34,7 +34,6 @@ pub(crate) fn is_blank(head: &[u8], start: usize) -> bool
 
 // Appends the next line, without its line feed, but no more than one byte more than there is room for: `More` where it has
 // as many as that, and another byte comes after them. A line feed may be taken after that byte.
-#[tactic(auto, using(crate::proofs::LineLemmas::not_grown, crate::proofs::LineLemmas::grown_long, crate::proofs::LineLemmas::part_long, crate::proofs::LineLemmas::line_full))]
 fn read_line<R: BufRead>(reader: &mut R, head: &mut Vec<u8>, room: usize) -> io::Result<Part>
     ensures part { IfOk result (λ part. IsLine part head.old.items head.new.items room
         (R.remaining reader.old) (R.remaining reader.new)) }
