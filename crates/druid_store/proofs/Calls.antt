@@ -7,6 +7,7 @@ use Rattle.std.specs.Str.{bytes_eq}
 use Rattle.std.specs.String.{string_bytes}
 use Rattle.druid_folder.specs.FileName.{is_file_name}
 use Rattle.druid_folder.specs.Folder.{Content, nothing, with_file, without, renamed, Torn, DoneOrNot, Follows, SameLeft, Elapses}
+use Rattle.druid_store.specs.declared.name.FileName.{FileName}
 use Rattle.druid_store.specs.declared.record.Call.{Call}
 use Rattle.druid_store.specs.declared.record.Call.TheVariants.{Looked, Wrote, Synced, Renamed, Removed, Failed}
 use Rattle.druid_folder.proofs.Files.{torn_same}
@@ -91,11 +92,17 @@ pub without_named : (given name : List ℕ) (left : Content → Type 0) (c : Con
     → ((d : Content) × left d × DoneOrNot (without name) d c) → (d : Content) × left d × DoneOrNot (without given) d c
 without_named given name left c is h = subst (λ (n : List ℕ). (d : Content) × left d × DoneOrNot (without n) d c) is h
 
-pub renamed_named : (from to old_name new_name : List ℕ) (left : Content → Type 0) (c : Content) → old_name ≡ from → new_name ≡ to
-    → ((d : Content) × left d × DoneOrNot (renamed old_name new_name) d c) → (d : Content) × left d × DoneOrNot (renamed from to) d c
-renamed_named from to old_name new_name left c is_from is_to h =
-    subst (λ (n : List ℕ). (d : Content) × left d × DoneOrNot (renamed from n) d c) is_to
-    (subst (λ (n : List ℕ). (d : Content) × left d × DoneOrNot (renamed n new_name) d c) is_from h)
+-- a rename is of the names that it was given
+module _ (from to : List ℕ) (call : Call) (is : (old new : FileName) × (call ≡ Renamed old new) × (string_bytes old.text ≡ from) × (string_bytes new.text ≡ to)) where
+  pub rename_done : (files : Content) → done call files ≡ renamed from to files
+  rename_done files =
+      ap (λ (c : Call). done c files) is.2 ∙ ap (λ (n : List ℕ). renamed n (string_bytes is.1.text) files) is.3 ∙ ap (λ (n : List ℕ). renamed from n files) is.4
+
+  pub rename_left : (files : Content) (left : Content → Type 0) (c : Content) → LeftBy call files left c → (d : Content) × left d × DoneOrNot (renamed from to) d c
+  rename_left files left c h =
+      subst (λ (n : List ℕ). (d : Content) × left d × DoneOrNot (renamed from n) d c) is.4
+      (subst (λ (n : List ℕ). (d : Content) × left d × DoneOrNot (renamed n (string_bytes is.1.text)) d c) is.3
+      (subst (λ (k : Call). LeftBy k files left c) is.2 h))
 
 -- only names that a file can have are in a folder
 cond_none : (b : Bool) (x y : Option (List ℕ)) → (b ≡ true → ⊥) → y ≡ None → cond b x y ≡ None

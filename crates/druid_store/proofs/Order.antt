@@ -79,7 +79,7 @@ module _ (old new : List (List ℕ)) (same : (name : List ℕ) → Contains new 
   }
 
 -- one more name
-pub valid_push : (names new : List (String Global)) (copy : String Global) (name : List ℕ) → All IsFileName (names_of names) → IsFileName name → string_bytes copy ≡ name
-    → new ≡ names ++ copy ∷ [] → All IsFileName (names_of new)
-valid_push names new copy name valid is_name same is = subst (All IsFileName) (sym (ap names_of is ∙ map-append string_bytes names (copy ∷ []) ∙ ap (λ n. names_of names ++ n ∷ []) same))
-    (All-push IsFileName (names_of names) name valid is_name)
+pub valid_push : (names new : List (String Global)) (name : String Global) → All IsFileName (names_of names) → IsFileName (string_bytes name)
+    → new ≡ names ++ name ∷ [] → All IsFileName (names_of new)
+valid_push names new name valid is_name is = subst (All IsFileName) (sym (ap names_of is ∙ map-append string_bytes names (name ∷ [])))
+    (All-push IsFileName (names_of names) (string_bytes name) valid is_name)

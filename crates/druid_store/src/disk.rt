@@ -1,4 +1,4 @@
-ghost use Rattle.std.specs.Prelude.{◌≡◌, ◌∷◌, ◌&&◌, IsErrOf, OnErr, ◌+◌, ◌≤◌, [], length, codes, bytes_eq, if◌then◌else◌, false, None, Ok, IfOk, IfErr, IfSome, MatchResult, All};
+ghost use Rattle.std.specs.Prelude.{◌≡◌, ◌∷◌, ◌&&◌, IsErrOf, OnErr, ◌+◌, ◌≤◌, [], length, codes, bytes_eq, if◌then◌else◌, false, None, Ok, IfOk, IfErr, IfSome, MatchResult, All, string_bytes};
 ghost use Rattle.std.specs.Result.{is_ok};
 ghost use Rattle.druid_store.specs.Disk.{calls_made, disk_failures};
 ghost use Rattle.druid_store.specs.Event.{did_list, did_read, did_write, did_sync, did_rename, did_remove};
@@ -13,7 +13,7 @@ use crate::log::{Log, Note};
 use crate::name::put_in_order;
 use druid_folder::{Folder, MAX_FILE, StoreFault, is_file_name};
 use std::alloc::{AllocError, Global};
-use std::fs::{Metadata, OpenFile};
+use std::fs::{DirEntry, Metadata, OpenFile};
 use std::io::{ErrorKind, Read, Write};
 use std::marker::PhantomData;
 use std::path::{Path, PathBuf};
@@ -252,6 +252,40 @@ fn path_of(alloc: Global, folder: &str, name: &str) -> Result<PathBuf, AllocErro
     Path::new(folder).join(alloc, name)
 }
 
+// The name of an entry, if a file can have it and the entry is one.
+fn name_of_file<R: Files>(
+    rt: &R,
+    alloc: Global,
+    entry: &DirEntry<R, Global>,
+) -> io::Result<Option<String>>
+    ensures { IfOk result (λ found. IfSome found (λ name. IsFileName (string_bytes name))) }
+{
+    let name = entry.file_name();
+    if !is_file_name(name) || !tells_file(fs::metadata(rt, entry.path()))? {
+        return Ok(None);
+    }
+    Ok(Some(String::from_str(alloc, name)?))
+}
+
+// Adds that name to others.
+#[tactic(auto, using(crate::proofs::Order::valid_push))]
+fn add_file<R: Files + Drop>(
+    rt: &R,
+    alloc: Global,
+    names: &mut Vec<String>,
+    entry: io::Result<DirEntry<R, Global>>,
+) -> io::Result<()>
+    requires { All IsFileName (names_of names.old.items) }
+    ensures { All IsFileName (names_of names.new.items) }
+{
+    if let Some(entry) = tells_entry(entry)? {
+        if let Some(name) = name_of_file(rt, alloc, &entry)? {
+            names.push(name)?;
+        }
+    }
+    Ok(())
+}
+
 // The names of the files of a folder, in the order of their bytes.
 fn files_in<R: Files + AllocGlobal + Clone + Drop>(
     rt: &R,
@@ -263,16 +297,21 @@ fn files_in<R: Files + AllocGlobal + Clone + Drop>(
 {
     let mut names = Vec::new(alloc);
     for entry in fs::read_dir(rt, path)? {
-        let Some(entry) = tells_entry(entry)? else {
-            continue;
-        };
-        let name = entry.file_name();
-        if is_file_name(name) && tells_file(fs::metadata(rt, entry.path()))? {
-            names.push(String::from_str(alloc, name)?)?;
-        }
+        add_file(rt, alloc, &mut names, entry)?;
     }
     put_in_order(&mut names);
     Ok(names)
+}
+
+// The first bytes of a file: as many as it may have, and one more.
+fn read_front<R: Files>(rt: &R, alloc: Global, path: Path<'_>) -> io::Result<Vec<u8>>
+    ensures { IfOk result (λ bytes. length bytes.items ≤ max_file + 1) }
+{
+    let mut part = fs::open(rt, path)?.take(MAX_FILE as u64 + 1);
+    let mut bytes = Vec::new(alloc);
+    part.read_to_end(&mut bytes)?;
+    bytes.truncate(MAX_FILE + 1);
+    Ok(bytes)
 }
 
 // The bytes of a file. None where no file has the name, or can have it.
@@ -292,11 +331,7 @@ fn read_named<R: Files>(
     if !tells_file(fs::metadata(rt, path.as_path()))? {
         return Ok(None);
     }
-    let mut bytes = Vec::new(alloc);
-    let mut part = fs::open(rt, path.as_path())?.take(MAX_FILE as u64 + 1);
-    part.read_to_end(&mut bytes)?;
-    bytes.truncate(MAX_FILE + 1);
-    Ok(Some(bytes))
+    Ok(Some(read_front(rt, alloc, path.as_path())?))
 }
 
 // The bytes are on the device before it answers.

@@ -2,6 +2,7 @@ ghost use Rattle.std.specs.Prelude.{◌≡◌, ◌∷◌, [], ◌++◌, ◌+◌,
 ghost use Rattle.std.specs.Option.{option_copied, option_map};
 ghost use Rattle.druid_folder.specs.declared.fault.StoreFault.TheVariants.{Memory};
 ghost use Rattle.druid_folder.specs.Folder.{Content, AreNames, Only, nothing, max_file, names_of, read_part};
+ghost use Rattle.druid_folder.specs.FileName.{IsFileName};
 ghost use Rattle.druid_store.specs.Record.{done, puts, calls_of, failures_of, content_after, IsLeft, file_from, is_sync, lost, lost_after, stopped};
 
 use crate::name::{FileName, put_in_order};
@@ -134,9 +135,8 @@ impl Folder for CallRecord {
             self.faults = self.faults.saturating_add(1);
             return Err(StoreFault::Device);
         }
-        let from = FileName::new(self.alloc, from)?;
-        let to = FileName::new(self.alloc, to)?;
-        note(&mut self.calls, Call::Renamed(from, to))?;
+        let call = rename_call(self.alloc, from, to)?;
+        note(&mut self.calls, call)?;
         Ok(())
     }
 
@@ -152,6 +152,18 @@ impl Folder for CallRecord {
     fn faults(&self) -> u64 {
         self.faults
     }
+}
+
+// A rename, with names of its own.
+fn rename_call(alloc: Global, from: &str, to: &str) -> Result<Call, AllocError>
+    requires from { IsFileName from.now }
+    requires to { IsFileName to.now }
+    ensures { IfOk result (λ call. (old new : FileName) × (call ≡ Call.Renamed old new)
+        × (string_bytes old.text ≡ from.now) × (string_bytes new.text ≡ to.now)) }
+{
+    let from = FileName::new(alloc, from)?;
+    let to = FileName::new(alloc, to)?;
+    Ok(Call::Renamed(from, to))
 }
 
 // The names of the files, after these calls. A name may come more than once.

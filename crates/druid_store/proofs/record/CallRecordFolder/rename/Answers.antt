@@ -1,9 +1,8 @@
-use Rattle.std.proofs.Common.{inl, ◌∙◌, ap}
-use Rattle.std.specs.String.{string_bytes}
+use Rattle.std.proofs.Common.{inl, ◌∙◌}
 use Rattle.druid_folder.specs.Folder.{nothing, renamed}
 use Rattle.druid_store.specs.Record.{content_after}
-use Rattle.druid_store.specs.declared.record.Call.TheVariants.{Renamed, Failed}
-use Rattle.druid_store.proofs.Calls.{content_pushed, left_before, left_failed, elapses_pushed, undone_left, renamed_named}
+use Rattle.druid_store.specs.declared.record.Call.TheVariants.{Failed}
+use Rattle.druid_store.proofs.Calls.{content_pushed, left_before, left_failed, elapses_pushed, undone_left, rename_done, rename_left}
 use Rattle.druid_store.proofs.record.CallRecordFolder.rename.Goals as goal
 
 pub returns-then-is_none-clause-failed : goal.returns-then-is_none-clause-failed
@@ -16,15 +15,11 @@ returns-then-is_none-clause-stop c honest =
 
 pub returns-clause-done : goal.returns-clause-done
 returns-clause-done c honest =
-    let files = content_after nothing c.args.self.now.calls.items in
-    content_pushed _ _ (Renamed c.in_ok-from.from c.in_ok-to.to) c.in_ok-note-2.ensures.ok
-    ∙ ap (λ name. renamed name (string_bytes c.in_ok-to.to.text) files) c.in_ok-from.ensures
-    ∙ ap (λ name. renamed c.args.from.now name files) c.in_ok-to.ensures
+    content_pushed _ _ c.in_ok-call.call c.in_ok-note-2.ensures.ok ∙ rename_done _ _ _ c.in_ok-call.ensures (content_after nothing c.args.self.now.calls.items)
 
 pub returns-clause-stop : goal.returns-clause-stop
 returns-clause-stop c honest left is =
-    renamed_named _ _ _ _ _ left c.in_ok-from.ensures c.in_ok-to.ensures
-    (left_before _ _ (Renamed c.in_ok-from.from c.in_ok-to.to) c.in_ok-note-2.ensures.ok left is)
+    rename_left _ _ _ c.in_ok-call.ensures _ _ left (left_before _ _ c.in_ok-call.call c.in_ok-note-2.ensures.ok left is)
 
 pub returns-clause-time : goal.returns-clause-time
-returns-clause-time c honest = elapses_pushed _ _ (Renamed c.in_ok-from.from c.in_ok-to.to) c.in_ok-note-2.ensures.ok
+returns-clause-time c honest = elapses_pushed _ _ c.in_ok-call.call c.in_ok-note-2.ensures.ok
