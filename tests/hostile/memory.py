@@ -25,7 +25,7 @@ from served import DAY, QUERY, Cluster, Segment, exchange  # noqa: E402
 
 CLIENTS, NO_LIMIT = 3, resource.RLIM_INFINITY
 
-# The C library's allocator gives back what is let go, so that each query has to take memory of the system again.
+# The C library's allocator gives back what is let go, so that each query has to ask the system for memory again.
 GIVES_BACK = {'MALLOC_ARENA_MAX': '1', 'MALLOC_TRIM_THRESHOLD_': '4096', 'MALLOC_TOP_PAD_': '0', 'MALLOC_MMAP_THRESHOLD_': '16384'}
 
 
