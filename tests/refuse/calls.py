@@ -30,6 +30,7 @@ LEFT_OUT = {
     'druid_shard::apply_change': BY_CALLER + 'History::record, Inventory::advance',
     'druid_shard::check_descriptor': NO_ALLOCATOR,
     'druid_shard::shard_value': WITHIN + 'descriptor_value',
+    'druid_wire::Response::into_parts': WITHIN + 'NodeState::respond',
     'druid_wire::response_of': NO_ALLOCATOR,
     'druid_wire::write_request': NO_ALLOCATOR,
     'druid_wire::write_response': NO_ALLOCATOR,

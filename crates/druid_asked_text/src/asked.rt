@@ -3,17 +3,16 @@ ghost use Rattle.std.specs.Prelude.{◌≡◌, ◌↔◌, List, length, Some, If
 ghost use Rattle.std.specs.List.{list_all, AllAdjacentBelow};
 ghost use Rattle.serde_json.specs.View.{view, items_view};
 ghost use Rattle.druid_segid.specs.Names.{IsVersion};
-ghost use Rattle.druid_shard.specs.Each.{each_of};
+ghost use Rattle.druid_base.specs.Each.{each_of};
 ghost use Rattle.druid_query.specs.Asked.{Asked, stand_apart, version_of, spelled_at, named_by, asked_at, inside_at, lies_inside, do_overlap, asked_data, segments_in, asked_items};
 ghost use Rattle.druid_query.specs.Fields.{each_among};
 ghost use Rattle.druid_query.specs.AskedOrder as order;
 ghost use Rattle.druid_query.specs.AskedOrder.{asked_cmp, same_asked, AreApart};
 ghost use Rattle.druid_query.specs.SubQuery.{pieces_data};
 
-use druid_base::list_field;
+use druid_base::{limited_field, list_field, text_field};
 use druid_query::Asked;
 use druid_segid::{Name, SegmentId, Version};
-use druid_shard::{limited_field, text_field};
 use druid_time::Interval;
 use serde_json::{Value, json};
 use std::alloc::{AllocError, Global};

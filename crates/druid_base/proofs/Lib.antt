@@ -1,2 +1,9 @@
 pub mod ListLemmas
+pub mod MemberLemmas
+pub mod MovedLemmas
 pub mod OptionLemmas
+pub mod StepLemmas
+pub mod EachLemmas
+pub mod OrderLemmas
+pub mod NumberLemmas
+pub mod DistinctLemmas

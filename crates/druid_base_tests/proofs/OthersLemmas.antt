@@ -1,12 +1,11 @@
 -- Which chunks an edit may be compared with.
-use Rattle.std.proofs.Common.{◌≡◌, ◌≢◌, ◌≤◌, ◌<◌, ◌∷◌, [], ℕ, List, filter, Result, Ok, refl, sym, subst, inl, inr, arith}
+use Rattle.std.proofs.Common.{◌≡◌, ◌≢◌, ◌≤◌, ◌<◌, ◌∷◌, [], ℕ, List, filter, Result, Ok, sym, subst, inl, inr, arith}
 use Rattle.std.specs.List.{Contains}
 use Rattle.std.specs.Result.{OnOk}
-use Rattle.druid_shard.proofs.MemberLemmas.{Contains-map, Contains-nil}
-use Rattle.druid_time.specs.Extent.{Extent, Has, Share}
+use Rattle.druid_base.proofs.MemberLemmas.{Contains-map, Contains-nil}
 use Rattle.druid_segid.specs.Group.{Group, same_group}
 use Rattle.druid_timeline.specs.Edited.{HasOthers}
-use Rattle.druid_timeline.specs.Holding.{Held, IsCompleteIn, members_of, AddsHeld}
+use Rattle.druid_timeline.specs.Holding.{Held, AddsHeld}
 use Rattle.druid_timeline.proofs.HoldingLemmas.{from_filter}
 use Rattle.druid_chunks.proofs.ChunkLemmas.{same_group-exact}
 use Rattle.druid_base_tests.specs.Others.{IsAmong, AreAmong}

@@ -5,6 +5,7 @@ use std::process::Abort;
 
 // Texts, and their JSON without blanks, or why there is none.
 const PARSED: &str = r#"{"a": [1, null], "b": "x"} = {"a":[1,null],"b":"x"}
+ = not JSON
 [ = not JSON
 [] [] = not JSON"#;
 

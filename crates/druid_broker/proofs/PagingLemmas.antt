@@ -2,12 +2,12 @@
 use Rattle.std.proofs.Common.{◌≡◌, ◌≢◌, ◌⊎◌, ◌+◌, ◌-◌, ◌<◌, ◌≤◌, ℕ, zero, suc, List, [], ◌∷◌, ◌++◌, length, map, replicate, Option, Some, None, Result, Ok, Err, option_map, refl, sym, ap, ◌∙◌, subst, inl, inr, ⊎_elim, arith, if◌then◌else◌}
 use Rattle.std.specs.List.{slice_get}
 use Rattle.std.specs.Prelude.{slice_set}
-use Rattle.std.specs.Ordering.{is_lt, ordering_then, nat_cmp}
+use Rattle.std.specs.Ordering.{is_lt}
 use Rattle.std.specs.declared.cmp.Ordering.{Ordering}
 use Rattle.std.specs.declared.cmp.Ordering.TheVariants.{Less, Equal}
 use Rattle.std.proofs.lemmas.Option.{same_Some, none-some}
 use Rattle.std.proofs.lemmas.List.{append-nil, length-append, length-replicate}
-use Rattle.druid_segid.proofs.OrderLemmas.{nat_cmp-eq}
+use Rattle.druid_shard.proofs.SortedLemmas.{mark_cmp-same}
 use Rattle.druid_shard.specs.Described.{Described}
 use Rattle.druid_shard.specs.Mark.{Point, mark_cmp}
 use Rattle.druid_shard.specs.Reply.{AreSorted}
@@ -31,14 +31,11 @@ Pages = List (Option (List Described))
 
 -- ---- marks
 
-same_mark_is : (at : Point) → mark_cmp at at ≡ Equal
-same_mark_is at = ap (λ (o : Ordering). ordering_then o (nat_cmp at.count at.count)) (nat_cmp-eq at.incarnation) ∙ nat_cmp-eq at.count
-
 apart : Path Ordering Equal Less → ⊥
 apart e = cc
 
 never_before : (at : Point) → mark_cmp at at ≡ Less → ⊥
-never_before at less = apart (sym (same_mark_is at) ∙ less)
+never_before at less = apart (sym (mark_cmp-same at) ∙ less)
 
 -- ---- the first pages
 
@@ -122,7 +119,7 @@ module _ (at : Point) (come : List (List Described)) (left page of : ℕ) (s : L
 
   -- to the first ones, which are of its mark
   belongs : parts_for (Some (first_pages at come (suc left))) (as_page at page of s) ≡ first_pages at come (suc left)
-  belongs = ap (λ (o : Ordering). if is_lt o then no_pages at of else first_pages at come (suc left)) (same_mark_is at)
+  belongs = ap (λ (o : Ordering). if is_lt o then no_pages at of else first_pages at come (suc left)) (mark_cmp-same at)
 
   not_outdated : IsOutdated (Some (first_pages at come (suc left))) (as_page at page of s) → ⊥
   not_outdated (parts, is, less) =

@@ -4,7 +4,7 @@ use mathlib.Core.List.{IsPrefix}
 use Rattle.druid_inventory.specs.Entry.{Entry}
 use Rattle.druid_link.specs.Links.{Came}
 use Rattle.druid_message.specs.Requests.{RequestValue, path_of}
-use Rattle.druid_wire.specs.Served.{Tells, IsSent, IsServed, IsCutShort, FailsToServe}
+use Rattle.druid_wire.specs.Served.{Tells, IsSent, IsServed, IsCutShort, FailsToServe, IsOutOfMemory}
 use Rattle.druid_message.specs.declared.fault.WireFault.{WireFault}
 use Rattle.druid_wire.proofs.ServeLemmas.{WasRead, served, unsent}
 use Rattle.druid_query.specs.Query.{Query}
@@ -18,7 +18,7 @@ use Rattle.druid_published.specs.Fold.{Published, fold_of}
 use Rattle.druid_published.proofs.Beginnings.{prefix_self}
 use Rattle.serde_json.specs.Data.{Data}
 use Rattle.druid_broker.specs.Queries.{NamesField}
-use Rattle.druid_broker.specs.Routes.{Route, query, route_of, AnswersPost, AnswersAt, IsOutOfMemory}
+use Rattle.druid_broker.specs.Routes.{Route, query, route_of, AnswersPost, AnswersAt}
 use Rattle.druid_broker.specs.Views.{TakesInventory, AnswersUnread, RespondsAt, RespondsBy}
 
 -- bytes that read as a query are not refused as one
@@ -50,16 +50,16 @@ prefix_same : (seen now : Published) → now ≡ seen → IsPrefix seen now
 prefix_same seen now same = subst (λ (l : Published). IsPrefix seen l) (sym same) (prefix_self seen)
 
 -- what was sent of an answer
-module _ (R : RequestValue → ℕ → List ℕ → Type 0) (Stays : Type 0) (request : RequestValue) (before after old new : Option (List ℕ)) (status sent_as : ℕ) (body sent_body : List ℕ) where
-  pub sent : (r : Result ℕ WireFault) → WasRead before after request → R request status body → sent_as ≡ status → sent_body ≡ body
-      → IfOk r (IsSent old new sent_as sent_body) → IfOk r (IsServed R Stays before after old new)
-  sent (Ok s) read answer e f is = served R Stays request before after old new read s (sent_as, sent_body, rw (e, f) answer, is)
-  sent (Err fault) read answer e f is = tt
+module _ (R : RequestValue → ℕ → List ℕ → Type 0) (Stays : Type 0) (request : RequestValue) (before after old new : Option (List ℕ)) (status : ℕ) (body : List ℕ) where
+  pub sent : (r : Result ℕ WireFault) → WasRead before after request → R request status body
+      → IfOk r (IsSent old new status body) → IfOk r (IsServed R Stays before after old new)
+  sent (Ok s) read answer is = served R Stays request before after old new read s (status, body, answer, is)
+  sent (Err fault) read answer is = tt
 
-  pub cut_short : (r : Result ℕ WireFault) → WasRead before after request → R request status body → sent_as ≡ status → sent_body ≡ body
-      → IfErr r (IsCutShort old new sent_as sent_body) → IfErr r (FailsToServe R Stays before after old new)
-  cut_short (Ok s) read answer e f is = tt
-  cut_short (Err fault) read answer e f is = unsent R Stays request before after old new read fault (sent_as, sent_body, rw (e, f) answer, is)
+  pub cut_short : (r : Result ℕ WireFault) → WasRead before after request → R request status body
+      → IfErr r (IsCutShort old new status body) → IfErr r (FailsToServe R Stays before after old new)
+  cut_short (Ok s) read answer is = tt
+  cut_short (Err fault) read answer is = unsent R Stays request before after old new read fault (status, body, answer, is)
 
 -- an answer by way of a view
 module _ {L : Type 0} (step : L → List ℕ → Came → L → Type 0) (order : List ℕ → List ℕ) (opening : List Entry) (seen now : Published) (old new : List L) where

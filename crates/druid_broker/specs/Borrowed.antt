@@ -1,5 +1,5 @@
--- What the code keeps of a path and of an answer, and what a reply that is not applied tells. Only proofs use these words.
-use Rattle.std.specs.Prelude.{ℕ, List, string_bytes}
+-- What the code keeps of a path, and what a reply that is not applied tells. Only proofs use these words.
+use Rattle.std.specs.Prelude.{ℕ, List}
 use Rattle.druid_shard.specs.declared.reply.Body.{Body}
 use Rattle.druid_inventory.specs.Entry.{Entry}
 use Rattle.druid_inventory.specs.Step.{StepsAt, RefusedAt}
@@ -9,8 +9,6 @@ use Rattle.druid_broker.specs.declared.routes.Route as code
 use Rattle.druid_broker.specs.declared.routes.Route.TheVariants as routes
 use Rattle.druid_broker.specs.declared.fault.TurnFault.{TurnFault}
 use Rattle.druid_broker.specs.declared.fault.TurnFault.TheVariants.{Apply, Memory}
-use Rattle.druid_broker.specs.declared.response.Text.{Text}
-use Rattle.druid_broker.specs.declared.response.Text.TheVariants.{Fixed, Made}
 
 -- the route that a path names
 abbrev pub borrowed_route : code.Route → Route
@@ -20,15 +18,6 @@ borrowed_route routes.Sources = sources
 borrowed_route routes.LoadStatus = load_status
 borrowed_route (routes.Entry part) = entry part.now
 borrowed_route routes.Nowhere = nowhere
-
-abbrev pub text_of : Text → List ℕ
-text_of (Fixed text) = text.now
-text_of (Made text) = string_bytes text
-
--- an answer
-pub record Answered : Type 0 where
-  pub status : ℕ
-  pub body : List ℕ
 
 -- the reply is not applied; memory is wanted only where it would be
 abbrev pub RefusesTurn : List Entry → ℕ → Body → TurnFault → Type 0

@@ -7,7 +7,7 @@ use Rattle.std.specs.Cmp.Lexicographic.{slice_cmp}
 use Rattle.serde_json.specs.Data.{Data, array, string}
 use Rattle.serde_json.specs.View.{items_of}
 use Rattle.serde_json.specs.Written.{compact_text}
-use Rattle.druid_segid.specs.Numbers.{number_at}
+use Rattle.druid_base.specs.Numbers.{number_at}
 use Rattle.druid_shard.specs.declared.change.Ask.{Ask}
 use Rattle.druid_shard.specs.declared.reply.Body.{Body}
 use Rattle.druid_sync.specs.Asks.{ask_at}
@@ -16,7 +16,7 @@ use Rattle.druid_inventory.specs.Entry.{Entry, IsUnsynced, IsAnswerOf}
 use Rattle.druid_inventory.specs.Sources.{HasSource}
 use Rattle.druid_link.specs.Links.{Came}
 use Rattle.druid_message.specs.Requests.{RequestValue, parameters_of}
-use Rattle.druid_wire.specs.Served.{Tells, Allows}
+use Rattle.druid_wire.specs.Served.{Tells, Gets, IsOutOfMemory}
 use Rattle.druid_broker.specs.Queries.{AnswersQuery, WantsMemory}
 
 -- where requests go
@@ -50,10 +50,6 @@ route_of path =
     else entry_route path))))
 
 -- ---- out of memory
-
--- memory was refused for the answer
-abbrev pub IsOutOfMemory : ℕ → List ℕ → Type 0
-IsOutOfMemory status body = Tells 500 (codes "{\"error\":\"Memory\"}") status body
 
 -- an answer that allocates
 abbrev pub OrOutOfMemory : (ℕ → List ℕ → Type 0) → ℕ → List ℕ → Type 0
@@ -97,9 +93,6 @@ AnswersEntry inventory number None status body = Tells 400 (codes "{\"error\":\"
 AnswersEntry inventory number (Some ask) status body = AnswersNumber inventory number ask status body
 
 -- ---- the whole
-
-abbrev pub Gets : RequestValue → (ℕ → List ℕ → Type 0) → ℕ → List ℕ → Type 0
-Gets request P status body = Allows (bytes_eq request.method (codes "GET")) P status body
 
 -- what is answered on a route without asking a node
 abbrev pub TellsAt : Route → List Entry → RequestValue → ℕ → List ℕ → Type 0

@@ -2,18 +2,19 @@
 ghost use Rattle.std.specs.Prelude.{◌≡◌, ◌++◌, [], IfOk, OnOk, codes, string_bytes};
 ghost use Rattle.json.specs.Print.{print};
 ghost use Rattle.serde_json.specs.Written.{compact_text};
-ghost use Rattle.druid_segid.specs.Numbers.{number_at};
+ghost use Rattle.druid_base.specs.Numbers.{number_at};
 ghost use Rattle.druid_sync.specs.Asks.{ask_at};
 ghost use Rattle.druid_sync.specs.Written.{reply_text};
 ghost use Rattle.druid_wire.specs.Served.{Tells};
 ghost use Rattle.druid_partial_text.specs.Tokens.{tokens_of};
 ghost use Rattle.druid_broker.specs.Routes.{names_data, AnswersSources, is_loaded, loaded_text, OrOutOfMemory, AnswersNode, AnswersNumber, AnswersEntry};
 
-use crate::response::Response;
+use druid_base::number_of;
 use druid_inventory::{Inventory, InventoryFault};
-use druid_segid::{Name, number_of};
+use druid_segid::Name;
 use druid_shard::{Ask, NodeNo, Reply};
 use druid_sync::{read_ask, reply_text};
+use druid_wire::Response;
 use http::StatusCode;
 use json::Writer;
 use std::alloc::{AllocError, Global};
@@ -136,13 +137,6 @@ fn tell_number(alloc: Global, inventory: &Inventory, number: &[u8], ask: &Ask) -
     tell_node(alloc, inventory, number as NodeNo, ask)
 }
 
-/// The answer where the parameters are no ask.
-pub(crate) fn no_ask() -> Response
-    ensures { Tells 400 (codes "{\"error\":\"Y6\"}") result.status result.body }
-{
-    Response::of_static(StatusCode::BAD_REQUEST, "{\"error\":\"Y6\"}")
-}
-
 /// What is known of the node of that number, as the parameters ask.
 pub(crate) fn tell_entry(
     alloc: Global,
@@ -154,6 +148,6 @@ pub(crate) fn tell_entry(
 {
     match read_ask(parameters) {
         Ok(ask) => tell_number(alloc, inventory, number, &ask),
-        Err(_) => no_ask(),
+        Err(_) => Response::no_ask(),
     }
 }

@@ -8,7 +8,6 @@ mod knowing;
 mod paging;
 mod querying;
 mod responding;
-mod response;
 mod routes;
 mod serving;
 mod turns;

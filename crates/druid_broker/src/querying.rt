@@ -1,21 +1,30 @@
 //! What is answered to queries.
-ghost use Rattle.std.specs.Prelude.{◌≡◌, ◌≢◌, ◌↔◌, ◌≤◌, ◌⊎◌, ℕ, true, Ok, IsTrue, List, length, IfOk, OnErr};
+ghost use Rattle.std.specs.Prelude.{◌≡◌, ◌≢◌, ◌↔◌, ◌≤◌, ◌⊎◌, ℕ, true, Ok, List, length, IfOk, OnErr};
 ghost use Rattle.druid_partial.specs.Rows.{IsPartialFor};
 ghost use Rattle.druid_query.specs.Read.{IsReadOf};
 ghost use Rattle.druid_query.specs.Refused.{refusal_text};
-ghost use Rattle.druid_wire.specs.Served.{Tells};
+ghost use Rattle.druid_wire.specs.Served.{Tells, IsOutOfMemory};
 ghost use Rattle.druid_broker.specs.Queries.{TellsRows, AnswersRows, AsksRows, NamesField};
-ghost use Rattle.druid_broker.specs.Routes.{IsOutOfMemory, AnswersPost};
+ghost use Rattle.druid_broker.specs.Routes.{AnswersPost};
 
-use crate::response::Response;
 use druid_inventory::Inventory;
 use druid_link::Link;
 use druid_partial_text::{result_text, shortfall_text};
 use druid_query::{Query, QueryFault, refusal_text};
 use druid_scatter::{Answer, Pick, gather, plan};
+use druid_wire::Response;
 use http::StatusCode;
 use std::alloc::{AllocError, Global};
 use std::thread::Threads;
+
+/// A turn, and how it orders the replicas of a segment slice.
+#[derive(Drop)]
+pub(crate) struct Turn<'a, P> {
+    /// Tells one query from the next.
+    pub(crate) number: u64,
+    /// The order.
+    pub(crate) pick: &'a P,
+}
 
 // The answer to what is no query, for a field of another shape: its text is written anew.
 fn refuse_field(alloc: Global, fault: QueryFault) -> Response
@@ -69,19 +78,18 @@ fn answer_rows<T: Threads + Sync, P: Pick, L: Link + Send>(
     alloc: Global,
     inventory: &Inventory,
     query: &Query,
-    turn: u64,
-    pick: &P,
+    turn: &Turn<'_, P>,
     links: &mut [L],
 ) -> Result<Response, AllocError>
     requires { length inventory.now ≤ length links.old }
-    ensures ok { IfOk result (λ r. AnswersRows L.exchanges (P.orders pick.now turn) inventory.now query.now links.old links.new r.status r.body) }
+    ensures ok { IfOk result (λ r. AnswersRows L.exchanges (P.orders turn.now.pick.now turn.now.number) inventory.now query.now links.old links.new r.status r.body) }
     ensures err { OnErr result ((links.new ≡ links.old)
-        ⊎ AsksRows L.exchanges (P.orders pick.now turn) inventory.now query.now links.old links.new) }
+        ⊎ AsksRows L.exchanges (P.orders turn.now.pick.now turn.now.number) inventory.now query.now links.old links.new) }
 {
     let Ok(pairs) = plan(alloc, inventory, query) else {
         return Err(AllocError);
     };
-    let Ok(gathered) = gather(rt, alloc, query, &pairs, turn, pick, links) else {
+    let Ok(gathered) = gather(rt, alloc, query, &pairs, turn.number, turn.pick, links) else {
         return Err(AllocError);
     };
     tell_rows(alloc, query, &gathered)
@@ -94,15 +102,14 @@ pub(crate) fn answer_query<T: Threads + Sync, P: Pick, L: Link + Send>(
     alloc: Global,
     inventory: &Inventory,
     query: &Query,
-    turn: u64,
-    pick: &P,
+    turn: &Turn<'_, P>,
     links: &mut [L],
 ) -> Response
     requires { length inventory.now ≤ length links.old }
     ensures { (bytes : List ℕ) → IsReadOf bytes (Ok query.now)
-        → AnswersPost L.exchanges (P.orders pick.now turn) true inventory.now bytes links.old links.new result.status result.body }
+        → AnswersPost L.exchanges (P.orders turn.now.pick.now turn.now.number) true inventory.now bytes links.old links.new result.status result.body }
 {
-    match answer_rows(rt, alloc, inventory, query, turn, pick, links) {
+    match answer_rows(rt, alloc, inventory, query, turn, links) {
         Ok(response) => response,
         Err(_) => Response::out_of_memory(),
     }

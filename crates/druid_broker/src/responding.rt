@@ -1,19 +1,19 @@
 //! What a broker answers to requests.
 ghost use Rattle.std.specs.Prelude.{◌≡◌, ◌≢◌, ◌≤◌, ◌⊎◌, ◌↔◌, ℕ, true, Ok, IsTrue, IsSome, List, codes, length, bytes_eq};
-ghost use Rattle.druid_segid.specs.Numbers.{number_at};
+ghost use Rattle.druid_base.specs.Numbers.{number_at};
 ghost use Rattle.druid_sync.specs.Asks.{ask_at};
 ghost use Rattle.druid_inventory.specs.Entry.{Entry};
 ghost use Rattle.druid_message.specs.Requests.{parameters_of};
-ghost use Rattle.druid_wire.specs.Served.{Tells};
+ghost use Rattle.druid_wire.specs.Served.{Tells, Gets};
 ghost use Rattle.druid_broker.specs.Borrowed.{borrowed_route};
-ghost use Rattle.druid_broker.specs.Routes.{query, OrOutOfMemory, Gets, AnswersSources, AnswersEntry, AnswersAt};
+ghost use Rattle.druid_broker.specs.Routes.{query, OrOutOfMemory, AnswersSources, AnswersEntry, AnswersAt};
 ghost use Rattle.druid_broker.specs.Views.{TakesInventory, AnswersUnread, RespondsAt, RespondsBy};
 ghost use Rattle.druid_query.specs.Read.{IsReadOf};
 
-use crate::knowing::{no_ask, tell_entry, tell_load_status, tell_sources, unknown_node};
-use crate::querying::{answer_query, refuse_query};
-use crate::response::Response;
+use crate::knowing::{tell_entry, tell_load_status, tell_sources, unknown_node};
+use crate::querying::{Turn, answer_query, refuse_query};
 use crate::routes::{Route, Routes};
+use druid_base::number_of;
 use druid_inventory::Inventory;
 use druid_link::Link;
 use druid_message::Request;
@@ -21,8 +21,8 @@ use druid_published::{Publication, PublishFault, View};
 use druid_query::Query;
 use druid_query_text::read_query;
 use druid_scatter::Pick;
-use druid_segid::number_of;
 use druid_sync::read_ask;
+use druid_wire::Response;
 use http::StatusCode;
 use std::alloc::Global;
 use std::sync::Wait;
@@ -50,15 +50,6 @@ fn takes_inventory(route: &Route, request: &Request) -> bool
     }
 }
 
-fn health(request: &Request) -> Response
-    ensures { Gets request.now (Tells 200 (codes "true")) result.status result.body }
-{
-    if !request.has_method("GET") {
-        return Response::other_method();
-    }
-    Response::of_static(StatusCode::OK, "true")
-}
-
 // What is answered of a node where the inventory is not taken.
 fn answer_no_node(number: &[u8], request: &Request) -> Response
     requires { (bytes_eq request.now.method (codes "GET") ≡ true) × IsSome (number_at number.now) × IsSome (ask_at (parameters_of request.now.target)) → ⊥ }
@@ -68,7 +59,7 @@ fn answer_no_node(number: &[u8], request: &Request) -> Response
         return Response::other_method();
     }
     if read_ask(request.parameters()).is_err() {
-        return no_ask();
+        return Response::no_ask();
     }
     unknown_node()
 }
@@ -81,12 +72,12 @@ fn answer_anyway<L: Link>(route: &Route, request: &Request) -> Response
         → AnswersAt L.exchanges order (borrowed_route route.now) inventory links links request.now result.status result.body }
 {
     match route {
-        Route::Health => health(request),
+        Route::Health => Response::health(request),
         Route::Query => unreachable!(),
         Route::Sources => Response::other_method(),
         Route::LoadStatus => Response::other_method(),
         Route::Entry(number) => answer_no_node(number, request),
-        Route::Nowhere => Response::of_static(StatusCode::NOT_FOUND, "{\"error\":\"NoRoute\"}"),
+        Route::Nowhere => Response::no_route(),
     }
 }
 
@@ -119,12 +110,22 @@ fn answer_known<L: Link>(
     }
 }
 
+// The response where what was found is older than what the view knows.
+fn no_reading() -> Response
+    ensures { Tells 500 (codes "{\"error\":\"NoReading\"}") result.status result.body }
+{
+    Response::of_static(
+        StatusCode::INTERNAL_SERVER_ERROR,
+        "{\"error\":\"NoReading\"}",
+    )
+}
+
 // The response to a failed read of the view: 500. (A read applies no reply.)
 fn answer_unread(fault: PublishFault) -> Response
     ensures { AnswersUnread result.status result.body }
 {
     match fault {
-        PublishFault::NoReading => Response::no_reading(),
+        PublishFault::NoReading => no_reading(),
         PublishFault::Memory => Response::out_of_memory(),
         PublishFault::Apply(_) => Response::out_of_memory(),
     }
@@ -157,17 +158,16 @@ fn answer_read<T: Threads + Wait + Sync, J: Publication, P: Pick, L: Link + Send
     view: &mut View<J>,
     request: &Request,
     asked: &Query,
-    turn: u64,
-    pick: &P,
+    turn: &Turn<'_, P>,
     links: &mut [L],
 ) -> Response
     requires links { length J.opening ≤ length links.old }
     requires posted { bytes_eq request.now.method (codes "POST") ≡ true }
     requires read { IsReadOf request.now.body (Ok asked.now) }
-    ensures { RespondsAt L.exchanges (P.orders pick.now turn) J.opening query view.old view.new links.old links.new request.now result.status result.body }
+    ensures { RespondsAt L.exchanges (P.orders turn.now.pick.now turn.now.number) J.opening query view.old view.new links.old links.new request.now result.status result.body }
 {
     match view.read() {
-        Ok(inventory) => answer_query(rt, alloc, &inventory, asked, turn, pick, links),
+        Ok(inventory) => answer_query(rt, alloc, &inventory, asked, turn, links),
         Err(fault) => answer_unread(fault),
     }
 }
@@ -178,18 +178,17 @@ fn answer_posted<T: Threads + Wait + Sync, J: Publication, P: Pick, L: Link + Se
     alloc: Global,
     view: &mut View<J>,
     request: &Request,
-    turn: u64,
-    pick: &P,
+    turn: &Turn<'_, P>,
     links: &mut [L],
 ) -> Response
     requires { length J.opening ≤ length links.old }
-    ensures { RespondsAt L.exchanges (P.orders pick.now turn) J.opening query view.old view.new links.old links.new request.now result.status result.body }
+    ensures { RespondsAt L.exchanges (P.orders turn.now.pick.now turn.now.number) J.opening query view.old view.new links.old links.new request.now result.status result.body }
 {
     if !request.has_method("POST") {
         return Response::other_method();
     }
     match read_query(alloc, request.body()) {
-        Ok(asked) => answer_read(rt, alloc, view, request, &asked, turn, pick, links),
+        Ok(asked) => answer_read(rt, alloc, view, request, &asked, turn, links),
         Err(fault) => refuse_query(alloc, fault),
     }
 }
@@ -201,16 +200,15 @@ pub(crate) fn respond<T: Threads + Wait + Sync, J: Publication, P: Pick, L: Link
     routes: &Routes,
     view: &mut View<J>,
     request: &Request,
-    turn: u64,
-    pick: &P,
+    turn: &Turn<'_, P>,
     links: &mut [L],
 ) -> Response
     requires { length J.opening ≤ length links.old }
-    ensures { RespondsBy L.exchanges (P.orders pick.now turn) J.opening view.old view.new links.old links.new request.now result.status result.body }
+    ensures { RespondsBy L.exchanges (P.orders turn.now.pick.now turn.now.number) J.opening view.old view.new links.old links.new request.now result.status result.body }
 {
     let route = routes.route_of(request.path());
     match route {
-        Route::Query => answer_posted(rt, alloc, view, request, turn, pick, links),
+        Route::Query => answer_posted(rt, alloc, view, request, turn, links),
         other => answer_got::<J, L>(alloc, &other, view, request),
     }
 }

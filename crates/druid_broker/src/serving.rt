@@ -4,6 +4,7 @@ ghost use mathlib.Core.List.{IsPrefix};
 ghost use Rattle.druid_wire.specs.Served.{IsServed, FailsToServe};
 ghost use Rattle.druid_broker.specs.Views.{RespondsBy};
 
+use crate::querying::Turn;
 use crate::responding::respond;
 use crate::routes::Routes;
 use druid_link::Link;
@@ -62,8 +63,9 @@ pub fn serve_one<
 {
     match read_request(alloc, reader) {
         Ok(request) => {
-            let response = respond(rt, alloc, routes, view, &request, turn, pick, links);
-            send_response(response.status(), response.body(), writer)
+            let turn = Turn { number: turn, pick };
+            let response = respond(rt, alloc, routes, view, &request, &turn, links);
+            send_response(&response, writer)
         }
         Err(fault) => refuse_request(fault, writer),
     }

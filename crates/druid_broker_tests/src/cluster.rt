@@ -432,7 +432,7 @@ pub(crate) fn followed<R: Handle, J: Publication>(
 }
 
 /// Whether so many links are enough for the nodes that a view reads of.
-#[tactic(auto, using(crate::proofs::LinkLemmas::linked))]
+#[tactic(auto, using(druid_inventory::proofs::JoinLemmas::fewer_names))]
 pub(crate) fn reaches<J: Publication>(view: &mut View<J>, links: usize) -> bool
     ensures { IsTrue result → length J.opening ≤ links }
 {

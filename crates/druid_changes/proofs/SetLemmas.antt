@@ -8,10 +8,11 @@ use Rattle.std.specs.Ordering.{nat_cmp, is_eq, is_lt, match_ordering}
 use Rattle.std.specs.declared.cmp.Ordering.{Ordering}
 use Rattle.std.specs.declared.cmp.Ordering.TheVariants.{Less, Equal, Greater}
 use Rattle.std.specs.Cmp.Lexicographic.{slice_cmp, texts_ties}
-use Rattle.std.proofs.lemmas.Bool.{cases_Bool, false≢true, false_from_ne_true, or_cases, or_parts}
+use Rattle.std.proofs.lemmas.Bool.{cases_Bool, false≢true, false_from_ne_true, or_cases, or_parts, not-true}
 use Rattle.std.proofs.lemmas.List.Elements.{All-nil, All-cons, All-head, All-tail, All-contains}
 use Rattle.std.proofs.lemmas.List.Folds.{Any-from_list_any}
 use Rattle.std.proofs.lemmas.Slice.Eq.{bytes_eq-Decides}
+use Rattle.druid_base.proofs.OrderLemmas.{bool_same}
 use Rattle.druid_segid.specs.Identifier.{Identifier, identifier_text, same_identifier, identifier_cmp}
 use Rattle.druid_segid.specs.IdentifierLaws.{identifier_cmp-ties}
 use Rattle.druid_segid.proofs.EqualLemmas.{identifier_cmp-text}
@@ -45,11 +46,6 @@ at_id-made : (d : Described) (e : Entry) → IsDescribed d → IsEntry e → ide
 at_id-made d e h entry same =
     ap is_eq (cmp_entry d e h entry) ∙ sym (texts_ties (identifier_text d.id) (identifier_text e.1.id))
     ∙ (bytes_eq-Decides (identifier_text d.id) (identifier_text e.1.id)).1 (sym same)
-
-bool_same : (a b : Bool) → (a ≡ true → b ≡ true) → (b ≡ true → a ≡ true) → a ≡ b
-bool_same true b to from = sym (to refl)
-bool_same false true to from = from refl
-bool_same false false to from = refl
 
 -- it finds an entry exactly where the segments share an identifier
 at_id-shares : (d : Described) (e : Entry) → IsDescribed d → IsEntry e → at_id d e.0 ≡ shares_identifier e.1 d
@@ -186,10 +182,6 @@ removed-each (e ∷ es) test each =
 
 -- ---- in the steps of the code
 
-not_on : (b : Bool) → not b ≡ true → b ≡ false
-not_on true e = absurd (false≢true e)
-not_on false e = refl
-
 pub lacks-is : (es : List Entry) (d : Described) (id : Identifier) (vs : List Described) (r : Bool) → id ≡ d.id → IsDescribed d → IsKeyed es → values_of es ≡ vs
     → r ≡ is_some (lookup (is_at (identifier_cmp id)) es) → not r ≡ is_strict vs (Load d)
 lacks-is es d id vs r same h keyed view e =
@@ -210,7 +202,7 @@ find-is es id vs o keyed view e = e ∙ found-named es id keyed.each ∙ ap (des
 pub insert-is : (es new : List Entry) (d : Described) (id : Identifier) (vs : List Described) → id ≡ d.id → IsDescribed d → IsKeyed es → values_of es ≡ vs
     → new ≡ insert_entry identifier_cmp es id d → is_strict vs (Load d) ≡ true → has_room vs (Load d) ≡ true → IsKeyed new × (values_of new ≡ with_segment d vs)
 insert-is es new d id vs same h keyed view e strict room =
-    let none : list_any (λ x. shares_identifier x d) (values_of es) ≡ false = ap (λ ds. list_any (λ x. shares_identifier x d) ds) view ∙ not_on (list_any (λ x. shares_identifier x d) vs) strict in
+    let none : list_any (λ x. shares_identifier x d) (values_of es) ≡ false = ap (λ ds. list_any (λ x. shares_identifier x d) ds) view ∙ not-true (list_any (λ x. shares_identifier x d) vs) strict in
     let here : new ≡ insert_entry identifier_cmp es d.id d = e ∙ ap (λ (k : Identifier). insert_entry identifier_cmp es k d) same in
     let values : values_of new ≡ with_segment d vs = ap values_of here ∙ inserted-values es d h keyed.each none ∙ ap (with_segment d) view in
     let set : IsSegmentSet (with_segment d vs) = after-set vs (Load d) (subst IsSegmentSet view keyed.set) strict room in

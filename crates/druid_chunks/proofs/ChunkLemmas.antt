@@ -8,29 +8,26 @@ use Rattle.std.specs.Option.{MatchOption}
 use Rattle.std.specs.Str.{bytes_eq}
 use borrow.Author.Tests.{eqb-true}
 use Rattle.std.proofs.Common.{eq-eqb, eqb}
-use Rattle.std.proofs.lemmas.Bool.{false≢true}
+use Rattle.std.proofs.lemmas.Bool.{false≢true, and_parts}
 use Rattle.std.proofs.lemmas.Slice.Eq.{bytes_eq-Decides}
 use Rattle.std.proofs.lemmas.List.Elements.{All-contains, All-from_recursion}
 use Rattle.std.proofs.lemmas.Map.Keys.{IsDistinct-head, IsDistinct-tail}
+use Rattle.druid_base.proofs.OrderLemmas.{bool_same}
 use Rattle.druid_segid.specs.Group.{Group, same_group}
 use Rattle.druid_segid.proofs.GroupLemmas.{group_same}
-use Rattle.druid_shard.proofs.MemberLemmas.{Contains-nil, Contains-cons, Contains-later, Contains-map_back}
+use Rattle.druid_base.proofs.MemberLemmas.{Contains-nil, Contains-cons, Contains-later, Contains-map_back}
 use Rattle.druid_members.specs.Members.{Member}
 use Rattle.druid_chunks.specs.Chunks.{Chunk, AreChunks, members_at, HasNoChunk}
 
 -- ---- the test of equal groups
-
-both : (a b : Bool) → (a && b) ≡ true → (a ≡ true) × (b ≡ true)
-both true b e = (refl, e)
-both false b e = absurd (false≢true e)
 
 both_back : (a b : Bool) → a ≡ true → b ≡ true → (a && b) ≡ true
 both_back a b e f = ap (λ (x : Bool). x && b) e ∙ f
 
 pub same_group-exact : (g h : Group) → same_group g h ≡ true → g ≡ h
 same_group-exact g h e =
-    let p = both (eqb g.interval.start h.interval.start && eqb g.interval.end h.interval.end) (bytes_eq g.version h.version) e in
-    let q = both (eqb g.interval.start h.interval.start) (eqb g.interval.end h.interval.end) p.0 in
+    let p = and_parts (eqb g.interval.start h.interval.start && eqb g.interval.end h.interval.end) (bytes_eq g.version h.version) e in
+    let q = and_parts (eqb g.interval.start h.interval.start) (eqb g.interval.end h.interval.end) p.0 in
     group_same g h (eqb-true _ _ q.0) (eqb-true _ _ q.1) ((bytes_eq-Decides g.version h.version).0 p.1)
 
 pub same_group-itself : (g : Group) → same_group g g ≡ true
@@ -48,15 +45,10 @@ same_group-other g h other = by_test (same_group g h) refl where
   by_test true e = absurd (other (same_group-exact g h e))
   by_test false e = e
 
-from_true : (a b : Bool) → (a ≡ true → b ≡ true) → (b ≡ true → a ≡ true) → a ≡ b
-from_true true b f g = sym (f refl)
-from_true false true f g = g refl
-from_true false false f g = refl
-
 pub same_group-equiv : IsEquivalence same_group
 same_group-equiv = record {
   refl = same_group-itself;
-  symm = λ g h. from_true (same_group g h) (same_group h g) (λ e. same_group-same h g (sym (same_group-exact g h e))) (λ e. same_group-same g h (sym (same_group-exact h g e)));
+  symm = λ g h. bool_same (same_group g h) (same_group h g) (λ e. same_group-same h g (sym (same_group-exact g h e))) (λ e. same_group-same g h (sym (same_group-exact h g e)));
   congr = λ g h k e. ap (λ (x : Group). same_group x k) (same_group-exact g h e);
 }
 

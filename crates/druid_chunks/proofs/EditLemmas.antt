@@ -8,7 +8,7 @@ use Rattle.std.proofs.lemmas.List.Elements.{All-cons, All-tail, All-set}
 use Rattle.std.proofs.lemmas.List.Sorted.{All-permutation, IsPermutation-insert, IsPermutation-remove, IsPermutation-map}
 use Rattle.std.proofs.lemmas.Map.Keys.{IsDistinct-cons, IsDistinct-tail, IsDistinct-IsPermutation}
 use Rattle.druid_segid.specs.Group.{Group, same_group}
-use Rattle.druid_shard.proofs.MemberLemmas.{Contains-nil, Contains-cons, Contains-later, Contains-insert}
+use Rattle.druid_base.proofs.MemberLemmas.{Contains-nil, Contains-cons, Contains-later, Contains-insert}
 use Rattle.druid_members.specs.Members.{Member, HasMember, HoldsPlace, IsAt, AllAt, Adds, RemovesPlace, RemovesOne, SameMembers, ServedOnce}
 use Rattle.druid_chunks.specs.Chunks.{Chunk, AreChunks, members_at, HasNoChunk}
 use Rattle.druid_chunks.proofs.ChunkLemmas.{at_tail, head_alone, members_at-none, members_at-of, same_group-equiv, same_group-other}

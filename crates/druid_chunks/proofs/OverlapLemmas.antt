@@ -10,7 +10,7 @@ use Rattle.std.proofs.lemmas.Nat.{pow_pos}
 use Rattle.druid_time.specs.Extent.{Extent, IsExtent, Share}
 use Rattle.druid_time.specs.Instant.{instant_count}
 use Rattle.druid_segid.specs.Group.{Group, same_group}
-use Rattle.druid_shard.proofs.MemberLemmas.{Contains-nil, Contains-cons, Contains-later}
+use Rattle.druid_base.proofs.MemberLemmas.{Contains-nil, Contains-cons, Contains-later}
 use Rattle.druid_chunks.specs.Chunks.{Chunk, AreChunks, Overlaps, IsOverlapOf, AreOverlapsOf}
 use Rattle.druid_chunks.specs.Places.{place_below, chunk_place, length_class, AreInOrder}
 use Rattle.druid_chunks.proofs.ChunkLemmas.{same_group-equiv, same_group-exact, same_group-same}

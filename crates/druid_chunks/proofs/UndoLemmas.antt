@@ -9,7 +9,7 @@ use Rattle.std.proofs.lemmas.Map.Entries.{length-keys_of}
 use Rattle.std.proofs.lemmas.Map.Made.{length-le_from_is_member}
 use Rattle.std.proofs.lemmas.Map.Views.{Contains-from_any, list_any-from_Contains}
 use Rattle.druid_segid.specs.Group.{Group, same_group}
-use Rattle.druid_shard.proofs.MemberLemmas.{Contains-nil, Contains-cons, Contains-later, Contains-map, Contains-map_back}
+use Rattle.druid_base.proofs.MemberLemmas.{Contains-nil, Contains-cons, Contains-later, Contains-map, Contains-map_back}
 use Rattle.druid_members.specs.Members.{Member, HasMember}
 use Rattle.druid_chunks.specs.Chunks.{Chunk, AreChunks, members_at, HasNoChunk}
 use Rattle.druid_chunks.specs.Edits.{Saved, AreSaved, HasSaved, IsSaved, chunk_before, chunks_before, members_in}

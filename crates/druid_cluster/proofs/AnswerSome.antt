@@ -8,6 +8,7 @@ use Rattle.std.proofs.lemmas.Option.{same_Some, none-some}
 use Rattle.std.proofs.lemmas.Str.{IsUtf8-from_is_utf8, is_utf8-from_IsUtf8}
 use Rattle.serde_json.specs.Data.{Data}
 use Rattle.serde_json.specs.Read.{read}
+use Rattle.druid_base.proofs.StepLemmas.{stepped}
 use Rattle.druid_time.specs.Extent.{Extent}
 use Rattle.druid_time.specs.Texts.{extent_at}
 use Rattle.druid_time.specs.declared.fault.TimeFault.{TimeFault}
@@ -15,8 +16,9 @@ use Rattle.druid_time.specs.declared.fault.TimeFault.TheVariants as times
 use Rattle.druid_segid.specs.Names.{IsName, max_name, is_name_byte}
 use Rattle.druid_shard.specs.declared.reply.Body.{Body}
 use Rattle.druid_shard.specs.declared.reply.Body.TheVariants.{Delta, Snapshot, Page, Reset}
-use Rattle.druid_time.specs.Options.{◌>>=◌}
-use Rattle.druid_inventory.specs.Entry.{Entry, fresh, HaveOwnNames}
+use Rattle.druid_base.specs.Options.{◌>>=◌}
+use Rattle.druid_inventory.specs.Entry.{Entry, fresh}
+use Rattle.druid_base.specs.Distinct.{AreDistinct}
 use Rattle.druid_inventory.specs.Step.{Steps, Refuses}
 use Rattle.druid_inventory.specs.declared.fault.Outcome.{Outcome}
 use Rattle.druid_inventory.specs.declared.fault.ApplyFault.{ApplyFault}
@@ -33,8 +35,8 @@ use Rattle.druid_cluster.specs.Seen.{AreAmong}
 use Rattle.druid_cluster.specs.declared.reason.BadLine.TheVariants.{TooLong, NotJson}
 use Rattle.druid_cluster.specs.Serving.{TakesBrokers, TakesReply, LooksUp, Holds, JoinsInto, Does, Answers, IsNoCommand, IsAnswered, IsBad, fault_in, max_line}
 use Rattle.druid_cluster.specs.declared.answer.Refusal.TheVariants as refusals
-use Rattle.druid_cluster.specs.declared.answer.Answer.{Answer}
-use Rattle.druid_cluster.specs.declared.answer.Answer.TheVariants.{Refused, Taken, Stepped, Found, Marked, Joined, Compared}
+use Rattle.druid_cluster.specs.declared.answer.CommandAnswer.{CommandAnswer}
+use Rattle.druid_cluster.specs.declared.answer.CommandAnswer.TheVariants.{Refused, Taken, Stepped, Found, Marked, Joined, Compared}
 use Rattle.druid_cluster.proofs.Decided.{Decided, by_test, all_decided, own_decided}
 use Rattle.druid_cluster.proofs.ReadSome.{IsReadSo, read_some}
 use Rattle.druid_cluster.proofs.FoundSome.{found_some}
@@ -56,9 +58,9 @@ name_decided text =
           inl (record { not_empty = omega (arith, some); short = short; bytes = each })
       by (inl some) (inr short) (inr none) = inr (λ name. none name.bytes)
 
-brokers_some : (o : Opening) → (answer : Answer) × (next : Option (List (List Entry))) × TakesBrokers o answer next
+brokers_some : (o : Opening) → (answer : CommandAnswer) × (next : Option (List (List Entry))) × TakesBrokers o answer next
 brokers_some o = by (all_decided IsName name_decided o.names) (own_decided (λ (n : List ℕ). n) o.names) where
-  by : Decided (All IsName o.names) → Decided (HaveOwnNames o.names) → (answer : Answer) × (next : Option (List (List Entry))) × TakesBrokers o answer next
+  by : Decided (All IsName o.names) → Decided (AreDistinct o.names) → (answer : CommandAnswer) × (next : Option (List (List Entry))) × TakesBrokers o answer next
   by (inr none) own = (Refused refusals.BadName, None, (none, refl))
   by (inl all) (inr twice) = (Refused refusals.DoubledNode, None, (all, twice, refl))
   by (inl all) (inl own) = (Taken o.count, Some (replicate o.count (map fresh o.names)), ((all, own), refl, refl))
@@ -66,7 +68,7 @@ brokers_some o = by (all_decided IsName name_decided o.names) (own_decided (λ (
 -- ---- replies
 
 abbrev ReplyAnswer : List Entry → ℕ → Data → Type 0
-ReplyAnswer inventory node d = (answer : Answer) × (next : List Entry) × TakesReply inventory node d answer next
+ReplyAnswer inventory node d = (answer : CommandAnswer) × (next : List Entry) × TakesReply inventory node d answer next
 
 -- a reply that an entry refuses; no entry refuses one for an unknown node or for lack of memory
 refused_some : (inventory : List Entry) (node : ℕ) (d : Data) (body : Body) → IsRead d (Ok body) → (e : Entry) → slice_get inventory node ≡ Some e
@@ -118,9 +120,9 @@ reply_some inventory node d = by (read_some d) where
 
 -- ---- lookups
 
-lookup_some : (inventory : List Entry) (interval source : List ℕ) → (answer : Answer) × LooksUp inventory interval source answer
+lookup_some : (inventory : List Entry) (interval source : List ℕ) → (answer : CommandAnswer) × LooksUp inventory interval source answer
 lookup_some inventory interval source = by (extent_at interval) refl (name_decided source) where
-  by : (r : Result Extent TimeFault) → extent_at interval ≡ r → Decided (IsName source) → (answer : Answer) × LooksUp inventory interval source answer
+  by : (r : Result Extent TimeFault) → extent_at interval ≡ r → Decided (IsName source) → (answer : CommandAnswer) × LooksUp inventory interval source answer
   by (Err times.NotATime) is name = (Refused refusals.NotATime, is)
   by (Err times.OutOfRange) is name = (Refused refusals.OutOfRange, is)
   by (Err times.Empty) is name = (Refused refusals.Empty, is)
@@ -133,7 +135,7 @@ lookup_some inventory interval source = by (extent_at interval) refl (name_decid
 
 join_some_answer : (brokers : List (List Entry)) (into : ℕ) (own with : List Entry)
     → ((joined : List Entry) × IsJoin own with joined) ⊎ ((f : JoinFault) × RefusesJoin own with f)
-    → (answer : Answer) × (next : List (List Entry)) × JoinsInto brokers into own with answer next
+    → (answer : CommandAnswer) × (next : List (List Entry)) × JoinsInto brokers into own with answer next
 join_some_answer brokers into own with (inl x) = (Joined into, slice_set brokers into x.0, inl (x.0, x.1, refl, refl))
 join_some_answer brokers into own with (inr (joins.OtherNodes, h)) =
     (Refused refusals.OtherNodes, brokers, inr (joins.OtherNodes, h, refusals.OtherNodes, refl, refl, refl))
@@ -158,10 +160,6 @@ among_test count c e h = by (is_among count c) refl where
       subst (AreAmong count) same (among_so count c is)
   by false is = absurd (none-some e (sym (ap (λ (t : Bool). if t then Some c else None) is) ∙ h))
 
-stepped : {A B : Type 0} (f : A → Option B) (o : Option A) (y : B) → (o >>= f) ≡ Some y → (x : A) × (o ≡ Some x) × (f x ≡ Some y)
-stepped f None y e = absurd (none-some y e)
-stepped f (Some x) y e = (x, refl, e)
-
 -- a command that is read is of brokers that stand
 command_among : (count : ℕ) (d : Data) (c : Command) → command_at count d ≡ Some c → AreAmong count c
 unfolding command_at
@@ -174,7 +172,7 @@ held_at [] broker l = absurd (omega (arith, l))
 held_at (x ∷ xs) zero l = (x, refl)
 held_at (x ∷ xs) (suc broker) l = held_at xs broker (omega (arith, l))
 
-does_some : (brokers : List (List Entry)) (command : Command) → AreAmong (length brokers) command → (answer : Answer) × (next : List (List Entry)) × Does brokers command answer next
+does_some : (brokers : List (List Entry)) (command : Command) → AreAmong (length brokers) command → (answer : CommandAnswer) × (next : List (List Entry)) × Does brokers command answer next
 does_some brokers (reply broker node body) l =
     let held = held_at brokers broker l in
     let all = reply_some held.0 node body in
@@ -200,7 +198,7 @@ does_some brokers (equal left right) l =
     )
 
 abbrev IsAnswerable : Option (List (List Entry)) → Data → Type 0
-IsAnswerable state d = (answer : Answer) × (next : Option (List (List Entry))) × Answers state d answer next
+IsAnswerable state d = (answer : CommandAnswer) × (next : Option (List (List Entry))) × Answers state d answer next
 
 given_some : (state : Option (List (List Entry))) (d : Data) → IsNoCommand state d ⊎ IsAnswerable state d
 given_some None d = by (opening_at d) refl where
@@ -215,15 +213,15 @@ given_some (Some brokers) d = by (command_at (length brokers) d) refl where
       inr (all.0, Some all.1, (command, some, all.1, refl, all.2))
 
 -- each line is bad or has an answer
-pub line_some : (state : Option (List (List Entry))) (line : List ℕ) → IsBad state line ⊎ ((answer : Answer) × (next : Option (List (List Entry))) × IsAnswered state line answer next)
+pub line_some : (state : Option (List (List Entry))) (line : List ℕ) → IsBad state line ⊎ ((answer : CommandAnswer) × (next : Option (List (List Entry))) × IsAnswered state line answer next)
 line_some state line =
     by (cases_lt max_line (length line)) (by_test (IsUtf8 line) (is_utf8 line) (IsUtf8-from_is_utf8 line) (is_utf8-from_IsUtf8 line)) (read line) refl where
-      given : length line ≤ max_line → IsUtf8 line → (d : Data) → read line ≡ Some d → IsNoCommand state d ⊎ IsAnswerable state d → IsBad state line ⊎ ((answer : Answer) × (next : Option (List (List Entry))) × IsAnswered state line answer next)
+      given : length line ≤ max_line → IsUtf8 line → (d : Data) → read line ≡ Some d → IsNoCommand state d ⊎ IsAnswerable state d → IsBad state line ⊎ ((answer : CommandAnswer) × (next : Option (List (List Entry))) × IsAnswered state line answer next)
       given short text d is (inl none) =
           inl (fault_in state d, inr (inr (short, d, (text, is), none, refl)))
       given short text d is (inr all) = inr (all.0, all.1, (short, d, (text, is), all.2))
 
-      by : (max_line < length line) ⊎ (length line ≤ max_line) → Decided (IsUtf8 line) → (o : Option Data) → read line ≡ o → IsBad state line ⊎ ((answer : Answer) × (next : Option (List (List Entry))) × IsAnswered state line answer next)
+      by : (max_line < length line) ⊎ (length line ≤ max_line) → Decided (IsUtf8 line) → (o : Option Data) → read line ≡ o → IsBad state line ⊎ ((answer : CommandAnswer) × (next : Option (List (List Entry))) × IsAnswered state line answer next)
       by (inl long) text o is = inl (TooLong, inl (long, refl))
       by (inr short) (inr none) o is = inl (NotJson, inr (inl (short, (λ d h. absurd (none h.0)), refl)))
       by (inr short) (inl text) None is = inl (NotJson, inr (inl (short, (λ d h. let other : read line ≡ Some d = h.1 in absurd cc), refl)))

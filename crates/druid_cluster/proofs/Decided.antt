@@ -16,7 +16,7 @@ use Rattle.druid_segid.specs.Identifier.{identifier_text}
 use Rattle.druid_segid.proofs.OrderLemmas.{slice_cmp-Equal}
 use Rattle.druid_shard.specs.Described.{Described}
 use Rattle.druid_shard.specs.Reply.{IsBefore, AreSorted, HaveOwnIdentifiers}
-use Rattle.druid_shard.proofs.MemberLemmas.{Contains-cons, Contains-later, Contains-nil}
+use Rattle.druid_base.proofs.MemberLemmas.{Contains-cons, Contains-later, Contains-nil}
 use Rattle.druid_cluster.proofs.OrderOnce.{by_identifier}
 
 abbrev pub Decided : Type 0 → Type 0

@@ -3,9 +3,9 @@ use Rattle.std.proofs.Common.{◌≡◌, ℕ, List, [], ◌∷◌, Option, Some,
 use Rattle.serde_json.specs.Find.{as_str}
 use Rattle.serde_json.specs.View.{view, items_view}
 use Rattle.serde_json.specs.declared.value.Value.{Value}
-use Rattle.druid_time.specs.Options.{◌>>=◌}
-use Rattle.druid_shard.specs.Each.{each_of}
-use Rattle.druid_shard.proofs.EachLemmas.{Reads, not_all_read}
+use Rattle.druid_base.specs.Options.{◌>>=◌}
+use Rattle.druid_base.specs.Each.{each_of}
+use Rattle.druid_base.proofs.EachLemmas.{Reads, not_all_read}
 use Rattle.druid_cluster.specs.Seen.{texts_in}
 
 text_first : (o : Option (List ℕ)) (vs : List Value) → (Reads as_str vs ≡ true → each_of as_str (items_view vs) ≡ Some (texts_in vs))

@@ -12,7 +12,7 @@ use Rattle.druid_segid.specs.Group.{Group, same_group}
 use Rattle.druid_segid.proofs.GroupLemmas.{Outranks-one_way}
 use Rattle.druid_shard.specs.Described.{Described}
 use Rattle.druid_members.specs.Members.{Member, HasPartition}
-use Rattle.druid_shard.proofs.MemberLemmas.{Contains-cons, Contains-later, Contains-nil, Contains-map, Contains-map_back}
+use Rattle.druid_base.proofs.MemberLemmas.{Contains-cons, Contains-later, Contains-nil, Contains-map, Contains-map_back}
 use Rattle.druid_timeline.specs.Holding.{Held, held_of, members_of}
 use Rattle.druid_timeline.specs.Visible.{IsVisible}
 use Rattle.druid_timeline.specs.Pieces.{Reported, Shown, shown_of, AreRuns, Shows, ArePiecesIn, ArePartitions}

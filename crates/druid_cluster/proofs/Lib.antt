@@ -18,3 +18,4 @@ pub mod FoundSome
 pub mod ReadSome
 pub mod AnswerSome
 pub mod RunSome
+pub mod ReasonLemmas

@@ -19,11 +19,11 @@ use Rattle.druid_sync.specs.declared.fault.SyncFault.{SyncFault}
 use Rattle.druid_sync.specs.declared.fault.SyncFault.TheVariants as replies
 use Rattle.druid_cluster.specs.Commands.{Opening, Command, reply, lookup, marks, join, equal}
 use Rattle.druid_cluster.specs.Nodes.{HaveOneList}
-use Rattle.druid_cluster.specs.Serving.{TakesReply, Holds, JoinsInto, Does, Answers, IsAnswered, unread, not_applied, not_joined}
+use Rattle.druid_cluster.specs.Serving.{TakesReply, Holds, JoinsInto, Does, Answers, IsAnswered, read_refusal, not_applied, not_joined}
 use Rattle.druid_cluster.specs.declared.answer.Refusal.{Refusal}
 use Rattle.druid_cluster.specs.declared.answer.Refusal.TheVariants as refusals
-use Rattle.druid_cluster.specs.declared.answer.Answer.{Answer}
-use Rattle.druid_cluster.specs.declared.answer.Answer.TheVariants.{Refused}
+use Rattle.druid_cluster.specs.declared.answer.CommandAnswer.{CommandAnswer}
+use Rattle.druid_cluster.specs.declared.answer.CommandAnswer.TheVariants.{Refused}
 use Rattle.druid_cluster.proofs.AnswerOnce.{OfBrokers, brokers_tree, OfEntry, OfBody, OfRead, reply_tree}
 
 abbrev IsOf : List (List ℕ) → List Entry → Type 0
@@ -54,16 +54,16 @@ names_set [] i e new f h = refl
 names_set (x ∷ es) zero e new f h = ap (λ (n : List ℕ). n ∷ names_of es) (h ∙ sym (ap (λ (y : Entry). y.name) (same_Some x e f)))
 names_set (x ∷ es) (suc i) e new f h = ap (λ (ns : List (List ℕ)). x.name ∷ ns) (names_set es i e new f h)
 
-entry_names : (inventory : List Entry) (node : ℕ) (b : Body) (e : Entry) (answer : Answer) (new : List Entry) → slice_get inventory node ≡ Some e
+entry_names : (inventory : List Entry) (node : ℕ) (b : Body) (e : Entry) (answer : CommandAnswer) (new : List Entry) → slice_get inventory node ≡ Some e
     → OfEntry inventory node b e answer new → names_of new ≡ names_of inventory
 entry_names inventory node b e answer new found (inl x) = ap names_of x.5
 entry_names inventory node b e answer new found (inr x) = ap names_of x.4 ∙ names_set inventory node e x.1 found (Steps-name e b x.0 x.1 x.2)
 
-body_names : (inventory : List Entry) (node : ℕ) (b : Body) (answer : Answer) (new : List Entry) → OfBody inventory node b answer new → names_of new ≡ names_of inventory
+body_names : (inventory : List Entry) (node : ℕ) (b : Body) (answer : CommandAnswer) (new : List Entry) → OfBody inventory node b answer new → names_of new ≡ names_of inventory
 body_names inventory node b answer new (inl x) = ap names_of x.2
 body_names inventory node b answer new (inr x) = entry_names inventory node b x.0 answer new x.1 x.2
 
-read_names : (inventory : List Entry) (node : ℕ) (r : Result Body SyncFault) (answer : Answer) (new : List Entry) → OfRead inventory node r answer new → names_of new ≡ names_of inventory
+read_names : (inventory : List Entry) (node : ℕ) (r : Result Body SyncFault) (answer : CommandAnswer) (new : List Entry) → OfRead inventory node r answer new → names_of new ≡ names_of inventory
 read_names inventory node (Ok b) answer new h = body_names inventory node b answer new h
 read_names inventory node (Err fault) answer new h = ap names_of h.3
 
@@ -77,13 +77,13 @@ put_back : (names : List (List ℕ)) (brokers next : List (List Entry)) (i : ℕ
 put_back names brokers next i old new all h same is =
     subst (All (IsOf names)) (sym is) (All-set (IsOf names) brokers i new (same ∙ held_of_all names brokers i old all h) all)
 
-joined_all : (names : List (List ℕ)) (brokers next : List (List Entry)) (into : ℕ) (own with : List Entry) (answer : Answer) → All (IsOf names) brokers → Holds brokers into own
+joined_all : (names : List (List ℕ)) (brokers next : List (List Entry)) (into : ℕ) (own with : List Entry) (answer : CommandAnswer) → All (IsOf names) brokers → Holds brokers into own
     → JoinsInto brokers into own with answer next → All (IsOf names) next
 joined_all names brokers next into own with answer all h (inl x) =
     put_back names brokers next into own x.0 all h (ap names_of x.1.entries ∙ later_each-names own with x.1.same_nodes) x.3
 joined_all names brokers next into own with answer all h (inr x) = subst (All (IsOf names)) (sym x.5) all
 
-does_keep : (names : List (List ℕ)) (brokers next : List (List Entry)) (command : Command) (answer : Answer) → All (IsOf names) brokers → Does brokers command answer next → All (IsOf names) next
+does_keep : (names : List (List ℕ)) (brokers next : List (List Entry)) (command : Command) (answer : CommandAnswer) → All (IsOf names) brokers → Does brokers command answer next → All (IsOf names) next
 does_keep names brokers next (reply broker node body) answer all x =
     let tree = reply_tree x.0 node body answer x.1 x.3 in
     put_back names brokers next broker x.0 x.1 all x.2 (read_names x.0 node tree.0 answer x.1 tree.2) x.4
@@ -92,23 +92,23 @@ does_keep names brokers next (marks broker) answer all x = subst (All (IsOf name
 does_keep names brokers next (join from into) answer all x = joined_all names brokers next into x.0 x.1 answer all x.2 x.4
 does_keep names brokers next (equal left right) answer all x = subst (All (IsOf names)) (sym x.7) all
 
-taken_one : (o : Opening) (answer : Answer) (next : Option (List (List Entry))) → OfBrokers o answer next → HaveOneList next
+taken_one : (o : Opening) (answer : CommandAnswer) (next : Option (List (List Entry))) → OfBrokers o answer next → HaveOneList next
 taken_one o answer next (inl x) = subst HaveOneList (sym x.2) tt
 taken_one o answer next (inr (_, inl x)) = subst HaveOneList (sym x.2) tt
 taken_one o answer next (inr (_, inr x)) =
     subst HaveOneList (sym x.2) (names_of (map fresh o.names), All-replicate (IsOf (names_of (map fresh o.names))) o.count (map fresh o.names) refl)
 
-given_keeps : (state next : Option (List (List Entry))) (d : Data) (answer : Answer) → HaveOneList state → Answers state d answer next → HaveOneList next
+given_keeps : (state next : Option (List (List Entry))) (d : Data) (answer : CommandAnswer) → HaveOneList state → Answers state d answer next → HaveOneList next
 given_keeps None next d answer one x = taken_one x.0 answer next (brokers_tree x.0 answer next x.2)
 given_keeps (Some brokers) next d answer one x =
     subst HaveOneList (sym x.3) (one.0, does_keep one.0 brokers x.2 x.0 answer one.1 x.4)
 
-pub line_keeps : (state next : Option (List (List Entry))) (line : List ℕ) (answer : Answer) → HaveOneList state → IsAnswered state line answer next → HaveOneList next
+pub line_keeps : (state next : Option (List (List Entry))) (line : List ℕ) (answer : CommandAnswer) → HaveOneList state → IsAnswered state line answer next → HaveOneList next
 line_keeps state next line answer one x = given_keeps state next x.1 answer one x.3
 
 -- ---- no join is refused for other nodes
 
-unread_other : (fault : SyncFault) → unread fault ≡ Some refusals.OtherNodes → ⊥
+unread_other : (fault : SyncFault) → read_refusal fault ≡ Some refusals.OtherNodes → ⊥
 unread_other replies.NotJson e = absurd cc
 unread_other replies.Shape e = absurd cc
 unread_other replies.TooMany e = absurd cc
@@ -154,6 +154,6 @@ given_other : (state next : Option (List (List Entry))) (d : Data) → HaveOneLi
 given_other None next d one x = x.2
 given_other (Some brokers) next d one x = does_other one.0 brokers x.2 x.0 one.1 x.4
 
-pub line_other : (state next : Option (List (List Entry))) (line : List ℕ) (answer : Answer) → HaveOneList state → IsAnswered state line answer next → answer ≡ Refused refusals.OtherNodes → ⊥
+pub line_other : (state next : Option (List (List Entry))) (line : List ℕ) (answer : CommandAnswer) → HaveOneList state → IsAnswered state line answer next → answer ≡ Refused refusals.OtherNodes → ⊥
 line_other state next line answer one x e =
-    given_other state next x.1 one (subst (λ (a : Answer). Answers state x.1 a next) e x.3)
+    given_other state next x.1 one (subst (λ (a : CommandAnswer). Answers state x.1 a next) e x.3)

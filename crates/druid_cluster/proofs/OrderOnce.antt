@@ -8,7 +8,7 @@ use Rattle.druid_base.proofs.ListLemmas.{Contains-here, IsStrictlyIncreasing-tai
 use Rattle.druid_segid.specs.Identifier.{identifier_text}
 use Rattle.druid_shard.specs.Described.{Described}
 use Rattle.druid_shard.specs.Reply.{IsBefore, AreSorted}
-use Rattle.druid_shard.proofs.MemberLemmas.{Contains-cons, Contains-later, Contains-nil}
+use Rattle.druid_base.proofs.MemberLemmas.{Contains-cons, Contains-later, Contains-nil}
 use Rattle.druid_shard.proofs.SortedLemmas.{AreSorted-later}
 
 -- an order of lists: the first comes before each later one, never the other way round

@@ -7,7 +7,7 @@ use Rattle.serde_json.specs.View.{items_of}
 use Rattle.serde_json.specs.Written.{compact_text, items_text, comma_if}
 use Rattle.druid_timeline.specs.Pieces.{Reported}
 use Rattle.druid_cluster.specs.Answers.{piece_data, pieces_data, answer_data, line_text}
-use Rattle.druid_cluster.specs.declared.answer.Answer.TheVariants.{Found}
+use Rattle.druid_cluster.specs.declared.answer.CommandAnswer.TheVariants.{Found}
 
 -- the line from these pieces on
 abbrev pub rest_of : Bool → List Reported → List ℕ

@@ -7,8 +7,8 @@ use Rattle.druid_timeline.specs.Pieces.{Reported}
 use Rattle.druid_shard.specs.Mark.{Point}
 use Rattle.druid_shard.specs.Json.{mark_data}
 use Rattle.druid_cluster.specs.Answers.{parts_data, piece_data, pieces_data, marks_data, answer_data}
-use Rattle.druid_cluster.specs.declared.answer.Answer.{Answer}
-use Rattle.druid_cluster.specs.declared.answer.Answer.TheVariants.{Refused, Taken, Stepped, Found, Marked, Joined, Compared}
+use Rattle.druid_cluster.specs.declared.answer.CommandAnswer.{CommandAnswer}
+use Rattle.druid_cluster.specs.declared.answer.CommandAnswer.TheVariants.{Refused, Taken, Stepped, Found, Marked, Joined, Compared}
 
 numbers_plain : (ps : List ℕ) → items_have_float (items_of (map (λ p. number (unsigned p)) ps)) ≡ false
 numbers_plain [] = refl
@@ -27,7 +27,7 @@ unfolding mark_data
 marks_plain [] = refl
 marks_plain (m ∷ ms) = marks_plain ms
 
-pub answer_plain : (a : Answer) → has_float (answer_data a) ≡ false
+pub answer_plain : (a : CommandAnswer) → has_float (answer_data a) ≡ false
 unfolding answer_data mark_data pieces_data marks_data
 answer_plain (Refused refusal) = refl
 answer_plain (Taken count) = refl

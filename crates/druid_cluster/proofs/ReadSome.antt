@@ -8,30 +8,26 @@ use Rattle.std.proofs.lemmas.List.Sorted.{length_permutation}
 use Rattle.serde_json.specs.Data.{Data, Items}
 use Rattle.serde_json.specs.Find.{get, as_null, as_bool, as_array}
 use Rattle.druid_base.proofs.OptionLemmas.{given_so}
-use Rattle.druid_time.specs.Options.{◌>>=◌}
+use Rattle.druid_base.proofs.StepLemmas.{each_next}
+use Rattle.druid_base.specs.Options.{◌>>=◌}
 use Rattle.druid_segid.specs.Identifier.{identifier_text}
 use Rattle.druid_shard.specs.Described.{Described}
-use Rattle.druid_shard.specs.Json.{number_at, limited_at}
+use Rattle.druid_base.specs.Fields.{number_at, limited_at}
 use Rattle.druid_shard.specs.Mark.{Point}
 use Rattle.druid_shard.specs.Reply.{max_segments, max_page, max_pages, max_changes, AreSorted, HaveOwnIdentifiers, IsAsFar, IsFull, IsPageOf}
 use Rattle.druid_shard.specs.declared.change.Change.{Change}
 use Rattle.druid_shard.specs.declared.reply.Body.{Body}
 use Rattle.druid_shard.specs.declared.reply.Body.TheVariants.{Delta, Snapshot, Page, Reset}
-use Rattle.druid_shard.specs.Each.{each_of}
+use Rattle.druid_base.specs.Each.{each_of}
 use Rattle.druid_sync.specs.Read.{Form, followed, whole, paged, begun_again, Five, mark_at, change_at, load_at, cause_at, none_in, five_at, reset_at, snapshot_at, delta_at, changes_at, page_at, paged_at, tells_page, unpaged_at, form_at, Answers}
 use Rattle.druid_sync.specs.declared.fault.SyncFault.{SyncFault}
 use Rattle.druid_sync.specs.declared.fault.SyncFault.TheVariants as faults
-use Rattle.druid_cluster.specs.Serving.{unread}
+use Rattle.druid_cluster.specs.Serving.{read_refusal}
 use Rattle.druid_cluster.specs.declared.answer.Refusal.{Refusal}
 use Rattle.druid_cluster.specs.declared.answer.Refusal.TheVariants as refusals
 use Rattle.druid_cluster.proofs.Decided.{Decided, own_decided, sorted_decided, in_order}
 
 -- ---- the mark of a snapshot
-
--- what holds of each outcome of the step on the value holds of the step
-each_next : {A B : Type 0} (P : B → Type 0) (o : Option A) (f : A → Option B) → ((x : A) → o ≡ Some x → (y : B) → f x ≡ Some y → P y) → (y : B) → (o >>= f) ≡ Some y → P y
-each_next P None f each y e = absurd cc
-each_next P (Some x) f each y e = each x refl y e
 
 abbrev IsMarked : Point → Type 0
 IsMarked m = 1 ≤ m.incarnation
@@ -172,7 +168,7 @@ form_marked d =
 abbrev pub IsReadSo : Option Form → Type 0
 IsReadSo f =
     ((body : Body) × Answers f (Ok body))
-    ⊎ ((fault : SyncFault) × (refusal : Refusal) × Answers f (Err fault) × (unread fault ≡ Some refusal))
+    ⊎ ((fault : SyncFault) × (refusal : Refusal) × Answers f (Err fault) × (read_refusal fault ≡ Some refusal))
 
 far_decided : (from to : Point) (n : ℕ) → Decided (IsAsFar from to n)
 far_decided from to n = by (cases_eq to.incarnation from.incarnation) (cases_eq to.count (from.count + n)) where

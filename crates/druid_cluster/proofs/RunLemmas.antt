@@ -12,7 +12,7 @@ use Rattle.druid_cluster.specs.Answers.{line_text}
 use Rattle.druid_cluster.specs.Serving.{IsAnswered, IsBadFor, max_line}
 use Rattle.druid_cluster.specs.Lines.{lines_of}
 use Rattle.druid_cluster.specs.Runs.{End, done, bad_at, broken_at, IsFront, Runs, Writes, EndsBy, EndsFor, TellsLine}
-use Rattle.druid_cluster.specs.declared.answer.Answer.{Answer}
+use Rattle.druid_cluster.specs.declared.answer.CommandAnswer.{CommandAnswer}
 use Rattle.druid_cluster.specs.declared.reason.BadLine.{BadLine}
 use Rattle.druid_cluster.specs.declared.reason.BadLine.TheVariants.{TooLong as LineTooLong}
 use Rattle.druid_cluster.specs.declared.reason.Reason.{Reason}
@@ -37,7 +37,7 @@ starts None b = tt
 starts (Some xs) b = ([], Appends-nil b, λ rest end run. run)
 
 -- one more line is answered
-pub goes_on : (a l m b w v : Option (List ℕ)) (state next : Option (List (List Entry))) (n : ℕ) (line : List ℕ) (answer : Answer)
+pub goes_on : (a l m b w v : Option (List ℕ)) (state next : Option (List (List Entry))) (n : ℕ) (line : List ℕ) (answer : CommandAnswer)
     → UnderWay a l b w state n → IfSome l (λ ys. (0 < length ys) × (line ≡ line_at ys) × (m ≡ Some (drop_through 10 ys)))
     → IsAnswered state line answer next → Appends w v (line_text answer) → UnderWay a m b v next (n + 1)
 goes_on None l m b w v state next n line answer way found answered grown = tt
@@ -158,7 +158,7 @@ found_line TooLong l m line e found = absurd cc
 found_line AtEnd l m line e found = absurd cc
 
 -- what a writer that failed has got of an answer
-pub reported_front : (state next : Option (List (List Entry))) (line : List ℕ) (answer : Answer) (number : ℕ) (reason : Reason) (w v : Option (List ℕ))
+pub reported_front : (state next : Option (List (List Entry))) (line : List ℕ) (answer : CommandAnswer) (number : ℕ) (reason : Reason) (w v : Option (List ℕ))
     → IsAnswered state line answer next → AppendsFront w v (line_text answer) → TellsLine state line number w v (Device number) reason
 reported_front state next line answer number reason w v answered grown =
     (refl, grown.0, inr (answer, next, answered, grown.1, grown.2, grown.3), grown.4)

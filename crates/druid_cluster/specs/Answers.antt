@@ -11,8 +11,8 @@ use Rattle.druid_inventory.specs.declared.fault.Outcome.{Outcome}
 use Rattle.druid_inventory.specs.declared.fault.Outcome.TheVariants.{Moved, AlreadyHave, AskWhole, AskPages}
 use Rattle.druid_cluster.specs.declared.answer.Refusal.{Refusal}
 use Rattle.druid_cluster.specs.declared.answer.Refusal.TheVariants as refusals
-use Rattle.druid_cluster.specs.declared.answer.Answer.{Answer}
-use Rattle.druid_cluster.specs.declared.answer.Answer.TheVariants.{Refused, Taken, Stepped, Found, Marked, Joined, Compared}
+use Rattle.druid_cluster.specs.declared.answer.CommandAnswer.{CommandAnswer}
+use Rattle.druid_cluster.specs.declared.answer.CommandAnswer.TheVariants.{Refused, Taken, Stepped, Found, Marked, Joined, Compared}
 
 -- the code that tells a refusal
 abbrev pub code_of : Refusal → List ℕ
@@ -63,7 +63,7 @@ pieces_data pieces = array (items_of (map piece_data pieces))
 unfoldable pub marks_data : List Point → Data
 marks_data marks = array (items_of (map mark_data marks))
 
-unfoldable pub answer_data : Answer → Data
+unfoldable pub answer_data : CommandAnswer → Data
 answer_data (Refused refusal) = lone (codes "refused") (string (code_of refusal))
 answer_data (Taken count) = lone (codes "brokers") (number (unsigned count))
 answer_data (Stepped mark outcome) =
@@ -75,5 +75,5 @@ answer_data (Joined broker) = lone (codes "joined") (number (unsigned broker))
 answer_data (Compared equal) = lone (codes "equal") (boolean equal)
 
 -- the line of an answer, with its line feed
-abbrev pub line_text : Answer → List ℕ
+abbrev pub line_text : CommandAnswer → List ℕ
 line_text answer = compact_text (answer_data answer) ++ 10 ∷ []

@@ -3,10 +3,10 @@ use Rattle.std.specs.Prelude.{ℕ, ◌&&◌, Bool, List, codes, length, nat_le, 
 use Rattle.std.specs.Str.{bytes_eq}
 use Rattle.serde_json.specs.Data.{Data}
 use Rattle.serde_json.specs.Find.{get, as_array, as_str}
-use Rattle.druid_shard.specs.Json.{text_at, number_at, limited_at}
+use Rattle.druid_base.specs.Fields.{text_at, number_at, limited_at}
 use Rattle.druid_inventory.specs.Entry.{max_nodes}
-use Rattle.druid_time.specs.Options.{◌>>=◌}
-use Rattle.druid_shard.specs.Each.{each_of}
+use Rattle.druid_base.specs.Options.{◌>>=◌}
+use Rattle.druid_base.specs.Each.{each_of}
 
 -- the most brokers of a script
 abbrev pub max_brokers : ℕ

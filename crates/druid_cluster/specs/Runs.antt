@@ -5,7 +5,7 @@ use Rattle.druid_inventory.specs.Entry.{Entry}
 use Rattle.druid_cluster.specs.Answers.{line_text}
 use Rattle.druid_cluster.specs.Serving.{IsAnswered, IsBadFor}
 use Rattle.druid_cluster.specs.Lines.{lines_of}
-use Rattle.druid_cluster.specs.declared.answer.Answer.{Answer}
+use Rattle.druid_cluster.specs.declared.answer.CommandAnswer.{CommandAnswer}
 use Rattle.druid_cluster.specs.declared.reason.BadLine.{BadLine}
 use Rattle.druid_cluster.specs.declared.reason.Reason.{Reason}
 use Rattle.druid_cluster.specs.declared.reason.Reason.TheVariants.{Line as ForLine}
@@ -26,7 +26,7 @@ NoDeviceFails end = (number : ℕ) → end ≡ broken_at number → ⊥
 abbrev pub IsFront : Option (List (List Entry)) → List ℕ → List ℕ → Type 0
 IsFront state line out =
     (out ≡ [])
-    ⊎ ((answer : Answer) × (next : Option (List (List Entry))) × IsAnswered state line answer next
+    ⊎ ((answer : CommandAnswer) × (next : Option (List (List Entry))) × IsAnswered state line answer next
     × (back : List ℕ) × (line_text answer ≡ out ++ back) × (0 < length back))
 
 -- from what stands, the lines from this number on are answered so, one after another, and the run ends so; a device
@@ -36,7 +36,7 @@ Runs state number [] out end = (out ≡ []) × ((end ≡ done) ⊎ (end ≡ brok
 Runs state number (line ∷ more) out end =
     ((bad : BadLine) × IsBadFor state line bad × (out ≡ []) × (end ≡ bad_at number bad))
     ⊎ (IsFront state line out × (end ≡ broken_at number))
-    ⊎ ((answer : Answer) × (next : Option (List (List Entry))) × IsAnswered state line answer next
+    ⊎ ((answer : CommandAnswer) × (next : Option (List (List Entry))) × IsAnswered state line answer next
     × (rest : List ℕ) × (out ≡ line_text answer ++ rest) × Runs next (number + 1) more rest end)
 
 -- where the input is known, the known bytes of the writer grow by what the run of its lines writes, which ends so

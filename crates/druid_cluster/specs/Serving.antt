@@ -9,7 +9,8 @@ use Rattle.druid_segid.specs.Names.{IsName}
 use Rattle.druid_shard.specs.declared.reply.Body.{Body}
 use Rattle.druid_timeline.specs.Holding.{Held, members_of}
 use Rattle.druid_timeline.specs.Pieces.{Reported, shown_of, ArePiecesIn, ArePartitions}
-use Rattle.druid_inventory.specs.Entry.{Entry, fresh, HaveOwnNames}
+use Rattle.druid_inventory.specs.Entry.{Entry, fresh}
+use Rattle.druid_base.specs.Distinct.{AreDistinct}
 use Rattle.druid_inventory.specs.Join.{IsJoin, RefusesJoin, TellsJoin}
 use Rattle.druid_inventory.specs.Step.{StepsAt, Tells}
 use Rattle.druid_inventory.specs.declared.fault.ApplyFault.{ApplyFault}
@@ -26,32 +27,32 @@ use Rattle.druid_cluster.specs.declared.reason.BadLine.TheVariants.{TooLong, Not
 use Rattle.druid_cluster.specs.Commands.{Opening, Command, reply, lookup, marks, join, equal, opening_at, command_at}
 use Rattle.druid_cluster.specs.declared.answer.Refusal.{Refusal}
 use Rattle.druid_cluster.specs.declared.answer.Refusal.TheVariants as refusals
-use Rattle.druid_cluster.specs.declared.answer.Answer.{Answer}
-use Rattle.druid_cluster.specs.declared.answer.Answer.TheVariants.{Refused, Taken, Stepped, Found, Marked, Joined, Compared}
+use Rattle.druid_cluster.specs.declared.answer.CommandAnswer.{CommandAnswer}
+use Rattle.druid_cluster.specs.declared.answer.CommandAnswer.TheVariants.{Refused, Taken, Stepped, Found, Marked, Joined, Compared}
 
 -- a list of nodes: each name is one, and none stands twice
 abbrev pub AreNodes : List (List ℕ) → Type 0
-AreNodes names = All IsName names × HaveOwnNames names
+AreNodes names = All IsName names × AreDistinct names
 
 -- that many brokers over nodes of these names, none of which was synced: a name that is none is refused before one that
 -- stands twice
-abbrev pub TakesBrokers : Opening → Answer → Option (List (List Entry)) → Type 0
+abbrev pub TakesBrokers : Opening → CommandAnswer → Option (List (List Entry)) → Type 0
 TakesBrokers o (Refused refusals.BadName) next = (All IsName o.names → ⊥) × (next ≡ None)
 TakesBrokers o (Refused refusals.DoubledNode) next =
-    All IsName o.names × (HaveOwnNames o.names → ⊥) × (next ≡ None)
+    All IsName o.names × (AreDistinct o.names → ⊥) × (next ≡ None)
 TakesBrokers o (Taken count) next =
     AreNodes o.names × (count ≡ o.count) × (next ≡ Some (replicate o.count (map fresh o.names)))
 TakesBrokers o answer next = ⊥
 
 -- what tells that a reply was not read; the value of a line is JSON, and out of memory is not reported
-abbrev pub unread : SyncFault → Option Refusal
-unread replies.NotJson = None
-unread replies.Shape = Some refusals.Shape
-unread replies.TooMany = Some refusals.TooMany
-unread replies.LengthOfDelta = Some refusals.LengthOfDelta
-unread replies.DoubledSegment = Some refusals.DoubledSegment
-unread replies.BadPage = Some refusals.BadPage
-unread replies.Memory = None
+abbrev pub read_refusal : SyncFault → Option Refusal
+read_refusal replies.NotJson = None
+read_refusal replies.Shape = Some refusals.Shape
+read_refusal replies.TooMany = Some refusals.TooMany
+read_refusal replies.LengthOfDelta = Some refusals.LengthOfDelta
+read_refusal replies.DoubledSegment = Some refusals.DoubledSegment
+read_refusal replies.BadPage = Some refusals.BadPage
+read_refusal replies.Memory = None
 
 -- what tells that a reply was not applied
 abbrev pub not_applied : ApplyFault → Option Refusal
@@ -67,12 +68,12 @@ not_applied steps.Memory = None
 -- a reply of a node is refused: it is read first, then the node is looked for, and then comes the step
 abbrev pub RefusesReply : List Entry → ℕ → Data → Refusal → Type 0
 RefusesReply inventory node d refusal =
-    ((fault : SyncFault) × IsRead d (Err fault) × (unread fault ≡ Some refusal))
+    ((fault : SyncFault) × IsRead d (Err fault) × (read_refusal fault ≡ Some refusal))
     ⊎ ((body : Body) × IsRead d (Ok body)
     × (fault : ApplyFault) × Tells inventory node body fault × (not_applied fault ≡ Some refusal))
 
 -- the broker takes a reply of a node; a refusal changes nothing
-abbrev pub TakesReply : List Entry → ℕ → Data → Answer → List Entry → Type 0
+abbrev pub TakesReply : List Entry → ℕ → Data → CommandAnswer → List Entry → Type 0
 TakesReply inventory node d (Refused refusal) next = RefusesReply inventory node d refusal × (next ≡ inventory)
 TakesReply inventory node d (Stepped mark outcome) next =
     (body : Body) × IsRead d (Ok body) × (new : Entry) × StepsAt inventory node body outcome new
@@ -92,7 +93,7 @@ IsFound inventory source asked pieces =
     × (held : List Held) × IsHoldingOf inventory source held × AreFoundIn asked held pieces)
 
 -- what is visible of a source in an interval: the interval is judged before the source
-abbrev pub LooksUp : List Entry → List ℕ → List ℕ → Answer → Type 0
+abbrev pub LooksUp : List Entry → List ℕ → List ℕ → CommandAnswer → Type 0
 LooksUp inventory interval source (Refused refusals.NotATime) = extent_at interval ≡ Err times.NotATime
 LooksUp inventory interval source (Refused refusals.OutOfRange) = extent_at interval ≡ Err times.OutOfRange
 LooksUp inventory interval source (Refused refusals.Empty) = extent_at interval ≡ Err times.Empty
@@ -113,14 +114,14 @@ abbrev pub Holds : List (List Entry) → ℕ → List Entry → Type 0
 Holds brokers broker inventory = slice_get brokers broker ≡ Some inventory
 
 -- a broker with this inventory becomes the join of it and another; a refusal changes nothing
-abbrev pub JoinsInto : List (List Entry) → ℕ → List Entry → List Entry → Answer → List (List Entry) → Type 0
+abbrev pub JoinsInto : List (List Entry) → ℕ → List Entry → List Entry → CommandAnswer → List (List Entry) → Type 0
 JoinsInto brokers into own other answer next =
     ((joined : List Entry) × IsJoin own other joined × (answer ≡ Joined into) × (next ≡ slice_set brokers into joined))
     ⊎ ((fault : JoinFault) × RefusesJoin own other fault × (refusal : Refusal) × (not_joined fault ≡ Some refusal)
     × (answer ≡ Refused refusal) × (next ≡ brokers))
 
 -- a command is answered so, and leaves these inventories
-abbrev pub Does : List (List Entry) → Command → Answer → List (List Entry) → Type 0
+abbrev pub Does : List (List Entry) → Command → CommandAnswer → List (List Entry) → Type 0
 Does brokers (reply broker node body) answer next =
     (inventory new : List Entry) × Holds brokers broker inventory × TakesReply inventory node body answer new
     × (next ≡ slice_set brokers broker new)
@@ -136,7 +137,7 @@ Does brokers (equal left right) answer next =
     × (same : Bool) × (IsTrue same ↔ (one ≡ other)) × (answer ≡ Compared same) × (next ≡ brokers)
 
 -- JSON is answered so, and leaves this: before brokers were taken nothing stands
-abbrev pub Answers : Option (List (List Entry)) → Data → Answer → Option (List (List Entry)) → Type 0
+abbrev pub Answers : Option (List (List Entry)) → Data → CommandAnswer → Option (List (List Entry)) → Type 0
 Answers None d answer next = (opening : Opening) × (opening_at d ≡ Some opening) × TakesBrokers opening answer next
 Answers (Some brokers) d answer next =
     (command : Command) × (command_at (length brokers) d ≡ Some command)
@@ -179,7 +180,7 @@ abbrev pub max_line : ℕ
 max_line = 16777216
 
 -- a line is answered so
-abbrev pub IsAnswered : Option (List (List Entry)) → List ℕ → Answer → Option (List (List Entry)) → Type 0
+abbrev pub IsAnswered : Option (List (List Entry)) → List ℕ → CommandAnswer → Option (List (List Entry)) → Type 0
 IsAnswered state line answer next =
     (length line ≤ max_line) × (d : Data) × ReadsAs line d × Answers state d answer next
 

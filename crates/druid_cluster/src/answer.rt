@@ -147,7 +147,7 @@ impl Marks {
 
 /// What a command is answered.
 #[derive(Debug, Drop)]
-pub enum Answer {
+pub enum CommandAnswer {
     /// It changes nothing.
     Refused(Refusal),
     /// That many brokers stand.
@@ -231,36 +231,36 @@ fn marks_value(alloc: Global, marks: &[Mark]) -> Result<Value, AllocError>
 }
 
 #[tactic(auto, unfolding(crate::specs::Answers::answer_data))]
-fn answer_value(alloc: Global, answer: &Answer) -> Result<Value, AllocError>
+fn answer_value(alloc: Global, answer: &CommandAnswer) -> Result<Value, AllocError>
     ensures { IfOk result (λ v. view v ≡ answer_data answer.now) }
 {
     match answer {
-        Answer::Refused(refusal) => {
+        CommandAnswer::Refused(refusal) => {
             let code = refusal.code();
             json!(in alloc; {"refused": code})
         }
-        Answer::Taken(count) => json!(in alloc; {"brokers": *count}),
-        Answer::Stepped { mark, outcome } => {
+        CommandAnswer::Taken(count) => json!(in alloc; {"brokers": *count}),
+        CommandAnswer::Stepped { mark, outcome } => {
             let mark = mark_value(alloc, *mark)?;
             let outcome = outcome_text(*outcome);
             json!(in alloc; {"mark": mark, "outcome": outcome})
         }
-        Answer::Found(pieces) => {
+        CommandAnswer::Found(pieces) => {
             let pieces = pieces_value(alloc, pieces.as_slice())?;
             json!(in alloc; {"pieces": pieces})
         }
-        Answer::Marked(marks) => {
+        CommandAnswer::Marked(marks) => {
             let marks = marks_value(alloc, marks.as_slice())?;
             json!(in alloc; {"marks": marks})
         }
-        Answer::Joined(broker) => json!(in alloc; {"joined": *broker}),
-        Answer::Compared(equal) => json!(in alloc; {"equal": *equal}),
+        CommandAnswer::Joined(broker) => json!(in alloc; {"joined": *broker}),
+        CommandAnswer::Compared(equal) => json!(in alloc; {"equal": *equal}),
     }
 }
 
 /// The line of an answer: its JSON, compact, with the keys in order, and a line feed.
 #[tactic(auto, using(crate::proofs::PlainLemmas::answer_plain))]
-pub fn answer_line(alloc: Global, answer: &Answer) -> Result<String, AllocError>
+pub fn answer_line(alloc: Global, answer: &CommandAnswer) -> Result<String, AllocError>
     ensures { IfOk result (λ text. string_bytes text ≡ line_text answer.now) }
 {
     let mut text = answer_value(alloc, answer)?.to_string(alloc)?;

@@ -4,7 +4,7 @@ ghost use Rattle.serde_json.specs.View.{view};
 ghost use Rattle.druid_cluster.specs.Commands as commands;
 ghost use Rattle.druid_cluster.specs.Serving.{CommandWants, Does};
 
-use crate::answer::Answer;
+use crate::answer::CommandAnswer;
 use crate::serving::step;
 use druid_inventory::Inventory;
 use serde_json::Value;
@@ -60,7 +60,7 @@ impl Brokers {
         broker: u64,
         node: u16,
         value: &Value,
-    ) -> Result<Answer, AllocError>
+    ) -> Result<CommandAnswer, AllocError>
         requires { broker < length self.old }
         ensures ok { IfOk result (λ answer.
             Does self.old (commands.reply broker node (view value.now)) answer self.new) }

@@ -4,15 +4,14 @@ ghost use Rattle.std.specs.Result.{result_ok};
 ghost use Rattle.serde_json.specs.Find.{as_str};
 ghost use Rattle.serde_json.specs.View.{view, items_view};
 ghost use Rattle.druid_inventory.specs.Entry.{max_nodes};
-ghost use Rattle.druid_shard.specs.Each.{each_of};
+ghost use Rattle.druid_base.specs.Each.{each_of};
 ghost use Rattle.druid_cluster.specs.Commands.{brokers_at, opening_at, reply_at, lookup_at, marks_at, join_at, equal_at, asked_at, is_among, command_at};
 ghost use Rattle.druid_cluster.specs.Reasons.{brokers_fault, opening_fault, reply_fault, lookup_fault, join_fault, equal_fault, asked_fault, missing_fault, command_fault};
 ghost use Rattle.druid_cluster.specs.Seen.{text_in, texts_in, command_seen, opening_seen, AreAmong};
 
 use crate::reason::{BadLine, BrokerKey};
-use druid_base::{are_texts, list_field};
+use druid_base::{are_texts, limited_field, list_field, number_field, text_field};
 use druid_inventory::MAX_NODES;
-use druid_shard::{limited_field, number_field, text_field};
 use serde_json::Value;
 
 // The most brokers of a script.

@@ -1,16 +1,20 @@
 //! Facts that hold of all lines and of all runs.
-ghost use Rattle.std.specs.Prelude.{◌≡◌, ◌≢◌, ◌⊎◌, List, ℕ, Option, None};
+ghost use Rattle.std.specs.Prelude.{◌≡◌, ◌≢◌, ◌⊎◌, ◌∷◌, List, ℕ, Option, None};
+ghost use Rattle.serde_json.specs.Data.{Data};
 ghost use Rattle.druid_inventory.specs.Entry.{Entry};
+ghost use Rattle.druid_cluster.specs.Commands.{opening_at, command_at};
 ghost use Rattle.druid_cluster.specs.Nodes.{HaveOneList};
+ghost use Rattle.druid_cluster.specs.Reasons.{opening_fault, command_fault, opening_rules, rules_at, IsFirst};
 ghost use Rattle.druid_cluster.specs.Serving.{IsAnswered, IsBad};
 ghost use Rattle.druid_cluster.specs.Runs.{End, Runs, NoDeviceFails};
-ghost use Rattle.druid_cluster.specs.declared.answer.Answer.{Answer};
-ghost use Rattle.druid_cluster.specs.declared.answer.Answer.TheVariants.{Refused};
+ghost use Rattle.druid_cluster.specs.declared.answer.CommandAnswer.{CommandAnswer};
+ghost use Rattle.druid_cluster.specs.declared.answer.CommandAnswer.TheVariants.{Refused};
 ghost use Rattle.druid_cluster.specs.declared.answer.Refusal.TheVariants.{OtherNodes};
+ghost use Rattle.druid_cluster.specs.declared.reason.BadLine.TheVariants.{NoCommand};
 
 /// No line that is answered is bad.
 pub fn no_answered_line_is_bad()
-    ensures { (state next : Option (List (List Entry))) (line : List ℕ) (answer : Answer)
+    ensures { (state next : Option (List (List Entry))) (line : List ℕ) (answer : CommandAnswer)
         → IsAnswered state line answer next → IsBad state line → ⊥ }
 {}
 
@@ -27,13 +31,21 @@ pub fn one_run()
 pub fn each_line_is_bad_or_answered()
     ensures { (state : Option (List (List Entry))) (line : List ℕ)
         → IsBad state line
-        ⊎ ((answer : Answer) × (next : Option (List (List Entry))) × IsAnswered state line answer next) }
+        ⊎ ((answer : CommandAnswer) × (next : Option (List (List Entry))) × IsAnswered state line answer next) }
+{}
+
+/// The reason of a line of JSON that is no command is the first of the rules for it that it breaks: where no brokers stand, those of
+/// the line that asks for brokers, and else that it has the name of a command, and then the rules of that.
+pub fn bad_lines_break_a_rule()
+    ensures brokers { (d : Data) → opening_at d ≡ None → IsFirst 0 d opening_rules (opening_fault d) }
+    ensures command { (count : ℕ) (d : Data) → command_at count d ≡ None
+        → IsFirst count d (NoCommand ∷ rules_at d) (command_fault count d) }
 {}
 
 /// The brokers of a script are of one list of nodes, whatever lines are answered: so no join is refused for other nodes.
 pub fn one_node_list()
-    ensures keeps { (state next : Option (List (List Entry))) (line : List ℕ) (answer : Answer)
+    ensures keeps { (state next : Option (List (List Entry))) (line : List ℕ) (answer : CommandAnswer)
         → HaveOneList state → IsAnswered state line answer next → HaveOneList next }
-    ensures joins { (state next : Option (List (List Entry))) (line : List ℕ) (answer : Answer)
+    ensures joins { (state next : Option (List (List Entry))) (line : List ℕ) (answer : CommandAnswer)
         → HaveOneList state → IsAnswered state line answer next → answer ≢ Refused OtherNodes }
 {}

@@ -13,7 +13,10 @@ mod serving;
 mod writing;
 
 pub use fault::ReplayFault;
-pub use laws::{each_line_is_bad_or_answered, no_answered_line_is_bad, one_node_list, one_run};
+pub use laws::{
+    bad_lines_break_a_rule, each_line_is_bad_or_answered, no_answered_line_is_bad, one_node_list,
+    one_run,
+};
 pub use program::run_program;
 pub use reason::{BadLine, BrokerKey, Reason, Stop};
 pub use run::{replay, replay_explained};

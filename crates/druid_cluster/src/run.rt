@@ -5,7 +5,7 @@ ghost use Rattle.std.specs.IoError.{error_kind};
 ghost use Rattle.druid_cluster.specs.Answers.{line_text};
 ghost use Rattle.druid_cluster.specs.Serving.{IsAnswered, max_line};
 ghost use Rattle.druid_cluster.specs.Runs.{done, broken_at, Writes, EndsBy, EndsFor, TellsLine};
-ghost use Rattle.druid_cluster.specs.declared.answer.Answer.{Answer};
+ghost use Rattle.druid_cluster.specs.declared.answer.CommandAnswer.{CommandAnswer};
 
 use crate::brokers::Brokers;
 use crate::fault::ReplayFault;
@@ -41,7 +41,7 @@ fn answer_to<W: Write>(
     writer: &mut W,
 ) -> Result<Option<Brokers>, Stop>
     requires { length line.now ≤ max_line }
-    ensures ok { IfOk result (λ next. (answer : Answer) × IsAnswered state line.now answer next
+    ensures ok { IfOk result (λ next. (answer : CommandAnswer) × IsAnswered state line.now answer next
         × Appends (W.contents writer.old) (W.contents writer.new) (line_text answer)) }
     ensures err { IfErr result
         (λ stop. TellsLine state line.now number (W.contents writer.old) (W.contents writer.new) stop.fault stop.reason) }

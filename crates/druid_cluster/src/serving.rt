@@ -1,17 +1,17 @@
 //! Commands, carried out.
-ghost use Rattle.std.specs.Prelude.{◌≡◌, ◌↔◌, ◌≤◌, ◌<◌, ℕ, List, All, Some, None, get_or, length, map, IsTrue, IsUtf8, IfErr, IfOk, OnErr};
+ghost use Rattle.std.specs.Prelude.{◌≡◌, ◌↔◌, ◌≤◌, ◌<◌, ℕ, All, Some, None, length, map, IsTrue, IsUtf8, IfErr, IfOk, OnErr};
 ghost use Rattle.druid_segid.specs.Names.{IsName};
-ghost use Rattle.druid_inventory.specs.Entry.{HaveOwnNames, max_nodes};
+ghost use Rattle.druid_inventory.specs.Entry.{max_nodes};
 ghost use Rattle.serde_json.specs.View.{view};
 ghost use Rattle.druid_cluster.specs.Commands as commands;
 ghost use Rattle.druid_cluster.specs.Seen.{texts_in, command_seen, AreAmong};
-ghost use Rattle.druid_cluster.specs.Serving.{TakesBrokers, unread, not_applied, not_joined, TakesReply, AreFoundIn, LooksUp, Does, Answers, IsNoCommand, fault_in, IsAnswered, IsBadFor, AreNodes, ReplyWants, LookupWants, CommandWants, WantsMemory, max_line};
+ghost use Rattle.druid_cluster.specs.Serving.{TakesBrokers, read_refusal, not_applied, not_joined, TakesReply, AreFoundIn, LooksUp, Does, Answers, IsNoCommand, fault_in, IsAnswered, IsBadFor, AreNodes, ReplyWants, LookupWants, CommandWants, WantsMemory, max_line};
 
-use crate::answer::{Answer, Marks, Pieces, Refusal};
+use crate::answer::{CommandAnswer, Marks, Pieces, Refusal};
 use crate::brokers::Brokers;
 use crate::command::{Command, command_of, opening_of, text_of};
 use crate::reason::BadLine;
-use druid_base::{JsonFault, parse_json};
+use druid_base::{JsonFault, TextList, are_distinct, parse_json};
 use druid_inventory::{ApplyFault, Inventory, InventoryFault, JoinFault};
 use druid_segid::Name;
 use druid_sync::{SyncFault, reply_of};
@@ -33,26 +33,22 @@ fn are_names(nodes: &[Value]) -> bool
     true
 }
 
-// The text at a place.
-fn text_at(nodes: &[Value], place: usize) -> &str
-    requires { place < length nodes.now }
-    ensures { (d : List ℕ) → get_or (texts_in nodes.now) place d ≡ result.now }
-{
-    text_of(&nodes[place])
+// The texts of a list.
+#[derive(Drop)]
+struct NodeTexts<'a> {
+    nodes: &'a [Value],
 }
 
-// Whether no text stands twice. Does not allocate.
-fn have_own_texts(nodes: &[Value]) -> bool
-    ensures { IsTrue result ↔ HaveOwnNames (texts_in nodes.now) }
-{
-    for i in 0..nodes.len() {
-        for j in 0..i {
-            if text_at(nodes, i) == text_at(nodes, j) {
-                return false;
-            }
-        }
+impl TextList for NodeTexts<'_> {
+    ghost texts = { λ list. texts_in list.nodes.now };
+
+    fn count(&self) -> usize {
+        self.nodes.len()
     }
-    true
+
+    fn text(&self, place: usize) -> &str {
+        text_of(&self.nodes[place])
+    }
 }
 
 // The names of these texts.
@@ -76,7 +72,7 @@ fn take_brokers(
     alloc: Global,
     count: u64,
     nodes: &[Value],
-) -> Result<(Answer, Option<Brokers>), AllocError>
+) -> Result<(CommandAnswer, Option<Brokers>), AllocError>
     requires some { 1 ≤ length nodes.now }
     requires few { length nodes.now ≤ max_nodes }
     ensures ok { IfOk result (λ r.
@@ -84,21 +80,21 @@ fn take_brokers(
     ensures memory { OnErr result (AreNodes (texts_in nodes.now)) }
 {
     if !are_names(nodes) {
-        return Ok((Answer::Refused(Refusal::BadName), None));
+        return Ok((CommandAnswer::Refused(Refusal::BadName), None));
     }
-    if !have_own_texts(nodes) {
-        return Ok((Answer::Refused(Refusal::DoubledNode), None));
+    if !are_distinct(&NodeTexts { nodes }) {
+        return Ok((CommandAnswer::Refused(Refusal::DoubledNode), None));
     }
     let Ok(inventory) = Inventory::new(alloc, names_of(alloc, nodes)?) else {
         return Err(AllocError);
     };
     let brokers = Brokers::new(alloc, &inventory, count)?;
-    Ok((Answer::Taken(count), Some(brokers)))
+    Ok((CommandAnswer::Taken(count), Some(brokers)))
 }
 
 // What tells that a reply was not read; out of memory is not reported.
-fn unread(fault: SyncFault) -> Option<Refusal>
-    ensures { result ≡ unread fault }
+fn read_refusal(fault: SyncFault) -> Option<Refusal>
+    ensures { result ≡ read_refusal fault }
 {
     match fault {
         SyncFault::NotJson => None,
@@ -144,24 +140,24 @@ pub(crate) fn step(
     inventory: &mut Inventory,
     node: u16,
     value: &Value,
-) -> Result<Answer, AllocError>
+) -> Result<CommandAnswer, AllocError>
     ensures ok { IfOk result (λ answer. TakesReply inventory.old node (view value.now) answer inventory.new) }
     ensures memory { OnErr result (ReplyWants inventory.old node (view value.now)) }
 {
     let reply = match reply_of(alloc, value) {
         Ok(reply) => reply,
-        Err(fault) => match unread(fault) {
-            Some(refusal) => return Ok(Answer::Refused(refusal)),
+        Err(fault) => match read_refusal(fault) {
+            Some(refusal) => return Ok(CommandAnswer::Refused(refusal)),
             None => return Err(AllocError),
         },
     };
     match inventory.advance(node, &reply) {
         Ok(outcome) => {
             let mark = inventory.mark(node).unwrap();
-            Ok(Answer::Stepped { mark, outcome })
+            Ok(CommandAnswer::Stepped { mark, outcome })
         }
         Err(fault) => match not_applied(fault) {
-            Some(refusal) => Ok(Answer::Refused(refusal)),
+            Some(refusal) => Ok(CommandAnswer::Refused(refusal)),
             None => Err(AllocError),
         },
     }
@@ -174,7 +170,7 @@ fn take_reply(
     broker: u64,
     node: u16,
     value: &Value,
-) -> Result<(Answer, Brokers), AllocError>
+) -> Result<(CommandAnswer, Brokers), AllocError>
     requires { broker < length brokers }
     ensures ok { IfOk result (λ r. Does brokers (commands.reply broker node (view value.now)) r.0 r.1) }
     ensures memory { OnErr result (CommandWants brokers (commands.reply broker node (view value.now))) }
@@ -198,27 +194,27 @@ fn look_up(
     inventory: &Inventory,
     interval: &str,
     source: &str,
-) -> Result<Answer, AllocError>
+) -> Result<CommandAnswer, AllocError>
     ensures ok { IfOk result (λ answer. LooksUp inventory.now interval.now source.now answer) }
     ensures memory { OnErr result (LookupWants interval.now source.now) }
 {
     let asked = match Interval::parse(interval) {
         Ok(asked) => asked,
-        Err(TimeFault::NotATime) => return Ok(Answer::Refused(Refusal::NotATime)),
-        Err(TimeFault::OutOfRange) => return Ok(Answer::Refused(Refusal::OutOfRange)),
-        Err(TimeFault::Empty) => return Ok(Answer::Refused(Refusal::Empty)),
+        Err(TimeFault::NotATime) => return Ok(CommandAnswer::Refused(Refusal::NotATime)),
+        Err(TimeFault::OutOfRange) => return Ok(CommandAnswer::Refused(Refusal::OutOfRange)),
+        Err(TimeFault::Empty) => return Ok(CommandAnswer::Refused(Refusal::Empty)),
     };
     if !Name::accepts(source) {
-        return Ok(Answer::Refused(Refusal::BadName));
+        return Ok(CommandAnswer::Refused(Refusal::BadName));
     }
     let Ok(source) = Name::new(alloc, source) else {
         return Err(AllocError);
     };
     let Some(timeline) = inventory.timeline(&source) else {
-        return Ok(Answer::Found(Pieces::new(Vec::new(alloc))));
+        return Ok(CommandAnswer::Found(Pieces::new(Vec::new(alloc))));
     };
     let pieces = pieces_in(alloc, timeline, asked)?;
-    Ok(Answer::Found(pieces))
+    Ok(CommandAnswer::Found(pieces))
 }
 
 // How far each node of an inventory has been followed.
@@ -236,7 +232,11 @@ fn marks_of(alloc: Global, inventory: &Inventory) -> Result<Marks, AllocError>
 }
 
 // A broker becomes the join of itself and another.
-fn join_brokers(brokers: Brokers, from: u64, into: u64) -> Result<(Answer, Brokers), AllocError>
+fn join_brokers(
+    brokers: Brokers,
+    from: u64,
+    into: u64,
+) -> Result<(CommandAnswer, Brokers), AllocError>
     requires from { from < length brokers }
     requires into { into < length brokers }
     ensures ok { IfOk result (λ r. Does brokers (commands.join from into) r.0 r.1) }
@@ -244,21 +244,21 @@ fn join_brokers(brokers: Brokers, from: u64, into: u64) -> Result<(Answer, Broke
 {
     let joined = brokers.inventory(into).join(brokers.inventory(from));
     match joined {
-        Ok(inventory) => Ok((Answer::Joined(into), brokers.with(into, inventory))),
+        Ok(inventory) => Ok((CommandAnswer::Joined(into), brokers.with(into, inventory))),
         Err(fault) => match not_joined(fault) {
-            Some(refusal) => Ok((Answer::Refused(refusal), brokers)),
+            Some(refusal) => Ok((CommandAnswer::Refused(refusal), brokers)),
             None => Err(AllocError),
         },
     }
 }
 
 // Whether two brokers are equal.
-fn compare(brokers: &Brokers, left: u64, right: u64) -> Answer
+fn compare(brokers: &Brokers, left: u64, right: u64) -> CommandAnswer
     requires left { left < length brokers.now }
     requires right { right < length brokers.now }
     ensures { Does brokers.now (commands.equal left right) result brokers.now }
 {
-    Answer::Compared(brokers.inventory(left) == brokers.inventory(right))
+    CommandAnswer::Compared(brokers.inventory(left) == brokers.inventory(right))
 }
 
 // A command to brokers that stand.
@@ -266,7 +266,7 @@ fn do_command(
     alloc: Global,
     brokers: Brokers,
     command: Command<'_>,
-) -> Result<(Answer, Brokers), AllocError>
+) -> Result<(CommandAnswer, Brokers), AllocError>
     requires { AreAmong (length brokers) (command_seen command) }
     ensures ok { IfOk result (λ r. Does brokers (command_seen command.entry) r.0 r.1) }
     ensures memory { OnErr result (CommandWants brokers (command_seen command.entry)) }
@@ -287,7 +287,7 @@ fn do_command(
         }
         Command::Marks { broker } => {
             let marks = marks_of(alloc, brokers.inventory(broker))?;
-            Ok((Answer::Marked(marks), brokers))
+            Ok((CommandAnswer::Marked(marks), brokers))
         }
         Command::Join { from, into } => join_brokers(brokers, from, into),
         Command::Equal { left, right } => {
@@ -298,7 +298,7 @@ fn do_command(
 }
 
 /// What is answered, and the brokers that stand after it; or what is wrong with a line that is no command.
-pub(crate) type Served = Result<(Answer, Option<Brokers>), BadLine>;
+pub(crate) type Served = Result<(CommandAnswer, Option<Brokers>), BadLine>;
 
 // What a value is answered, once brokers stand.
 fn answer_command(alloc: Global, brokers: Brokers, value: &Value) -> Result<Served, AllocError>

@@ -4,9 +4,9 @@ ghost use Rattle.std.specs.Io.KnownBytes.{Appends};
 ghost use Rattle.serde_json.specs.Written.{compact_text, comma_if};
 ghost use Rattle.druid_stream.specs.Fronts.{AppendsFront};
 ghost use Rattle.druid_cluster.specs.Answers.{piece_data, line_text};
-ghost use Rattle.druid_cluster.specs.declared.answer.Answer.TheVariants.{Found};
+ghost use Rattle.druid_cluster.specs.declared.answer.CommandAnswer.TheVariants.{Found};
 
-use crate::answer::{Answer, answer_line, piece_value};
+use crate::answer::{CommandAnswer, answer_line, piece_value};
 use druid_stream::write_text;
 use druid_timeline::Piece;
 use std::alloc::{AllocError, Global};
@@ -60,13 +60,17 @@ fn write_pieces<W: Write>(alloc: Global, pieces: &[Piece], writer: &mut W) -> io
 
 /// Writes the line of an answer. Where the writer fails or memory runs out, the writer has got some front of the line,
 /// and not the whole.
-pub fn write_answer<W: Write>(alloc: Global, answer: &Answer, writer: &mut W) -> io::Result<()>
+pub fn write_answer<W: Write>(
+    alloc: Global,
+    answer: &CommandAnswer,
+    writer: &mut W,
+) -> io::Result<()>
     ensures ok { OnOk result
         (Appends (W.contents writer.old) (W.contents writer.new) (line_text answer.now)) }
     ensures err { OnErr result
         (AppendsFront (W.contents writer.old) (W.contents writer.new) (line_text answer.now)) }
 {
-    if let Answer::Found(pieces) = answer {
+    if let CommandAnswer::Found(pieces) = answer {
         return write_pieces(alloc, pieces.as_slice(), writer);
     }
     let text = answer_line(alloc, answer)?;

@@ -1,11 +1,11 @@
 -- Addresses, and the ports that they name.
-use Rattle.std.proofs.Common.{◌≡◌, ℕ, ◌≤◌, ◌++◌, List, decimal, take, drop, Option, Some, None, IsTrue, Bool, true, nat_le, refl, sym, subst, ap, ◌∙◌, arith}
+use Rattle.std.proofs.Common.{◌≡◌, ℕ, ◌≤◌, ◌++◌, List, decimal, take, drop, Option, Some, None, IsTrue, true, nat_le, refl, sym, subst, ap, ◌∙◌, arith}
 use Rattle.std.specs.Str.{bytes_eq}
 use Rattle.std.proofs.lemmas.Bool.{leb-true, le-leb, and_parts, and_from}
 use Rattle.std.proofs.lemmas.List.{take-append-drop}
 use Rattle.std.proofs.lemmas.Slice.Eq.{bytes_eq-Decides}
-use Rattle.druid_segid.specs.Numbers as numbers
-use Rattle.druid_segid.proofs.NumberLemmas.{number_at-found, number_at-to}
+use Rattle.druid_base.specs.Numbers as numbers
+use Rattle.druid_base.proofs.NumberLemmas.{number_at-found, number_at-to}
 use Rattle.druid_config.specs.Limits.{max_port}
 use Rattle.druid_config.specs.Configs.{loopback, is_port, is_address, NamesPort}
 

@@ -6,7 +6,7 @@ use Rattle.serde_json.specs.Data.{Data}
 use Rattle.serde_json.specs.Find.{get_item}
 use Rattle.serde_json.specs.View.{view, items_view}
 use Rattle.serde_json.specs.declared.value.Value.{Value}
-use Rattle.druid_shard.proofs.EachLemmas.{all_read, each_of_length}
+use Rattle.druid_base.proofs.EachLemmas.{all_read, each_of_length}
 use Rattle.druid_config.specs.BadFields.{HasNameTwice, HasOtherCount}
 use Rattle.druid_config.specs.Configs.{node_at, broker_at, are_few}
 use Rattle.druid_config.specs.Borrowed.{names_in}

@@ -11,7 +11,7 @@ use Rattle.serde_json.specs.Read.{read, max_depth}
 use Rattle.serde_json.specs.View.{view, items_view}
 use Rattle.serde_json.specs.Written.{compact_text, has_float}
 use Rattle.serde_json.specs.declared.value.Value.{Value}
-use Rattle.druid_time.specs.Options.{◌>>=◌}
+use Rattle.druid_base.specs.Options.{◌>>=◌}
 use Rattle.druid_base.specs.Fields.{list_at}
 use Rattle.druid_config.specs.Configs.{Asked, IsCompact, asked_of, place_at, object_at, query_at}
 

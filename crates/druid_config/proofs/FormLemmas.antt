@@ -6,11 +6,12 @@ use Rattle.serde_json.specs.Data.{Data, Items}
 use Rattle.serde_json.specs.Find.{as_str}
 use Rattle.serde_json.specs.View.{view, items_view}
 use Rattle.serde_json.specs.declared.value.Value.{Value}
-use Rattle.druid_time.specs.Options.{◌>>=◌}
-use Rattle.druid_shard.specs.Each.{each_of}
-use Rattle.druid_shard.proofs.EachLemmas.{all_read, not_all_read, all_reads, each_of_length}
+use Rattle.druid_base.specs.Options.{◌>>=◌}
+use Rattle.druid_base.specs.Each.{each_of}
+use Rattle.druid_base.proofs.EachLemmas.{all_read, not_all_read, all_reads, each_of_length}
 use Rattle.druid_base.specs.Fields.{list_at}
-use Rattle.druid_config.specs.Configs.{Node, Broker, name_at, tombstone_at, node_at, broker_at, query_at, are_few, are_distinct, names_of, nodes_in, brokers_in, nodes_at, brokers_at}
+use Rattle.druid_config.specs.Configs.{Node, Broker, name_at, tombstone_at, node_at, broker_at, query_at, are_few, names_of, nodes_in, brokers_in, nodes_at, brokers_at}
+use Rattle.druid_base.specs.Distinct.{are_distinct}
 use Rattle.druid_config.specs.Borrowed.{text_or, names_in}
 use Rattle.druid_config.proofs.PartLemmas.{node_parts, some_of}
 

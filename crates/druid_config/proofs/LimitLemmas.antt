@@ -1,30 +1,25 @@
 -- What is read of a config is within its limits.
-use Rattle.std.proofs.Common.{◌≡◌, ℕ, zero, suc, ◌<◌, ◌≤◌, List, [], ◌∷◌, length, map, get_or, codes, All, IsSome, Option, Some, None, option_and_then, Bool, true, false, not, ◌&&◌, ◌||◌, cond, nat_le, nat_lt, refl, sym, subst, ap, ◌∙◌, arith}
-use Rattle.std.specs.List.{list_any}
-use Rattle.std.specs.Str.{bytes_eq}
-use Rattle.std.proofs.lemmas.Bool.{leb-true, and_parts, not-true}
+use Rattle.std.proofs.Common.{◌≡◌, ℕ, ◌<◌, ◌≤◌, List, [], ◌∷◌, length, map, get_or, codes, All, IsSome, Option, Some, None, option_and_then, Bool, true, ◌&&◌, ◌||◌, cond, nat_le, nat_lt, refl, subst, ◌∙◌, arith}
+use Rattle.std.proofs.lemmas.Bool.{leb-true, and_parts}
 use Rattle.std.proofs.lemmas.Bool.Decides.{nat_tests}
 use Rattle.std.proofs.lemmas.Option.{same_Some, cond_some}
 use Rattle.std.proofs.lemmas.List.{get_or-map, get_or_default, length-map}
-use Rattle.std.proofs.lemmas.Slice.Eq.{bytes_eq-Decides}
 use Rattle.serde_json.specs.Data.{Data, null, boolean, number, string, array, object, Items}
 use Rattle.serde_json.specs.Find.{get, as_object}
+use Rattle.druid_base.proofs.DistinctLemmas.{distinct_to}
 use Rattle.druid_base.proofs.OptionLemmas.{chained}
-use Rattle.druid_time.specs.Options.{◌>>=◌}
-use Rattle.druid_shard.specs.Each.{each_of}
-use Rattle.druid_shard.specs.Json.{text_at, number_at}
-use Rattle.druid_shard.proofs.EachLemmas.{each_sound}
+use Rattle.druid_base.proofs.StepLemmas.{stepped}
+use Rattle.druid_base.specs.Options.{◌>>=◌}
+use Rattle.druid_base.specs.Each.{each_of}
+use Rattle.druid_base.proofs.EachLemmas.{each_sound}
 use Rattle.druid_segid.specs.Names.{is_name}
 use Rattle.druid_config.specs.Limits.{max_servers, max_workers, max_kept, max_count}
-use Rattle.druid_base.specs.Fields.{list_at}
-use Rattle.druid_config.specs.Configs.{IsObject, Node, Broker, Asked, Posted, Reported, asked_of, is_address, some_at, count_at, node_at, broker_at, query_at, are_few, are_distinct, names_of, nodes_in, brokers_in, config_at, IsNode, IsBroker, HaveOwnNames, IsWithinLimits}
+use Rattle.druid_base.specs.Fields.{list_at, text_at, number_at}
+use Rattle.druid_config.specs.Configs.{IsObject, Node, Broker, Asked, Posted, Reported, asked_of, is_address, some_at, count_at, node_at, broker_at, query_at, are_few, names_of, nodes_in, brokers_in, config_at, IsNode, IsBroker, IsWithinLimits}
+use Rattle.druid_base.specs.Distinct.{AreDistinct, are_distinct}
 use Rattle.druid_config.proofs.PartLemmas.{node_parts, broker_parts, query_parts, config_parts}
 
 -- ---- tests
-
-stepped : {A B : Type 0} (f : A → Option B) (o : Option A) (y : B) → (o >>= f) ≡ Some y → (x : A) × (o ≡ Some x) × (f x ≡ Some y)
-stepped f None y e = absurd cc
-stepped f (Some x) y e = (x, refl, e)
 
 -- what passed a test, passes it
 passed : {A : Type 0} (p : A → Bool) (o : Option A) (y : A) → option_and_then (λ s. cond (p s) (Some s) None) o ≡ Some y → p y ≡ true
@@ -93,44 +88,12 @@ query_object brokers d asked read = object_so (get (codes "query") d) asked.quer
 each_is : {A : Type 0} (P : A → Type 0) (f : Data → Option A) → ((d : Data) (x : A) → f d ≡ Some x → P x) → (ds : Items) (xs : List A) → each_of f ds ≡ Some xs → All P xs
 each_is P f one ds xs read k d below = each_sound P f one ds xs read (get_or xs k d) (k, below, get_or_default xs k (get_or xs k d) d below)
 
--- ---- names
-
-either_false : (a b : Bool) → (a || b) ≡ false → (a ≡ false) × (b ≡ false)
-either_false true b h = absurd cc
-either_false false b h = (refl, h)
-
-two_ways : (b : Bool) → b ≡ true → b ≡ false → ⊥
-two_ways b here gone = let both = sym here ∙ gone in absurd cc
-
-first_apart : (name : List ℕ) (names : List (List ℕ)) → are_distinct (name ∷ names) ≡ true → list_any (bytes_eq name) names ≡ false
-first_apart name names distinct =
-    not-true (list_any (bytes_eq name) names) (and_parts (not (list_any (bytes_eq name) names)) (are_distinct names) distinct).0
-
-none_same : (name : List ℕ) (names : List (List ℕ)) → list_any (bytes_eq name) names ≡ false → (j : ℕ) (d : List ℕ) → j < length names → name ≡ get_or names j d → ⊥
-none_same name [] none j d below same = omega (arith, below)
-none_same name (other ∷ names) none zero d below same =
-    let equal : bytes_eq name other ≡ true = (bytes_eq-Decides name other).1 same in
-    let apart = (either_false (bytes_eq name other) (list_any (bytes_eq name) names) none).0 in
-    absurd (two_ways (bytes_eq name other) equal apart)
-none_same name (other ∷ names) none (suc j) d below same =
-    none_same name names (either_false (bytes_eq name other) (list_any (bytes_eq name) names) none).1 j d (omega (arith, below)) same
-
-own_names : (names : List (List ℕ)) → are_distinct names ≡ true → HaveOwnNames names
-own_names [] distinct i j d hi hj same = omega (arith, hi)
-own_names (name ∷ names) distinct zero zero d hi hj same = refl
-own_names (name ∷ names) distinct zero (suc j) d hi hj same =
-    absurd (none_same name names (first_apart name names distinct) j d (omega (arith, hj)) same)
-own_names (name ∷ names) distinct (suc i) zero d hi hj same =
-    absurd (none_same name names (first_apart name names distinct) i d (omega (arith, hi)) (sym same))
-own_names (name ∷ names) distinct (suc i) (suc j) d hi hj same =
-    ap suc (own_names names (and_parts (not (list_any (bytes_eq name) names)) (are_distinct names) distinct).1 i j d (omega (arith, hi)) (omega (arith, hj)) same)
-
 -- ---- lists of servers
 
 record NodeLimits (nodes : List Node) : Type 0 where
   count : Between 1 max_servers (length nodes)
   each : All IsNode nodes
-  own : HaveOwnNames (names_of nodes)
+  own : AreDistinct (names_of nodes)
 
 abbrev nodes_if : List Node → Option (List Node)
 nodes_if nodes = cond (are_few (length nodes) && are_distinct (names_of nodes)) (Some nodes) None
@@ -144,7 +107,7 @@ nodes_fit items nodes read =
     subst NodeLimits kept.1 (record {
       count = between 1 max_servers (length step.0) tests.0;
       each = each_is IsNode node_at node_is items step.0 step.1;
-      own = own_names (names_of step.0) tests.1;
+      own = distinct_to (names_of step.0) tests.1;
     })
 
 record BrokerLimits (brokers : List Broker) : Type 0 where

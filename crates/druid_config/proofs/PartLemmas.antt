@@ -3,16 +3,12 @@ use Rattle.std.proofs.Common.{◌≡◌, ℕ, List, length, codes, Option, Some,
 use Rattle.std.proofs.lemmas.Option.{same_Some}
 use Rattle.serde_json.specs.Data.{Data}
 use Rattle.druid_base.proofs.OptionLemmas.{given_so}
-use Rattle.druid_time.specs.Options.{◌>>=◌}
+use Rattle.druid_base.proofs.StepLemmas.{each_next}
+use Rattle.druid_base.specs.Options.{◌>>=◌}
 use Rattle.druid_segid.specs.Identifier.{Identifier}
-use Rattle.druid_shard.specs.Json.{text_at}
+use Rattle.druid_base.specs.Fields.{text_at}
 use Rattle.druid_config.specs.Limits.{max_workers, max_kept}
 use Rattle.druid_config.specs.Configs.{Node, Broker, Asked, Reported, node_of, name_at, address_at, some_at, count_at, loads_at, tombstones_at, place_at, object_at, node_at, broker_at, query_at, nodes_at, brokers_at, queries_at, config_at}
-
--- what holds of each outcome of the step on the value holds of the step
-pub each_next : {A B : Type 0} (P : B → Type 0) (o : Option A) (f : A → Option B) → ((x : A) → o ≡ Some x → (y : B) → f x ≡ Some y → P y) → (y : B) → (o >>= f) ≡ Some y → P y
-each_next P None f each y e = absurd cc
-each_next P (Some x) f each y e = each x refl y e
 
 pub some_of : {A : Type 0} (o : Option A) → IsSome o → (x : A) × (o ≡ Some x)
 some_of None some = absurd cc

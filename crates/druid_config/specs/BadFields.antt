@@ -4,9 +4,8 @@ use Rattle.std.specs.List.{list_any}
 use Rattle.std.specs.Str.{bytes_eq}
 use Rattle.serde_json.specs.Data.{Data, Items}
 use Rattle.serde_json.specs.Find.{get_item}
-use Rattle.druid_shard.specs.Each.{each_of}
-use Rattle.druid_shard.specs.Json.{text_at}
-use Rattle.druid_base.specs.Fields.{list_at}
+use Rattle.druid_base.specs.Each.{each_of}
+use Rattle.druid_base.specs.Fields.{list_at, text_at}
 use Rattle.druid_config.specs.Configs.{Node, Broker, name_at, address_at, loads_at, tombstones_at, some_at, count_at, place_at, object_at, node_at, broker_at, brokers_at, names_of, are_few}
 use Rattle.druid_config.specs.Limits.{max_workers, max_kept}
 use Rattle.druid_config.specs.declared.bad_field.BadField.{BadField}

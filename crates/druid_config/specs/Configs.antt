@@ -1,18 +1,18 @@
 -- Configs, read out of JSON. A text is its bytes.
-use Rattle.std.specs.Prelude.{◌≡◌, ℕ, ◌<◌, ◌≤◌, ◌&&◌, Bool, true, false, not, nat_le, nat_lt, IsTrue, IsSome, All, List, [], ◌∷◌, ◌++◌, codes, decimal, length, map, take, drop, slice_index_or, Option, Some, None, option_and_then, if◌then◌else◌}
-use Rattle.std.specs.List.{list_any}
+use Rattle.std.specs.Prelude.{◌≡◌, ℕ, ◌<◌, ◌≤◌, ◌&&◌, Bool, false, nat_le, nat_lt, IsTrue, IsSome, All, List, [], ◌∷◌, ◌++◌, codes, decimal, length, map, take, drop, Option, Some, None, option_and_then, if◌then◌else◌}
 use Rattle.std.specs.Str.{bytes_eq}
 use Rattle.serde_json.specs.Data.{Data, Items}
 use Rattle.serde_json.specs.Read.{read}
 use Rattle.serde_json.specs.Find.{get, as_array, as_object, as_str}
 use Rattle.serde_json.specs.Written.{compact_text, has_float}
-use Rattle.druid_time.specs.Options.{◌>>=◌}
+use Rattle.druid_base.specs.Options.{◌>>=◌}
 use Rattle.druid_segid.specs.Names.{is_name}
 use Rattle.druid_segid.specs.Identifier.{Identifier}
-use Rattle.druid_segid.specs.Numbers as numbers
-use Rattle.druid_base.specs.Fields.{list_at}
-use Rattle.druid_shard.specs.Json.{text_at, number_at, source_at, interval_at, version_at}
-use Rattle.druid_shard.specs.Each.{each_of}
+use Rattle.druid_base.specs.Numbers as numbers
+use Rattle.druid_base.specs.Distinct.{AreDistinct, are_distinct}
+use Rattle.druid_base.specs.Fields.{list_at, text_at, number_at}
+use Rattle.druid_shard.specs.Json.{source_at, interval_at, version_at}
+use Rattle.druid_base.specs.Each.{each_of}
 use Rattle.druid_config.specs.Limits.{max_servers, max_workers, max_kept, max_count, max_port}
 
 -- ---- what a config tells
@@ -181,11 +181,6 @@ query_at brokers d = do
 abbrev pub are_few : ℕ → Bool
 are_few n = nat_le 1 n && nat_le n max_servers
 
--- no name stands twice
-abbrev pub are_distinct : List (List ℕ) → Bool
-are_distinct [] = true
-are_distinct (name ∷ names) = not (list_any (bytes_eq name) names) && are_distinct names
-
 abbrev pub names_of : List Node → List (List ℕ)
 names_of nodes = map (λ n. n.name) nodes
 
@@ -236,12 +231,6 @@ pub record IsBroker (broker : Broker) : Type 0 where
   pub some_workers : 1 ≤ broker.workers
   pub few_workers : broker.workers ≤ max_workers
 
--- no name stands at two places
-abbrev pub HaveOwnNames : List (List ℕ) → Type 0
-HaveOwnNames names =
-    (i j : ℕ) (d : List ℕ) → i < length names → j < length names
-    → slice_index_or names i d ≡ slice_index_or names j d → i ≡ j
-
 -- the query is an object
 abbrev pub IsObject : Asked → Type 0
 IsObject q = IsSome (option_and_then as_object q.query)
@@ -251,7 +240,7 @@ pub record IsWithinLimits (reported : Reported) : Type 0 where
   pub some_nodes : 1 ≤ length reported.nodes
   pub few_nodes : length reported.nodes ≤ max_servers
   pub nodes : All IsNode reported.nodes
-  pub own_names : HaveOwnNames (names_of reported.nodes)
+  pub own_names : AreDistinct (names_of reported.nodes)
   pub some_brokers : 1 ≤ length reported.brokers
   pub few_brokers : length reported.brokers ≤ max_servers
   pub brokers : All IsBroker reported.brokers

@@ -4,16 +4,16 @@ ghost use Rattle.serde_json.specs.Data.{depth, items_depth};
 ghost use Rattle.serde_json.specs.Find.{as_str};
 ghost use Rattle.serde_json.specs.Read.{max_depth};
 ghost use Rattle.serde_json.specs.View.{view, items_view};
-ghost use Rattle.druid_shard.specs.Each.{each_of};
+ghost use Rattle.druid_base.specs.Each.{each_of};
 ghost use Rattle.druid_config.specs.Configs.{asked_of, reported_of, name_at, loads_at, tombstone_at, tombstones_at, node_at, broker_at, query_at, nodes_at, brokers_at, queries_at, config_at};
 
 use crate::fields::{
     address_field, chunk_field, count_field, name_field, object_field, place_field, some_field,
 };
-use crate::{BrokerConfig, Config, MAX_KEPT, MAX_WORKERS, NodeConfig, QueryConfig};
-use druid_base::list_field;
+use crate::limits::{MAX_KEPT, MAX_WORKERS};
+use crate::{BrokerConfig, Config, NodeConfig, QueryConfig};
+use druid_base::{list_field, text_field};
 use druid_segid::{IdFault, Name, SegmentId, Version};
-use druid_shard::text_field;
 use serde_json::Value;
 use std::alloc::{AllocError, Global};
 

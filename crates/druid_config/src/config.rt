@@ -6,21 +6,6 @@ use druid_segid::{Name, SegmentId};
 use std::alloc::{AllocError, Global};
 use std::marker::Model;
 
-/// The most nodes, and the most brokers.
-pub const MAX_SERVERS: usize = 64;
-
-/// The most workers of a server.
-pub const MAX_WORKERS: u16 = 16;
-
-/// The most changes that a node keeps.
-pub const MAX_KEPT: u16 = 1_000;
-
-/// The most connections from outside, and the most turns.
-pub const MAX_COUNT: u64 = 1_000_000;
-
-/// The last port.
-pub const MAX_PORT: u64 = 65_535;
-
 /// A data node.
 #[derive(Drop)]
 pub struct NodeConfig {

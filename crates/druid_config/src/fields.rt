@@ -2,13 +2,13 @@
 ghost use Rattle.std.specs.Prelude.{◌≡◌, ◌≤◌, IsTrue, IfSome, option_map};
 ghost use Rattle.serde_json.specs.View.{view};
 ghost use Rattle.druid_segid.specs.Names.{is_name};
-ghost use Rattle.druid_segid.specs.Numbers as numbers;
+ghost use Rattle.druid_base.specs.Numbers as numbers;
 ghost use Rattle.druid_config.specs.Configs.{is_port, is_address, address_at, name_at, tombstone_at, some_at, count_at, place_at, object_at};
 ghost use Rattle.druid_shard.specs.Json.{source_at, interval_at, version_at};
 
-use crate::{MAX_COUNT, MAX_PORT};
-use druid_segid::{Name, Version, number_of};
-use druid_shard::{number_field, text_field};
+use crate::limits::{MAX_COUNT, MAX_PORT};
+use druid_base::{number_field, number_of, text_field};
+use druid_segid::{Name, Version};
 use druid_time::Interval;
 use serde_json::Value;
 use std::marker::Model;

@@ -1,23 +1,21 @@
 //! Which field of JSON is wrong, so that it is no config, found without allocating.
-ghost use Rattle.std.specs.Prelude.{◌≡◌, ◌+◌, ◌<◌, ℕ, [], Some, IfSome, IfErr, true, codes, is_some, is_none, option_map, length, drop, slice_index_or};
-ghost use Rattle.std.specs.List.{list_all, list_any};
+ghost use Rattle.std.specs.Prelude.{◌≡◌, ◌+◌, ◌<◌, ℕ, [], Some, IfSome, IfErr, true, codes, is_some, is_none, option_map, length};
+ghost use Rattle.std.specs.List.{list_all};
 ghost use Rattle.std.specs.Result.{result_ok};
-ghost use Rattle.std.specs.Str.{bytes_eq};
 ghost use Rattle.serde_json.specs.Data.{Data, Items};
 ghost use Rattle.serde_json.specs.View.{view, items_view};
 ghost use Rattle.serde_json.specs.Find.{get_item};
 ghost use Rattle.druid_base.specs.Fields.{list_at};
 ghost use Rattle.druid_config.specs.BadFields.{BreaksNode, BreaksBroker, BreaksQuery, IsWrong};
-ghost use Rattle.druid_config.specs.Configs.{Broker, name_at, loads_at, tombstone_at, tombstones_at, node_at, broker_at, query_at, are_few, are_distinct, nodes_in, brokers_in, nodes_at, brokers_at, queries_at, config_at};
+ghost use Rattle.druid_config.specs.Configs.{Broker, name_at, loads_at, tombstone_at, tombstones_at, node_at, broker_at, query_at, are_few, nodes_in, brokers_in, nodes_at, brokers_at, queries_at, config_at};
 ghost use Rattle.druid_config.specs.Borrowed.{text_or, names_in};
 
 use crate::bad_field::{BadField, BrokerRule, NodeRule, QueryRule, WholeRule};
 use crate::fields::{
     address_field, chunk_field, count_field, name_field, object_field, place_field, some_field,
 };
-use crate::{MAX_KEPT, MAX_SERVERS, MAX_WORKERS};
-use druid_base::{are_texts, list_field};
-use druid_shard::text_field;
+use crate::limits::{MAX_KEPT, MAX_SERVERS, MAX_WORKERS};
+use druid_base::{TextList, are_texts, doubled_text, list_field, text_field};
 use serde_json::Value;
 
 // Whether the files that a node loads are named.
@@ -122,40 +120,22 @@ fn name_of(value: &Value) -> &str
     }
 }
 
-// The name at a place.
-fn name_at(nodes: &[Value], place: usize) -> &str
-    requires { place < length nodes.now }
-    ensures { result.now ≡ slice_index_or (names_in nodes.now) place [] }
-{
-    name_of(&nodes[place])
+// The names of nodes.
+#[derive(Drop)]
+struct NodeNames<'a> {
+    nodes: &'a [Value],
 }
 
-// Whether the name of a node stands at a later one.
-fn stands_later(nodes: &[Value], place: usize) -> bool
-    requires { place < length nodes.now }
-    ensures { result ≡ list_any (bytes_eq (slice_index_or (names_in nodes.now) place []))
-        (drop (place + 1) (names_in nodes.now)) }
-{
-    for later in place + 1..nodes.len() {
-        if name_at(nodes, place) == name_at(nodes, later) {
-            return true;
-        }
-    }
-    false
-}
+impl TextList for NodeNames<'_> {
+    ghost texts = { λ names. names_in names.nodes.now };
 
-// The place of the first node whose name stands at a later one.
-fn doubled_name(nodes: &[Value]) -> Option<usize>
-    ensures test { is_none result ≡ are_distinct (names_in nodes.now) }
-    ensures doubled { IfSome result (λ place.
-        list_any (bytes_eq (slice_index_or (names_in nodes.now) place [])) (drop (place + 1) (names_in nodes.now)) ≡ true) }
-{
-    for place in 0..nodes.len() {
-        if stands_later(nodes, place) {
-            return Some(place);
-        }
+    fn count(&self) -> usize {
+        self.nodes.len()
     }
-    None
+
+    fn text(&self, place: usize) -> &str {
+        name_of(&self.nodes[place])
+    }
 }
 
 // Whether there may be so many servers.
@@ -191,7 +171,7 @@ fn bad_in_nodes(values: &[Value]) -> Option<BadField>
     if !are_few(values.len()) {
         return Some(BadField::Whole(WholeRule::NodeCount));
     }
-    match doubled_name(values) {
+    match doubled_text(&NodeNames { nodes: values }) {
         Some(place) => Some(BadField::Node(place, NodeRule::OwnName)),
         None => None,
     }

@@ -8,14 +8,13 @@ mod fault;
 mod fields;
 mod judging;
 mod laws;
+mod limits;
 mod reading;
 
 pub use bad_field::{BadField, BrokerRule, NodeRule, QueryRule, WholeRule};
-pub use config::{
-    BrokerConfig, Config, MAX_COUNT, MAX_KEPT, MAX_PORT, MAX_SERVERS, MAX_WORKERS, NodeConfig,
-    QueryConfig, names_in,
-};
+pub use config::{BrokerConfig, Config, NodeConfig, QueryConfig, names_in};
 pub use fault::ConfigFault;
 pub use judging::bad_field_of;
 pub use laws::{addresses_name_ports, configs_are_within_limits};
+pub use limits::{MAX_COUNT, MAX_KEPT, MAX_PORT, MAX_SERVERS, MAX_WORKERS};
 pub use reading::{bad_field_in, config_of, read_config};

@@ -3,8 +3,8 @@ use crate::printing::{beside, printed, text_of};
 use crate::table::{Table, assert_reported, assert_row, assert_rows, halves, is_reported};
 use druid_message::{Request, WireFault};
 use druid_wire::{
-    read_request, read_response, request_bytes, response_of, send_response, write_request,
-    write_response,
+    Response, read_request, read_response, request_bytes, response_of, send_response,
+    write_request, write_response,
 };
 use http::{Method, StatusCode};
 use std::alloc::Global;
@@ -559,9 +559,10 @@ fn assert_large_response(rt: &impl Abort, alloc: Global, length: usize, head: &s
 
 // The status that is written with a body of so many bytes; 0 where none is.
 fn large_status(rt: &impl Abort, alloc: Global, length: usize) -> u16 {
-    let body = large(rt, alloc, length);
+    let body = String::from_utf8(large(rt, alloc, length)).expect(rt, "a text");
+    let response = Response::of_text(StatusCode::OK, body);
     let mut written = Vec::new(alloc);
-    send_response(StatusCode::OK, &body, &mut written).unwrap_or(0)
+    send_response(&response, &mut written).unwrap_or(0)
 }
 
 /// What the end of writing tells, beside how many bytes are written.

@@ -1,6 +1,7 @@
 -- What honest replies make of an inventory that is true in a world.
 use Rattle.std.proofs.Common.{◌≡◌, ℕ, List, [], ◌∷◌, length, map, Option, Some, None, refl, sym, ap, ◌∙◌, subst, inl, inr}
 use Rattle.std.specs.Prelude.{slice_get, slice_set}
+use Rattle.druid_base.proofs.ListLemmas.{set-found}
 use Rattle.druid_shard.specs.declared.reply.Body.{Body}
 use Rattle.druid_inventory.specs.Entry.{Entry, fresh}
 use Rattle.druid_inventory.specs.declared.fault.Outcome.TheVariants.{Moved}
@@ -9,7 +10,6 @@ use Rattle.druid_published.proofs.FoldLemmas.{stepping, fold_names}
 use Rattle.druid_world.specs.World.{Life, IsWorld, IsInventoryOf, IsHonestAt, marks_of}
 use Rattle.druid_world.specs.Run.{AreHonest}
 use Rattle.druid_world.proofs.RunLemmas.{applies_true, fresh_true, determined}
-use Rattle.druid_world.proofs.ListLemmas.{set_same}
 
 step_true : (world : List Life) (inventory : List Entry) (pair : ℕ × Body) → IsWorld world → IsInventoryOf world inventory → IsHonestAt world pair.0 pair.1
     → IsInventoryOf world (step_by inventory pair)
@@ -19,7 +19,7 @@ step_true world inventory pair valid is honest = by (slice_get inventory pair.0)
     by None at = is
     by (Some e) at = elim (stepping e pair.1) [
       | inl moves ↦ (applies_true world inventory _ pair.0 pair.1 valid is honest (inl (Moved, stepped e pair.1, (e, at, moves), refl))).0
-      | inr same ↦ subst (IsInventoryOf world) (sym (ap (λ (x : Entry). stepped_to x) same ∙ set_same inventory pair.0 e at)) is
+      | inr same ↦ subst (IsInventoryOf world) (sym (ap (λ (x : Entry). stepped_to x) same ∙ set-found inventory pair.0 e at)) is
     ] where
       stepped_to : Entry → List Entry
       stepped_to x = slice_set inventory pair.0 x

@@ -4,7 +4,7 @@ use Rattle.std.specs.Prelude.{◌↔◌}
 use Rattle.std.specs.List.{Contains, slice_get}
 use Rattle.std.proofs.lemmas.List.Elements.{All-contains}
 use Rattle.std.proofs.lemmas.Option.{same_Some}
-use Rattle.druid_shard.proofs.MemberLemmas.{Contains-map_back}
+use Rattle.druid_base.proofs.MemberLemmas.{Contains-map_back}
 use Rattle.druid_shard.specs.Described.{Described, IsDescribed}
 use Rattle.druid_timeline.specs.Holding.{Held}
 use Rattle.druid_inventory.specs.Entry.{Entry}
@@ -27,7 +27,8 @@ use Rattle.druid_scatter.specs.Plan.{Pair, asked_of, AreReplicas, IsPlanOf}
 use Rattle.druid_scatter.proofs.ExactLemmas.{exact}
 use Rattle.druid_scatter.proofs.LawLemmas.{may_be_asked}
 use Rattle.druid_broker.specs.Queries.{TellsRows, AnswersRows, AnswersQuery, WantsMemory}
-use Rattle.druid_broker.specs.Routes.{Route, AnswersPost, IsOutOfMemory}
+use Rattle.druid_broker.specs.Routes.{Route, AnswersPost}
+use Rattle.druid_wire.specs.Served.{IsOutOfMemory}
 use Rattle.druid_broker.specs.Routes as routes
 use Rattle.druid_broker.specs.Views.{TakesInventory, AnswersUnread, RespondsAt, RespondsBy}
 use Rattle.druid_broker.proofs.ServeLemmas.{one_reading}

@@ -6,7 +6,7 @@ use Rattle.std.proofs.lemmas.Bool.{false≢true, leb-true}
 use Rattle.std.proofs.lemmas.Option.{same_Some}
 use Rattle.serde_json.specs.Data.{Data}
 use Rattle.serde_json.specs.Read.{read}
-use Rattle.druid_shard.proofs.MemberLemmas.{Contains-later}
+use Rattle.druid_base.proofs.MemberLemmas.{Contains-later}
 use Rattle.druid_timeline.proofs.HoldingLemmas.{from_filter, in_filter}
 use Rattle.druid_rows.specs.Segment.{Segment, HaveWords}
 use Rattle.druid_query.specs.Query.{Query}
@@ -21,13 +21,14 @@ use Rattle.druid_partial.specs.Rows.{kinds_of}
 use Rattle.druid_partial.specs.Once.{segment_named, counted_in, counted_of, counted_groups}
 use Rattle.druid_partial_text.specs.Read.{TellsGroups}
 use Rattle.druid_partial_text.specs.PieceOrder.{same_asked-true}
-use Rattle.druid_partial_text.specs.Answers.{NodeAnswer, TellsAnswer, WereAsked, answer_data, answer_text}
+use Rattle.druid_partial.specs.Answer.{Answer}
+use Rattle.druid_partial_text.specs.Answers.{TellsAnswer, WereAsked, answer_data, answer_text}
 use Rattle.druid_partial_text.specs.Missed.{IsOfSegment}
 use Rattle.druid_partial_text.proofs.ReadBackLemmas.{answer_back, one_reading}
 use Rattle.druid_wire.specs.Messages.{IsResponse}
 use Rattle.druid_wire.specs.Written.{response_text}
 use Rattle.druid_wire.specs.Written as wire
-use Rattle.druid_wire.specs.declared.length.TheConstants.{MAX_BODY}
+use Rattle.druid_wire.specs.declared.limits.TheConstants.{MAX_BODY}
 use Rattle.druid_wire.proofs.BackLemmas.{response_back}
 use Rattle.druid_wire.proofs.OnceLemmas.{one_response}
 use Rattle.druid_node.specs.State.{State}
@@ -52,7 +53,7 @@ same_ok e = cc
 
 -- where the status is 200, the body is the text of an answer to that subquery
 answered : (held : List Segment) (sub : SubQuery) (status : ℕ) (body : List ℕ) → IsQuery sub.query → IsAsked sub.query.source sub.asked → status ≡ 200
-    → AnswersQuery held (subquery_text sub) status body → (a : NodeAnswer) × IsAnswerOf held sub a × (body ≡ answer_text a)
+    → AnswersQuery held (subquery_text sub) status body → (a : Answer) × IsAnswerOf held sub a × (body ≡ answer_text a)
 answered held sub status body is asked ok (inl t) =
     let d : t.1.0 ≡ subquery_data sub = same_Some _ _ (sym t.1.1.1 ∙ subquery_read sub is asked) in
     let same : t.0 ≡ sub = same_ok (sym t.1.2 ∙ ap subquery_at d ∙ sub_back sub is asked) in
@@ -87,7 +88,7 @@ status_fits held bytes status body (inr t) = let is = t.3.status_is in (omega (a
 -- ---- what is reported
 
 -- what an answer tells is what was written of it
-reported_is : (sub : SubQuery) (held : List Segment) (a : NodeAnswer) (json : Data) (missed : List Asked) (groups : List Group)
+reported_is : (sub : SubQuery) (held : List Segment) (a : Answer) (json : Data) (missed : List Asked) (groups : List Group)
     → IsQuery sub.query → IsAsked sub.query.source sub.asked → All HaveWords held → IsAnswerOf held sub a
     → read (answer_text a) ≡ Some json → TellsAnswer sub json missed groups → (a.missing ≡ missed) × (a.partial.groups ≡ groups)
 reported_is sub held a json missed groups is asked words answer reads tells =

@@ -1,5 +1,5 @@
 -- What a result over segments tells: instants, and numbers of 64 bits.
-use Rattle.std.proofs.Common.{◌≡◌, ℕ, zero, suc, ◌<◌, ℤ, Bool, true, ◌&&◌, nat_le, nat_lt, List, [], ◌∷◌, get_or, map, All, Option, Some, None, option_and_then, refl, sym, subst, arith}
+use Rattle.std.proofs.Common.{◌≡◌, ℕ, zero, suc, ◌<◌, ℤ, true, ◌&&◌, nat_le, nat_lt, List, [], ◌∷◌, get_or, map, All, Option, Some, None, option_and_then, refl, sym, subst, arith}
 use Rattle.std.specs.Prelude.{FitsSigned, Contains, filter, slice_index_or, unwrap_or}
 use Rattle.std.specs.Int.{w64}
 use Rattle.std.specs.Ordering.{is_eq}
@@ -12,7 +12,7 @@ use Rattle.druid_time.specs.Instant.{IsInstant}
 use Rattle.druid_time.specs.Granularity.{bucket_at}
 use Rattle.druid_time.specs.declared.granularity.Granularity.{Granularity}
 use Rattle.druid_time.specs.declared.granularity.Granularity.TheVariants as granularity
-use Rattle.druid_shard.proofs.MemberLemmas.{Contains-nil, Contains-later, Contains-map, Contains-flat_map}
+use Rattle.druid_base.proofs.MemberLemmas.{Contains-nil, Contains-later, Contains-map, Contains-flat_map}
 use Rattle.druid_timeline.proofs.HoldingLemmas.{from_filter}
 use Rattle.druid_rows.specs.Rows.{Schema, Row, HasWords}
 use Rattle.druid_filter.specs.Filters.{value_in}

@@ -1,7 +1,7 @@
 -- What comes back from a data node over a link is the node's answer to what was sent, and so the exchanges of a query are honest.
 use Rattle.std.proofs.Common.{◌≡◌, ◌⊎◌, inl, inr, ℕ, zero, suc, ◌<◌, List, [], ◌∷◌, Ok, Err, refl, sym, ap, ◌∙◌, subst, arith}
 use Rattle.std.specs.Prelude.{Contains, IfOk}
-use Rattle.druid_shard.proofs.MemberLemmas.{Contains-cons, Contains-nil}
+use Rattle.druid_base.proofs.MemberLemmas.{Contains-cons, Contains-nil}
 use Rattle.druid_rows.specs.Segment.{Segment}
 use Rattle.druid_query.specs.Query.{Query}
 use Rattle.druid_query.specs.Asked.{Asked}

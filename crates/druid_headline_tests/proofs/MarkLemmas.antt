@@ -3,7 +3,7 @@ use Rattle.std.proofs.Common.{◌≡◌, ℕ, ◌≤◌, Bool, true, cond, List,
 use Rattle.std.specs.Prelude.{slice_set}
 use Rattle.std.specs.declared.cmp.Ordering.{Ordering}
 use Rattle.std.specs.Ordering.{is_lt, nat_cmp, ordering_then}
-use Rattle.druid_segid.proofs.OrderLemmas.{nat_cmp-lt}
+use Rattle.druid_base.proofs.OrderLemmas.{nat_cmp-lt}
 use Rattle.druid_shard.specs.Described.{Described}
 use Rattle.druid_shard.specs.Mark.{Point, never, mark_cmp}
 use Rattle.druid_shard.specs.declared.reply.Body.TheVariants.{Snapshot}

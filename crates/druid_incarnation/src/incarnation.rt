@@ -4,9 +4,9 @@ ghost use Rattle.druid_folder.specs.Folder.{Content, with_file, renamed, Torn, D
 ghost use Rattle.druid_incarnation.specs.Incarnation.{number_file, next_file, number_text, HasNumber, Answers, IsSameOrNext, IsKeptOrNext};
 ghost use Rattle.druid_incarnation.specs.Keeping.{IsKeptOr};
 
+use druid_base::number_of;
 use druid_folder::{Folder, StoreFault};
 use std::alloc::{AllocError, Global};
-use std::str;
 
 /// The file that has the number.
 const NUMBER_FILE: &str = "incarnation";
@@ -172,15 +172,11 @@ fn decimal_in(digits: &[u8]) -> Option<u64>
     ensures found { IfSome result (λ n. (1 ≤ n) × (n < 2 ^ 64) × (digits.now ≡ decimal n)) }
     ensures none { IfNone result ((n : ℕ) → 1 ≤ n → n < 2 ^ 64 → digits.now ≡ decimal n → ⊥) }
 {
-    if digits.is_empty() {
+    let number = number_of(digits)?;
+    if number == 0 {
         return None;
     }
-    let first = digits[0];
-    if first == b'0' || first == b'+' {
-        return None;
-    }
-    let text = str::from_utf8(digits).ok()?;
-    text.parse::<u64>().ok()
+    Some(number)
 }
 
 fn number_text(alloc: Global, n: u64) -> Result<String, AllocError>

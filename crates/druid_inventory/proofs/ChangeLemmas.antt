@@ -9,7 +9,7 @@ use Rattle.druid_segid.specs.Identifier.{Identifier, identifier_text}
 use Rattle.druid_shard.specs.Described.{Described}
 use Rattle.druid_shard.specs.Replay.{IsSegmentSet, StandsAt, BelongsAt}
 use Rattle.druid_shard.specs.declared.change.Change.TheVariants.{Drop}
-use Rattle.druid_shard.proofs.MemberLemmas.{Contains-nil}
+use Rattle.druid_base.proofs.MemberLemmas.{Contains-nil}
 use Rattle.druid_shard.proofs.SortedLemmas.{AreSorted-own}
 use Rattle.druid_timeline.specs.Holding.{Serving}
 use Rattle.druid_inventory.specs.Entry.{Entry}

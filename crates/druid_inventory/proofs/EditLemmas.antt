@@ -16,7 +16,7 @@ use Rattle.druid_segid.specs.Group.{group_of}
 use Rattle.druid_shard.specs.Described.{Described}
 use Rattle.druid_shard.specs.Replay.{IsSegmentSet, is_strict, after, with_segment, without_segment}
 use Rattle.druid_shard.specs.declared.change.Change.TheVariants.{Load, Drop}
-use Rattle.druid_shard.proofs.MemberLemmas.{Contains-nil}
+use Rattle.druid_base.proofs.MemberLemmas.{Contains-nil}
 use Rattle.druid_shard.proofs.ReplayLemmas.{strict_load, strict_drop, Contains-with_segment, Contains-without_segment}
 use Rattle.druid_timeline.specs.Holding.{Held, Serving, HoldsNothing, held_of, IsPlaceOf, IsServed, RemovesHeld}
 use Rattle.druid_inventory.specs.Entry.{Entry}

@@ -1,5 +1,5 @@
 -- Joins: equal entries, the later of two, and where nothing is later.
-use Rattle.std.proofs.Common.{◌≡◌, ◌≢◌, ◌⊎◌, ◌↔◌, ◌+◌, ◌<◌, ℕ, zero, suc, Bool, true, false, List, [], ◌∷◌, length, get_or, map, set, Option, Some, None, Result, Ok, Err, refl, sym, ap, ◌∙◌, subst, inl, inr, arith, if◌then◌else◌}
+use Rattle.std.proofs.Common.{◌≡◌, ◌≢◌, ◌⊎◌, ◌↔◌, ◌+◌, ◌<◌, ◌≤◌, ℕ, zero, suc, Bool, true, false, List, [], ◌∷◌, length, get_or, map, set, Option, Some, None, Result, Ok, Err, refl, sym, ap, ◌∙◌, subst, inl, inr, arith, if◌then◌else◌}
 use Rattle.std.specs.Bool.{Decides}
 use Rattle.std.specs.Cmp.{first_so, second_so, unsigned_Decides}
 use Rattle.std.specs.Cmp.Lexicographic.{pointwise}
@@ -13,15 +13,15 @@ use Rattle.std.proofs.lemmas.Bool.{false≢true, cases_order}
 use Rattle.std.proofs.lemmas.List.{length-map}
 use Rattle.std.proofs.lemmas.Option.{same_Some, none-some}
 use Rattle.std.proofs.lemmas.Slice.Eq.{bytes_eq-Decides, slice_eq-Decides}
-use Rattle.druid_shard.specs.Described.{Described, same_described}
+use Rattle.druid_base.proofs.ListLemmas.{set-found}
+use Rattle.druid_shard.specs.Described.{same_described}
 use Rattle.druid_shard.specs.Mark.{Point, same_mark, mark_cmp}
 use Rattle.druid_shard.specs.Orders.{mark_cmp-total, mark_cmp-ties, same_mark-equiv}
-use Rattle.druid_shard.proofs.DescribedLemmas.{same_described-decides}
+use Rattle.druid_shard.proofs.DescribedLemmas.{same_sets}
 use Rattle.druid_inventory.specs.Entry.{Entry}
 use Rattle.druid_inventory.specs.Equality.{same_entry, same_entries, same_entry-equiv}
 use Rattle.druid_inventory.specs.Join.{names_of, later, later_each, Conflict, ConflictAt, IsJoin, RefusesJoin, TellsJoin}
 use Rattle.druid_inventory.specs.Judged.{NoneLater}
-use Rattle.druid_inventory.proofs.EntryLemmas.{set-found}
 use Rattle.druid_inventory.proofs.TimelineLemmas.{found_beyond}
 use Rattle.druid_inventory.specs.declared.fault.JoinFault.{JoinFault}
 use Rattle.druid_inventory.specs.declared.fault.JoinFault.TheVariants as faults
@@ -34,9 +34,6 @@ same_mark-true a b e i = record {
   count = (unsigned_Decides a.count b.count).0 (second_so _ _ e) i;
 }
 
-pub same_set-decides : (s t : List Described) → Decides (pointwise same_described s t) (s ≡ t)
-same_set-decides s t = slice_eq-Decides same_described-decides s t (pointwise same_described s t) refl
-
 entry_same : (a b : Entry) → a.name ≡ b.name → a.mark ≡ b.mark → a.set ≡ b.set → a ≡ b
 entry_same a b name mark set i = record { name = name i; mark = mark i; set = set i }
 
@@ -46,7 +43,7 @@ same_entry-decides a b = (
   λ e.
       let front = first_so _ _ e in
       entry_same a b ((bytes_eq-Decides a.name b.name).0 (first_so _ _ front)) (same_mark-true a.mark b.mark (second_so _ _ front))
-      ((same_set-decides a.set b.set).0 (second_so _ _ e)),
+      ((same_sets a.set b.set).0 (second_so _ _ e)),
   λ e. subst (λ (x : Entry). same_entry a x ≡ true) e (same_entry-equiv.refl a),
 )
 
@@ -54,7 +51,7 @@ pub same_entries-decides : (a b : List Entry) → Decides (same_entries a b) (a 
 same_entries-decides a b = slice_eq-Decides same_entry-decides a b (same_entries a b) refl
 
 -- for the attribute `using`
-pub ruleset equality_facts = (same_entry-decides, same_set-decides)
+pub ruleset equality_facts = (same_entry-decides, same_sets)
 
 -- ---- the same nodes
 
@@ -151,8 +148,8 @@ level_marks a b e f = by (mark_cmp a b) refl where
 agreed : (x y : Entry) → x.name ≡ y.name → x.mark ≡ y.mark → (Conflict x y → ⊥) → x ≡ y
 agreed x y name mark apart = by (pointwise same_described x.set y.set) refl where
   by : (t : Bool) → pointwise same_described x.set y.set ≡ t → x ≡ y
-  by true e = entry_same x y name mark ((same_set-decides x.set y.set).0 e)
-  by false e = absurd (apart (mark, λ same. false≢true (sym e ∙ (same_set-decides x.set y.set).1 same)))
+  by true e = entry_same x y name mark ((same_sets x.set y.set).0 e)
+  by false e = absurd (apart (mark, λ same. false≢true (sym e ∙ (same_sets x.set y.set).1 same)))
 
 later-right : (x y : Entry) → x.name ≡ y.name → is_lt (mark_cmp y.mark x.mark) ≡ false → (Conflict x y → ⊥) → later x y ≡ y
 later-right x y name e apart = by (is_lt (mark_cmp x.mark y.mark)) refl where
@@ -184,6 +181,17 @@ later_each-names (x ∷ a) (y ∷ b) e =
     by : (t : Bool) → (if t then y else x).name ≡ x.name
     by true = sym (names_at (x ∷ a) (y ∷ b) 0 x y e refl refl)
     by false = refl
+
+-- an entry is replaced by one of its node
+pub names-set : (inventory : List Entry) (node : ℕ) (e new : Entry) → slice_get inventory node ≡ Some e → new.name ≡ e.name → names_of (set inventory node new) ≡ names_of inventory
+names-set [] node e new is same = refl
+names-set (x ∷ xs) zero e new is same = ap (λ n. n ∷ names_of xs) (same ∙ ap (λ (y : Entry). y.name) (sym (same_Some x e is)))
+names-set (x ∷ xs) (suc node) e new is same = ap (λ ns. x.name ∷ ns) (names-set xs node e new is same)
+
+-- inventories of the same nodes are as long
+pub fewer_names : (opening found : List Entry) (count : ℕ) → names_of found ≡ names_of opening → length found ≤ count → length opening ≤ count
+fewer_names opening found count are few =
+    omega (arith, ap length are, length-map found (λ (e : Entry). e.name), length-map opening (λ (e : Entry). e.name), few)
 
 -- ---- one entry after another
 
@@ -314,8 +322,8 @@ conflict_decided : (x y : Entry) → Conflict x y ⊎ (Conflict x y → ⊥)
 conflict_decided x y = by (same_mark x.mark y.mark) refl (pointwise same_described x.set y.set) refl where
   by : (s : Bool) → same_mark x.mark y.mark ≡ s → (t : Bool) → pointwise same_described x.set y.set ≡ t → Conflict x y ⊎ (Conflict x y → ⊥)
   by false e t f = inr (λ c. false≢true (sym e ∙ subst (λ (p : Point). same_mark x.mark p ≡ true) c.0 (same_mark-equiv.refl x.mark)))
-  by true e true f = inr (λ c. c.1 ((same_set-decides x.set y.set).0 f))
-  by true e false f = inl (same_mark-true x.mark y.mark e, λ same. false≢true (sym f ∙ (same_set-decides x.set y.set).1 same))
+  by true e true f = inr (λ c. c.1 ((same_sets x.set y.set).0 f))
+  by true e false f = inl (same_mark-true x.mark y.mark e, λ same. false≢true (sym f ∙ (same_sets x.set y.set).1 same))
 
 no_conflict : (a b : List Entry) → AgreeTo a b 0
 no_conflict a b k l c = absurd (omega arith)

@@ -9,6 +9,7 @@ use Rattle.std.proofs.lemmas.Cmp.{nat_list_cmp_total, tied_itself}
 use Rattle.std.proofs.lemmas.List.{get_or_default, get_or-drop, take-append-drop, take_more, length-drop}
 use Rattle.std.proofs.lemmas.List.Edits.{length-remove}
 use Rattle.std.proofs.lemmas.Option.{same_Some}
+use Rattle.druid_base.proofs.OptionLemmas.{chained}
 use Rattle.druid_segid.specs.Identifier.{Identifier, IsIdentifier, identifier_text, same_identifier}
 use Rattle.druid_segid.specs.IdentifierLaws.{same_identifier-equiv}
 use Rattle.druid_segid.proofs.IdentifierLemmas.{identifier_text_injective}
@@ -18,7 +19,7 @@ use Rattle.druid_shard.specs.Replay.{IsSegmentSet, IsChangedBy, StandsAt, Belong
 use Rattle.druid_shard.specs.declared.change.Change.{Change}
 use Rattle.druid_shard.specs.declared.change.Change.TheVariants.{Load, Drop}
 use Rattle.druid_shard.proofs.PlaceLemmas.{Precedes}
-use Rattle.druid_shard.proofs.ReplayLemmas.{in_order, after-set, changed-is, changed-one, changed-made, replay_from-append, replay_from-front, replay_from-set, and_then-some, strict_load, strict_drop, length-with_segment, without_segment-at}
+use Rattle.druid_shard.proofs.ReplayLemmas.{in_order, after-set, changed-is, changed-one, changed-made, replay_from-append, replay_from-front, replay_from-set, strict_load, strict_drop, length-with_segment, without_segment-at}
 use Rattle.druid_shard.proofs.SortedLemmas.{AreSorted-own}
 use Rattle.druid_inventory.specs.Judged.{segment_of, IsHolderOf, NoneOfFrom}
 
@@ -75,7 +76,7 @@ pub untouched : (s t : List Described) (cs : List Change) (id : Identifier) → 
 untouched s t [] id h e none x same =
     subst (λ (u : List Described). Contains u x ↔ Contains s x) (same_Some s t e) (λ there. there, λ there. there)
 untouched s t (c ∷ cs) id h e none x same =
-    let step = and_then-some (λ u. replay_from u cs) (changed s c) t e in
+    let step = chained (λ u. replay_from u cs) (changed s c) t e in
     let one = changed-one s step.0 c h step.1 in
     let rest = untouched step.0 t cs id one.0 step.2 (rest_none c cs id none) x same in
     let first = left_by s step.0 c id one.1 (none 0 c (omega arith) (omega arith)) x same in
@@ -101,7 +102,7 @@ pub replayed : (s t : List Described) (cs : List Change) (j : ℕ) (c : Change) 
 replayed s t cs j c h e l here =
     let whole : replay_from s (take j cs ++ (c ∷ drop (suc j) cs)) ≡ Some t = ap (replay_from s) (split_at cs j c l here) ∙ e in
     let parts = replay_from-front s t (take j cs) (c ∷ drop (suc j) cs) whole in
-    let step = and_then-some (λ u. replay_from u (drop (suc j) cs)) (changed parts.0 c) t parts.2 in
+    let step = chained (λ u. replay_from u (drop (suc j) cs)) (changed parts.0 c) t parts.2 in
     let set = replay_from-set s parts.0 (take j cs) h parts.1 in
     let one = changed-one parts.0 step.0 c set step.1 in
     record { before = parts.0; beyond = step.0; before_set = set; beyond_set = one.0; change = one.1; rest = step.2 }
@@ -260,7 +261,7 @@ pub replayed-next : (s t u : List Described) (cs : List Change) (i : ℕ) (c : C
 replayed-next s t u cs i c e before l is =
     let parts = replay_from-front s u (take i cs) (c ∷ drop (suc i) cs) (ap (replay_from s) (split_at cs i c l is) ∙ e) in
     let same : parts.0 ≡ t = same_Some parts.0 t (sym parts.1 ∙ before) in
-    let step = and_then-some (λ v. replay_from v (drop (suc i) cs)) (changed parts.0 c) u parts.2 in
+    let step = chained (λ v. replay_from v (drop (suc i) cs)) (changed parts.0 c) u parts.2 in
     let made = changed-is t step.0 c (ap (λ (x : List Described). changed x c) (sym same) ∙ step.1) in
     (made.0, made.1, replay_from-more s t cs i c before l is made.0 made.1)
 
@@ -268,7 +269,7 @@ replayed-next s t u cs i c e before l is =
 pub replayed-first : (s t : List Described) (c : Change) (rest : List Change) → IsSegmentSet s → replay_from s (c ∷ rest) ≡ Some t
     → (is_strict s c ≡ true) × IsSegmentSet (after s c) × (replay_from (after s c) rest ≡ Some t)
 replayed-first s t c rest h e =
-    let step = and_then-some (λ v. replay_from v rest) (changed s c) t e in
+    let step = chained (λ v. replay_from v rest) (changed s c) t e in
     let made = changed-is s step.0 c step.1 in
     let same : step.0 ≡ after s c = same_Some step.0 (after s c) (sym step.1 ∙ changed-made s c made.0 made.1) in
     (made.0, after-set s c h made.0 made.1, subst (λ (u : List Described). replay_from u rest ≡ Some t) same step.2)

@@ -9,7 +9,9 @@ use Rattle.std.specs.declared.cmp.Ordering.TheVariants.{Less, Equal, Greater}
 use Rattle.std.proofs.lemmas.Bool.{false≢true, cases_eq, cases_order}
 use Rattle.std.proofs.lemmas.List.{take_all, take_rest}
 use Rattle.std.proofs.lemmas.Option.{same_Some, none-some}
-use Rattle.druid_segid.proofs.OrderLemmas.{nat_cmp-eq, nat_cmp-lt}
+use Rattle.druid_shard.proofs.SortedLemmas.{mark_cmp-same}
+use Rattle.druid_base.proofs.OrderLemmas.{nat_cmp-lt, nat_cmp-eq}
+use Rattle.druid_base.proofs.OptionLemmas.{chained}
 use Rattle.druid_shard.specs.Described.{Described, same_described}
 use Rattle.druid_shard.specs.Mark.{Point, mark_cmp}
 use Rattle.druid_shard.specs.Replay.{is_strict, has_room, after, changed, replay_from}
@@ -17,7 +19,7 @@ use Rattle.druid_shard.specs.declared.change.Change.{Change}
 use Rattle.druid_shard.specs.declared.reply.Body.{Body}
 use Rattle.druid_shard.specs.declared.reply.Body.TheVariants.{Delta, Snapshot, Page, Reset}
 use Rattle.druid_shard.proofs.DescribedLemmas.{same_described-decides}
-use Rattle.druid_shard.proofs.ReplayLemmas.{changed-made, changed-not_strict, changed-no_room, replay_from-front, and_then-some}
+use Rattle.druid_shard.proofs.ReplayLemmas.{changed-made, changed-not_strict, changed-no_room, replay_from-front}
 use Rattle.druid_inventory.specs.Entry.{Entry}
 use Rattle.druid_inventory.specs.Step.{Steps, Refuses, GoesOn, IsAhead, DeltaMoves, DeltaRefused, DeltaIsKnown, SnapshotIsKnown, SnapshotConflicts, SnapshotRefused, NotStrictAt, NoRoomAt, known_of, tail_of, moved_to, StepsAt, RefusedAt, Tells}
 use Rattle.druid_inventory.specs.declared.fault.Outcome.{Outcome}
@@ -43,7 +45,7 @@ stopped_more : (s : List Described) (cs more : List Change) (c : Change) (t u : 
 stopped_more s cs more c t u e none whole =
     let parts = replay_from-front s u cs (c ∷ more) whole in
     let same : parts.0 ≡ t = same_Some parts.0 t (sym parts.1 ∙ e) in
-    let step = and_then-some (λ v. replay_from v more) (changed parts.0 c) u parts.2 in
+    let step = chained (λ v. replay_from v more) (changed parts.0 c) u parts.2 in
     none-some step.0 (sym none ∙ ap (λ (x : List Described). changed x c) (sym same) ∙ step.1)
 
 -- a longer front begins with a shorter one and the change after it
@@ -312,9 +314,6 @@ Steps-some e (Page at page of segments) = inl (AskPages, e, refl)
 Steps-some e (Reset cause at) = inl (AskWhole, e, refl)
 
 -- ---- marks
-
-mark_cmp-same : (a : Point) → mark_cmp a a ≡ Equal
-mark_cmp-same a = (λ i. ordering_then (nat_cmp-eq a.incarnation i) (nat_cmp-eq a.count i))
 
 mark_later : (a b : Point) → b.incarnation ≡ a.incarnation → a.count < b.count → mark_cmp a b ≡ Less
 mark_later a b same later =

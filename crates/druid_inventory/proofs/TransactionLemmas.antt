@@ -17,7 +17,7 @@ use Rattle.druid_shard.specs.Described.{Described}
 use Rattle.druid_shard.specs.Replay.{IsSegmentSet, is_strict, after, with_segment, without_segment}
 use Rattle.druid_shard.specs.declared.change.Change.{Change}
 use Rattle.druid_shard.specs.declared.change.Change.TheVariants.{Load, Drop}
-use Rattle.druid_shard.proofs.MemberLemmas.{Contains-map, Contains-map_back}
+use Rattle.druid_base.proofs.MemberLemmas.{Contains-map, Contains-map_back}
 use Rattle.druid_shard.proofs.ReplayLemmas.{strict_drop}
 use Rattle.druid_timeline.specs.Holding.{Held, Serving, HoldsNothing, members_of}
 use Rattle.druid_timeline.specs.Transactions.{Edited}

@@ -1,5 +1,5 @@
 -- What a broker knows of the data nodes.
-use Rattle.std.specs.Prelude.{◌≡◌, ◌≢◌, ◌==◌, ◌&&◌, ℕ, ◌<◌, Bool, List, [], length, nat_lt, nat_le, slice_get, slice_index_or, Some, if◌then◌else◌}
+use Rattle.std.specs.Prelude.{◌≡◌, ◌≢◌, ◌==◌, ◌&&◌, ℕ, ◌<◌, Bool, List, [], length, nat_lt, nat_le, slice_get, Some, if◌then◌else◌}
 use Rattle.druid_shard.specs.Described.{Described}
 use Rattle.druid_shard.specs.Mark.{Point, never, same_mark}
 use Rattle.druid_shard.specs.Reply.{max_page}
@@ -25,12 +25,6 @@ pub record Entry : Type 0 where
 -- a node that was never synced
 abbrev pub fresh : List ℕ → Entry
 fresh name = record { name = name; mark = never; set = [] }
-
--- no name stands at two places
-abbrev pub HaveOwnNames : List (List ℕ) → Type 0
-HaveOwnNames names =
-    (i j : ℕ) (d : List ℕ) → i < length names → j < length names
-    → slice_index_or names i d ≡ slice_index_or names j d → i ≡ j
 
 -- what to ask a node for that is known up to a mark: all, where it was never synced, and else what comes after
 abbrev pub ask_of : Point → Ask

@@ -1,8 +1,8 @@
 -- Where a timeline is kept: only proofs use this.
 use Rattle.std.specs.Arc.{arc_value}
 use Rattle.druid_timeline.specs.Holding.{Serving}
-use Rattle.druid_inventory.specs.declared.shared.Kept.{Kept}
-use Rattle.druid_inventory.specs.declared.shared.Kept.TheVariants.{Shared, Own}
+use Rattle.druid_inventory.specs.declared.shared_timeline.Kept.{Kept}
+use Rattle.druid_inventory.specs.declared.shared_timeline.Kept.TheVariants.{Shared, Own}
 
 -- the timeline
 abbrev pub timeline_in : Kept → Serving

@@ -18,7 +18,7 @@ fn page_of(known: &Known, alloc: Global, page: u16) -> Result<Reply, AllocError>
     requires there { page < pages_in (length known.now.set) }
     ensures { IfOk result (λ reply. reply ≡ page_of known.now page) }
 {
-    page_of_set(alloc, known.synced(), known.set(), page)
+    page_of_set(alloc, known.synced_mark(), known.set(), page)
 }
 
 // All that the node serves at its mark, or the first page where that is too large for one message.
@@ -65,7 +65,7 @@ pub(crate) fn answer_of(known: &Known, alloc: Global, ask: &Ask) -> Result<Reply
             if has_page(known, *mark, *page) {
                 return page_of(known, alloc, *page);
             }
-            Ok(Reply::reset(cause_of(known, *mark), known.synced()))
+            Ok(Reply::reset(cause_of(known, *mark), known.synced_mark()))
         }
     }
 }

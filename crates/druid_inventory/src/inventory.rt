@@ -1,4 +1,4 @@
-ghost use Rattle.std.specs.Prelude.{◌≡◌, ◌≢◌, ◌↔◌, ◌⊎◌, ◌≤◌, ◌<◌, ℕ, List, IsTrue, IfOk, IfErr, IfSome, OnOk, OnErr, IsErrOf, IsSome, Err, None, Some, Contains, length, map, option_copied, option_map, slice_get, slice_index_or, slice_set, vec_len};
+ghost use Rattle.std.specs.Prelude.{◌≡◌, ◌≢◌, ◌↔◌, ◌⊎◌, ◌≤◌, ◌<◌, ℕ, List, IsTrue, IfOk, IfErr, IfSome, OnOk, OnErr, IsErrOf, IsSome, Err, None, Some, Contains, length, map, option_copied, option_map, slice_get, slice_set, vec_len};
 ghost use Rattle.std.specs.Arc.{arc_value};
 ghost use Rattle.std.specs.Ordering.{nat_cmp};
 ghost use Rattle.std.specs.Cmp.Lexicographic.{slice_cmp};
@@ -8,7 +8,8 @@ ghost use Rattle.druid_shard.specs.Described.{Described};
 ghost use Rattle.druid_shard.specs.Mark.{never};
 ghost use Rattle.druid_shard.specs.Replay.{replay_from};
 ghost use Rattle.druid_shard.specs.ReplyBody.{IsReply};
-ghost use Rattle.druid_inventory.specs.Entry.{Entry, max_nodes, fresh, ask_of, HaveOwnNames, IsEntryOf, IsAnswerOf, IsUnsynced};
+ghost use Rattle.druid_inventory.specs.Entry.{Entry, max_nodes, fresh, ask_of, IsEntryOf, IsAnswerOf, IsUnsynced};
+ghost use Rattle.druid_base.specs.Distinct.{AreDistinct};
 ghost use Rattle.druid_inventory.specs.Equality.{same_entries, same_entries-per, same_entries-equiv};
 ghost use Rattle.druid_inventory.specs.Join.{names_of, later_each, ConflictAt, IsJoin, RefusesJoin, TellsJoin};
 ghost use Rattle.druid_inventory.specs.Step.{Steps, StepsAt, RefusedAt, Tells, moved_to};
@@ -25,6 +26,7 @@ use crate::judge::judge;
 use crate::known::{Known, copy_of};
 use crate::timelines::{Timelines, change_set, names_of};
 use crate::{ApplyFault, InventoryFault, JoinFault, Outcome};
+use druid_base::{TextList, are_distinct};
 use druid_segid::Name;
 use druid_shard::{Ask, Body, Change, Descriptor, Mark, NodeNo, Reply};
 use druid_timeline::Timeline;
@@ -60,18 +62,22 @@ impl Model for Inventory {
     ghost invariant = { λ a. IsInventory (map arc_value (arc_value a.entries).items) (arc_value a.timelines) };
 }
 
-// Whether no name stands at two places.
-fn have_own_names(names: &[Name]) -> bool
-    ensures { IsTrue result ↔ HaveOwnNames names.now }
-{
-    for i in 0..names.len() {
-        for j in 0..i {
-            if names[i] == names[j] {
-                return false;
-            }
-        }
+// Names, one after another.
+#[derive(Drop)]
+struct NameList<'a> {
+    names: &'a [Name],
+}
+
+impl TextList for NameList<'_> {
+    ghost texts = { λ list. list.names.now };
+
+    fn count(&self) -> usize {
+        self.names.len()
     }
-    true
+
+    fn text(&self, place: usize) -> &str {
+        self.names[place].as_str()
+    }
 }
 
 // The entries of nodes that were never synced.
@@ -91,12 +97,12 @@ impl Inventory {
         requires some { 1 ≤ vec_len names }
         requires few { vec_len names ≤ max_nodes }
         ensures ok { IfOk result (λ inventory. inventory ≡ map fresh names.items) }
-        ensures own { OnOk result (HaveOwnNames names.items) }
-        ensures doubled { IsErrOf result InventoryFault.DoubledNode ↔ (HaveOwnNames names.items → ⊥) }
+        ensures own { OnOk result (AreDistinct names.items) }
+        ensures doubled { IsErrOf result InventoryFault.DoubledNode ↔ (AreDistinct names.items → ⊥) }
         ensures unknown { result ≢ Err InventoryFault.UnknownNode }
         ensures not_synced { result ≢ Err InventoryFault.NotSynced }
     {
-        if !have_own_names(&names) {
+        if !are_distinct(&NameList { names: &names }) {
             return Err(InventoryFault::DoubledNode);
         }
         let entries = fresh_entries(alloc, names)?;
@@ -121,7 +127,7 @@ impl Inventory {
     }
 
     // The same inventory, which shares all with this one. Does not allocate: one more owner is counted.
-    fn shared(&self) -> Result<Inventory, AllocError>
+    fn share(&self) -> Result<Inventory, AllocError>
         ensures { IfOk result (λ inventory. inventory ≡ self.now) }
     {
         Ok(Inventory {
@@ -193,7 +199,7 @@ impl Inventory {
     pub fn mark(&self, node: NodeNo) -> Option<Mark>
         ensures { result ≡ option_map (λ e. e.mark) (slice_get self.now node) }
     {
-        let known = self.known(node)?;
+        let known = self.find(node)?;
         Some(known.mark())
     }
 
@@ -203,7 +209,7 @@ impl Inventory {
         ensures sorted { IfSome result (λ set. AreSorted set.now) }
         ensures few { IfSome result (λ set. length set.now ≤ max_segments) }
     {
-        let known = self.known(node)?;
+        let known = self.find(node)?;
         Some(known.set())
     }
 
@@ -214,7 +220,7 @@ impl Inventory {
         ensures held { IfSome result (λ timeline. IsHoldingOf self.now source.now timeline.now.held) }
     {
         let timeline = self.timelines.get(source)?;
-        Some(timeline.borrowed())
+        Some(timeline.as_timeline())
     }
 
     /// The data sources of which some node serves a segment, rising, each once.
@@ -251,7 +257,7 @@ impl Inventory {
             Ok(outcome) => outcome,
             Err(fault) => return Err(fault),
         };
-        let Some(known) = self.known(node) else {
+        let Some(known) = self.find(node) else {
             unreachable!()
         };
         match self.after(node, known, body, outcome) {
@@ -298,7 +304,7 @@ impl Inventory {
         ensures ok { IfOk result (λ outcome. (new : Entry) × StepsAt self.now node body.now outcome new) }
         ensures reported { IfErr result (Tells self.now node body.now) }
     {
-        let Some(known) = self.known(node) else {
+        let Some(known) = self.find(node) else {
             return Err(ApplyFault::UnknownNode);
         };
         match judge(known, body) {
@@ -331,7 +337,7 @@ impl Inventory {
             × (self.new ≡ slice_set self.old node new)) }
         ensures err { OnErr result (self.new ≡ self.old) }
     {
-        let Some(known) = self.known(node) else {
+        let Some(known) = self.find(node) else {
             unreachable!()
         };
         match body {
@@ -367,7 +373,7 @@ impl Inventory {
         )
     }
 
-    fn known(&self, node: NodeNo) -> Option<&Known>
+    fn find(&self, node: NodeNo) -> Option<&Known>
         ensures { option_copied result ≡ slice_get self.now node }
     {
         let known = self.entries.get(node as usize)?;
@@ -390,9 +396,9 @@ impl Inventory {
     {
         match outcome {
             Outcome::Moved => self.with_reply(node, known, body),
-            Outcome::AlreadyHave => self.shared(),
-            Outcome::AskWhole => self.shared(),
-            Outcome::AskPages => self.shared(),
+            Outcome::AlreadyHave => self.share(),
+            Outcome::AskWhole => self.share(),
+            Outcome::AskPages => self.share(),
         }
     }
 
@@ -454,13 +460,13 @@ impl Inventory {
     }
 
     // What is known of a node that was synced. V2 where the list has no such node, and V3 where it was never synced.
-    fn synced(&self, node: NodeNo) -> Result<&Known, InventoryFault>
+    fn find_synced(&self, node: NodeNo) -> Result<&Known, InventoryFault>
         ensures ok { IfOk result (λ known. (slice_get self.now node ≡ Some known.now) × (known.now.mark ≢ never)) }
         ensures unknown { IsErrOf result InventoryFault.UnknownNode ↔ (slice_get self.now node ≡ None) }
         ensures not_synced { IsErrOf result InventoryFault.NotSynced ↔ IsUnsynced self.now node }
         ensures no_more { IfErr result (λ fault. (fault ≡ InventoryFault.UnknownNode) ⊎ (fault ≡ InventoryFault.NotSynced)) }
     {
-        let Some(known) = self.known(node) else {
+        let Some(known) = self.find(node) else {
             return Err(InventoryFault::UnknownNode);
         };
         if !known.is_synced() {
@@ -477,7 +483,7 @@ impl Inventory {
         ensures not_synced { IsErrOf result InventoryFault.NotSynced ↔ IsUnsynced self.now node }
         ensures doubled { result ≢ Err InventoryFault.DoubledNode }
     {
-        let known = self.synced(node)?;
+        let known = self.find_synced(node)?;
         match known.snapshot(self.alloc) {
             Ok(reply) => Ok(reply),
             Err(_) => Err(InventoryFault::Memory),
@@ -495,7 +501,7 @@ impl Inventory {
         ensures not_synced { IsErrOf result InventoryFault.NotSynced ↔ IsUnsynced self.now node }
         ensures doubled { result ≢ Err InventoryFault.DoubledNode }
     {
-        let known = self.synced(node)?;
+        let known = self.find_synced(node)?;
         match answer_of(known, self.alloc, ask) {
             Ok(reply) => Ok(reply),
             Err(_) => Err(InventoryFault::Memory),
@@ -544,10 +550,10 @@ impl Inventory {
         let entries = self.entries();
         let others = other.entries();
         if !has_later(entries, others) {
-            return self.shared();
+            return self.share();
         }
         if !has_later(others, entries) {
-            return other.shared();
+            return other.share();
         }
         self.caught_up(others)
     }
@@ -577,7 +583,7 @@ impl Clone for Inventory {
     ghost is_clone = { λ inventory copy. copy ≡ inventory };
 
     fn clone(&self) -> Result<Inventory, AllocError> {
-        self.shared()
+        self.share()
     }
 }
 

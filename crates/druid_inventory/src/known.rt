@@ -99,7 +99,7 @@ impl Known {
     }
 
     // How far the history of the node, which was synced, has been followed.
-    pub(crate) fn synced(&self) -> Mark
+    pub(crate) fn synced_mark(&self) -> Mark
         requires { self.now.mark ≢ never }
         ensures value { result ≡ self.now.mark }
         ensures valid { 1 ≤ result.incarnation }

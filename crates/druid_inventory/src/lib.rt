@@ -11,7 +11,7 @@ mod judge;
 mod known;
 mod laws;
 mod replies;
-mod shared;
+mod shared_timeline;
 mod timelines;
 mod transactions;
 

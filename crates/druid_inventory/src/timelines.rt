@@ -8,7 +8,7 @@ ghost use Rattle.druid_shard.specs.declared.change.Change.TheVariants.{Drop};
 ghost use Rattle.druid_inventory.specs.Entry.{Entry};
 ghost use Rattle.druid_inventory.specs.Timelines.{kept, AreTimelines, TakesSegment, TakesChange, AddsSegment, EditsOut, RemovesSegment, ServesThese, ServesWith};
 
-use crate::shared::SharedTimeline;
+use crate::shared_timeline::SharedTimeline;
 use druid_segid::Name;
 use druid_shard::{Descriptor, NodeNo, find_segment};
 use druid_timeline::Timeline;
@@ -68,7 +68,7 @@ fn edit_out(
     match timelines.get_mut(source) {
         Some(timeline) => {
             timeline.remove(node, descriptor.id())?;
-            Ok(timeline.borrowed().is_empty())
+            Ok(timeline.as_timeline().is_empty())
         }
         None => unreachable!(),
     }

@@ -13,8 +13,8 @@ use Rattle.std.proofs.lemmas.List.Elements.{All-contains, All-from_recursion}
 use Rattle.std.proofs.lemmas.Map.Keys.{sorted_head, sorted_tail}
 use Rattle.std.proofs.lemmas.Map.Lookups.{exact_unsigned}
 use Rattle.std.proofs.lemmas.Map.Views.{btree_map_contains_key_iff}
-use Rattle.druid_segid.proofs.OrderLemmas.{nat_cmp-eq, nat_cmp-gt}
-use Rattle.druid_shard.proofs.MemberLemmas.{Contains-nil, Contains-cons, Contains-later}
+use Rattle.druid_base.proofs.OrderLemmas.{nat_cmp-eq, nat_cmp-gt}
+use Rattle.druid_base.proofs.MemberLemmas.{Contains-nil, Contains-cons, Contains-later}
 use Rattle.druid_members.specs.Members.{SameMembers}
 use Rattle.druid_members.specs.Slots.{Replica, members_in, NoneEmpty, kept_below}
 use Rattle.druid_members.proofs.SlotLemmas.{Slots, KeepsOthers, kept-HasPartition}

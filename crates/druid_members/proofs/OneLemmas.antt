@@ -3,7 +3,7 @@ use Rattle.std.proofs.Common.{◌≡◌, ◌∙◌, ◌⊎◌, ◌↔◌, ℕ, L
 use Rattle.std.specs.Bool.{IsTrue}
 use Rattle.std.specs.List.{Contains}
 use Rattle.std.specs.List.Sorted.{IsStrictlyIncreasing}
-use Rattle.druid_shard.proofs.MemberLemmas.{Contains-nil, Contains-cons, Contains-map}
+use Rattle.druid_base.proofs.MemberLemmas.{Contains-nil, Contains-cons, Contains-map}
 use Rattle.druid_members.specs.Slots.{Statement, Replica, Serves, EachOnce}
 
 pub Contains-one : {X : Type 0} (x y : X) → Contains (x ∷ []) y → x ≡ y

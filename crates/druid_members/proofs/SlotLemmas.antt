@@ -13,7 +13,7 @@ use Rattle.std.proofs.lemmas.Map.Lookups.{exact_unsigned}
 use Rattle.std.proofs.lemmas.Map.Views.{btree_map_get_iff}
 use Rattle.druid_members.specs.Members.{Member, core_count, HasMember, HoldsPlace, ServesPlace, HasPartition, Adds, RemovesPlace, RemovesOne, IsAt, AllAt, SameMembers, ServedOnce}
 use Rattle.druid_members.specs.Slots.{Statement, Replica, member_at, members_in, NoneEmpty, Serves}
-use Rattle.druid_shard.proofs.MemberLemmas.{Contains-nil, Contains-cons, Contains-later, Contains-map, Contains-map_back, Contains-flat_map, Contains-flat_map_back}
+use Rattle.druid_base.proofs.MemberLemmas.{Contains-nil, Contains-cons, Contains-later, Contains-map, Contains-map_back, Contains-flat_map, Contains-flat_map_back}
 
 abbrev pub Slots : Type 0
 Slots = BTreeMap ℕ (List Replica)

@@ -17,7 +17,7 @@ use Rattle.druid_shard.specs.Described.{Described, IsDescribed, same_described}
 use Rattle.druid_shard.specs.Replay.{IsSegmentSet, shares_identifier, with_segment, without_segment, is_strict, has_room}
 use Rattle.druid_shard.specs.declared.change.Change.TheVariants.{Load, Drop}
 use Rattle.druid_shard.proofs.DescribedLemmas.{same_described-decides}
-use Rattle.druid_shard.proofs.MemberLemmas.{Contains-nil, Contains-cons, Contains-later}
+use Rattle.druid_base.proofs.MemberLemmas.{Contains-nil, Contains-cons, Contains-later}
 use Rattle.druid_shard.proofs.ReplayLemmas.{AreInOrder, in_order, after-set}
 use Rattle.druid_changes.specs.Segments.{IsEntry}
 use Rattle.druid_changes.proofs.SetLemmas as sets

@@ -1,6 +1,6 @@
 -- Where a segment stands among those that are held.
 use Rattle.std.proofs.Common.{◌≡◌, ◌<◌, ◌≤◌, ℕ, zero, suc, true, false, cond, List, [], ◌∷◌, map, length, get_or, Some, None, refl, sym, ap, ◌∙◌, subst, arith, inl, inr}
-use Rattle.std.specs.List.{AllZip, insert, remove, slice_get}
+use Rattle.std.specs.List.{insert, remove, slice_get}
 use Rattle.std.specs.Option.{is_some}
 use Rattle.std.specs.Ordering.{match_ordering, ordering_then, ordering_reverse, is_eq}
 use Rattle.std.specs.declared.cmp.Ordering.TheVariants.{Less, Greater}
@@ -22,13 +22,6 @@ use Rattle.druid_node.specs.Held.{with_held, without_held}
 use Rattle.druid_node.proofs.RowLemmas.{have_own}
 
 -- ---- lists after pointers
-
--- pointers copied one by one point to the same
-pub map-copied : {A B : Type 0} (f : A → B) (xs ys : List A) → AllZip (λ x y. f y ≡ f x) xs ys → map f ys ≡ map f xs
-map-copied f [] [] h = refl
-map-copied f [] (y ∷ ys) h = absurd h
-map-copied f (x ∷ xs) [] h = absurd h
-map-copied f (x ∷ xs) (y ∷ ys) h = λ i. h.0 i ∷ map-copied f xs ys h.1 i
 
 pub map-insert : {A B : Type 0} (f : A → B) (xs : List A) (i : ℕ) (x : A) → i ≤ length xs → map f (insert xs i x) ≡ insert (map f xs) i (f x)
 map-insert f xs zero x l = refl

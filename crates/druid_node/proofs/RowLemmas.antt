@@ -11,7 +11,7 @@ use Rattle.druid_partial.specs.Once.{segment_named, HaveOwnSegments}
 use Rattle.druid_node.proofs.HeldLemmas.{found_each, found_id}
 use Rattle.druid_shard.specs.Reply.{IsBefore}
 use Rattle.druid_shard.specs.Replay.{IsSegmentSet}
-use Rattle.druid_shard.proofs.MemberLemmas.{Contains-map_back}
+use Rattle.druid_base.proofs.MemberLemmas.{Contains-map_back}
 use Rattle.druid_shard.proofs.ReplayLemmas.{AreInOrder, in_order, first_before, rest_in_order}
 use Rattle.druid_shard.proofs.SortedLemmas.{not_before_itself}
 use Rattle.druid_segid.specs.Identifier.{identifier_text}

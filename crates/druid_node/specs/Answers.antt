@@ -3,7 +3,7 @@ use Rattle.std.specs.Prelude.{◌≡◌, List, filter, Bool, not, is_some}
 use Rattle.druid_rows.specs.Segment.{Segment}
 use Rattle.druid_query.specs.Asked.{Asked}
 use Rattle.druid_query.specs.SubQuery.{SubQuery}
-use Rattle.druid_partial_text.specs.Answers.{NodeAnswer}
+use Rattle.druid_partial.specs.Answer.{Answer}
 use Rattle.druid_partial.specs.Groups.{IsResult}
 use Rattle.druid_partial.specs.Rows.{kinds_of, IsPartialFor}
 use Rattle.druid_partial.specs.Once.{segment_named, counted_groups}
@@ -17,7 +17,7 @@ abbrev pub missing : List Segment → List Asked → List Asked
 missing held asked = filter (is_missing held) asked
 
 -- the answer to a subquery of a node that holds these segments
-pub record IsAnswerOf (held : List Segment) (sub : SubQuery) (a : NodeAnswer) : Type 0 where
+pub record IsAnswerOf (held : List Segment) (sub : SubQuery) (a : Answer) : Type 0 where
   pub missed : a.missing ≡ missing held sub.asked
   pub result : IsResult (kinds_of sub.query) (counted_groups sub.query held sub.asked) a.partial.groups
   pub of_query : IsPartialFor sub.query a.partial

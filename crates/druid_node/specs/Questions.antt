@@ -1,11 +1,10 @@
 -- What a request asks of a node's state, and what an answer is made of. Only proofs and private functions use this.
-use Rattle.std.specs.Prelude.{◌≡◌, ⊤, ℕ, List, Option, Some, None, Vec}
+use Rattle.std.specs.Prelude.{◌≡◌, ◌⊎◌, ⊤, ℕ, List, Option, Some, None}
 use Rattle.std.specs.Arc.{arc_value}
-use Rattle.std.specs.Global.{Global}
 use Rattle.druid_shard.specs.Mark.{Point}
 use Rattle.druid_sync.specs.Back.{IsReadBack}
 use Rattle.druid_sync.specs.Written.{reply_text}
-use Rattle.druid_wire.specs.Served.{Tells}
+use Rattle.druid_wire.specs.Served.{Tells, IsOutOfMemory}
 use Rattle.druid_node.specs.State.{State}
 use Rattle.druid_node.specs.Routes.{AnswersFound, AnswersSub}
 use Rattle.druid_node.specs.Seen.{AreAtMark}
@@ -16,7 +15,7 @@ use Rattle.druid_node.specs.declared.basis.Basis.TheVariants as rests
 
 -- what a state answers to a question, and what state there is then
 abbrev pub Gives : State → State → Question → ℕ → List ℕ → Type 0
-Gives old new (asks.Settled code text) status body = (new ≡ old) × Tells code text.items status body
+Gives old new (asks.Settled response) status body = (new ≡ old) × Tells response.status response.body status body
 Gives old new (asks.Reply ask) status body = AnswersFound old new (Some ask) status body
 Gives old new (asks.Answer sub) status body = (new ≡ old) × AnswersSub old.held sub status body
 
@@ -26,7 +25,7 @@ Asks question Answers = (old new : State) (status : ℕ) (body : List ℕ) → G
 
 -- the answer that is made of this
 abbrev pub IsMadeOf : Basis → ℕ → List ℕ → Type 0
-IsMadeOf (rests.Settled code text) status body = Tells code text.items status body
+IsMadeOf (rests.Settled response) status body = Tells response.status response.body status body
 IsMadeOf (rests.Reply reply) status body = IsReadBack reply × Tells 200 (reply_text reply) status body
 IsMadeOf (rests.Held held sub) status body = AnswersSub (arc_value held) sub status body
 
@@ -46,7 +45,6 @@ IsBasisFrom incarnation before after question basis =
     (state next : State) × AreAtMark incarnation before after state next × IsBasisInTurn state next question basis
 
 -- the answer that is made of this, where out of memory may stand in its place
-abbrev pub IsMadeInTurn : Option Basis → ℕ → Option (Vec ℕ Global) → Type 0
-IsMadeInTurn basis status None = status ≡ 500
-IsMadeInTurn None status (Some body) = ⊥
-IsMadeInTurn (Some basis) status (Some body) = IsMadeOf basis status body.items
+abbrev pub IsMadeInTurn : Option Basis → ℕ → List ℕ → Type 0
+IsMadeInTurn None status body = IsOutOfMemory status body
+IsMadeInTurn (Some basis) status body = IsMadeOf basis status body ⊎ IsOutOfMemory status body

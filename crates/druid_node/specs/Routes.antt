@@ -14,9 +14,10 @@ use Rattle.druid_query.specs.SubQuery.{SubQuery, subquery_at}
 use Rattle.druid_query.specs.declared.fault.QueryFault.{QueryFault}
 use Rattle.druid_query.specs.declared.fault.QueryFault.TheVariants.{Memory}
 use Rattle.druid_query.specs.Refused.{refusal_text}
-use Rattle.druid_partial_text.specs.Answers.{NodeAnswer, answer_text}
+use Rattle.druid_partial.specs.Answer.{Answer}
+use Rattle.druid_partial_text.specs.Answers.{answer_text}
 use Rattle.druid_message.specs.Requests.{RequestValue, path_of, parameters_of}
-use Rattle.druid_wire.specs.Served.{Tells, Allows}
+use Rattle.druid_wire.specs.Served.{Tells, Allows, Gets, IsOutOfMemory}
 use Rattle.druid_node.specs.State.{State}
 use Rattle.druid_node.specs.Answers.{IsAnswerOf}
 use Rattle.druid_node.specs.declared.routes.Route.{Route}
@@ -55,7 +56,7 @@ AnswersGet false old new parameters status body = (new ≡ old) × Tells 405 (co
 -- ---- queries
 
 abbrev pub AnswersSub : List Segment → SubQuery → ℕ → List ℕ → Type 0
-AnswersSub held sub status body = (a : NodeAnswer) × IsAnswerOf held sub a × Tells 200 (answer_text a) status body
+AnswersSub held sub status body = (a : Answer) × IsAnswerOf held sub a × Tells 200 (answer_text a) status body
 
 -- the bytes read as a subquery, or are refused as one
 abbrev pub AnswersQuery : List Segment → List ℕ → ℕ → List ℕ → Type 0
@@ -68,7 +69,7 @@ AnswersQuery held bytes status body =
 -- an answer that is no ask's leaves the state as it was
 abbrev pub AnswersAt : Route → State → State → RequestValue → ℕ → List ℕ → Type 0
 AnswersAt Health old new request status body =
-    (new ≡ old) × Allows (bytes_eq request.method (codes "GET")) (Tells 200 (codes "true")) status body
+    (new ≡ old) × Gets request (Tells 200 (codes "true")) status body
 AnswersAt Segments old new request status body =
     AnswersGet (bytes_eq request.method (codes "GET")) old new (parameters_of request.target) status body
 AnswersAt Query old new request status body =
@@ -82,4 +83,4 @@ Responds old new request status body = AnswersAt (route_of (path_of request.targ
 -- out of memory in the place of the answer
 abbrev pub RespondsInTurn : State → State → RequestValue → ℕ → List ℕ → Type 0
 RespondsInTurn old new request status body =
-    Responds old new request status body ⊎ Tells 500 (codes "{\"error\":\"Memory\"}") status body
+    Responds old new request status body ⊎ IsOutOfMemory status body

@@ -1,6 +1,5 @@
 -- What was seen of a node: a caller keeps the mark of the last state that answered it.
-use Rattle.std.specs.Prelude.{◌≡◌, ◌≢◌, ◌⊎◌, ⊤, ℕ, List, codes, Option, Some, None, IfSome, Vec}
-use Rattle.std.specs.Global.{Global}
+use Rattle.std.specs.Prelude.{◌≡◌, ◌≢◌, ◌⊎◌, ⊤, ℕ, List, Option, Some, IfSome}
 use Rattle.std.specs.declared.cmp.Ordering.TheVariants.{Less, Greater}
 use Rattle.druid_segid.specs.Identifier.{Identifier}
 use Rattle.druid_shard.specs.Mark.{Point, mark_cmp}
@@ -94,11 +93,6 @@ pub record AreAtMark (incarnation : ℕ) (seen mark : Point) (state next : State
 abbrev pub AnswersFrom : ℕ → Point → Point → RequestValue → ℕ → List ℕ → Type 0
 AnswersFrom incarnation before after request status body =
     (state next : State) × AreAtMark incarnation before after state next × RespondsInTurn state next request status body
-
--- the body of an answer, where out of memory may stand in its place
-abbrev pub text_of : Option (Vec ℕ Global) → List ℕ
-text_of None = codes "{\"error\":\"Memory\"}"
-text_of (Some body) = body.items
 
 -- a state of that incarnation that is not older than what was seen answers so
 abbrev pub AnswersSince : ℕ → Point → RequestValue → ℕ → List ℕ → Type 0

@@ -13,6 +13,7 @@ use druid_partial_text::node_answer_text;
 use druid_query::SubQuery;
 use druid_shard::Reply;
 use druid_sync::reply_text;
+use druid_wire::Response;
 use http::StatusCode;
 use std::alloc::Global;
 use std::sync::Arc;
@@ -21,47 +22,43 @@ use std::sync::Arc;
 #[derive(Drop)]
 pub(crate) enum Basis {
     // The answer.
-    Settled(StatusCode, Vec<u8>),
+    Settled(Response),
     // The reply of its history.
     Reply(Reply),
     // The segments that it held, shared with it, and the subquery.
     Held(Arc<Held, Global>, SubQuery),
 }
 
-fn answer_with(alloc: Global, reply: &Reply) -> Result<(StatusCode, Vec<u8>), NodeFault>
-    ensures ok { IfOk result (λ r. IsReadBack reply.now × Tells 200 (reply_text reply.now) r.0 r.1.items) }
+fn answer_with(alloc: Global, reply: &Reply) -> Result<Response, NodeFault>
+    ensures ok { IfOk result (λ r. IsReadBack reply.now × Tells 200 (reply_text reply.now) r.status r.body) }
     ensures err { IfErr result (λ fault. fault ≡ NodeFault.Memory) }
 {
     match reply_text(alloc, reply) {
-        Ok(text) => Ok((StatusCode::OK, text.into_bytes())),
+        Ok(text) => Ok(Response::of_text(StatusCode::OK, text)),
         Err(_) => Err(NodeFault::Memory),
     }
 }
 
-fn answer_sub(
-    alloc: Global,
-    held: &Held,
-    sub: &SubQuery,
-) -> Result<(StatusCode, Vec<u8>), NodeFault>
-    ensures ok { IfOk result (λ r. AnswersSub held.now sub.now r.0 r.1.items) }
+fn answer_sub(alloc: Global, held: &Held, sub: &SubQuery) -> Result<Response, NodeFault>
+    ensures ok { IfOk result (λ r. AnswersSub held.now sub.now r.status r.body) }
     ensures err { IfErr result (λ fault. fault ≡ NodeFault.Memory) }
 {
     let Ok(answer) = answer_of(alloc, held, sub) else {
         return Err(NodeFault::Memory);
     };
     match node_answer_text(alloc, &answer) {
-        Ok(text) => Ok((StatusCode::OK, text.into_bytes())),
+        Ok(text) => Ok(Response::of_text(StatusCode::OK, text)),
         Err(_) => Err(NodeFault::Memory),
     }
 }
 
 // The answer that is made of it.
-pub(crate) fn answer_from(alloc: Global, basis: Basis) -> Result<(StatusCode, Vec<u8>), NodeFault>
-    ensures ok { IfOk result (λ r. IsMadeOf basis r.0 r.1.items) }
+pub(crate) fn answer_from(alloc: Global, basis: Basis) -> Result<Response, NodeFault>
+    ensures ok { IfOk result (λ r. IsMadeOf basis r.status r.body) }
     ensures err { IfErr result (λ fault. fault ≡ NodeFault.Memory) }
 {
     match basis {
-        Basis::Settled(status, body) => Ok((status, body)),
+        Basis::Settled(response) => Ok(response),
         Basis::Reply(reply) => answer_with(alloc, &reply),
         Basis::Held(held, sub) => answer_sub(alloc, &held, &sub),
     }

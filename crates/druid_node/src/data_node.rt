@@ -5,7 +5,7 @@ ghost use Rattle.druid_rows.specs.Segment.{Segment};
 ghost use Rattle.druid_folder.specs.Folder.{IsOwnFault, read_part, bytes_read};
 ghost use Rattle.druid_segfile.specs.Reading.{segment_at};
 ghost use Rattle.druid_node.specs.Files.{file_name, named, file_at, reported_as, RefusesFile, IsOfFile, RefusesBytes, RefusesFound, faults_after_load};
-ghost use Rattle.druid_node.specs.Seen.{IsStale, RefusesLoad, RefusesDrop, RefusesTombstone, AnswersFrom, text_of};
+ghost use Rattle.druid_node.specs.Seen.{IsStale, RefusesLoad, RefusesDrop, RefusesTombstone, AnswersFrom};
 ghost use Rattle.druid_node.specs.Questions.{IsBasisFrom};
 
 use crate::question::{Question, question_of};
@@ -137,7 +137,7 @@ impl<I: Incarnation> DataNode<I> {
         request: &Request,
         seen: Mark,
     ) -> Result<Answered, NodeFault>
-        ensures ok { IfOk result (λ a. AnswersFrom I.number seen a.mark request.now a.status (text_of a.body)) }
+        ensures ok { IfOk result (λ a. AnswersFrom I.number seen a.mark request.now a.response.status a.response.body) }
         ensures err { IfErr result (λ fault. (found : Point) × IsStale I.number found seen × (fault ≡ NodeFault.Behind found)) }
     {
         let question = question_of(self.alloc, request).ok();

@@ -1,5 +1,5 @@
 //! What a request asks of a node's state. No state is at hand where that is read.
-ghost use Rattle.std.specs.Prelude.{◌≡◌, ◌≢◌, codes, IfOk, IfErr};
+ghost use Rattle.std.specs.Prelude.{◌≡◌, ◌≢◌, IfOk, IfErr};
 ghost use Rattle.druid_query.specs.Refused.{refusal_text};
 ghost use Rattle.druid_wire.specs.Served.{Tells};
 ghost use Rattle.druid_node.specs.Routes.{AnswersAsk, AnswersQuery, AnswersAt, Responds};
@@ -12,6 +12,7 @@ use druid_query::{QueryFault, SubQuery, refusal_text};
 use druid_query_text::read_subquery;
 use druid_shard::Ask;
 use druid_sync::read_ask;
+use druid_wire::Response;
 use http::StatusCode;
 use std::alloc::Global;
 
@@ -19,32 +20,11 @@ use std::alloc::Global;
 #[derive(Drop)]
 pub(crate) enum Question {
     // None: each state answers so.
-    Settled(StatusCode, Vec<u8>),
+    Settled(Response),
     // What its history replies to an ask.
     Reply(Ask),
     // What the segments that it holds answer to a subquery.
     Answer(SubQuery),
-}
-
-fn fixed_answer(alloc: Global, status: StatusCode, text: &str) -> Result<Question, NodeFault>
-    ensures ok { IfOk result (λ q. Asks q (λ old new code body. (new ≡ old) × Tells status text.now code body)) }
-    ensures err { IfErr result (λ fault. fault ≡ NodeFault.Memory) }
-{
-    match text.as_bytes().to_vec(alloc) {
-        Ok(body) => Ok(Question::Settled(status, body)),
-        Err(_) => Err(NodeFault::Memory),
-    }
-}
-
-fn other_method(alloc: Global) -> Result<Question, NodeFault>
-    ensures ok { IfOk result (λ q. Asks q (λ old new status body. (new ≡ old) × Tells 405 (codes "{\"error\":\"Method\"}") status body)) }
-    ensures err { IfErr result (λ fault. fault ≡ NodeFault.Memory) }
-{
-    fixed_answer(
-        alloc,
-        StatusCode::METHOD_NOT_ALLOWED,
-        "{\"error\":\"Method\"}",
-    )
 }
 
 // What is no subquery.
@@ -55,19 +35,18 @@ fn refuse(alloc: Global, fault: QueryFault) -> Result<Question, NodeFault>
     match fault {
         QueryFault::Memory => Err(NodeFault::Memory),
         fault => match refusal_text(alloc, fault) {
-            Ok(text) => Ok(Question::Settled(StatusCode::BAD_REQUEST, text.into_bytes())),
+            Ok(text) => Ok(Question::Settled(Response::of_text(StatusCode::BAD_REQUEST, text))),
             Err(_) => Err(NodeFault::Memory),
         },
     }
 }
 
-fn of_parameters(alloc: Global, parameters: &str) -> Result<Question, NodeFault>
-    ensures ok { IfOk result (λ q. Asks q (λ old new. AnswersAsk old new parameters.now)) }
-    ensures err { IfErr result (λ fault. fault ≡ NodeFault.Memory) }
+fn of_parameters(parameters: &str) -> Question
+    ensures { Asks result (λ old new. AnswersAsk old new parameters.now) }
 {
     match read_ask(parameters) {
-        Ok(ask) => Ok(Question::Reply(ask)),
-        Err(_) => fixed_answer(alloc, StatusCode::BAD_REQUEST, "{\"error\":\"Y6\"}"),
+        Ok(ask) => Question::Reply(ask),
+        Err(_) => Question::Settled(Response::no_ask()),
     }
 }
 
@@ -81,24 +60,13 @@ fn of_body(alloc: Global, body: &[u8]) -> Result<Question, NodeFault>
     }
 }
 
-fn health(alloc: Global, request: &Request) -> Result<Question, NodeFault>
-    ensures ok { IfOk result (λ q. Asks q (λ old new. AnswersAt Route.Health old new request.now)) }
-    ensures err { IfErr result (λ fault. fault ≡ NodeFault.Memory) }
+fn segments(request: &Request) -> Question
+    ensures { Asks result (λ old new. AnswersAt Route.Segments old new request.now) }
 {
     if !request.has_method("GET") {
-        return other_method(alloc);
+        return Question::Settled(Response::other_method());
     }
-    fixed_answer(alloc, StatusCode::OK, "true")
-}
-
-fn segments(alloc: Global, request: &Request) -> Result<Question, NodeFault>
-    ensures ok { IfOk result (λ q. Asks q (λ old new. AnswersAt Route.Segments old new request.now)) }
-    ensures err { IfErr result (λ fault. fault ≡ NodeFault.Memory) }
-{
-    if !request.has_method("GET") {
-        return other_method(alloc);
-    }
-    of_parameters(alloc, request.parameters())
+    of_parameters(request.parameters())
 }
 
 fn query(alloc: Global, request: &Request) -> Result<Question, NodeFault>
@@ -106,7 +74,7 @@ fn query(alloc: Global, request: &Request) -> Result<Question, NodeFault>
     ensures err { IfErr result (λ fault. fault ≡ NodeFault.Memory) }
 {
     if !request.has_method("POST") {
-        return other_method(alloc);
+        return Ok(Question::Settled(Response::other_method()));
     }
     of_body(alloc, request.body())
 }
@@ -116,14 +84,14 @@ fn question_at(alloc: Global, route: Route, request: &Request) -> Result<Questio
     ensures err { IfErr result (λ fault. fault ≡ NodeFault.Memory) }
 {
     match route {
-        Route::Health => health(alloc, request),
-        Route::Segments => segments(alloc, request),
+        Route::Health => Ok(Question::Settled(Response::health(request))),
+        Route::Segments => Ok(segments(request)),
         Route::Query => query(alloc, request),
-        Route::Nowhere => fixed_answer(alloc, StatusCode::NOT_FOUND, "{\"error\":\"NoRoute\"}"),
+        Route::Nowhere => Ok(Question::Settled(Response::no_route())),
     }
 }
 
-// What the request asks of a state.
+// What the request asks of a state. Only a query allocates.
 pub(crate) fn question_of(alloc: Global, request: &Request) -> Result<Question, NodeFault>
     ensures ok { IfOk result (λ q. Asks q (λ old new. Responds old new request.now)) }
     ensures err { IfErr result (λ fault. fault ≡ NodeFault.Memory) }

@@ -19,7 +19,7 @@ impl NodeState {
         ensures unchanged { OnErr result (self.new ≡ self.old) }
     {
         match question {
-            Question::Settled(status, body) => Ok(Basis::Settled(status, body)),
+            Question::Settled(response) => Ok(Basis::Settled(response)),
             Question::Reply(ask) => match self.since(&ask) {
                 Ok(reply) => Ok(Basis::Reply(reply)),
                 Err(fault) => Err(fault),
@@ -46,9 +46,17 @@ impl NodeState {
             Ok(question) => question,
             Err(fault) => return Err(fault),
         };
-        match self.basis_of(question) {
-            Ok(basis) => answer_from(self.alloc(), basis),
-            Err(fault) => Err(fault),
+        let basis = match self.basis_of(question) {
+            Ok(basis) => basis,
+            Err(fault) => return Err(fault),
+        };
+        let response = match answer_from(self.alloc(), basis) {
+            Ok(response) => response,
+            Err(fault) => return Err(fault),
+        };
+        match response.into_parts(self.alloc()) {
+            Ok(parts) => Ok(parts),
+            Err(_) => Err(NodeFault::Memory),
         }
     }
 }

@@ -15,7 +15,7 @@ use crate::{Incarnation, NodeFault, NodeState};
 use druid_rows::Segment;
 use druid_segid::SegmentId;
 use druid_shard::Mark;
-use http::StatusCode;
+use druid_wire::Response;
 use std::alloc::Global;
 use std::marker::{Model, PhantomData};
 
@@ -30,9 +30,7 @@ pub(crate) struct Based {
 // What a state answers to a request, and its mark.
 #[derive(Drop)]
 pub(crate) struct Answered {
-    pub(crate) status: StatusCode,
-    // None where memory runs out for the answer.
-    pub(crate) body: Option<Vec<u8>>,
+    pub(crate) response: Response,
     pub(crate) mark: Mark,
 }
 
@@ -187,8 +185,8 @@ impl<I: Incarnation> StateIn<I> {
     }
 }
 
-fn answer_in_turn(alloc: Global, basis: Option<Basis>) -> Result<(StatusCode, Vec<u8>), NodeFault>
-    ensures { IfOk result (λ r. IsMadeInTurn basis r.0 (Some r.1)) }
+fn answer_in_turn(alloc: Global, basis: Option<Basis>) -> Result<Response, NodeFault>
+    ensures { IfOk result (λ r. IsMadeInTurn basis r.status r.body) }
 {
     match basis {
         Some(basis) => answer_from(alloc, basis),
@@ -196,22 +194,15 @@ fn answer_in_turn(alloc: Global, basis: Option<Basis>) -> Result<(StatusCode, Ve
     }
 }
 
-// The answer that is made of that. Out of memory is status 500 and no body.
+// The answer that is made of that, or out of memory.
 pub(crate) fn answer_for(alloc: Global, based: Based) -> Answered
     ensures mark { result.mark ≡ based.mark }
-    ensures made { IsMadeInTurn based.basis result.status result.body }
+    ensures made { IsMadeInTurn based.basis result.response.status result.response.body }
 {
     let mark = based.mark;
-    match answer_in_turn(alloc, based.basis) {
-        Ok((status, body)) => Answered {
-            status,
-            body: Some(body),
-            mark,
-        },
-        Err(_) => Answered {
-            status: StatusCode::INTERNAL_SERVER_ERROR,
-            body: None,
-            mark,
-        },
-    }
+    let response = match answer_in_turn(alloc, based.basis) {
+        Ok(response) => response,
+        Err(_) => Response::out_of_memory(),
+    };
+    Answered { response, mark }
 }

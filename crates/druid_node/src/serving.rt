@@ -5,26 +5,14 @@ ghost use Rattle.std.specs.declared.cmp.Ordering.TheVariants.{Greater};
 ghost use Rattle.druid_shard.specs.Mark.{Point, mark_cmp};
 ghost use Rattle.druid_message.specs.declared.fault.WireFault.{WireFault};
 ghost use Rattle.druid_wire.specs.Served.{refusal_text, IsSent, IsCutShort};
-ghost use Rattle.druid_node.specs.Seen.{IsStale, AnswersFrom, AnswersSince, IsServedAsSeen, IsPassedBy, IsUnserved, text_of};
+ghost use Rattle.druid_node.specs.Seen.{IsStale, AnswersFrom, AnswersSince, IsServedAsSeen, IsPassedBy, IsUnserved};
 
-use crate::seen::Answered;
 use crate::{DataNode, Incarnation, NodeFault};
 use druid_message::{Request, WireFault};
 use druid_shard::Mark;
 use druid_wire::{read_request, refuse_request, send_response};
 use std::io::{BufRead, Write};
 use std::sync::Wait;
-
-// Writes an answer.
-fn send_answered<W: Write>(answered: &Answered, writer: &mut W) -> Result<u16, WireFault>
-    ensures ok { IfOk result (IsSent (W.contents writer.old) (W.contents writer.new) answered.now.status (text_of answered.now.body)) }
-    ensures err { IfErr result (IsCutShort (W.contents writer.old) (W.contents writer.new) answered.now.status (text_of answered.now.body)) }
-{
-    match &answered.body {
-        Some(body) => send_response(answered.status, body, writer),
-        None => send_response(answered.status, b"{\"error\":\"Memory\"}", writer),
-    }
-}
 
 // Answers where no request was read.
 fn refuse_unread<W: Write>(fault: WireFault, writer: &mut W) -> Result<u16, NodeFault>
@@ -63,7 +51,7 @@ impl<I: Incarnation> DataNode<I> {
             Ok(answered) => answered,
             Err(fault) => return Err(fault),
         };
-        match send_answered(&answered, writer) {
+        match send_response(&answered.response, writer) {
             Ok(status) => {
                 *seen = answered.mark;
                 Ok(status)

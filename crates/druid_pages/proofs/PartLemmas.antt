@@ -1,7 +1,8 @@
 -- Pages that are there, and pages that are not.
-use Rattle.std.proofs.Common.{◌≡◌, ◌⊎◌, ◌<◌, ◌≤◌, ℕ, zero, suc, List, [], ◌∷◌, length, replicate, set, Option, Some, None, refl, sym, ap, ◌∙◌, subst, inl, inr, ⊎_elim, arith}
+use Rattle.std.proofs.Common.{◌≡◌, ◌⊎◌, ◌<◌, ◌≤◌, ℕ, zero, suc, List, [], ◌∷◌, length, replicate, set, Option, Some, None, refl, sym, ap, ◌∙◌, subst, ⊎_elim, arith}
 use Rattle.std.specs.List.{slice_get}
 use Rattle.std.proofs.lemmas.Option.{same_Some, none-some}
+use Rattle.druid_base.proofs.ListLemmas.{slice_get-set}
 use Rattle.druid_shard.specs.Described.{Described}
 use Rattle.druid_shard.specs.Reply.{max_page, AreSorted}
 use Rattle.druid_pages.specs.Assembly.{ArePages}
@@ -14,14 +15,6 @@ none_in (suc n) (suc page) segments is = none_in n page segments is
 -- of none, no page is there
 pub none_there : (pages : List (Option (List Described))) (n page : ℕ) (segments : List Described) → pages ≡ replicate n None → slice_get pages page ≡ Some (Some segments) → ⊥
 none_there pages n page segments none is = none_in n page segments (sym (ap (λ ps. slice_get ps page) none) ∙ is)
-
--- what is at a place after one was written
-pub set_get : {X : Type 0} (xs : List X) (j : ℕ) (v : X) (place : ℕ) (c : X) → slice_get (set xs j v) place ≡ Some c → (slice_get xs place ≡ Some c) ⊎ ((place ≡ j) × (v ≡ c))
-set_get [] j v place c e = inl e
-set_get (x ∷ xs) zero v zero c e = inr (refl, same_Some v c e)
-set_get (x ∷ xs) zero v (suc place) c e = inl e
-set_get (x ∷ xs) (suc j) v zero c e = inl e
-set_get (x ∷ xs) (suc j) v (suc place) c e = ⊎_elim (λ l. inl l) (λ r. inr (ap suc r.0, r.1)) (set_get xs j v place c e)
 
 pub get_set : {X : Type 0} (xs : List X) (j : ℕ) (v : X) → j < length xs → slice_get (set xs j v) j ≡ Some v
 get_set [] j v within = absurd (omega arith)
@@ -40,4 +33,4 @@ pub are_pages_with : (pages : List (Option (List Described))) (page : ℕ) (segm
     → (1 ≤ length segments) × (length segments ≤ max_page) × AreSorted segments → ArePages (set pages page (Some segments))
 are_pages_with pages page segments each new k found is =
     ⊎_elim (λ before. each k found before) (λ here. subst (λ s. (1 ≤ length s) × (length s ≤ max_page) × AreSorted s) (same_Some segments found here.1) new)
-    (set_get pages page (Some segments) k (Some found) is)
+    (slice_get-set pages page (Some segments) k (Some found) is)

@@ -5,13 +5,14 @@ use Rattle.std.proofs.Math.Seq.{take-add}
 use Rattle.std.proofs.lemmas.Bool.{cases_eq}
 use Rattle.std.proofs.lemmas.Option.{same_Some, none-some}
 use Rattle.std.proofs.lemmas.List.{take_all, length-drop, length-take, length-set, length-replicate, drop-drop, get_or-drop, get_or-take}
+use Rattle.druid_base.proofs.ListLemmas.{slice_get-set}
 use Rattle.druid_shard.specs.Described.{Described}
 use Rattle.druid_shard.specs.Mark.{Point}
 use Rattle.druid_shard.specs.Reply.{max_page, max_segments, AreSorted, IsFull}
 use Rattle.druid_shard.specs.Reply.{IsPageOf as IsReplyPage}
 use Rattle.druid_pages.specs.Pages.{page_at, pages_in, IsCutInto}
 use Rattle.druid_pages.specs.Assembly.{Parts, Page, IsPage, Conflicts, Puts, AreOf, IsPageOf, no_pages, with_page, whole_of}
-use Rattle.druid_pages.proofs.PartLemmas.{set_get, none_there}
+use Rattle.druid_pages.proofs.PartLemmas.{none_there}
 use Rattle.druid_pages.proofs.OrderLemmas.{of_rest, before_in}
 
 abbrev Pages : Type 0
@@ -65,7 +66,7 @@ of_with ds parts p are is = record {
   count = subst (IsCutInto (length ds)) (sym (length-set parts.pages p.page (Some p.segments))) are.count;
   each = λ page segments found. ⊎_elim (λ before. are.each page segments before)
       (λ here. sym (same_Some p.segments segments here.1) ∙ is.segments ∙ ap (page_at ds) (sym here.0))
-      (set_get parts.pages p.page (Some p.segments) page (Some segments) found);
+      (slice_get-set parts.pages p.page (Some p.segments) page (Some segments) found);
 }
 
 -- no page of the set conflicts with others of it

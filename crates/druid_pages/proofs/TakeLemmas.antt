@@ -1,10 +1,10 @@
 -- A page that is taken.
-use Rattle.std.proofs.Common.{◌≡◌, ◌<◌, ◌≤◌, ◌&&◌, ℕ, zero, suc, Bool, List, replicate, set, Option, Some, None, Ok, true, false, nat_eq, refl, sym, ap, ◌∙◌, subst, inl, inr, arith, if◌then◌else◌}
+use Rattle.std.proofs.Common.{◌≡◌, ◌<◌, ◌≤◌, ◌&&◌, ℕ, zero, suc, List, replicate, set, Option, Some, None, Ok, nat_eq, refl, sym, ap, ◌∙◌, subst, inl, inr, arith, if◌then◌else◌}
 use Rattle.std.specs.List.{slice_get}
 use Rattle.std.specs.Ordering.{is_lt, is_eq, ordering_reverse}
 use Rattle.std.specs.declared.cmp.Ordering.{Ordering}
 use Rattle.std.specs.declared.cmp.Ordering.TheVariants.{Less, Equal, Greater}
-use Rattle.std.proofs.lemmas.Bool.{eqb-true, false≢true}
+use Rattle.std.proofs.lemmas.Bool.{eqb-true, and_parts}
 use Rattle.std.proofs.lemmas.Option.{same_Some, none-some, slice_get-get_or}
 use Rattle.std.proofs.lemmas.List.{length-replicate, get_or-replicate}
 use Rattle.druid_shard.specs.Described.{Described}
@@ -21,13 +21,9 @@ use Rattle.druid_pages.proofs.WholeLemmas.{whole_lacks}
 
 -- ---- marks
 
-both : (a b : Bool) → (a && b) ≡ true → (a ≡ true) × (b ≡ true)
-both true b e = (refl, e)
-both false b e = absurd (false≢true e)
-
 pub tied : (p q : Point) → Equal ≡ mark_cmp p q → p ≡ q
 tied p q e =
-    let parts = both (nat_eq p.incarnation q.incarnation) (nat_eq p.count q.count) (mark_cmp-ties p q ∙ ap is_eq (sym e)) in
+    let parts = and_parts (nat_eq p.incarnation q.incarnation) (nat_eq p.count q.count) (mark_cmp-ties p q ∙ ap is_eq (sym e)) in
     let incarnations = eqb-true p.incarnation q.incarnation parts.0 in
     let counts = eqb-true p.count q.count parts.1 in
     λ i. record { incarnation = incarnations i; count = counts i }

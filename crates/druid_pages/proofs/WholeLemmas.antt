@@ -4,12 +4,13 @@ use Rattle.std.specs.List.{slice_get}
 use Rattle.std.proofs.lemmas.Bool.{cases_eq}
 use Rattle.std.proofs.lemmas.Option.{same_Some, none-some}
 use Rattle.std.proofs.lemmas.List.{append-nil}
+use Rattle.druid_base.proofs.ListLemmas.{slice_get-set}
 use Rattle.druid_shard.specs.Described.{Described}
 use Rattle.druid_shard.specs.Reply.{max_page}
 use Rattle.druid_pages.specs.Assembly.{ArePages, whole_of}
 use Rattle.druid_pages.specs.Fitting.{AllThere, OthersThere}
 use Rattle.std.proofs.lemmas.List.{length-set}
-use Rattle.druid_pages.proofs.PartLemmas.{set_get, get_set, get_set_apart}
+use Rattle.druid_pages.proofs.PartLemmas.{get_set, get_set_apart}
 
 abbrev Pages : Type 0
 Pages = List (Option (List Described))
@@ -61,7 +62,7 @@ all_with pages page segments others place within lacks =
           none-some segments (same_Some None (Some segments) (sym lacks ∙ ap (slice_get (set pages page (Some segments))) here ∙ own))
       | inr apart ↦
           ⊎_elim (λ before. others place (omega (arith, within, length-set pages page (Some segments))) apart before) (λ at. apart at.0)
-          (set_get pages page (Some segments) place None lacks)
+          (slice_get-set pages page (Some segments) place None lacks)
     ]
 
 none_by : (o : Option (List Described)) → ((xs : List Described) → o ≡ Some xs → ⊥) → o ≡ None

@@ -50,7 +50,7 @@ fn ends_before(page: &[Descriptor], next: &[Descriptor]) -> bool
 }
 
 // Whether they are the same segments.
-#[tactic(auto, using(crate::proofs::SameLemmas::same_sets))]
+#[tactic(auto, using(druid_shard::proofs::DescribedLemmas::same_sets))]
 fn are_same(a: &[Descriptor], b: &[Descriptor]) -> bool
     ensures { IsTrue result ↔ (a.now ≡ b.now) }
 {

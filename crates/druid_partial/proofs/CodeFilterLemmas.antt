@@ -12,6 +12,7 @@ use Rattle.std.specs.Ordering.{is_eq}
 use Rattle.std.proofs.lemmas.Cmp.{nat_list_eq_equiv}
 use Rattle.std.proofs.lemmas.List.{take_more}
 use Rattle.std.proofs.lemmas.Map.Text.{is_eq-slice_cmp}
+use Rattle.std.proofs.Math.Bool.{or-false}
 use Rattle.druid_rows.specs.Rows.{nullable_texts_of}
 use Rattle.druid_filter.specs.Filters.{same_value, passes, all_pass, any_passes, says, each_says}
 use Rattle.druid_filter.specs.declared.filter.Filter.{Filter}
@@ -37,10 +38,6 @@ either true false = refl
 either false true = refl
 either false false = refl
 
-or_nothing : (b : Bool) → (b || false) ≡ b
-or_nothing true = refl
-or_nothing false = refl
-
 and_all : (b : Bool) → (b && true) ≡ b
 and_all true = refl
 and_all false = refl
@@ -54,7 +51,7 @@ or_assoc true b c = refl
 or_assoc false b c = refl
 
 pub any_push : (p : Option (List ℕ) → Bool) (xs : List (Option (String Global))) (y : Option (String Global)) → list_any p (nullable_texts_of (xs ++ y ∷ [])) ≡ (list_any p (nullable_texts_of xs) || p (option_map string_bytes y))
-any_push p [] y = or_nothing _
+any_push p [] y = or-false _
 any_push p (x ∷ xs) y =
     ap (λ b. p (option_map string_bytes x) || b) (any_push p xs y) ∙ or_assoc (p (option_map string_bytes x)) (list_any p (nullable_texts_of xs)) (p (option_map string_bytes y))
 
@@ -64,7 +61,7 @@ all_says_push value (x ∷ xs) y =
     ap (λ b. passes value (says x) && b) (all_says_push value xs y) ∙ and_assoc (passes value (says x)) (all_pass value (each_says xs)) (passes value (says y))
 
 any_says_push : (value : List ℕ → Option (List ℕ)) (xs : List Filter) (y : Filter) → any_passes value (each_says (xs ++ y ∷ [])) ≡ (any_passes value (each_says xs) || passes value (says y))
-any_says_push value [] y = or_nothing _
+any_says_push value [] y = or-false _
 any_says_push value (x ∷ xs) y =
     ap (λ b. passes value (says x) || b) (any_says_push value xs y) ∙ or_assoc (passes value (says x)) (any_passes value (each_says xs)) (passes value (says y))
 
@@ -74,7 +71,7 @@ all_hold_push (u ∷ ts) t row =
     ap (λ b. holds u row && b) (all_hold_push ts t row) ∙ and_assoc (holds u row) (all_hold ts row) (holds t row)
 
 any_holds_push : (ts : List CodeFilter) (t : CodeFilter) (row : ℕ) → any_holds (ts ++ t ∷ []) row ≡ (any_holds ts row || holds t row)
-any_holds_push [] t row = or_nothing _
+any_holds_push [] t row = or-false _
 any_holds_push (u ∷ ts) t row =
     ap (λ b. holds u row || b) (any_holds_push ts t row) ∙ or_assoc (holds u row) (any_holds ts row) (holds t row)
 

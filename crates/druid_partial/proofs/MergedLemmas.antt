@@ -8,7 +8,7 @@ use Rattle.std.specs.declared.cmp.Ordering.TheVariants.{Less, Equal, Greater}
 use Rattle.std.proofs.lemmas.Int.{int_wrap_fits}
 use Rattle.std.proofs.lemmas.List.Elements.{All-head, All-tail, Contains-append_cases}
 use Rattle.druid_base.proofs.ListLemmas.{Contains-here}
-use Rattle.druid_shard.proofs.MemberLemmas.{Contains-later, Contains-nil, Contains-cons}
+use Rattle.druid_base.proofs.MemberLemmas.{Contains-later, Contains-nil, Contains-cons}
 use Rattle.druid_query.specs.declared.aggregator.AggregatorKind.{AggregatorKind}
 use Rattle.druid_query.specs.declared.aggregator.AggregatorKind.TheVariants.{Count, LongSum, LongMin, LongMax}
 use Rattle.druid_partial.specs.Groups.{Key, Group, AreWords, key_cmp, InOrder, number_at, Occurs, IsAggregate, IsGroupOf, IsResult, IsMerge, known, column}

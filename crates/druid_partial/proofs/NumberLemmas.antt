@@ -6,7 +6,7 @@ use Rattle.std.proofs.Math.IntN.{+ℤ_assoc}
 use Rattle.std.proofs.lemmas.Int.{ints, clamps, int_wrap_fits, int_wrap-add_left, int_wrap-add_right, SFits-int_wrap, by_lt_z}
 use Rattle.std.proofs.lemmas.List.Elements.{All-contains, All-cons, All-nil, All-weaker}
 use Rattle.druid_base.proofs.ListLemmas.{Contains-here}
-use Rattle.druid_shard.proofs.MemberLemmas.{Contains-later}
+use Rattle.druid_base.proofs.MemberLemmas.{Contains-later}
 use Rattle.druid_query.specs.declared.aggregator.AggregatorKind.{AggregatorKind}
 use Rattle.druid_query.specs.declared.aggregator.AggregatorKind.TheVariants.{Count, LongSum, LongMin, LongMax}
 use Rattle.druid_partial.specs.Groups.{known, total, IsLeast, IsGreatest, IsReported, IsAggregate}

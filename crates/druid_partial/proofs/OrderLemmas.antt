@@ -4,7 +4,7 @@ use Rattle.std.specs.List.Sorted.{IsStrictlySortedBy}
 use Rattle.std.proofs.lemmas.List.Elements.{All-nil}
 use Rattle.std.specs.declared.cmp.Ordering.TheVariants.{Equal}
 use Rattle.druid_query.specs.declared.aggregator.AggregatorKind.{AggregatorKind}
-use Rattle.druid_shard.proofs.MemberLemmas.{Contains-nil}
+use Rattle.druid_base.proofs.MemberLemmas.{Contains-nil}
 use Rattle.druid_partial.specs.Rows.{IsPartial, HasNumbers}
 use Rattle.std.specs.Prelude.{String, string_bytes, string_cmp}
 use Rattle.std.specs.Global.{Global}

@@ -8,7 +8,7 @@ use Rattle.std.specs.declared.cmp.Ordering.TheVariants.{Less, Equal, Greater}
 use Rattle.std.specs.Cmp.{nat_cmp_is}
 use Rattle.std.specs.Cmp.Lexicographic.{slice_cmp}
 use Rattle.std.proofs.lemmas.Cmp.{ranked, by_ranked}
-use Rattle.druid_segid.proofs.OrderLemmas.{ordering_then-assoc, nat_cmp-lt, nat_cmp-gt}
+use Rattle.druid_base.proofs.OrderLemmas.{ordering_then-assoc, nat_cmp-lt, nat_cmp-gt}
 use Rattle.druid_rows.specs.Segment.{Segment, row_at}
 use Rattle.druid_partial.specs.Groups.{value_cmp}
 use Rattle.druid_partial.specs.Places.{at_place}

@@ -14,7 +14,7 @@ use Rattle.std.proofs.lemmas.Map.Lookups.{exact_bytes}
 use Rattle.std.proofs.lemmas.Option.{slice_get-get_or}
 use Rattle.std.proofs.lemmas.List.{get_or-map, length-map}
 use Rattle.std.proofs.lemmas.List.Elements.{All-get_or}
-use Rattle.druid_segid.proofs.OrderLemmas.{nat_cmp-lt, nat_cmp-gt}
+use Rattle.druid_base.proofs.OrderLemmas.{nat_cmp-lt, nat_cmp-gt}
 use Rattle.druid_filter.specs.Filters.{same_value}
 use Rattle.druid_rows.specs.Rows.{Row, no_row, texts_of}
 use Rattle.druid_rows.specs.Segment.{Segment, row_at}

@@ -10,26 +10,26 @@ use Rattle.druid_rows.specs.Segment.{Segment, HaveWords, row_at}
 use Rattle.druid_query.specs.Query.{Query, Aggregator}
 use Rattle.druid_query.specs.declared.aggregator.AggregatorKind.{AggregatorKind}
 use Rattle.druid_query.specs.declared.aggregator.AggregatorKind.TheVariants.{Count, LongSum, LongMin, LongMax}
-use Rattle.druid_partial.specs.declared.located.Source.{Source}
+use Rattle.druid_partial.specs.declared.located.NumberSource.{NumberSource}
 use Rattle.druid_partial.specs.declared.cells.Numbers.{Numbers}
 use Rattle.druid_partial.specs.Groups.{AreWords}
 use Rattle.druid_partial.specs.Rows.{number_in, one_or, taken, tells}
 use Rattle.druid_partial.specs.Places.{sources_of, source_number}
 use Rattle.druid_partial.specs.Cells.{Column, IsColumn, AreColumns, HasNumber, number_from}
-use Rattle.druid_partial.specs.Plans.{AreFrom, AreNumbers}
+use Rattle.druid_partial.specs.Scans.{AreFrom, AreNumbers}
 use Rattle.druid_partial.proofs.MergedLemmas.{IsWord}
 use Rattle.druid_partial.proofs.RadixLemmas.{columns_more}
 use Rattle.druid_partial.proofs.PlaceLemmas.{numbers_counted}
 
-numbers_push : (segment : Segment) (ss : List Source) (ns : List Numbers) (s : Source) (n : Numbers) → AreNumbers segment ss ns → AreFrom segment s n → AreNumbers segment (ss ++ s ∷ []) (ns ++ n ∷ [])
+numbers_push : (segment : Segment) (ss : List NumberSource) (ns : List Numbers) (s : NumberSource) (n : Numbers) → AreNumbers segment ss ns → AreFrom segment s n → AreNumbers segment (ss ++ s ∷ []) (ns ++ n ∷ [])
 numbers_push segment [] [] s n are one = (one, tt)
 numbers_push segment [] (m ∷ ns) s n are one = absurd are
 numbers_push segment (r ∷ ss) [] s n are one = absurd are
 numbers_push segment (r ∷ ss) (m ∷ ns) s n are one = (are.0, numbers_push segment ss ns s n are.1 one)
 
-pub numbers_more : (segment : Segment) (ss : List Source) (i : ℕ) (d : Source) (ns more : List Numbers) (n : Numbers) → i < length ss → AreNumbers segment (take i ss) ns → AreFrom segment (get_or ss i d) n → more ≡ ns ++ n ∷ [] → AreNumbers segment (take (i + 1) ss) more
+pub numbers_more : (segment : Segment) (ss : List NumberSource) (i : ℕ) (d : NumberSource) (ns more : List Numbers) (n : Numbers) → i < length ss → AreNumbers segment (take i ss) ns → AreFrom segment (get_or ss i d) n → more ≡ ns ++ n ∷ [] → AreNumbers segment (take (i + 1) ss) more
 numbers_more segment ss i d ns more n h are one e =
-    let P : List Source → Type 0 = λ l. AreNumbers segment l more in
+    let P : List NumberSource → Type 0 = λ l. AreNumbers segment l more in
     let Q : List Numbers → Type 0 = λ l. AreNumbers segment (take i ss ++ get_or ss i d ∷ []) l in
     subst P (sym (take_more ss i d h)) (subst Q (sym e) (numbers_push segment (take i ss) ns (get_or ss i d) n are one))
 
@@ -40,13 +40,13 @@ columns_next segment ps i d cs more c h are one e =
     subst P (sym (take_more ps i d h)) (subst Q (sym e) (columns_more segment (take i ps) cs (get_or ps i d) c are one))
 
 -- each row has its numbers
-pub numbers_have : (segment : Segment) (ss : List Source) (ns : List Numbers) (row : ℕ) → AreNumbers segment ss ns → row < length segment.rows → All (HasNumber row) ns
+pub numbers_have : (segment : Segment) (ss : List NumberSource) (ns : List Numbers) (row : ℕ) → AreNumbers segment ss ns → row < length segment.rows → All (HasNumber row) ns
 numbers_have segment [] [] row are h = All-nil (HasNumber row)
 numbers_have segment [] (n ∷ ns) row are h = absurd are
 numbers_have segment (s ∷ ss) [] row are h = absurd are
 numbers_have segment (s ∷ ss) (n ∷ ns) row are h = All-cons (HasNumber row) n ns (are.0.has row h) (numbers_have segment ss ns row are.1 h)
 
-numbers_are : (segment : Segment) (ss : List Source) (ns : List Numbers) (row : ℕ) → AreNumbers segment ss ns → row < length segment.rows → map (number_from row) ns ≡ map (source_number (row_at segment row)) ss
+numbers_are : (segment : Segment) (ss : List NumberSource) (ns : List Numbers) (row : ℕ) → AreNumbers segment ss ns → row < length segment.rows → map (number_from row) ns ≡ map (source_number (row_at segment row)) ss
 numbers_are segment [] [] row are h = refl
 numbers_are segment [] (n ∷ ns) row are h = absurd are
 numbers_are segment (s ∷ ss) [] row are h = absurd are

@@ -15,9 +15,9 @@ use Rattle.druid_query.specs.declared.aggregator.AggregatorKind.TheVariants.{Cou
 use Rattle.druid_partial.specs.Groups.{Group, AreWords, IsResult}
 use Rattle.druid_partial.specs.Joined.{merged}
 use Rattle.druid_partial.specs.Rows.{earliest, one_or, taken, tells, is_asked, kinds_of, HasNumbers, IsGroupFor}
-use Rattle.druid_partial.specs.Plans.{AreCounted, counted_upto}
+use Rattle.druid_partial.specs.Scans.{AreCounted, counted_upto}
 use Rattle.druid_partial.proofs.OrderLemmas.{no_rows}
-use Rattle.druid_shard.proofs.MemberLemmas.{Contains-nil}
+use Rattle.druid_base.proofs.MemberLemmas.{Contains-nil}
 use Rattle.druid_partial.proofs.GroupLemmas.{merge_of_results, result_swap, in_order_more}
 use Rattle.druid_partial.proofs.MergedLemmas.{settled, merged_is_merge}
 use Rattle.druid_partial.proofs.JoinLemmas.{merged_each, has_joined, group_for, kinds_length}

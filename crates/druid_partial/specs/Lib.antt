@@ -1,6 +1,7 @@
 -- what public contracts rest on
 pub mod Groups
 pub mod Rows
+pub mod Answer
 pub mod Once
 -- words of private contracts
 pub mod Orders
@@ -9,5 +10,5 @@ pub mod First
 pub mod Places
 pub mod Entries
 pub mod CodeFilters
-pub mod Plans
+pub mod Scans
 pub mod Cells

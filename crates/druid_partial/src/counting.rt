@@ -8,13 +8,13 @@ ghost use Rattle.std.specs.List.{flat_map};
 ghost use Rattle.druid_partial.specs.Rows.{bucket_of, earliest, is_asked, kinds_of, counted_by, IsPartialFor};
 ghost use Rattle.druid_partial.specs.Entries.{groups_of};
 ghost use Rattle.druid_partial.specs.Cells.{room_from};
-ghost use Rattle.druid_partial.specs.Plans.{counted_at, bucket_at, groups_in, groups_by, IsKept, IsJoined, IsJoinedBy, AreEntries, AreKept, AreCounted, AreUpto, AreCells, ComeBefore, HaveBucket, BucketsRise};
+ghost use Rattle.druid_partial.specs.Scans.{counted_at, bucket_at, groups_in, groups_by, IsKept, IsJoined, IsJoinedBy, AreEntries, AreKept, AreCounted, AreUpto, AreCells, ComeBefore, HaveBucket, BucketsRise};
 
 use crate::buckets::earliest;
 use crate::cells::{Cell, Numbers, Sparse, add_row, empty_cells, enter_row, numbers_at};
 use crate::code_filter::{CodeFilter, filter_of, holds};
 use crate::column::{Column, cell_of, room_of};
-use crate::found::{Found, add};
+use crate::group_map::{GroupMap, add};
 use crate::key::KeyRef;
 use crate::located::{columns_of, numbers_of, places_of, sources_of, texts_at, values_at};
 use crate::merging::merge;
@@ -29,7 +29,7 @@ use std::marker::Model;
 
 // A query over a segment. The names of the query are looked up once, and so are the columns of the segment.
 #[derive(Drop)]
-struct Plan<'a> {
+struct Scan<'a> {
     query: &'a Query,
     segment: &'a Segment,
     times: &'a [Instant],
@@ -41,18 +41,18 @@ struct Plan<'a> {
     code_filter: Option<CodeFilter<'a>>,
 }
 
-impl<'a> Model for Plan<'a> {
+impl<'a> Model for Scan<'a> {
     ghost use Rattle.std.specs.Coded.{codes};
     ghost use Rattle.druid_filter.specs.FilterCode.{coded_condition};
-    ghost use Rattle.druid_partial.specs.Plans.{Plan, IsPlan};
+    ghost use Rattle.druid_partial.specs.Scans.{Scan, IsScan};
 
-    ghost Value = { Plan };
+    ghost Value = { Scan };
 
     ghost coded = { Prim.hlevel (codes, coded_condition) };
 
     ghost view = { λ a. record { query = a.query.now; segment = a.segment.now; columns = a.columns.items } };
 
-    ghost invariant = { λ a. IsPlan a.query.now a.segment.now a.times.now a.first a.places.items a.columns.items a.numbers.items a.kinds.items a.code_filter };
+    ghost invariant = { λ a. IsScan a.query.now a.segment.now a.times.now a.first a.places.items a.columns.items a.numbers.items a.kinds.items a.code_filter };
 }
 
 fn bucket_of(query: &Query, first: Instant, time: Instant) -> Instant
@@ -72,10 +72,10 @@ fn time_at(times: &[Instant], row: usize) -> Instant
     times[row]
 }
 
-impl<'a> Plan<'a> {
-    fn new(alloc: Global, query: &'a Query, segment: &'a Segment) -> Result<Plan<'a>, AllocError>
-        ensures query { IfOk result (λ plan. plan.query ≡ query.now) }
-        ensures segment { IfOk result (λ plan. plan.segment ≡ segment.now) }
+impl<'a> Scan<'a> {
+    fn new(alloc: Global, query: &'a Query, segment: &'a Segment) -> Result<Scan<'a>, AllocError>
+        ensures query { IfOk result (λ scan. scan.query ≡ query.now) }
+        ensures segment { IfOk result (λ scan. scan.segment ≡ segment.now) }
     {
         let schema = segment.schema();
         let places = places_of(alloc, query, schema)?;
@@ -84,7 +84,7 @@ impl<'a> Plan<'a> {
         let numbers = numbers_of(alloc, segment, &sources)?;
         let kinds = kinds_of(alloc, query)?;
         let code_filter = filter_of(alloc, query, segment)?;
-        Ok(Plan {
+        Ok(Scan {
             query,
             segment,
             times: segment.times(),
@@ -202,7 +202,7 @@ impl<'a> Plan<'a> {
     }
 
     // Joins what a row tells.
-    fn tell(&self, alloc: Global, row: usize, found: &mut Found<'a>) -> Result<(), AllocError>
+    fn tell(&self, alloc: Global, row: usize, found: &mut GroupMap<'a>) -> Result<(), AllocError>
         requires { row < length self.now.segment.rows }
         ensures reported { OnOk result (groups_of found.new.entries
             ≡ merged (kinds_of self.now.query) (counted_at self.now row ∷ []) (groups_of found.old.entries)) }
@@ -220,7 +220,7 @@ impl<'a> Plan<'a> {
         interval: Interval,
         from: usize,
         to: usize,
-    ) -> Result<Found<'a>, AllocError>
+    ) -> Result<GroupMap<'a>, AllocError>
         requires order { from ≤ to }
         requires end { to ≤ length self.now.segment.rows }
         ensures { IfOk result (λ found. (groups : List Group) → ComeBefore self.now groups from to
@@ -502,7 +502,11 @@ impl<'a> Plan<'a> {
 }
 
 // Adds the groups that were found. Each text is copied once for each group.
-fn add_found(alloc: Global, mut found: Found<'_>, groups: &mut Vec<Group>) -> Result<(), AllocError>
+fn add_found(
+    alloc: Global,
+    mut found: GroupMap<'_>,
+    groups: &mut Vec<Group>,
+) -> Result<(), AllocError>
     requires { All (λ group. AreWords group.numbers) (groups_of found.entries) }
     ensures { OnOk result (groups.new.items ≡ groups.old.items ++ groups_of found.entry.entries) }
 {
@@ -542,5 +546,5 @@ pub fn partial_over(
         IsResult (kinds_of query.now) (flat_map (counted_by query.now segment.now) pieces.now) partial.groups) }
     ensures of_query { IfOk result (IsPartialFor query.now) }
 {
-    Plan::new(alloc, query, segment)?.partial_of_all(alloc, pieces)
+    Scan::new(alloc, query, segment)?.partial_of_all(alloc, pieces)
 }

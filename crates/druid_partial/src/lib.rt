@@ -1,13 +1,14 @@
 //! Partial results of queries: what a query tells of rows, and merges of that.
 #![tactic(auto)]
 
+mod answer;
 mod buckets;
 mod cells;
 mod code_filter;
 mod column;
 mod counting;
-mod found;
 mod group;
+mod group_map;
 mod joining;
 mod key;
 mod laws;
@@ -15,6 +16,7 @@ mod located;
 mod merging;
 mod partial;
 
+pub use answer::Answer;
 pub use buckets::{earliest, is_bucket};
 pub use counting::{partial_of, partial_over};
 pub use group::Group;

@@ -3,7 +3,7 @@ ghost use Rattle.std.specs.Prelude.{◌≡◌, ◌<◌, length, map, All, IfOk, 
 ghost use Rattle.druid_rows.specs.Rows.{texts_of, nullable_texts_of};
 ghost use Rattle.druid_rows.specs.Segment.{row_at};
 ghost use Rattle.druid_partial.specs.Cells.{IsColumn, AreColumns};
-ghost use Rattle.druid_partial.specs.Plans.{AreFrom, AreNumbers};
+ghost use Rattle.druid_partial.specs.Scans.{AreFrom, AreNumbers};
 ghost use Rattle.druid_partial.specs.Places.{place_in, at_place, places_of, source_at, source_of, sources_of, IsSource, IsPlace};
 
 use crate::cells::Numbers;
@@ -15,7 +15,7 @@ use std::alloc::{AllocError, Global};
 
 // Where a number of a row comes from.
 #[derive(Clone, Copy)]
-pub(crate) enum Source {
+pub(crate) enum NumberSource {
     // Each row is one.
     One,
     // There is no such metric.
@@ -52,24 +52,24 @@ pub(crate) fn places_of(
 }
 
 // Where the number of a field comes from.
-fn field_source(schema: &Schema, field: Option<&str>) -> Source
+fn field_source(schema: &Schema, field: Option<&str>) -> NumberSource
     ensures { result ≡ source_at (option_and_then (place_in schema.now.metrics) (option_map (λ s. s.now) field.entry)) }
 {
     let Some(name) = field else {
-        return Source::Null;
+        return NumberSource::Null;
     };
     match place_of(schema.metrics(), name) {
-        Some(place) => Source::Metric(place),
-        None => Source::Null,
+        Some(place) => NumberSource::Metric(place),
+        None => NumberSource::Null,
     }
 }
 
 // Where the number that an aggregator takes of a row comes from.
-fn source_of(schema: &Schema, aggregator: &Aggregator) -> Source
+fn source_of(schema: &Schema, aggregator: &Aggregator) -> NumberSource
     ensures { result ≡ source_of schema.now aggregator.now }
 {
     match aggregator.kind() {
-        AggregatorKind::Count => Source::One,
+        AggregatorKind::Count => NumberSource::One,
         AggregatorKind::LongSum | AggregatorKind::LongMin | AggregatorKind::LongMax => {
             field_source(schema, aggregator.field())
         }
@@ -81,7 +81,7 @@ pub(crate) fn sources_of(
     alloc: Global,
     query: &Query,
     schema: &Schema,
-) -> Result<Vec<Source>, AllocError>
+) -> Result<Vec<NumberSource>, AllocError>
     ensures { IfOk result (λ sources. sources.items ≡ sources_of query.now schema.now) }
 {
     query
@@ -147,14 +147,14 @@ pub(crate) fn columns_of<'a>(
 }
 
 // The numbers of a source.
-fn numbers_from<'a>(segment: &'a Segment, source: Source) -> Numbers<'a>
+fn numbers_from<'a>(segment: &'a Segment, source: NumberSource) -> Numbers<'a>
     requires { IsSource segment.now.fields source }
     ensures { AreFrom segment.now source result }
 {
     match source {
-        Source::One => Numbers::One,
-        Source::Null => Numbers::Null,
-        Source::Metric(place) => Numbers::Metric(segment.numbers(place)),
+        NumberSource::One => Numbers::One,
+        NumberSource::Null => Numbers::Null,
+        NumberSource::Metric(place) => Numbers::Metric(segment.numbers(place)),
     }
 }
 
@@ -162,7 +162,7 @@ fn numbers_from<'a>(segment: &'a Segment, source: Source) -> Numbers<'a>
 pub(crate) fn numbers_of<'a>(
     alloc: Global,
     segment: &'a Segment,
-    sources: &[Source],
+    sources: &[NumberSource],
 ) -> Result<Vec<Numbers<'a>>, AllocError>
     requires { All (IsSource segment.now.fields) sources.now }
     ensures { IfOk result (λ numbers. AreNumbers segment.now sources.now numbers.items) }

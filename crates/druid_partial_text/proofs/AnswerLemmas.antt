@@ -10,7 +10,8 @@ use Rattle.druid_query.specs.Asked.{Asked, asked_data}
 use Rattle.druid_query.specs.SubQuery.{pieces_data}
 use Rattle.druid_partial.specs.Groups.{Group}
 use Rattle.druid_partial_text.specs.Written.{partial_data}
-use Rattle.druid_partial_text.specs.Answers.{NodeAnswer, answer_data, answer_text, shortfall_of}
+use Rattle.druid_partial.specs.Answer.{Answer}
+use Rattle.druid_partial_text.specs.Answers.{answer_data, answer_text, shortfall_of}
 use Rattle.std.specs.List.{AllWithin}
 use Rattle.std.proofs.lemmas.List.Elements.{at_read}
 use borrow.Author.Count.{below_more}
@@ -56,7 +57,7 @@ answer_steps missing groups t0 t1 t2 t3 t4 t5 t6 e1 e2 e3 e4 e5 e6 =
     rw (e6, e5, e4, e3, e2, e1)
     (two_joined t0 begin_object (key (codes "missing")) (key (codes "rows")) end_object (tokens_of (array (pieces_data missing))) (tokens_of (partial_data groups)))
 
-pub answer_printed : (a : NodeAnswer) → print (tokens_of (answer_data a.missing a.partial.groups)) ≡ answer_text a
+pub answer_printed : (a : Answer) → print (tokens_of (answer_data a.missing a.partial.groups)) ≡ answer_text a
 answer_printed a = print-outline (answer_data a.missing a.partial.groups)
 
 -- one more piece is of a segment

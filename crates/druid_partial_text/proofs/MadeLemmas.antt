@@ -14,13 +14,14 @@ use Rattle.serde_json.specs.Data.{Data, null, boolean, number, string, array, ob
 use Rattle.serde_json.specs.Find.{as_array}
 use Rattle.serde_json.specs.View.{view, items_view}
 use Rattle.serde_json.specs.declared.value.Value.{Value}
-use Rattle.druid_time.specs.Options.{◌>>=◌}
+use Rattle.druid_base.proofs.OrderLemmas.{reverse-Greater}
+use Rattle.druid_base.specs.Options.{◌>>=◌}
 use Rattle.druid_rows.specs.Rows.{nullable_texts_of}
 use Rattle.druid_query.specs.Query.{Query}
 use Rattle.druid_query.specs.declared.aggregator.AggregatorKind.{AggregatorKind}
-use Rattle.druid_shard.specs.Each.{each_of}
+use Rattle.druid_base.specs.Each.{each_of}
 use Rattle.druid_base.specs.Fields.{text_or_null}
-use Rattle.druid_shard.proofs.EachLemmas.{with_front, each_of_more, each_of_last, each_of_refused}
+use Rattle.druid_base.proofs.EachLemmas.{with_front, each_of_more, each_of_last, each_of_refused}
 use Rattle.druid_partial.specs.Groups.{Key, Group, key_of, key_cmp, InOrder}
 use Rattle.druid_partial.specs.Orders.{key_cmp-total}
 use Rattle.druid_partial.specs.Rows.{IsPartial, IsGroupFor, IsPartialFor, kinds_of}
@@ -160,15 +161,10 @@ next_differs e (k ∷ m ∷ ks) (suc i) d h l =
     let same : suc i + 1 ≡ suc (i + 1) = omega arith in
     rw same (next_differs e (m ∷ ks) i d h.1 (omega arith))
 
-reversed : (o p : Ordering) → o ≡ ordering_reverse p → o ≡ Greater → p ≡ Less
-reversed o Less e f = refl
-reversed o Equal e f = absurd (cc)
-reversed o Greater e f = absurd (cc)
-
 below_next : (a b : Key) (o : Ordering) → key_cmp a b ≡ o → same_key a b ≡ false → is_lt (key_cmp b a) ≡ false → key_cmp a b ≡ Less
 below_next a b Less e other not = e
 below_next a b Equal e other not = absurd (false≢true (sym other ∙ ap is_eq e))
-below_next a b Greater e other not = absurd (false≢true (sym not ∙ ap is_lt (reversed (key_cmp a b) (key_cmp b a) (key_cmp-total.antisymm a b) e)))
+below_next a b Greater e other not = absurd (false≢true (sym not ∙ ap is_lt (reverse-Greater (key_cmp a b) (key_cmp b a) (key_cmp-total.antisymm a b) e)))
 
 distinct_ascends : (gs : List Group) → IsSortedByKey key_of key_cmp gs → IsDistinct same_key (map key_of gs) → AllAdjacentBelow IsBefore gs (length gs)
 distinct_ascends gs sorted once k d h =

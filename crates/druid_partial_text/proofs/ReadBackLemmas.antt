@@ -10,16 +10,16 @@ use Rattle.serde_json.specs.Data.{Data}
 use Rattle.serde_json.specs.Find.{of_integer, as_i64}
 use Rattle.serde_json.specs.View.{items_of}
 use Rattle.druid_time.specs.Instant.{unix_ms}
-use Rattle.druid_time.specs.Options.{◌>>=◌}
+use Rattle.druid_base.specs.Options.{◌>>=◌}
 use Rattle.druid_query.specs.Query.{Query}
 use Rattle.druid_query.specs.Asked.{Asked, asked_at, asked_data}
 use Rattle.druid_query.specs.SubQuery.{SubQuery}
 use Rattle.druid_asked_text.proofs.BackLemmas.{asked_back}
 use Rattle.druid_time.specs.Extent.{IsExtent}
 use Rattle.druid_segid.specs.Identifier.{IsIdentifier}
-use Rattle.druid_shard.proofs.EachLemmas.{each_back as listed_back}
+use Rattle.druid_base.proofs.EachLemmas.{each_back as listed_back}
 use Rattle.druid_partial_text.specs.Answers.{AreOfSource, WereAsked, TellsAnswer, answer_data}
-use Rattle.druid_shard.specs.Each.{each_of}
+use Rattle.druid_base.specs.Each.{each_of}
 use Rattle.druid_base.specs.Fields.{text_or_null}
 use Rattle.druid_query.specs.Written.{value_data}
 use Rattle.druid_query.proofs.BackLemmas.{value_back}

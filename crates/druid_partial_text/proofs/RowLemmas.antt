@@ -8,13 +8,13 @@ use Rattle.std.proofs.lemmas.List.Elements.{All-cons, All-nil, All-head, All-tai
 use Rattle.serde_json.specs.Data.{Data}
 use Rattle.serde_json.specs.View.{view, items_view}
 use Rattle.serde_json.specs.declared.value.Value.{Value}
-use Rattle.druid_time.specs.Options.{◌>>=◌}
+use Rattle.druid_base.specs.Options.{◌>>=◌}
 use Rattle.druid_query.specs.Query.{Query, Aggregator}
-use Rattle.druid_shard.specs.Each.{each_of}
+use Rattle.druid_base.specs.Each.{each_of}
 use Rattle.druid_base.specs.Fields.{text_or_null}
 use Rattle.druid_query.specs.declared.aggregator.AggregatorKind.{AggregatorKind}
 use Rattle.druid_query.specs.declared.aggregator.AggregatorKind.TheVariants.{Count}
-use Rattle.druid_shard.proofs.EachLemmas.{all_reads, each_of_length}
+use Rattle.druid_base.proofs.EachLemmas.{all_reads, each_of_length}
 use Rattle.druid_partial.specs.Groups.{Group}
 use Rattle.druid_partial.specs.Rows.{IsBucketOf, IsGroupFor, kinds_of}
 use Rattle.druid_partial_text.specs.Read.{number_or_null, group_of, group_at}

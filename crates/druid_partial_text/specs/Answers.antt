@@ -6,21 +6,17 @@ use Rattle.serde_json.specs.Written.{compact_text}
 use Rattle.druid_base.specs.Json.{ReadsAs}
 use Rattle.druid_time.specs.Extent.{IsExtent}
 use Rattle.druid_segid.specs.Identifier.{IsIdentifier}
-use Rattle.druid_shard.specs.Each.{each_of}
+use Rattle.druid_base.specs.Each.{each_of}
 use Rattle.druid_query.specs.Query.{Query}
 use Rattle.druid_query.specs.Asked.{Asked, asked_at}
 use Rattle.druid_query.specs.SubQuery.{SubQuery, pieces_data}
+use Rattle.druid_partial.specs.Answer.{Answer}
 use Rattle.druid_partial.specs.Groups.{Group}
-use Rattle.druid_partial.specs.Rows.{Partial, kinds_of}
+use Rattle.druid_partial.specs.Rows.{kinds_of}
 use Rattle.druid_partial_text.specs.Written.{partial_data, result_data}
 use Rattle.druid_partial_text.specs.Read.{Lists, TellsGroups}
 use Rattle.druid_partial_text.specs.declared.fault.PartialFault.{PartialFault}
 use Rattle.druid_partial_text.specs.declared.fault.PartialFault.TheVariants as faults
-
--- what a node tells of the pieces that it was asked for, and the pieces that it has not
-pub record NodeAnswer : Type 0 where
-  pub partial : Partial
-  pub missing : List Asked
 
 -- ---- written
 
@@ -30,7 +26,7 @@ answer_data missing groups =
     (member (codes "rows") (partial_data groups) no_members))
 
 -- the text of an answer: its JSON, compact
-abbrev pub answer_text : NodeAnswer → List ℕ
+abbrev pub answer_text : Answer → List ℕ
 answer_text a = compact_text (answer_data a.missing a.partial.groups)
 
 -- What a client gets where pieces are missing: these pieces, and the rows of a result without them
@@ -72,14 +68,14 @@ pub record ListsAnswer (sub : SubQuery) (d : Data) : Type 0 where
 
 -- what reading an answer out of JSON answers. Whether each piece was asked for, and whether a key stands twice, shows once
 -- pieces and groups are in order, and to put them in order may run out of memory
-abbrev pub IsAnswer : SubQuery → Data → Result NodeAnswer PartialFault → Type 0
+abbrev pub IsAnswer : SubQuery → Data → Result Answer PartialFault → Type 0
 IsAnswer sub d (Ok a) = (a.partial.kinds ≡ kinds_of sub.query) × TellsAnswer sub d a.missing a.partial.groups
 IsAnswer sub d (Err faults.Shape) = (missing : List Asked) (groups : List Group) → TellsAnswer sub d missing groups → ⊥
 IsAnswer sub d (Err faults.Memory) = ListsAnswer sub d
 IsAnswer sub d (Err faults.NotJson) = ⊥
 
 -- the same out of bytes, which may be no JSON; reading JSON may run out of memory at any byte of a text
-abbrev pub IsAnswerOf : SubQuery → List ℕ → Result NodeAnswer PartialFault → Type 0
+abbrev pub IsAnswerOf : SubQuery → List ℕ → Result Answer PartialFault → Type 0
 IsAnswerOf sub bytes (Err faults.NotJson) = (d : Data) → ReadsAs bytes d → ⊥
 IsAnswerOf sub bytes (Err faults.Memory) = IsUtf8 bytes
 IsAnswerOf sub bytes answer = (d : Data) × ReadsAs bytes d × IsAnswer sub d answer

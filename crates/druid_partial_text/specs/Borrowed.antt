@@ -5,7 +5,7 @@ use Rattle.std.specs.declared.cmp.Ordering.TheVariants.{Less}
 use Rattle.serde_json.specs.Data.{Data, Items}
 use Rattle.serde_json.specs.View.{view, items_view}
 use Rattle.druid_query.specs.Query.{Query}
-use Rattle.druid_shard.specs.Each.{each_of}
+use Rattle.druid_base.specs.Each.{each_of}
 use Rattle.druid_query.specs.declared.aggregator.AggregatorKind.{AggregatorKind}
 use Rattle.druid_query.specs.declared.aggregator.AggregatorKind.TheVariants.{Count}
 use Rattle.druid_partial.specs.Groups.{Group, key_cmp, AreWords}

@@ -1,7 +1,7 @@
 //! Answers of nodes, read.
 ghost use Rattle.std.specs.Prelude.{◌≡◌, List, Some, IsSome, IfOk, IfSome, IfNone};
 ghost use Rattle.serde_json.specs.View.{view, items_view};
-ghost use Rattle.druid_shard.specs.Each.{each_of};
+ghost use Rattle.druid_base.specs.Each.{each_of};
 ghost use Rattle.druid_query.specs.Asked.{Asked, asked_at};
 ghost use Rattle.druid_partial.specs.Groups.{Group};
 ghost use Rattle.druid_partial.specs.Rows.{kinds_of};

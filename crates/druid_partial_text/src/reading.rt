@@ -1,13 +1,12 @@
 //! Partials, read out of JSON.
-ghost use Rattle.std.specs.Prelude.{◌≡◌, ◌↔◌, All, IsTrue, IsSome, IfOk, IfSome, IfNone, Some, string_bytes, List, length, map, option_map, option_and_then, FitsSigned};
-ghost use Rattle.std.specs.Int.{w64};
+ghost use Rattle.std.specs.Prelude.{◌≡◌, ◌↔◌, All, IsTrue, IsSome, IfOk, IfSome, IfNone, Some, string_bytes, List, length, map, option_map, option_and_then};
 ghost use Rattle.std.specs.Option.{IsSomeAnd};
 ghost use Rattle.std.specs.List.{AllAdjacentBelow};
 ghost use Rattle.std.specs.List.Sorted.{IsPermutation, IsSortedByKey};
 ghost use Rattle.serde_json.specs.Data.{array};
 ghost use Rattle.serde_json.specs.View.{view, items_view};
 ghost use Rattle.druid_rows.specs.Rows.{nullable_texts_of};
-ghost use Rattle.druid_shard.specs.Each.{each_of};
+ghost use Rattle.druid_base.specs.Each.{each_of};
 ghost use Rattle.druid_base.specs.Fields.{text_or_null};
 ghost use Rattle.druid_partial.specs.Groups.{Group, key_of, key_cmp, InOrder, AreWords};
 ghost use Rattle.druid_partial.specs.Rows.{earliest, kinds_of, IsGroupFor, IsPartialFor};

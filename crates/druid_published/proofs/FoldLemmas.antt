@@ -1,19 +1,19 @@
 -- What is made of an inventory, reply by reply.
-use Rattle.std.proofs.Common.{◌≡◌, ◌⊎◌, ◌<◌, ◌≤◌, ℕ, Bool, true, false, zero, suc, List, [], ◌∷◌, ◌++◌, set, Option, Some, None, if◌then◌else◌, nat_le, nat_lt, ◌==◌, ◌&&◌, inl, inr, refl, sym, ap, ◌∙◌, subst, arith}
+use Rattle.std.proofs.Common.{◌≡◌, ◌⊎◌, ◌<◌, ◌≤◌, ℕ, Bool, true, false, List, [], ◌∷◌, ◌++◌, set, Option, Some, None, if◌then◌else◌, nat_le, nat_lt, ◌==◌, ◌&&◌, inl, inr, refl, sym, ap, ◌∙◌, arith}
 use Rattle.std.proofs.lemmas.Bool.Decides.{nat_tests}
 use Rattle.std.specs.List.{slice_get}
 use Rattle.std.specs.Ordering.{is_lt}
 use Rattle.std.specs.declared.cmp.Ordering.{Ordering}
 use Rattle.std.specs.declared.cmp.Ordering.TheVariants.{Less, Equal, Greater}
-use Rattle.std.proofs.lemmas.Option.{same_Some}
+use Rattle.druid_inventory.proofs.JoinLemmas.{names-set}
 use Rattle.druid_shard.specs.Described.{Described}
-use Rattle.druid_shard.specs.Mark.{Point, mark_cmp}
+use Rattle.druid_shard.specs.Mark.{mark_cmp}
 use Rattle.druid_shard.specs.Replay.{replay_from}
 use Rattle.druid_shard.specs.declared.reply.Body.{Body}
 use Rattle.druid_shard.specs.declared.reply.Body.TheVariants.{Delta, Snapshot, Page, Reset}
 use Rattle.druid_inventory.specs.Entry.{Entry}
 use Rattle.druid_inventory.specs.Join.{names_of}
-use Rattle.druid_inventory.specs.Step.{Steps, StepsAt, GoesOn, moved_to, tail_of}
+use Rattle.druid_inventory.specs.Step.{Steps, StepsAt, moved_to, tail_of}
 use Rattle.druid_inventory.specs.declared.fault.Outcome.{Outcome}
 use Rattle.druid_inventory.specs.declared.fault.Outcome.TheVariants.{Moved, AlreadyHave, AskWhole, AskPages}
 use Rattle.druid_published.specs.Fold.{Published, goes_on, moved_if, stepped, stepped_if, step_by, fold_of}
@@ -101,17 +101,12 @@ steps_by inventory node b o new (e, there, steps) =
 pub made_by : (inventory made : List Entry) (node : ℕ) (b : Body) (o : Outcome) (new : Entry) → StepsAt inventory node b o new → made ≡ set inventory node new → made ≡ step_by inventory (node, b)
 made_by inventory made node b o new steps is = is ∙ steps_by inventory node b o new steps
 
-names_set : (inventory : List Entry) (node : ℕ) (e new : Entry) → slice_get inventory node ≡ Some e → new.name ≡ e.name → names_of (set inventory node new) ≡ names_of inventory
-names_set [] node e new is same = refl
-names_set (x ∷ xs) zero e new is same = ap (λ n. n ∷ names_of xs) (same ∙ ap (λ (y : Entry). y.name) (sym (same_Some x e is)))
-names_set (x ∷ xs) (suc node) e new is same = ap (λ ns. x.name ∷ ns) (names_set xs node e new is same)
-
 step_names : (inventory : List Entry) (pair : ℕ × Body) → names_of (step_by inventory pair) ≡ names_of inventory
 step_names inventory pair = by (slice_get inventory pair.0) refl
   where
     by : (o : Option Entry) → slice_get inventory pair.0 ≡ o → names_of (stepped_if inventory pair o) ≡ names_of inventory
     by None there = refl
-    by (Some e) there = names_set inventory pair.0 e (stepped e pair.1) there (stepped_name e pair.1)
+    by (Some e) there = names-set inventory pair.0 e (stepped e pair.1) there (stepped_name e pair.1)
 
 -- ---- one after the other
 

@@ -7,6 +7,7 @@ use Rattle.std.specs.declared.cmp.Ordering.TheVariants.{Less, Equal, Greater}
 use Rattle.std.proofs.lemmas.Bool.{false≢true}
 use Rattle.std.proofs.lemmas.Option.{same_Some, none-some}
 use mathlib.Core.List.{IsPrefix}
+use Rattle.druid_base.proofs.OrderLemmas.{is_lt-Less}
 use Rattle.druid_shard.specs.Mark.{Point, mark_cmp}
 use Rattle.druid_shard.specs.Orders.{mark_cmp-total}
 use Rattle.druid_shard.specs.declared.reply.Body.{Body}
@@ -30,22 +31,17 @@ not_below_itself m Less e less =
 not_below_itself m Equal e less = false≢true less
 not_below_itself m Greater e less = false≢true less
 
-is_below : (o : Ordering) → is_lt o ≡ true → o ≡ Less
-is_below Less e = refl
-is_below Equal e = absurd (false≢true e)
-is_below Greater e = absurd (false≢true e)
-
 -- of three marks, one that is below the first is below the second or that is below the first
 not_below : (found mid at : Point) (o : Ordering) → mark_cmp mid at ≡ o → (is_lt o ≡ true → ⊥) → (is_lt (mark_cmp found mid) ≡ true → ⊥) → is_lt (mark_cmp found at) ≡ true → ⊥
 not_below found mid at Less e h g less = h refl
 not_below found mid at Equal e h g less =
     let level : mark_cmp at mid ≡ Equal = mark_cmp-total.antisymm at mid ∙ ap ordering_reverse e in
-    let turned : mark_cmp at found ≡ Greater = mark_cmp-total.antisymm at found ∙ ap ordering_reverse (is_below (mark_cmp found at) less) in
+    let turned : mark_cmp at found ≡ Greater = mark_cmp-total.antisymm at found ∙ ap ordering_reverse (is_lt-Less (mark_cmp found at) less) in
     let over : mark_cmp mid found ≡ Greater = mark_cmp-total.congr mid at found e ∙ turned in
     g (ap is_lt (mark_cmp-total.antisymm found mid ∙ ap ordering_reverse over))
 not_below found mid at Greater e h g less =
     let back : mark_cmp at mid ≡ Less = mark_cmp-total.antisymm at mid ∙ ap ordering_reverse e in
-    g (ap is_lt (mark_cmp-total.trans found at mid (is_below (mark_cmp found at) less) back))
+    g (ap is_lt (mark_cmp-total.trans found at mid (is_lt-Less (mark_cmp found at) less) back))
 
 -- ---- all marks
 
@@ -81,7 +77,7 @@ none_set [] node e new is up i s = none-some s.0 s.2
 none_set (x ∷ xs) zero e new is up zero s =
     let left : e.mark ≡ s.0 = ap (λ (y : Entry). y.mark) (sym (same_Some x e is)) ∙ same_Some x.mark s.0 s.2 in
     let right : new.mark ≡ s.1 = same_Some new.mark s.1 s.3 in
-    let less : mark_cmp new.mark e.mark ≡ Less = is_below (mark_cmp new.mark e.mark) ((λ i. is_lt (mark_cmp (right i) (left i))) ∙ s.4) in
+    let less : mark_cmp new.mark e.mark ≡ Less = is_lt-Less (mark_cmp new.mark e.mark) ((λ i. is_lt (mark_cmp (right i) (left i))) ∙ s.4) in
     up (mark_cmp-total.antisymm e.mark new.mark ∙ ap ordering_reverse less)
 none_set (x ∷ xs) zero e new is up (suc i) s = none_below_itself (marks_of xs) i s
 none_set (x ∷ xs) (suc node) e new is up zero s = none_below_itself (marks_of (x ∷ xs)) zero s

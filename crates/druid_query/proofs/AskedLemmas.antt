@@ -11,12 +11,12 @@ use Rattle.std.proofs.lemmas.Cmp.{tied_itself}
 use Rattle.std.proofs.lemmas.List.{get_or_default}
 use Rattle.std.proofs.lemmas.List.Folds.{list_any_at, list_any_none}
 use Rattle.std.proofs.lemmas.List.Sorted.{IsPermutation-sym, All-permutation}
+use Rattle.druid_base.proofs.OrderLemmas.{nat_cmp-lt}
 use Rattle.druid_time.specs.Extent.{IsExtent, common}
 use Rattle.druid_time.proofs.ExtentLemmas.{common-Share}
 use Rattle.druid_segid.specs.Identifier.{Identifier, parts_cmp, same_identifier}
 use Rattle.druid_segid.specs.IdentifierLaws.{parts_cmp-total, same_parts, same_identifier-true}
-use Rattle.druid_segid.proofs.OrderLemmas.{nat_cmp-lt}
-use Rattle.druid_shard.proofs.MovedLemmas.{alone-permutation}
+use Rattle.druid_base.proofs.MovedLemmas.{alone-permutation}
 use Rattle.druid_query.specs.Asked.{Asked, Overlap, do_overlap, StandApart, stand_apart}
 use Rattle.druid_query.specs.AskedOrder.{asked_cmp, AreApart}
 

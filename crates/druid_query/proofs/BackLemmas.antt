@@ -4,7 +4,7 @@ use Rattle.serde_json.specs.Data.{Data, string, Items, no_items, item}
 use Rattle.serde_json.specs.View.{items_of}
 use Rattle.serde_json.specs.Find.{as_null, as_str}
 use Rattle.druid_time.specs.Extent.{Extent, IsExtent}
-use Rattle.druid_time.specs.Options.{◌>>=◌}
+use Rattle.druid_base.specs.Options.{◌>>=◌}
 use Rattle.druid_time.specs.Texts.{extent_text}
 use Rattle.druid_time.specs.declared.granularity.Granularity.{Granularity}
 use Rattle.druid_time.specs.declared.granularity.Granularity.TheVariants.{All, Second, Minute, Hour, Day}
@@ -12,8 +12,8 @@ use Rattle.druid_time.proofs.TextLemmas.{extent_at-extent_text}
 use Rattle.druid_shard.specs.Json.{result_ok}
 use Rattle.druid_filter.specs.Filters.{Condition, has, has_among, all_of, any_of, is_not, Conditions, no_conditions, condition}
 use Rattle.druid_query.specs.Query.{Dimension, Aggregator}
-use Rattle.druid_shard.specs.Each.{each_of}
-use Rattle.druid_shard.proofs.EachLemmas.{each_back}
+use Rattle.druid_base.specs.Each.{each_of}
+use Rattle.druid_base.proofs.EachLemmas.{each_back}
 use Rattle.druid_base.specs.Fields.{text_or_null}
 use Rattle.druid_query.specs.Filters.{selector_in, among_in, filter_at, each_filter}
 use Rattle.druid_query.specs.Fields.{granularity_of, interval_of, dimension_at, default_dimension, aggregator_at}

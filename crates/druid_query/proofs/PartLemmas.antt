@@ -5,7 +5,8 @@ use Rattle.serde_json.specs.Find.{get}
 use Rattle.druid_time.specs.Extent.{Extent}
 use Rattle.druid_time.specs.declared.granularity.Granularity.{Granularity}
 use Rattle.druid_filter.specs.Filters.{Condition}
-use Rattle.druid_query.specs.Query.{Query, Dimension, Aggregator, are_distinct, result_names, query_of}
+use Rattle.druid_query.specs.Query.{Query, Dimension, Aggregator, result_names, query_of}
+use Rattle.druid_base.specs.Distinct.{are_distinct}
 use Rattle.druid_query.specs.Refusal.{bad_field, or_refuse}
 use Rattle.druid_query.specs.Fields.{kind_at, granularity_of}
 use Rattle.druid_query.specs.Read.{source_at, granularity_at, intervals_at, filter_field, dimensions_at, aggregations_at, parts_at, no_more_at, query_at}

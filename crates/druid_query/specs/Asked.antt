@@ -5,11 +5,12 @@ use Rattle.std.specs.Str.{bytes_eq}
 use Rattle.serde_json.specs.Data.{Data, object, member, no_members, number, unsigned, string, Items}
 use Rattle.serde_json.specs.Find.{get, as_array}
 use Rattle.druid_time.specs.Extent.{Extent, Has, Share, common}
-use Rattle.druid_time.specs.Options.{◌>>=◌}
+use Rattle.druid_base.specs.Options.{◌>>=◌}
 use Rattle.druid_time.specs.Texts.{extent_text, extent_at}
 use Rattle.druid_segid.specs.Names.{is_version}
 use Rattle.druid_segid.specs.Identifier.{Identifier, same_identifier}
-use Rattle.druid_shard.specs.Json.{text_at, limited_at, result_ok}
+use Rattle.druid_shard.specs.Json.{result_ok}
+use Rattle.druid_base.specs.Fields.{text_at, limited_at}
 use Rattle.druid_query.specs.Fields.{each_among}
 
 -- a segment, and the piece of it that is asked for

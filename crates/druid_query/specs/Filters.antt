@@ -6,8 +6,8 @@ use Rattle.std.specs.Str.{bytes_eq}
 use Rattle.serde_json.specs.Data.{Data, null, boolean, number, string, array, object, Items, no_items, item, Members, no_members, member}
 use Rattle.serde_json.specs.Find.{get_member, as_str, as_array}
 use Rattle.druid_base.specs.Fields.{text_or_null}
-use Rattle.druid_time.specs.Options.{◌>>=◌}
-use Rattle.druid_shard.specs.Each.{each_of}
+use Rattle.druid_base.specs.Options.{◌>>=◌}
+use Rattle.druid_base.specs.Each.{each_of}
 use Rattle.druid_filter.specs.Filters.{Condition, has, has_among, all_of, any_of, is_not, Conditions, no_conditions, condition}
 
 -- the text at a key of an object

@@ -1,7 +1,6 @@
 -- What a query asks, and its limits. A text is its bytes.
-use Rattle.std.specs.Prelude.{ℕ, suc, ◌+◌, max, Bool, true, ◌&&◌, nat_le, not, List, [], ◌∷◌, ◌++◌, length, map, Option, Some, None}
-use Rattle.std.specs.List.{list_all, list_any}
-use Rattle.std.specs.Str.{bytes_eq}
+use Rattle.std.specs.Prelude.{ℕ, suc, ◌+◌, max, Bool, true, ◌&&◌, nat_le, List, [], ◌∷◌, ◌++◌, length, map, Option, Some, None}
+use Rattle.std.specs.List.{list_all}
 use Rattle.druid_time.specs.Extent.{Extent}
 use Rattle.druid_time.specs.declared.granularity.Granularity.{Granularity}
 use Rattle.druid_filter.specs.Filters.{Condition, has, has_among, all_of, any_of, is_not, Conditions, no_conditions, condition}
@@ -115,8 +114,3 @@ fit_aggregators all = nat_le (length all) max_aggregators && list_all fits_aggre
 -- the names in the result, which have to be distinct
 abbrev pub result_names : List Dimension → List Aggregator → List (List ℕ)
 result_names dimensions aggregators = map (λ d. d.output_name) dimensions ++ map (λ a. a.name) aggregators
-
--- no text stands twice
-abbrev pub are_distinct : List (List ℕ) → Bool
-are_distinct [] = true
-are_distinct (x ∷ xs) = not (list_any (bytes_eq x) xs) && are_distinct xs

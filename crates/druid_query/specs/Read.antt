@@ -8,9 +8,10 @@ use Rattle.druid_time.specs.Results.{◌>>=◌}
 use Rattle.druid_time.specs.declared.granularity.Granularity.{Granularity}
 use Rattle.druid_segid.specs.Names.{is_name}
 use Rattle.druid_filter.specs.Filters.{Condition}
-use Rattle.druid_query.specs.Query.{Query, Dimension, Aggregator, query_of, is_label, fits_filter, fit_dimensions, fit_aggregators, result_names, are_distinct}
+use Rattle.druid_query.specs.Query.{Query, Dimension, Aggregator, query_of, is_label, fits_filter, fit_dimensions, fit_aggregators, result_names}
+use Rattle.druid_base.specs.Distinct.{are_distinct}
 use Rattle.druid_query.specs.Refusal.{Refusal, unknown_type, bad_field, bad_interval, limit_passed, doubled_name, or_refuse, when, allow, Gives}
-use Rattle.druid_shard.specs.Each.{each_of}
+use Rattle.druid_base.specs.Each.{each_of}
 use Rattle.druid_query.specs.Filters.{filter_at}
 use Rattle.druid_query.specs.Fields.{kind_at, source_text, granularity_of, interval_texts, interval_of, items_or_none, dimension_at, aggregator_at, is_off, is_empty_or_absent}
 use Rattle.druid_query.specs.declared.fault.QueryFault.{QueryFault}

@@ -8,8 +8,9 @@ use Rattle.std.specs.Prelude.{map}
 use Rattle.druid_time.specs.Extent.{Extent, IsExtent}
 use Rattle.druid_time.specs.Results.{◌>>=◌}
 use Rattle.druid_segid.specs.Identifier.{IsIdentifier}
-use Rattle.druid_shard.specs.Each.{each_of}
-use Rattle.druid_query.specs.Query.{Query, query_of, result_names, are_distinct}
+use Rattle.druid_base.specs.Each.{each_of}
+use Rattle.druid_query.specs.Query.{Query, query_of, result_names}
+use Rattle.druid_base.specs.Distinct.{are_distinct}
 use Rattle.druid_query.specs.Asked.{Asked, LiesInside, StandApart, stand_apart, asked_data, inside_at, asked_items}
 use Rattle.druid_query.specs.Refusal.{Refusal, unknown_type, bad_field, bad_interval, doubled_name, or_refuse, when, GivesAfter}
 use Rattle.druid_query.specs.Fields.{kind_at, listed_texts, interval_of}

@@ -9,13 +9,12 @@ use Rattle.serde_json.specs.Data.{Data, null, boolean, number, string, array, ob
 use Rattle.serde_json.specs.Find.{get, get_member, as_array}
 use Rattle.serde_json.specs.View.{view, items_view}
 use Rattle.serde_json.specs.declared.value.Value.{Value}
-use Rattle.druid_time.specs.Options.{◌>>=◌}
-use Rattle.druid_shard.specs.Json.{text_at}
+use Rattle.druid_base.specs.Options.{◌>>=◌}
 use Rattle.druid_filter.specs.Filters.{Condition, has, has_among, all_of, any_of, is_not, Conditions, no_conditions, condition, conditions_of, says, each_says}
 use Rattle.druid_filter.specs.declared.filter.Filter.{Filter}
 use Rattle.std.proofs.lemmas.List.{map-append}
-use Rattle.druid_shard.specs.Each.{each_of}
-use Rattle.druid_base.specs.Fields.{text_or_null}
+use Rattle.druid_base.specs.Each.{each_of}
+use Rattle.druid_base.specs.Fields.{text_or_null, text_at}
 use Rattle.druid_query.specs.Filters.{selector_in, among_in, filter_of_type, filter_at, filter_in, filters_in, filters_at, each_filter}
 use Rattle.druid_query_text.specs.Levels.{Layer, selector, among, all, any, negation, selector_layer, among_layer, fields_at, layer_named, layer_at, layer_says, layer_of, IsWithin}
 use Rattle.druid_query_text.specs.declared.filter.Level.{Level}

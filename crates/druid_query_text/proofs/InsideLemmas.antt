@@ -4,9 +4,9 @@ use Rattle.std.proofs.lemmas.List.{drop_more}
 use Rattle.serde_json.specs.Data.{Data, Items}
 use Rattle.serde_json.specs.View.{view, items_view}
 use Rattle.serde_json.specs.declared.value.Value.{Value}
-use Rattle.druid_time.specs.Options.{◌>>=◌}
+use Rattle.druid_base.specs.Options.{◌>>=◌}
 use Rattle.druid_filter.specs.Filters.{Condition, has_among, all_of, any_of, is_not, Conditions, condition}
-use Rattle.druid_shard.specs.Each.{each_of}
+use Rattle.druid_base.specs.Each.{each_of}
 use Rattle.druid_base.specs.Fields.{text_or_null}
 use Rattle.druid_query.specs.Filters.{filter_at, each_filter}
 use Rattle.druid_query_text.specs.Levels.{Layer, among, all, any, negation, layer_at, layer_says}

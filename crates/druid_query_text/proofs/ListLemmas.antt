@@ -6,17 +6,17 @@ use Rattle.serde_json.specs.Data.{Data, Items}
 use Rattle.serde_json.specs.View.{view, items_view}
 use Rattle.serde_json.specs.declared.value.Value.{Value}
 use Rattle.druid_time.specs.Extent.{Extent}
-use Rattle.druid_time.specs.Options as options
+use Rattle.druid_base.specs.Options as options
 use Rattle.druid_time.specs.Results.{◌>>=◌}
 use Rattle.druid_filter.specs.Filters.{Condition}
 use Rattle.druid_query.specs.Query.{fits_filter, fits_dimension, fit_dimensions, fits_aggregator, fit_aggregators}
 use Rattle.druid_query.specs.Refusal.{Refusal, bad_interval, limit_passed, or_refuse, when}
-use Rattle.druid_shard.specs.Each.{each_of}
+use Rattle.druid_base.specs.Each.{each_of}
 use Rattle.druid_query_text.specs.Found.{EachReads, holds_in, readings}
 use Rattle.druid_query.specs.Read.{list_of, fit_intervals}
 use Rattle.druid_query.specs.Fields.{interval_of, dimension_at, aggregator_at}
 use Rattle.druid_query.specs.Limits.{max_intervals, max_dimensions, max_aggregators}
-use Rattle.druid_shard.proofs.EachLemmas.{all_reads, each_of_length}
+use Rattle.druid_base.proofs.EachLemmas.{all_reads, each_of_length}
 
 -- ---- what reads
 

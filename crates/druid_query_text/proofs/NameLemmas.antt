@@ -4,9 +4,9 @@ use Rattle.std.specs.List.{cons_option}
 use Rattle.serde_json.specs.Data.{Data}
 use Rattle.serde_json.specs.View.{view, items_view}
 use Rattle.serde_json.specs.declared.value.Value.{Value}
-use Rattle.druid_time.specs.Options.{◌>>=◌}
+use Rattle.druid_base.specs.Options.{◌>>=◌}
 use Rattle.druid_query.specs.Query.{result_names}
-use Rattle.druid_shard.specs.Each.{each_of}
+use Rattle.druid_base.specs.Each.{each_of}
 use Rattle.druid_query.specs.Fields.{dimension_at, aggregator_at}
 use Rattle.druid_query_text.specs.Found.{EachReads, readings}
 use Rattle.druid_query_text.specs.Names.{output_or, name_or, all_names}

@@ -7,10 +7,11 @@ use Rattle.druid_time.specs.Results.{◌>>=◌}
 use Rattle.druid_time.specs.declared.granularity.Granularity.{Granularity}
 use Rattle.druid_segid.specs.Names.{is_name}
 use Rattle.druid_filter.specs.Filters.{Condition}
-use Rattle.druid_query.specs.Query.{Query, Dimension, Aggregator, are_distinct, result_names, is_label, fits_filter, fit_dimensions, fit_aggregators}
+use Rattle.druid_query.specs.Query.{Query, Dimension, Aggregator, result_names, is_label, fits_filter, fit_dimensions, fit_aggregators}
+use Rattle.druid_base.specs.Distinct.{are_distinct}
 use Rattle.druid_query.specs.Refusal.{Refusal, bad_field, bad_interval, limit_passed, or_refuse, when}
-use Rattle.druid_shard.specs.Each.{each_of}
-use Rattle.druid_shard.proofs.EachLemmas.{each_back, each_sound}
+use Rattle.druid_base.specs.Each.{each_of}
+use Rattle.druid_base.proofs.EachLemmas.{each_back, each_sound}
 use Rattle.druid_query.specs.Filters.{filter_at}
 use Rattle.druid_query.specs.Fields.{kind_at, source_text, interval_texts, interval_of, items_or_none, dimension_at, aggregator_at}
 use Rattle.druid_query.specs.Read.{list_of, fit_intervals, source_at, granularity_at, intervals_at, wanted_filter, filter_or_none, filter_field, listed_dimensions, dimensions_at, aggregations_at, no_more_at, query_at, IsQuery}

@@ -7,7 +7,8 @@ use Rattle.druid_time.specs.Extent.{Extent}
 use Rattle.druid_time.specs.Results.{◌>>=◌}
 use Rattle.druid_time.specs.declared.granularity.Granularity.{Granularity}
 use Rattle.druid_filter.specs.Filters.{Condition}
-use Rattle.druid_query.specs.Query.{Dimension, Aggregator, are_distinct, result_names}
+use Rattle.druid_query.specs.Query.{Dimension, Aggregator, result_names}
+use Rattle.druid_base.specs.Distinct.{are_distinct}
 use Rattle.druid_query.specs.Refusal.{Refusal, unknown_type, doubled_name, or_refuse, when, Tells, TellsAfter}
 use Rattle.druid_query.specs.Fields.{kind_at}
 use Rattle.druid_query.specs.Read.{source_at, granularity_at, filter_field, dimensions_at, aggregations_at, no_more_at, intervals_at, query_at}

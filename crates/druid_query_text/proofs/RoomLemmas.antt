@@ -9,10 +9,10 @@ use Rattle.std.proofs.lemmas.Bool.Decides.{nat_tests}
 use Rattle.serde_json.specs.Data.{Data, Items}
 use Rattle.serde_json.specs.View.{view, items_view}
 use Rattle.serde_json.specs.declared.value.Value.{Value}
-use Rattle.druid_time.specs.Options.{◌>>=◌}
+use Rattle.druid_base.specs.Options.{◌>>=◌}
 use Rattle.druid_filter.specs.Filters.{Condition, has, has_among, all_of, any_of, is_not, Conditions, no_conditions, condition}
 use Rattle.druid_query.specs.Query.{is_label, is_short, levels, most_levels, members, all_members, fits_texts, fit_texts, fits_filter}
-use Rattle.druid_shard.specs.Each.{each_of}
+use Rattle.druid_base.specs.Each.{each_of}
 use Rattle.druid_base.specs.Fields.{text_or_null}
 use Rattle.druid_query.specs.Filters.{filter_at, each_filter}
 use Rattle.druid_filter.specs.Filters.{says, each_says}
@@ -22,7 +22,7 @@ use Rattle.std.specs.Global.{Box}
 use Rattle.druid_query_text.specs.Levels.{Layer, selector, among, layer_at, layer_says, is_full, leaf, left_after, all_left, fits_among}
 use Rattle.druid_query_text.specs.Found.{holds_in}
 use Rattle.druid_query.specs.Limits.{max_members, max_levels, max_values}
-use Rattle.druid_shard.proofs.EachLemmas.{each_of_length}
+use Rattle.druid_base.proofs.EachLemmas.{each_of_length}
 use Rattle.druid_query_text.proofs.FilterLemmas.{of_layer}
 
 -- ---- a list of values

@@ -4,13 +4,14 @@ use Rattle.serde_json.specs.Data.{Data, array, Items}
 use Rattle.serde_json.specs.Find.{get}
 use Rattle.serde_json.specs.View.{items_of}
 use Rattle.druid_time.specs.Extent.{Extent, IsExtent}
-use Rattle.druid_time.specs.Options as options
+use Rattle.druid_base.specs.Options as options
 use Rattle.druid_time.specs.Results.{◌>>=◌}
 use Rattle.druid_segid.specs.Identifier.{IsIdentifier}
-use Rattle.druid_shard.specs.Each.{each_of}
-use Rattle.druid_shard.proofs.EachLemmas.{each_back}
-use Rattle.druid_shard.proofs.MemberLemmas.{Contains-later, Contains-nil}
-use Rattle.druid_query.specs.Query.{Query, query_of, are_distinct, result_names}
+use Rattle.druid_base.specs.Each.{each_of}
+use Rattle.druid_base.proofs.EachLemmas.{each_back}
+use Rattle.druid_base.proofs.MemberLemmas.{Contains-later, Contains-nil}
+use Rattle.druid_query.specs.Query.{Query, query_of, result_names}
+use Rattle.druid_base.specs.Distinct.{are_distinct}
 use Rattle.druid_query.specs.Asked.{Asked, StandApart, stand_apart, asked_data, spelled_at, inside_at, asked_items}
 use Rattle.druid_query.specs.Refusal.{bad_field, bad_interval, or_refuse, when}
 use Rattle.druid_query.specs.Fields.{kind_at, listed_texts}

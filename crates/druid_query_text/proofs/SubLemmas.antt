@@ -7,8 +7,8 @@ use Rattle.serde_json.specs.declared.value.Value.{Value}
 use Rattle.druid_time.specs.Extent.{Extent}
 use Rattle.druid_time.specs.Results.{◌>>=◌}
 use Rattle.druid_time.specs.declared.granularity.Granularity.{Granularity}
-use Rattle.druid_shard.specs.Each.{each_of}
-use Rattle.druid_shard.proofs.EachLemmas.{not_all_read}
+use Rattle.druid_base.specs.Each.{each_of}
+use Rattle.druid_base.proofs.EachLemmas.{not_all_read}
 use Rattle.druid_query.specs.Query.{query_of}
 use Rattle.druid_query.specs.Asked.{Asked, inside_at, stand_apart}
 use Rattle.druid_query.specs.Refusal.{Refusal, bad_field, bad_interval, unknown_type, or_refuse, when, TellsAfter}

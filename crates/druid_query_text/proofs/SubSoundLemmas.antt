@@ -1,34 +1,21 @@
 -- What reads as a subquery is within its limits.
-use Rattle.std.proofs.Common.{◌≡◌, ◌≤◌, ℕ, Bool, true, false, List, [], ◌∷◌, nat_le, codes, All, IsTrue, Option, Some, None, is_some, option_and_then, if◌then◌else◌, refl, sym, ap, ◌∙◌, subst, arith}
-use Rattle.std.specs.List.{list_all}
-use Rattle.std.proofs.lemmas.Bool.{and_parts, leb-true}
-use Rattle.std.proofs.lemmas.List.Elements.{All-nil, All-cons}
+use Rattle.std.proofs.Common.{◌≡◌, ◌≤◌, ℕ, Bool, true, false, List, [], ◌∷◌, nat_le, codes, Option, Some, None, is_some, option_and_then, if◌then◌else◌, refl, sym, ap, ◌∙◌, subst, arith}
+use Rattle.std.proofs.lemmas.Bool.{leb-true}
 use Rattle.std.proofs.lemmas.Option.{same_Some}
 use Rattle.serde_json.specs.Data.{Data, Items, no_items, item}
 use Rattle.druid_time.specs.Extent.{Extent, IsExtent}
-use Rattle.druid_time.specs.Options.{◌>>=◌}
+use Rattle.druid_base.specs.Options.{◌>>=◌}
 use Rattle.druid_time.specs.Texts.{extent_at}
-use Rattle.druid_segid.specs.Names.{is_name_byte, is_name, IsName, is_version, IsVersion}
+use Rattle.druid_segid.specs.Names.{IsName, is_version, IsVersion}
 use Rattle.druid_segid.specs.Identifier.{IsIdentifier}
 use Rattle.druid_segid.proofs.NameLemmas.{is_version-to}
-use Rattle.druid_shard.specs.Json.{text_at, limited_at, number_at, result_ok}
+use Rattle.druid_shard.specs.Json.{result_ok}
+use Rattle.druid_base.specs.Fields.{text_at, limited_at, number_at}
 use Rattle.druid_query.specs.Asked.{Asked, Spelled, version_of, spelled_at, named_by, asked_at, inside_at, lies_inside, segments_in, asked_items}
 use Rattle.druid_query.specs.Fields.{each_among}
-use Rattle.druid_shard.specs.Each.{each_of}
+use Rattle.druid_base.specs.Each.{each_of}
 use Rattle.druid_asked_text.proofs.PieceLemmas.{inside_tells, inside_both}
 use Rattle.druid_query.proofs.SoundLemmas.{text_sound, HasItem}
-
-each_passed : (p : ℕ → Bool) (xs : List ℕ) → list_all p xs ≡ true → All (λ b. IsTrue (p b)) xs
-each_passed p [] h = All-nil (λ b. IsTrue (p b))
-each_passed p (x ∷ xs) h =
-    let both = and_parts (p x) (list_all p xs) h in
-    All-cons (λ b. IsTrue (p b)) x xs both.0 (each_passed p xs both.1)
-
-pub is_name-to : (text : List ℕ) → is_name text ≡ true → IsName text
-is_name-to text h =
-    let each = and_parts _ _ h in
-    let bounds = and_parts _ _ each.0 in
-    record { not_empty = leb-true _ _ bounds.0; short = leb-true _ _ bounds.1; bytes = each_passed is_name_byte text each.1 }
 
 -- ---- the shape of a piece
 

@@ -5,13 +5,12 @@ use Rattle.std.specs.Str.{bytes_eq}
 use Rattle.serde_json.specs.Data.{Data, Items, depth, items_depth}
 use Rattle.serde_json.specs.Find.{get, as_array}
 use Rattle.serde_json.specs.View.{view, items_view}
-use Rattle.druid_time.specs.Options.{◌>>=◌}
-use Rattle.druid_shard.specs.Json.{text_at}
+use Rattle.druid_base.specs.Options.{◌>>=◌}
 use Rattle.druid_filter.specs.Filters.{Condition, has, has_among, all_of, any_of, is_not, Conditions, no_conditions, condition}
 use Rattle.druid_query.specs.Query.{is_label, is_short}
 use Rattle.druid_query.specs.Limits.{max_values}
-use Rattle.druid_shard.specs.Each.{each_of}
-use Rattle.druid_base.specs.Fields.{text_or_null}
+use Rattle.druid_base.specs.Each.{each_of}
+use Rattle.druid_base.specs.Fields.{text_or_null, text_at}
 use Rattle.druid_query.specs.Filters.{filter_at, each_filter}
 use Rattle.druid_query_text.specs.Found.{holds_in}
 use Rattle.druid_query_text.specs.declared.filter.Level.{Level}

@@ -5,7 +5,8 @@ use Rattle.druid_time.specs.Extent.{Extent}
 use Rattle.druid_time.specs.Results.{◌>>=◌}
 use Rattle.druid_time.specs.declared.granularity.Granularity.{Granularity}
 use Rattle.druid_filter.specs.Filters.{Condition}
-use Rattle.druid_query.specs.Query.{Query, Dimension, Aggregator, query_of, result_names, are_distinct}
+use Rattle.druid_query.specs.Query.{Query, Dimension, Aggregator, query_of, result_names}
+use Rattle.druid_base.specs.Distinct.{are_distinct}
 use Rattle.druid_query.specs.Refusal.{Refusal, unknown_type, doubled_name, or_refuse, when}
 use Rattle.druid_query.specs.Asked.{inside_at}
 use Rattle.druid_query.specs.SubQuery.{Span}

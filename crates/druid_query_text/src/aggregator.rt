@@ -5,11 +5,11 @@ ghost use Rattle.druid_query.specs.Fields.{aggregator_named, field_for, aggregat
 ghost use Rattle.druid_query.specs.Query.{is_label_if, fits_aggregator};
 ghost use Rattle.druid_query.specs.Read.{aggregations_at};
 ghost use Rattle.druid_query_text.specs.Found.{FindsBy, EachReads, readings};
-ghost use Rattle.druid_query.specs.Written.{aggregator_text, counting_data, of_field_data, fielded_data, aggregator_data, aggregations_data};
+ghost use Rattle.druid_query.specs.Written.{aggregator_text, counting_data, of_field_data, aggregator_data, aggregations_data};
 
 use crate::item::{Item, are_fit, items_field};
+use druid_base::text_field;
 use druid_query::{Aggregator, AggregatorKind, MAX_AGGREGATORS, QueryFault, is_label};
-use druid_shard::text_field;
 use serde_json::{Value, json};
 use std::alloc::{AllocError, Global};
 use std::marker::Model;

@@ -8,9 +8,9 @@ ghost use Rattle.druid_query_text.specs.Found.{FindsBy, Finds};
 ghost use Rattle.druid_query.specs.Written.{granularity_text};
 ghost use Rattle.druid_query_text.specs.Members.{kind_text};
 
+use druid_base::text_field;
 use druid_query::{QueryFault, QueryType, is_label};
 use druid_segid::Name;
-use druid_shard::text_field;
 use druid_time::Granularity;
 use serde_json::Value;
 

@@ -1,12 +1,11 @@
 //! Filters, read out of JSON and written.
-ghost use Rattle.std.specs.Prelude.{◌&&◌, map, length, nat_le, string_bytes, Ok, ◌≡◌, ◌-◌, ◌≤◌, Some, IfOk, IsSome, IfSome, SomeIff, option_map, option_and_then, is_some, IsTrue};
+ghost use Rattle.std.specs.Prelude.{◌&&◌, map, length, nat_le, string_bytes, Ok, ◌≡◌, ◌-◌, ◌≤◌, Some, IfOk, IsSome, IfSome, option_map, option_and_then, is_some};
 ghost use Rattle.std.specs.List.{list_all};
-ghost use Rattle.serde_json.specs.Data.{depth};
 ghost use Rattle.serde_json.specs.View.{view, items_view};
-ghost use Rattle.druid_shard.specs.Each.{each_of};
+ghost use Rattle.druid_base.specs.Each.{each_of};
 ghost use Rattle.druid_base.specs.Fields.{text_or_null};
 ghost use Rattle.druid_query.specs.Filters.{filter_at, each_filter};
-ghost use Rattle.druid_query_text.specs.Levels.{selector_layer, among_layer, fields_at, layer_named, layer_at, layer_of, leaf, left_after, all_left, fits_among};
+ghost use Rattle.druid_query_text.specs.Levels.{selector_layer, among_layer, layer_named, layer_at, layer_of, leaf, left_after, all_left, fits_among};
 ghost use Rattle.druid_query_text.specs.Found.{FindsBy, Reads, read_of, holds_in};
 ghost use Rattle.druid_query.specs.Read.{filter_field};
 ghost use Rattle.druid_query.specs.Query.{is_label, is_short, fits_filter};
@@ -15,10 +14,9 @@ ghost use Rattle.druid_filter.specs.Values.{nullable_texts_of};
 ghost use Rattle.serde_json.specs.View.{items_of};
 ghost use Rattle.druid_query.specs.Written.{value_data, selector_data, among_data, fields_data, not_data, filter_data, filters_data, wanted_data};
 
-use druid_base::{are_texts_or_null, copy_text, list_field, text_or_null};
+use druid_base::{are_texts_or_null, copy_text, list_field, text_field, text_or_null};
 use druid_filter::Filter;
 use druid_query::{MAX_LEVELS, MAX_MEMBERS, MAX_VALUES, QueryFault, is_label, is_short};
-use druid_shard::text_field;
 use serde_json::{Value, json};
 use std::alloc::{AllocError, Global};
 

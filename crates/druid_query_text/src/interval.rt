@@ -5,12 +5,11 @@ ghost use Rattle.druid_query.specs.Fields.{texts_among, listed_at, interval_text
 ghost use Rattle.druid_query.specs.Read.{list_of, fit_intervals};
 ghost use Rattle.druid_query.specs.Refusal.{bad_field, bad_interval};
 ghost use Rattle.druid_query_text.specs.Found.{FindsBy, readings};
-ghost use Rattle.druid_query.specs.Written.{interval_data, intervals_data};
+ghost use Rattle.druid_query.specs.Written.{intervals_data};
 
 use crate::item::{Item, are_fit};
-use druid_base::{are_texts, list_field};
+use druid_base::{are_texts, list_field, text_field};
 use druid_query::{MAX_INTERVALS, QueryFault};
-use druid_shard::text_field;
 use druid_time::Interval;
 use serde_json::Value;
 use std::alloc::{AllocError, Global};

@@ -229,7 +229,7 @@ fn turns_of_broker<R: Handle, J: Publication>(
 }
 
 // Whether there are so many nodes that a view reads of.
-#[tactic(auto, using(crate::proofs::LinkLemmas::linked))]
+#[tactic(auto, using(druid_inventory::proofs::JoinLemmas::fewer_names))]
 fn reaches<J: Publication>(view: &mut View<J>, links: usize) -> bool
     ensures linked { IsTrue result → length J.opening ≤ links }
     ensures some { IsTrue result → 1 ≤ length J.opening }

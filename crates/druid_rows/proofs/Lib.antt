@@ -2,7 +2,6 @@ pub mod ColumnLemmas
 pub mod EachLemmas
 pub mod GrowLemmas
 pub mod LengthLemmas
-pub mod NameLemmas
 pub mod NumberingLemmas
 pub mod PlaceLemmas
 pub mod ShortLemmas

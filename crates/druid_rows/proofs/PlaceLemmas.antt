@@ -13,7 +13,7 @@ use Rattle.std.proofs.lemmas.List.Sorted.{ranks_by, sorted_far, All-permutation,
 use Rattle.std.proofs.lemmas.Option.{slice_get_within, slice_get-get_or, slice_get-map, get_or_from_slice_get, same_Some}
 use Rattle.std.proofs.lemmas.Slice.Eq.{bytes_eq-Decides}
 use Rattle.druid_segid.proofs.OrderLemmas.{slice_cmp-Equal}
-use Rattle.druid_shard.proofs.MemberLemmas.{Contains-map, Contains-map_back}
+use Rattle.druid_base.proofs.MemberLemmas.{Contains-map, Contains-map_back}
 use Rattle.druid_rows.specs.Columns.{IsDictionary, value_at}
 use Rattle.druid_rows.specs.Numbering.{Entry, texts_in, AreNumbered, code_by_rank, with_mark, AreMarked, AreRising, HavePlaces}
 use Rattle.druid_rows.proofs.ColumnLemmas.{text_cmp}

@@ -1,5 +1,5 @@
 -- The names of fields. They are ASCII, and a text is its bytes.
-use Rattle.std.specs.Prelude.{◌≡◌, ℕ, ◌<◌, ◌≤◌, Bool, ◌||◌, ◌&&◌, ◌==◌, nat_le, List, length, slice_index_or, IsTrue, All}
+use Rattle.std.specs.Prelude.{◌≡◌, ℕ, ◌<◌, ◌≤◌, Bool, ◌||◌, ◌&&◌, ◌==◌, nat_le, List, length, IsTrue, All}
 use Rattle.std.specs.List.{list_all}
 use Rattle.std.specs.Char.{is_ascii_alphanumeric}
 
@@ -20,9 +20,3 @@ pub record IsFieldName (text : List ℕ) : Type 0 where
 -- the test of the same
 abbrev pub is_field_name : List ℕ → Bool
 is_field_name text = nat_le 1 (length text) && nat_le (length text) max_field_name && list_all is_field_byte text
-
--- no name stands at two places
-abbrev pub AreDistinct : List (List ℕ) → Type 0
-AreDistinct names =
-    (i j : ℕ) (d : List ℕ) → i < length names → j < length names
-    → slice_index_or names i d ≡ slice_index_or names j d → i ≡ j

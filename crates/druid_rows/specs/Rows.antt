@@ -4,7 +4,8 @@ use Rattle.std.specs.Int.{w64}
 use Rattle.std.specs.Global.{Global}
 use Rattle.druid_time.specs.Extent.{Extent, Has}
 pub use Rattle.druid_filter.specs.Values.{texts_by, nullable_texts_of}
-use Rattle.druid_rows.specs.Names.{IsFieldName, AreDistinct}
+use Rattle.druid_rows.specs.Names.{IsFieldName}
+use Rattle.druid_base.specs.Distinct.{AreDistinct}
 
 -- the names of the dimensions and of the metrics that each row has a value for, in order
 pub record Schema : Type 0 where

@@ -2,10 +2,11 @@ ghost use Rattle.std.specs.Prelude.{◌≡◌, ◌↔◌, ◌-◌, [], true, fal
 ghost use Rattle.druid_rows.specs.Rows.{texts_by, row_of, IsSchema, HasShape, IsInside, HasWords};
 ghost use Rattle.druid_rows.specs.Segment.{Segment, IsWithinLimits, HaveWords, IsSegment, segment_of, with_row, text_length, max_text};
 
+use crate::limits::MAX_ROWS;
 use crate::row_ref::RowRef;
 use crate::segment::judge;
 use crate::table_builder::TableBuilder;
-use crate::{MAX_ROWS, Row, RowFault, Schema, Segment};
+use crate::{Row, RowFault, Schema, Segment};
 use druid_shard::Descriptor;
 use druid_time::Instant;
 use std::alloc::{AllocError, Global};

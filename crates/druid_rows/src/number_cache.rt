@@ -10,18 +10,18 @@ const FIRST_LEN: usize = 16;
 
 // A hash and a number. Where there is none, the number is 0.
 #[derive(Clone, Copy, Debug)]
-struct Slot {
+struct CachedNumber {
     hash: u32,
     number: u32,
 }
 
-const FREE: Slot = Slot { hash: 0, number: 0 };
+const FREE: CachedNumber = CachedNumber { hash: 0, number: 0 };
 
 // Numbers by hashes. A number may be lost to a later one, and that of another text may have the same hash: whoever
 // takes one from it compares the texts. So no file makes it slow: it looks at four slots, whatever the hashes are.
 #[derive(Debug, Drop)]
 pub(crate) struct NumberCache {
-    slots: Vec<Slot>,
+    slots: Vec<CachedNumber>,
     count: usize,
 }
 
@@ -78,7 +78,7 @@ impl NumberCache {
         self.place(hash, 0)
     }
 
-    fn put(&mut self, slot: Slot) {
+    fn put(&mut self, slot: CachedNumber) {
         let place = self.place_for(slot.hash);
         if let Some(old) = self.slots.get_mut(place) {
             *old = slot;
@@ -109,7 +109,7 @@ impl NumberCache {
         if self.count >= self.slots.len() / 2 {
             self.grow(alloc)?;
         }
-        self.put(Slot { hash, number });
+        self.put(CachedNumber { hash, number });
         Ok(())
     }
 }

@@ -4,12 +4,10 @@ ghost use Rattle.std.specs.Option.{option_map};
 ghost use Rattle.druid_rows.specs.Rows.{texts_by, max_value, AreShort, HasShortValues, AreWords, HasWords};
 ghost use Rattle.druid_rows.specs.Segment.{text_value_length, number_value_length, row_length};
 
+use crate::limits::MAX_VALUE;
 use druid_time::Instant;
 use std::convert::AsStr;
 use std::marker::Model;
-
-/// The most bytes of the value of a dimension.
-pub const MAX_VALUE: usize = 1_024;
 
 // A row whose values are borrowed.
 #[derive(Debug, Drop)]

@@ -1,15 +1,14 @@
-ghost use Rattle.std.specs.Prelude.{◌≡◌, ◌↔◌, ℕ, ◌+◌, ◌-◌, ◌<◌, ◌≤◌, ◌++◌, [], length, slice_index_or, IsTrue, All, SomeIff};
+ghost use Rattle.std.specs.Prelude.{◌≡◌, ◌↔◌, ℕ, ◌+◌, ◌-◌, ◌<◌, ◌≤◌, ◌++◌, [], length, IsTrue, All, SomeIff};
 ghost use Rattle.std.specs.List.{list_all};
-ghost use Rattle.druid_rows.specs.Names.{is_field_byte, is_field_name, IsFieldName, AreDistinct};
+ghost use Rattle.druid_rows.specs.Names.{is_field_byte, is_field_name, IsFieldName};
 ghost use Rattle.druid_rows.specs.Rows.{texts_of, IsSchema, HasShape};
 ghost use Rattle.druid_rows.specs.Segment.{names_length};
 
+use crate::limits::MAX_NAME;
 use crate::row_ref::RowRef;
+use druid_base::{TextList, are_distinct};
 use std::convert::AsStr;
 use std::marker::Model;
-
-/// The most bytes of the name of a field.
-pub const MAX_NAME: usize = 100;
 
 /// The names of the dimensions and of the metrics of a segment's rows. A schema keeps any names; a segment takes only
 /// a schema whose names are field names and distinct.
@@ -93,7 +92,7 @@ impl Schema {
         if !are_field_names(&self.dimensions) || !are_field_names(&self.metrics) {
             return false;
         }
-        self.has_distinct_names()
+        are_distinct(self)
     }
 
     // Whether the row has a value for each field.
@@ -111,50 +110,21 @@ impl Schema {
     {
         room_after_names(&self.metrics, room_after_names(&self.dimensions, room)?)
     }
+}
 
-    // The number of its names.
-    fn len(&self) -> usize
-        ensures { result ≡ length (self.now.dimensions ++ self.now.metrics) }
-    {
+// The names of its fields, the dimensions before the metrics.
+impl TextList for Schema {
+    ghost texts = { λ schema. schema.dimensions ++ schema.metrics };
+
+    fn count(&self) -> usize {
         self.dimensions.len() + self.metrics.len()
     }
 
-    // The name at that place, the dimensions before the metrics.
-    fn name(&self, place: usize) -> &str
-        requires { place < length (self.now.dimensions ++ self.now.metrics) }
-        ensures { result.now ≡ slice_index_or (self.now.dimensions ++ self.now.metrics) place [] }
-    {
+    fn text(&self, place: usize) -> &str {
         match self.dimensions.get(place) {
             Some(name) => name,
             None => &self.metrics[place - self.dimensions.len()],
         }
-    }
-
-    // Whether the name at that place stands at an earlier one.
-    fn is_repeated(&self, place: usize) -> bool
-        requires { place < length (self.now.dimensions ++ self.now.metrics) }
-        ensures { IsTrue result ↔ ((k : ℕ) × (k < place)
-            × (slice_index_or (self.now.dimensions ++ self.now.metrics) k []
-            ≡ slice_index_or (self.now.dimensions ++ self.now.metrics) place [])) }
-    {
-        for earlier in 0..place {
-            if self.name(earlier) == self.name(place) {
-                return true;
-            }
-        }
-        false
-    }
-
-    #[tactic(auto, using(crate::proofs::NameLemmas::AreDistinct_from_earlier))]
-    fn has_distinct_names(&self) -> bool
-        ensures { IsTrue result ↔ AreDistinct (self.now.dimensions ++ self.now.metrics) }
-    {
-        for place in 0..self.len() {
-            if self.is_repeated(place) {
-                return false;
-            }
-        }
-        true
     }
 }
 

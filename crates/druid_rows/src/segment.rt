@@ -7,6 +7,7 @@ ghost use Rattle.druid_rows.specs.Columns.{column, IsDictionary, AreCodes, rows_
 ghost use Rattle.druid_rows.specs.Segment.{Segment, IsWithinLimits, HaveShape, AreInside, HaveWords, IsSegment, row_at, segment_of, with_row, row_length, head_length, text_length, max_text};
 
 use crate::column::Column;
+use crate::limits::{MAX_FIELDS, MAX_ROWS, MAX_TEXT};
 use crate::numbers::Numbers;
 use crate::row_ref::read_numbers;
 use crate::table::Table;
@@ -16,15 +17,6 @@ use druid_shard::Descriptor;
 use druid_time::{Instant, Interval};
 use std::alloc::{AllocError, Global};
 use std::marker::Model;
-
-/// The most dimensions of a segment, and the most metrics.
-pub const MAX_FIELDS: usize = 64;
-
-/// The most rows of a segment.
-pub const MAX_ROWS: usize = 100_000;
-
-/// The most bytes of the text of a segment.
-pub const MAX_TEXT: usize = 16_777_216;
 
 // The bytes of a text that stand before the rows, besides the source, the version and the names.
 const FIXED_HEAD: usize = 38;

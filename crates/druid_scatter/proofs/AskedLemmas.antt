@@ -2,8 +2,8 @@
 use Rattle.std.proofs.Common.{◌≡◌, ◌∙◌, ◌⊎◌, inl, inr, ℕ, zero, suc, ◌+◌, ◌<◌, ◌≤◌, List, [], ◌∷◌, ◌++◌, length, map, get_or, Any, IsSomeAnd, Contains, Option, Some, None, Result, Ok, Err, OnErr, Vec, option_map, append_assoc, refl, sym, ap, subst, arith}
 use Rattle.std.specs.List.{slice_get, range_with_len}
 use Rattle.std.proofs.lemmas.List.{append-nil, length-map}
-use Rattle.std.proofs.lemmas.List.Elements.{Contains-append_left, Contains-append_cases}
-use Rattle.druid_shard.proofs.MemberLemmas.{Contains-cons, Contains-later, Contains-nil}
+use Rattle.std.proofs.lemmas.List.Elements.{Contains-append_cases}
+use Rattle.druid_base.proofs.MemberLemmas.{Contains-cons, Contains-later, Contains-nil}
 use Rattle.druid_query.specs.Asked.{Asked}
 use Rattle.druid_query.specs.Query.{Query}
 use Rattle.druid_query.specs.SubQuery.{SubQuery}
@@ -16,7 +16,7 @@ use Rattle.druid_scatter.specs.Gathered.{Exchange, Gives, Asks, AreMade, AreAske
 use Rattle.druid_scatter.specs.Rounds.{AnswersOne, AreAnswered}
 use Rattle.druid_scatter.specs.Waiting.{Waiting, State, AreOrdered, Holds, IsState, AsksAt, AsksOn, MayLackMemory, wanted_of, sub_if, sub_request, made_from}
 use Rattle.druid_scatter.proofs.RoundLemmas.{mapped_at}
-use Rattle.druid_scatter.proofs.StepLemmas.{TookTurns, are_asked, step, skip, wanted_by, get_contains}
+use Rattle.druid_scatter.proofs.StepLemmas.{are_asked, step, skip, wanted_by, get_contains}
 use Rattle.druid_scatter.proofs.StateLemmas.{wanted_sorted, made_by, made_same}
 
 -- nothing was asked

@@ -1,9 +1,9 @@
 -- What honest nodes answered, gathered, is what the visible rows tell.
-use Rattle.std.proofs.Common.{◌≡◌, ◌||◌, ◌&&◌, ◌+◌, ℕ, zero, suc, arith, Bool, true, false, not, cond, List, [], ◌∷◌, ◌++◌, length, get_or, map, filter, Option, Some, None, Result, Ok, refl, sym, ap, ◌∙◌, subst, inl, inr, ◌⊎◌}
+use Rattle.std.proofs.Common.{◌≡◌, ◌||◌, ◌&&◌, ◌+◌, ℕ, suc, arith, Bool, true, false, not, cond, List, [], ◌∷◌, ◌++◌, get_or, map, filter, Some, Result, Ok, refl, sym, ap, ◌∙◌, subst, inl, inr, ◌⊎◌}
 use Rattle.std.specs.Bool.{nat_le, nat_lt}
 use Rattle.std.specs.Cmp.{first_so, second_so, IsTotalOrder}
 use Rattle.std.proofs.lemmas.Cmp.{tied_itself, then_total, on_total, nat_cmp_total}
-use Rattle.std.specs.List.{AllByRecursion, Contains, list_any, flat_map, slice_get}
+use Rattle.std.specs.List.{AllByRecursion, Contains, list_any, slice_get}
 use Rattle.std.specs.List.Sorted.{IsStrictlySortedBy}
 use Rattle.std.specs.Prelude.{◌↔◌, ⊤}
 use Rattle.std.specs.declared.cmp.Ordering.TheVariants.{Less, Equal}
@@ -13,12 +13,12 @@ use Rattle.std.proofs.lemmas.List.Concat.{flat_map-append}
 use Rattle.std.proofs.lemmas.List.Folds.{list_any_none}
 use Rattle.std.proofs.lemmas.Option.{slice_get-get_or}
 use Rattle.std.proofs.lemmas.Map.Keys.{sorted_head, sorted_tail}
-use Rattle.druid_time.specs.Extent.{Extent, Has, AnyHas}
+use Rattle.druid_base.proofs.OrderLemmas.{bool_same}
+use Rattle.druid_time.specs.Extent.{Extent, Has}
 use Rattle.druid_segid.specs.Group.{Group as Chunk, group_of, same_group}
 use Rattle.druid_segid.specs.Identifier.{Identifier, same_identifier}
 use Rattle.druid_segid.specs.IdentifierLaws.{same_identifier-true, same_identifier-equiv}
-use Rattle.druid_shard.proofs.MemberLemmas.{Contains-cons, Contains-later, Contains-nil, Contains-map_back}
-use Rattle.druid_members.specs.Members.{HasPartition}
+use Rattle.druid_base.proofs.MemberLemmas.{Contains-cons, Contains-later, Contains-nil, Contains-map_back}
 use Rattle.druid_timeline.specs.Holding.{Held, held_of, members_of}
 use Rattle.druid_timeline.specs.Visible.{IsVisible}
 use Rattle.druid_timeline.specs.Pieces.{Shown, AreRuns, Shows}
@@ -44,16 +44,11 @@ use Rattle.druid_wire.proofs.OnceLemmas.{one_response}
 use Rattle.druid_partial.proofs.GroupLemmas.{Alike, result_alike, result_is_alike, alike_append}
 use Rattle.druid_partial.proofs.OnceLemmas.{alike_through, alike_equal, counted_alike}
 use Rattle.druid_scatter.specs.Plan.{Pair, asked_of, place_cmp, IsWanted, IsPlanOf}
-use Rattle.druid_scatter.specs.Gathered.{Exchange, Answers, IsLost, Gives, TellAll, AtOnePlace, IsGathered}
+use Rattle.druid_scatter.specs.Gathered.{Exchange, Answers, Gives, TellAll, AtOnePlace, IsGathered}
 use Rattle.druid_scatter.specs.Exact.{without, IsHonest, AreServed, Sees, counts, counted_visible}
 use Rattle.druid_scatter.proofs.LawLemmas.{shows_there, one_run}
 
 -- ---- tests over pieces
-
-bool_same : (a b : Bool) → (a ≡ true → b ≡ true) → (b ≡ true → a ≡ true) → a ≡ b
-bool_same true b to back = sym (to refl)
-bool_same false true to back = back refl
-bool_same false false to back = refl
 
 pub any_found : (p : Asked → Bool) (xs : List Asked) → list_any p xs ≡ true → (a : Asked) × Contains xs a × (p a ≡ true)
 any_found p [] h = absurd (false≢true h)

@@ -12,7 +12,7 @@ use Rattle.druid_link.specs.Links.{Came}
 use Rattle.druid_scatter.specs.declared.fault.GatherFault.{GatherFault}
 use Rattle.druid_scatter.specs.Plan.{Pair, place_cmp}
 use Rattle.druid_scatter.specs.Gathered.{Exchange, Gives, AreMade, AreAsked, IsGathered}
-use Rattle.druid_scatter.specs.Answer.{Answer}
+use Rattle.druid_partial.specs.Answer.{Answer}
 use Rattle.druid_scatter.specs.Rounds.{AreLinked}
 use Rattle.druid_scatter.specs.Waiting.{Waiting, State, AreOrdered, IsState, Goes, AsksOn, MayLackMemory, pieces_of}
 use Rattle.druid_scatter.proofs.StepLemmas.{AreBelow, IsOver, start, next_round, missing_are, missing_were_asked, are_asked}

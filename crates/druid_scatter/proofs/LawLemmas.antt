@@ -7,15 +7,15 @@ use Rattle.std.specs.declared.cmp.Ordering.{Ordering}
 use Rattle.std.specs.declared.cmp.Ordering.TheVariants.{Less, Equal}
 use Rattle.std.proofs.lemmas.Cmp.{nat_cmp_total, tied_itself}
 use Rattle.std.proofs.lemmas.List.Elements.{All-head, All-tail, Contains-get_or}
+use Rattle.druid_base.proofs.OrderLemmas.{nat_cmp-lt}
 use Rattle.druid_base.proofs.ListLemmas.{IsStrictlyIncreasing-tail, IsStrictlyIncreasing-first}
 use Rattle.druid_time.specs.Instant.{instant_count}
 use Rattle.druid_time.specs.Extent.{Has, AnyHas}
-use Rattle.druid_segid.proofs.OrderLemmas.{nat_cmp-lt}
 use Rattle.druid_segid.specs.Group.{group_of}
 use Rattle.druid_segid.specs.Identifier.{Identifier, IsIdentifier}
 use Rattle.druid_shard.specs.Described.{Described, IsDescribed}
 use Rattle.druid_members.specs.Members.{Member}
-use Rattle.druid_shard.proofs.MemberLemmas.{Contains-map, Contains-cons, Contains-later, Contains-nil}
+use Rattle.druid_base.proofs.MemberLemmas.{Contains-map, Contains-cons, Contains-later, Contains-nil}
 use Rattle.druid_timeline.specs.Holding.{Held, SameHeld}
 use Rattle.druid_timeline.specs.Pieces.{Shown, AreRuns, IsStretch, Shows}
 use Rattle.druid_timeline.proofs.RunsLemmas.{AreRuns-first, AreRuns-rest}

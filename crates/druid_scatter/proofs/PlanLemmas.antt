@@ -16,7 +16,7 @@ use Rattle.druid_segid.specs.Group.{Group, group_of, same_group}
 use Rattle.druid_segid.specs.Identifier.{Identifier}
 use Rattle.druid_shard.specs.Described.{Described}
 use Rattle.druid_members.specs.Members.{Member, HasPartition}
-use Rattle.druid_shard.proofs.MemberLemmas.{Contains-map, Contains-map_back, Contains-flat_map, Contains-flat_map_back, Contains-cons, Contains-later, Contains-nil}
+use Rattle.druid_base.proofs.MemberLemmas.{Contains-map, Contains-map_back, Contains-flat_map, Contains-flat_map_back, Contains-cons, Contains-later, Contains-nil}
 use Rattle.druid_timeline.specs.Holding.{Held, Serving, held_of, members_of, HasRows, ServesRows}
 use Rattle.druid_timeline.proofs.HoldingLemmas.{in_filter, from_filter}
 use Rattle.druid_chunks.proofs.ChunkLemmas.{same_group-same, same_group-exact}

@@ -11,7 +11,7 @@ use Rattle.std.proofs.lemmas.Option.{slice_get-get_or, slice_get_within}
 use Rattle.std.specs.Cmp.{IsTotalOrder}
 use Rattle.std.specs.declared.cmp.Ordering.{Ordering}
 use Rattle.std.specs.declared.cmp.Ordering.TheVariants.{Less, Equal}
-use Rattle.druid_shard.proofs.MemberLemmas.{Contains-map, Contains-map_back, Contains-cons, Contains-later, Contains-nil}
+use Rattle.druid_base.proofs.MemberLemmas.{Contains-map, Contains-map_back, Contains-cons, Contains-later, Contains-nil}
 use Rattle.druid_timeline.proofs.HoldingLemmas.{in_filter, from_filter}
 use Rattle.druid_query.specs.Asked.{Asked}
 use Rattle.druid_scatter.specs.Plan.{Pair, asked_of, place_cmp}

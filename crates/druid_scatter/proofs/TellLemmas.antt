@@ -13,12 +13,11 @@ use Rattle.druid_partial_text.specs.Answers.{IsAnswerOf, TellsAnswer}
 use Rattle.druid_partial_text.specs.declared.fault.PartialFault.{PartialFault}
 use Rattle.druid_partial_text.specs.declared.fault.PartialFault.TheVariants.{NotJson, Shape}
 use Rattle.druid_partial_text.specs.declared.fault.PartialFault.TheVariants as faults
-use Rattle.druid_partial_text.specs.declared.node_answer.NodeAnswer.{NodeAnswer}
+use Rattle.druid_partial.specs.declared.answer.Answer.{Answer}
 use Rattle.druid_partial.specs.Groups.{Group}
 use Rattle.druid_partial_text.specs.Read.{TellsGroups}
 use Rattle.druid_partial_text.proofs.ReadBackLemmas as back
 use Rattle.druid_link.specs.Links.{Came}
-use Rattle.druid_message.specs.declared.fault.WireFault.{WireFault}
 use Rattle.druid_message.specs.declared.fault.WireFault.TheVariants as wire
 use Rattle.druid_wire.specs.Messages.{IsResponse}
 use Rattle.druid_wire.proofs.OnceLemmas.{one_response}
@@ -92,7 +91,7 @@ tells_nothing sub bytes none node = record {
 }
 
 -- bytes that tell nothing are lost
-pub lost_of : (sub : SubQuery) (bytes there : List ℕ) (came : Came) (r : Result (Option NodeAnswer) GatherFault) → there ≡ bytes → came ≡ Ok bytes → IfOk r (λ read. IfNone read (TellsNothing sub there))
+pub lost_of : (sub : SubQuery) (bytes there : List ℕ) (came : Came) (r : Result (Option Answer) GatherFault) → there ≡ bytes → came ≡ Ok bytes → IfOk r (λ read. IfNone read (TellsNothing sub there))
     → IfOk r (λ read. IfNone read ((node : ℕ) → IsLost sub.query (exchange_of sub came node)))
 lost_of sub bytes there came (Ok None) same is none =
     λ node. subst (λ (c : Came). IsLost sub.query (exchange_of sub c node)) (sym is) (tells_nothing sub bytes (subst (TellsNothing sub) same none) node)
@@ -101,7 +100,7 @@ lost_of sub bytes there came (Err f) same is none = tt
 
 -- ---- out of memory
 
-pub lacks_of : (sub : SubQuery) (bytes there : List ℕ) (came : Came) (r : Result (Option NodeAnswer) GatherFault) → there ≡ bytes → came ≡ Ok bytes → OnErr r (ReadingLacksMemory sub there) → OnErr r (LacksMemory sub came)
+pub lacks_of : (sub : SubQuery) (bytes there : List ℕ) (came : Came) (r : Result (Option Answer) GatherFault) → there ≡ bytes → came ≡ Ok bytes → OnErr r (ReadingLacksMemory sub there) → OnErr r (LacksMemory sub came)
 lacks_of sub bytes there came (Ok a) same is lacks = tt
 lacks_of sub bytes there came (Err f) same is lacks = inr (bytes, is, subst (ReadingLacksMemory sub) same lacks)
 

@@ -9,7 +9,7 @@ use Rattle.std.proofs.lemmas.List.{append-nil, take_more, take_all, map_more, ma
 use Rattle.std.proofs.lemmas.List.Elements.{filter-append, Contains-get_or, Contains-push, Contains-push_cases, Contains-append_left, All-contains}
 use Rattle.std.proofs.lemmas.List.Kept.{AllPairs-from_increasing}
 use Rattle.std.proofs.lemmas.Option.{slice_get_within, get_or_from_slice_get}
-use Rattle.druid_shard.proofs.MovedLemmas.{StandAlone, alone-permutation}
+use Rattle.druid_base.proofs.MovedLemmas.{StandAlone, alone-permutation}
 use Rattle.druid_query.specs.Asked.{Asked}
 use Rattle.druid_scatter.specs.Plan.{Pair, asked_of, place_cmp}
 use Rattle.druid_scatter.specs.Waiting.{Waiting, StandsOnce, IsOrdered, AreOrdered, Keeps, StandsIn, stays, at_cmp, place_of, has_turn, pieces_of}

@@ -1,7 +1,6 @@
 -- what public contracts rest on
 pub mod Plan
 pub mod Gathered
-pub mod Answer
 pub mod Rounds
 pub mod Order
 pub mod Exact

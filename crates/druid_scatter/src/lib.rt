@@ -1,7 +1,6 @@
 //! Queries spread over data nodes: plans, orders of replicas, and what is gathered.
 #![tactic(auto)]
 
-mod answer;
 mod answering;
 mod fault;
 mod gathering;
@@ -14,7 +13,7 @@ mod round;
 mod scatter;
 mod waiting;
 
-pub use answer::Answer;
+pub use druid_partial::Answer;
 pub use fault::GatherFault;
 pub use laws::{gathered_rows_are_exact, one_plan, plans_may_be_asked};
 pub use pairs::{Pair, Plan};

@@ -14,7 +14,7 @@ use Rattle.std.proofs.lemmas.List.Elements.{All-nil, All-cons, All-head, All-tai
 use Rattle.std.proofs.lemmas.List.Folds.{list_any_at, Any-from_list_any}
 use Rattle.std.proofs.lemmas.Map.Steps.{le-length_from_below}
 use Rattle.std.proofs.lemmas.Option.{slice_get-get_or}
-use Rattle.druid_shard.proofs.MemberLemmas.{Contains-map, Contains-map_back}
+use Rattle.druid_base.proofs.MemberLemmas.{Contains-map, Contains-map_back}
 use Rattle.druid_rows.specs.Columns.{value_at, IsDictionary, AreCodes}
 use Rattle.druid_rows.specs.Segment.{max_rows}
 use Rattle.druid_rows.proofs.ColumnLemmas.{IsDictionary_unique, AreCodes_unique, one_code}

@@ -11,7 +11,8 @@ use Rattle.std.proofs.lemmas.List.{append-nil, length-append, length_push, get_o
 use Rattle.std.proofs.lemmas.List.Concat.{flat_map-cons}
 use Rattle.std.proofs.lemmas.List.Elements.{All-nil, All-cons, All-head, All-tail}
 use Rattle.std.proofs.lemmas.List.Folds.{list_any_at, Any-from_list_any, list_any-append}
-use Rattle.druid_rows.specs.Names.{is_field_name, IsFieldName, AreDistinct}
+use Rattle.druid_rows.specs.Names.{is_field_name, IsFieldName}
+use Rattle.druid_base.specs.Distinct.{AreDistinct}
 use Rattle.druid_rows.specs.Rows.{Schema, IsSchema}
 use Rattle.druid_rows.specs.Segment.{max_fields}
 use Rattle.druid_segfile.specs.declared.fault.FileFault.{FileFault}

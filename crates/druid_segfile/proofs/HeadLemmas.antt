@@ -6,7 +6,7 @@ use Rattle.std.proofs.lemmas.Bool.{false≢true, ltb-true, lt-ltb, leb-true, le-
 use Rattle.druid_time.specs.Extent.{Extent, IsExtent}
 use Rattle.druid_time.specs.Instant.{unix_ms, IsInstant, instant_count}
 use Rattle.druid_segid.specs.Names.{is_name, IsName, is_version, IsVersion}
-use Rattle.druid_segid.proofs.NameLemmas.{is_name-true, is_version-true}
+use Rattle.druid_segid.proofs.NameLemmas.{is_name-true, is_version-true, is_name-to, is_version-to}
 use Rattle.druid_shard.specs.Described.{Described, IsDescribed, max_core}
 use Rattle.druid_segfile.specs.declared.fault.FileFault.{FileFault}
 use Rattle.druid_segfile.specs.declared.fault.FileFault.TheVariants.{Field}
@@ -14,7 +14,6 @@ use Rattle.druid_segfile.specs.Spelling.{number, instant, interval, short_text, 
 use Rattle.druid_time.specs.Results.{◌>>=◌}
 use Rattle.druid_segfile.specs.Parts.{instant_of, moment_at, interval_at, name_at, version_at, core_at, descriptor_at}
 use Rattle.druid_segfile.proofs.MomentLemmas.{instant_of-unix_ms, of_instant, FitsSigned-unix_ms}
-use Rattle.druid_segfile.proofs.TextLemmas.{is_name-is, is_version-is}
 use Rattle.druid_segfile.proofs.PartLemmas.{bind_ok, passed_ok, ok_is, accepted_read, IsBytes, Takes, Takes-then, Reads, step_takes, step_again, wide16, wide64, number_read, signed_read, short_text_read}
 
 pub ok_or_ok : {A : Type 0} (o : Option A) (d : FileFault) (x : A) → ok_or o d ≡ Ok x → o ≡ Some x
@@ -55,11 +54,11 @@ interval_read short = record {
 
 pub name_read : (short : FileFault) → Reads (List ℕ) (name_at short) short_text IsName
 unfolding name_at
-name_read short = accepted_read is_name IsName (short_text_read short 100 (omega arith)) (λ name is fine. is_name-is name is) (λ name h. (h.short, is_name-true name h))
+name_read short = accepted_read is_name IsName (short_text_read short 100 (omega arith)) (λ name is fine. is_name-to name is) (λ name h. (h.short, is_name-true name h))
 
 pub version_read : (short : FileFault) → Reads (List ℕ) (version_at short) short_text IsVersion
 unfolding version_at
-version_read short = accepted_read is_version IsVersion (short_text_read short 64 (omega arith)) (λ version is fine. is_version-is version is) (λ version h. (h.short, is_version-true version h))
+version_read short = accepted_read is_version IsVersion (short_text_read short 64 (omega arith)) (λ version is fine. is_version-to version is) (λ version h. (h.short, is_version-true version h))
 
 pub core_read : (short : FileFault) → Reads ℕ (core_at short) (to_be_bytes w16) (λ n. n ≤ max_core)
 unfolding core_at
@@ -135,8 +134,8 @@ descriptor_regroups source extent version partition core size rest =
 
 descriptor_again : (short : FileFault) (d : Described) (rest : List ℕ) → IsAnnounced d → descriptor_at short (descriptor d ++ rest) ≡ Ok (d, rest)
 unfolding descriptor_at
-descriptor_again short d rest announced =
-    let h = announced.described in
+descriptor_again short d rest announcement =
+    let h = announcement.described in
     let s = d.id.source in
     let i = d.id.interval in
     let v = d.id.version in
@@ -147,7 +146,7 @@ descriptor_again short d rest announced =
     ∙ step_again (number_read short w16 (2 ^ 16) wide16) _ d.id.partition (to_be_bytes w16 d.core ++ (to_be_bytes w64 d.size ++ rest)) (omega (arith, h.id.partition))
     ∙ step_again (core_read short) _ d.core (to_be_bytes w64 d.size ++ rest) h.core
     ∙ step_again (number_read short w64 (2 ^ 64) wide64) _ d.size rest h.size
-    ∙ ap (λ (flag : Bool). Ok (record { id = d.id; core = d.core; size = d.size; tombstone = flag }, rest)) (sym announced.ordinary)
+    ∙ ap (λ (flag : Bool). Ok (record { id = d.id; core = d.core; size = d.size; tombstone = flag }, rest)) (sym announcement.ordinary)
 
 pub descriptor_read : (short : FileFault) → Reads Described (descriptor_at short) descriptor IsAnnounced
 descriptor_read short = record {

@@ -284,5 +284,5 @@ module _ (short : FileFault) (shape other : Shape) (count : ℕ) (bytes : List �
         pub numbers_long : AreLong (length times) metrics
         numbers_long i d lt = metrics_long.1 i d lt ∙ sym times_long
 
-pub segment_kept : (d announced : Described) (schema fields : Schema) (times : List ℕ) (texts : List (List (Option (List ℕ)))) (dimensions : List Coded) (metrics : List (List (Option ℤ))) → d ≡ announced → schema ≡ fields → texts ≡ map decoded dimensions → segment_of d schema (rows_in times texts metrics) ≡ segment_of announced fields (rows_of (columns_of times dimensions metrics))
-segment_kept d announced schema fields times texts dimensions metrics p q r = λ i. segment_of (p i) (q i) (rows_in times (r i) metrics)
+pub segment_kept : (d announcement : Described) (schema fields : Schema) (times : List ℕ) (texts : List (List (Option (List ℕ)))) (dimensions : List Coded) (metrics : List (List (Option ℤ))) → d ≡ announcement → schema ≡ fields → texts ≡ map decoded dimensions → segment_of d schema (rows_in times texts metrics) ≡ segment_of announcement fields (rows_of (columns_of times dimensions metrics))
+segment_kept d announcement schema fields times texts dimensions metrics p q r = λ i. segment_of (p i) (q i) (rows_in times (r i) metrics)

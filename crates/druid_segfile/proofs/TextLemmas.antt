@@ -10,7 +10,7 @@ use Rattle.std.proofs.lemmas.Bool.Decides.{nat_tests}
 use Rattle.std.proofs.lemmas.Str.Ascii.{IsAscii-from_all}
 use Rattle.std.proofs.lemmas.Str.{IsUtf8-from_ascii, IsUtf8-from_is_utf8, is_utf8-from_IsUtf8}
 use Rattle.druid_segid.specs.Names.{is_name_byte, is_name, IsName, is_version_byte, is_version, IsVersion}
-use Rattle.druid_segid.proofs.NameLemmas.{is_name-true, is_version-true}
+use Rattle.druid_segid.proofs.NameLemmas.{is_name-true, is_name-to, is_version-true, is_version-to}
 use Rattle.druid_rows.specs.Names.{is_field_byte, is_field_name, IsFieldName}
 
 name_byte_low : (b : ℕ) → is_name_byte b ≡ true → b < 128
@@ -34,16 +34,6 @@ tested limit test text h =
     let len = and_parts (leb 1 (length text)) (leb (length text) limit) each.0 in
     (leb-true 1 (length text) len.0, leb-true (length text) limit len.1, AllPass-from_list_all test text each.1)
 
-pub is_name-is : (text : List ℕ) → is_name text ≡ true → IsName text
-is_name-is text h =
-    let t = tested 100 is_name_byte text h in
-    record { not_empty = t.0; short = t.1; bytes = t.2 }
-
-pub is_version-is : (text : List ℕ) → is_version text ≡ true → IsVersion text
-is_version-is text h =
-    let t = tested 64 is_version_byte text h in
-    record { not_empty = t.0; short = t.1; bytes = t.2 }
-
 pub is_field_name-is : (text : List ℕ) → is_field_name text ≡ true → IsFieldName text
 is_field_name-is text h =
     let t = tested 100 is_field_byte text h in
@@ -59,10 +49,10 @@ is_field_name-true text h =
 -- ---- what is refused, and what is taken
 
 pub no_name : (text : List ℕ) → ¬ (IsUtf8 text) → is_name text ≡ false
-no_name text not = false_from_ne_true (is_name text) (λ e. not (ascii_utf8 is_name_byte name_byte_low text (is_name-is text e).bytes))
+no_name text not = false_from_ne_true (is_name text) (λ e. not (ascii_utf8 is_name_byte name_byte_low text (is_name-to text e).bytes))
 
 pub no_version : (text : List ℕ) → ¬ (IsUtf8 text) → is_version text ≡ false
-no_version text not = false_from_ne_true (is_version text) (λ e. not (ascii_utf8 is_version_byte version_byte_low text (is_version-is text e).bytes))
+no_version text not = false_from_ne_true (is_version text) (λ e. not (ascii_utf8 is_version_byte version_byte_low text (is_version-to text e).bytes))
 
 pub no_field_name : (text : List ℕ) → ¬ (IsUtf8 text) → is_field_name text ≡ false
 no_field_name text not = false_from_ne_true (is_field_name text) (λ e. not (ascii_utf8 is_field_byte field_byte_low text (is_field_name-is text e).bytes))
@@ -74,13 +64,14 @@ pub utf8_true : (text : List ℕ) → IsUtf8 text → is_utf8 text ≡ true
 utf8_true text h = is_utf8-from_IsUtf8 text h
 
 pub refused_name : (text : List ℕ) → ¬ (IsName text) → is_name text ≡ false
-refused_name text not = false_from_ne_true (is_name text) (λ e. not (is_name-is text e))
-
-pub taken_name : (text : List ℕ) → IsName text → is_name text ≡ true
-taken_name text h = is_name-true text h
+refused_name text not = false_from_ne_true (is_name text) (λ e. not (is_name-to text e))
 
 pub refused_version : (text : List ℕ) → ¬ (IsVersion text) → is_version text ≡ false
-refused_version text not = false_from_ne_true (is_version text) (λ e. not (is_version-is text e))
+refused_version text not = false_from_ne_true (is_version text) (λ e. not (is_version-to text e))
+
+-- for the attribute `using`, which takes no name with a hyphen
+pub taken_name : (text : List ℕ) → IsName text → is_name text ≡ true
+taken_name = is_name-true
 
 pub taken_version : (text : List ℕ) → IsVersion text → is_version text ≡ true
-taken_version text h = is_version-true text h
+taken_version = is_version-true

@@ -16,7 +16,7 @@ use std::str;
 
 // What is announced of a segment, with texts that lie in its bytes.
 #[derive(Drop)]
-pub(crate) struct Announced<'a> {
+pub(crate) struct Announcement<'a> {
     source: &'a str,
     interval: Interval,
     version: &'a str,
@@ -25,7 +25,7 @@ pub(crate) struct Announced<'a> {
     size: u64,
 }
 
-impl<'a> Model for Announced<'a> {
+impl<'a> Model for Announcement<'a> {
     ghost use Rattle.std.specs.Prelude.{◌≤◌, false};
     ghost use Rattle.druid_segid.specs.Names.{IsName, IsVersion};
     ghost use Rattle.druid_shard.specs.Described.{Described, max_core};
@@ -131,8 +131,8 @@ impl<'a> Cursor<'a> {
     }
 
     #[tactic(auto, unfolding(crate::specs::Parts::descriptor_at))]
-    pub(crate) fn announced(&mut self) -> Result<Announced<'a>, FileFault>
-        ensures { TakesAs (λ announced. announced) self.old self.new result (descriptor_at self.old.short self.old.rest) }
+    pub(crate) fn announcement(&mut self) -> Result<Announcement<'a>, FileFault>
+        ensures { TakesAs (λ announcement. announcement) self.old self.new result (descriptor_at self.old.short self.old.rest) }
     {
         let source = self.name()?;
         let interval = match self.interval() {
@@ -143,7 +143,7 @@ impl<'a> Cursor<'a> {
         let partition = self.u16()?;
         let core = self.core()?;
         let size = self.u64()?;
-        Ok(Announced {
+        Ok(Announcement {
             source,
             interval,
             version,
@@ -154,7 +154,7 @@ impl<'a> Cursor<'a> {
     }
 }
 
-impl Announced<'_> {
+impl Announcement<'_> {
     // The instants that the rows lie between.
     pub(crate) fn interval(&self) -> Interval
         ensures { result ≡ self.now.id.interval }

@@ -15,7 +15,7 @@ use crate::FileFault;
 use crate::column_building::Columns;
 use crate::cursor::{Cursor, at_most};
 use crate::fields::FieldNames;
-use crate::head::Announced;
+use crate::head::Announcement;
 use crate::layout::Layout;
 use crate::rows::{Shape, want_of_memory, with_rows};
 use druid_rows::{MAX_ROWS, MAX_TEXT, Segment, SegmentBuilder};
@@ -88,7 +88,7 @@ fn first_bytes<R: Read>(alloc: Global, reader: &mut R) -> Result<Vec<u8>, FileFa
 #[derive(Drop)]
 struct Judged<'a> {
     layout: Layout,
-    announced: Announced<'a>,
+    announcement: Announcement<'a>,
     fields: FieldNames<'a>,
     count: usize,
     rows: &'a [u8],
@@ -103,11 +103,11 @@ fn are_bytes(bytes: &[u8])
 
 // How the rows of a segment are read.
 #[tactic(auto, using(crate::proofs::BuildLemmas::length_borrowed))]
-fn shape_of(announced: &Announced<'_>, fields: &FieldNames<'_>) -> Shape
-    ensures { result ≡ shape_of announced.now fields.now }
+fn shape_of(announcement: &Announcement<'_>, fields: &FieldNames<'_>) -> Shape
+    ensures { result ≡ shape_of announcement.now fields.now }
 {
     Shape {
-        interval: announced.interval(),
+        interval: announcement.interval(),
         dimensions: fields.dimensions().len(),
         metrics: fields.metrics().len(),
     }
@@ -126,21 +126,21 @@ impl<'a> Cursor<'a> {
     #[tactic(auto, unfolding(crate::specs::Reading::row_content_at, crate::specs::ColumnReading::column_content_at, crate::specs::Parts::rows_at, crate::specs::Parts::row_count_at))]
     fn head(&mut self, layout: Layout) -> Result<Judged<'a>, FileFault>
         ensures layout { IfOk result (λ j. j.layout ≡ layout) }
-        ensures head { IfOk result (λ j. IsHead self.old.short self.old.rest j.announced j.fields j.count self.new.rest) }
+        ensures head { IfOk result (λ j. IsHead self.old.short self.old.rest j.announcement j.fields j.count self.new.rest) }
         ensures rows { IfOk result (λ j. j.rows.now ≡ self.new.rest) }
         ensures short { IfOk result (λ j. self.new.short ≡ self.old.short) }
         ensures row_fault { IfErr result (λ fault. row_content_at self.old.short self.old.rest ≡ Err fault) }
         ensures column_fault { IfErr result (λ fault. column_content_at self.old.short self.old.rest ≡ Err fault) }
     {
-        let announced = match self.announced() {
-            Ok(announced) => announced,
+        let announcement = match self.announcement() {
+            Ok(announcement) => announcement,
             Err(fault) => return Err(fault),
         };
         let fields = self.fields()?;
         let count = self.row_count()?;
         Ok(Judged {
             layout,
-            announced,
+            announcement,
             fields,
             count,
             rows: self.rest(),
@@ -148,27 +148,27 @@ impl<'a> Cursor<'a> {
     }
 
     // A segment in rows, of which all is judged, and the rows are not kept.
-    fn judged_rows(&mut self) -> Result<Judged<'a>, FileFault>
+    fn validate_rows(&mut self) -> Result<Judged<'a>, FileFault>
         ensures layout { IfOk result (λ j. j.layout ≡ Layout.ByRows) }
-        ensures whole { IfOk result (λ j. IsWhole self.old.short self.old.rest j.announced j.fields j.count j.rows.now self.new.rest) }
+        ensures whole { IfOk result (λ j. IsWhole self.old.short self.old.rest j.announcement j.fields j.count j.rows.now self.new.rest) }
         ensures fault { IfErr result (λ fault. row_content_at self.old.short self.old.rest ≡ Err fault) }
     {
         let judged = self.head(Layout::ByRows)?;
-        let shape = shape_of(&judged.announced, &judged.fields);
+        let shape = shape_of(&judged.announcement, &judged.fields);
         self.skip_rows(shape, judged.count)?;
         Ok(judged)
     }
 
     // A segment by columns, of which all is judged, and the columns are not kept.
-    fn judged_columns(&mut self) -> Result<Judged<'a>, FileFault>
+    fn validate_columns(&mut self) -> Result<Judged<'a>, FileFault>
         ensures layout { IfOk result (λ j. j.layout ≡ Layout.ByColumns) }
-        ensures whole { IfOk result (λ j. IsWholeByColumns self.old.short self.old.rest j.announced j.fields j.count j.rows.now self.new.rest) }
+        ensures whole { IfOk result (λ j. IsWholeByColumns self.old.short self.old.rest j.announcement j.fields j.count j.rows.now self.new.rest) }
         ensures fault { IfErr result (λ fault. column_content_at self.old.short self.old.rest ≡ Err fault) }
     {
         let bytes = self.rest();
         are_bytes(bytes);
         let judged = self.head(Layout::ByColumns)?;
-        let shape = shape_of(&judged.announced, &judged.fields);
+        let shape = shape_of(&judged.announcement, &judged.fields);
         let len = self.columns_length(shape, judged.count)?;
         if 4 + bytes.len() - judged.rows.len() + len > MAX_TEXT {
             return Err(FileFault::TooLong);
@@ -177,13 +177,13 @@ impl<'a> Cursor<'a> {
     }
 
     // A segment in either layout.
-    fn judged(&mut self) -> Result<Judged<'a>, FileFault>
-        ensures whole { IfOk result (λ j. IsJudged self.old.short self.old.rest j.layout j.announced j.fields j.count j.rows.now self.new.rest) }
+    fn validate(&mut self) -> Result<Judged<'a>, FileFault>
+        ensures whole { IfOk result (λ j. IsJudged self.old.short self.old.rest j.layout j.announcement j.fields j.count j.rows.now self.new.rest) }
         ensures fault { IfErr result (λ fault. content_at self.old.short self.old.rest ≡ Err fault) }
     {
         match self.layout()? {
-            Layout::ByRows => self.judged_rows(),
-            Layout::ByColumns => self.judged_columns(),
+            Layout::ByRows => self.validate_rows(),
+            Layout::ByColumns => self.validate_columns(),
         }
     }
 }
@@ -191,11 +191,11 @@ impl<'a> Cursor<'a> {
 impl Judged<'_> {
     // The segment of these rows.
     fn of_rows(&self, alloc: Global, short: FileFault) -> Result<Segment, AllocError>
-        requires { CanBuild Layout.ByRows short self.now.announced self.now.fields self.now.count self.now.rows.now }
-        ensures { IfOk result (IsBuilt Layout.ByRows short self.now.announced self.now.fields self.now.count self.now.rows.now) }
+        requires { CanBuild Layout.ByRows short self.now.announcement self.now.fields self.now.count self.now.rows.now }
+        ensures { IfOk result (IsBuilt Layout.ByRows short self.now.announcement self.now.fields self.now.count self.now.rows.now) }
     {
-        let shape = shape_of(&self.announced, &self.fields);
-        let descriptor = self.announced.descriptor(alloc)?;
+        let shape = shape_of(&self.announcement, &self.fields);
+        let descriptor = self.announcement.descriptor(alloc)?;
         match SegmentBuilder::new(alloc, descriptor, self.fields.schema(alloc)?) {
             Ok(builder) => Ok(with_rows(builder, shape, self.count, self.rows, short)?.finish()),
             Err(fault) => Err(want_of_memory(fault)),
@@ -204,13 +204,13 @@ impl Judged<'_> {
 
     // The segment of these columns.
     fn of_columns(&self, alloc: Global, short: FileFault) -> Result<Segment, AllocError>
-        requires { CanBuild Layout.ByColumns short self.now.announced self.now.fields self.now.count self.now.rows.now }
-        ensures { IfOk result (IsBuilt Layout.ByColumns short self.now.announced self.now.fields self.now.count self.now.rows.now) }
+        requires { CanBuild Layout.ByColumns short self.now.announcement self.now.fields self.now.count self.now.rows.now }
+        ensures { IfOk result (IsBuilt Layout.ByColumns short self.now.announcement self.now.fields self.now.count self.now.rows.now) }
     {
-        let shape = shape_of(&self.announced, &self.fields);
+        let shape = shape_of(&self.announcement, &self.fields);
         let mut cursor = Cursor::new(self.rows, short);
         let columns = cursor.columns(alloc, shape, self.count)?;
-        let descriptor = self.announced.descriptor(alloc)?;
+        let descriptor = self.announcement.descriptor(alloc)?;
         let schema = self.fields.schema(alloc)?;
         let Columns {
             times,
@@ -221,8 +221,8 @@ impl Judged<'_> {
     }
 
     fn segment(&self, alloc: Global, short: FileFault) -> Result<Segment, AllocError>
-        requires { CanBuild self.now.layout short self.now.announced self.now.fields self.now.count self.now.rows.now }
-        ensures { IfOk result (IsBuilt self.now.layout short self.now.announced self.now.fields self.now.count self.now.rows.now) }
+        requires { CanBuild self.now.layout short self.now.announcement self.now.fields self.now.count self.now.rows.now }
+        ensures { IfOk result (IsBuilt self.now.layout short self.now.announcement self.now.fields self.now.count self.now.rows.now) }
     {
         match self.layout {
             Layout::ByRows => self.of_rows(alloc, short),
@@ -251,7 +251,7 @@ pub fn segment_of(alloc: Global, bytes: &[u8]) -> Result<Segment, FileFault>
 {
     let short = short_of(bytes);
     let mut cursor = Cursor::new(&bytes[..bytes.len().min(MAX_TEXT)], short);
-    let judged = cursor.judged()?;
+    let judged = cursor.validate()?;
     if !cursor.is_at_end() {
         return Err(FileFault::Trailing);
     }

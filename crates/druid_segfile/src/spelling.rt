@@ -58,18 +58,18 @@ fn append_names(out: &mut Vec<u8>, texts: &[String]) -> Result<(), AllocError>
 fn append_descriptor(
     alloc: Global,
     out: &mut Vec<u8>,
-    announced: &Descriptor,
+    announcement: &Descriptor,
 ) -> Result<(), AllocError>
-    ensures { OnOk result (out.new.items ≡ out.old.items ++ descriptor announced.now) }
+    ensures { OnOk result (out.new.items ≡ out.old.items ++ descriptor announcement.now) }
 {
-    let id = announced.id();
+    let id = announcement.id();
     let version = id.version().text(alloc)?;
     append_short_text(out, id.source().as_str())?;
     append_interval(out, id.interval())?;
     append_short_text(out, version.as_str())?;
     out.extend_from_slice(&id.partition().to_be_bytes())?;
-    out.extend_from_slice(&announced.core().to_be_bytes())?;
-    out.extend_from_slice(&announced.size().to_be_bytes())?;
+    out.extend_from_slice(&announcement.core().to_be_bytes())?;
+    out.extend_from_slice(&announcement.size().to_be_bytes())?;
     Ok(())
 }
 

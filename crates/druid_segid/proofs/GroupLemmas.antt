@@ -6,6 +6,7 @@ use Rattle.std.specs.declared.cmp.Ordering.TheVariants.{Less, Equal, Greater}
 use Rattle.std.specs.Cmp.{IsTotalOrder}
 use Rattle.std.specs.Cmp.Lexicographic.{slice_cmp}
 use Rattle.std.proofs.lemmas.Cmp.{then_total, on_total, nat_cmp_total, nat_list_cmp_total}
+use Rattle.druid_base.proofs.OrderLemmas.{reverse-Greater}
 use Rattle.druid_segid.specs.Group.{Group, rank_cmp, Outranks}
 use Rattle.druid_segid.proofs.OrderLemmas.{nat_cmp-Equal, slice_cmp-Equal}
 
@@ -35,11 +36,6 @@ reverse-Less : (o p : Ordering) → o ≡ ordering_reverse p → o ≡ Less → 
 reverse-Less o Less e l = absurd (cc)
 reverse-Less o Equal e l = absurd (cc)
 reverse-Less o Greater e l = refl
-
-reverse-Greater : (o p : Ordering) → o ≡ ordering_reverse p → o ≡ Greater → p ≡ Less
-reverse-Greater o Less e l = refl
-reverse-Greater o Equal e l = absurd (cc)
-reverse-Greater o Greater e l = absurd (cc)
 
 three_ways : (o p : Ordering) → o ≡ ordering_reverse p → (o ≡ Greater) ⊎ (o ≡ Equal) ⊎ (p ≡ Greater)
 three_ways Less p e = inr (inr (reverse-Less Less p e refl))

@@ -12,6 +12,7 @@ use Rattle.std.proofs.lemmas.Str.{IsUtf8-from_ascii, IsAscii-append}
 use Rattle.std.proofs.lemmas.Str.Ascii.{IsAscii-nil, IsAscii-cons, IsAscii-from_all}
 use Rattle.std.proofs.lemmas.List.{take-append-drop, length-take-le}
 use Rattle.std.proofs.lemmas.List.Elements.{All-head, All-tail}
+use Rattle.druid_base.proofs.ListLemmas.{append-fronts}
 use Rattle.druid_time.specs.Texts.{instant_text, civil_text, digit}
 use Rattle.druid_time.proofs.TextLemmas.{length-instant_text, IsAscii-instant_text, instant_text_injective, slice_cmp-instant_text}
 use Rattle.druid_segid.specs.Names.{is_name_byte, IsName, is_version_byte, IsVersion}
@@ -102,17 +103,6 @@ cut_same c (x ∷ xs) (y ∷ ys) us vs h k f g e =
     let rest = cut_same c xs ys us vs h.1 k.1 f g tail in
     (λ i. head i ∷ rest.0 i, rest.1)
 
--- texts that are alike are alike in fronts of one length
-front_same : (xs ys us vs : List ℕ) → length xs ≡ length ys → xs ++ us ≡ ys ++ vs → (xs ≡ ys) × (us ≡ vs)
-front_same [] [] us vs n e = (refl, e)
-front_same [] (y ∷ ys) us vs n e = absurd (omega arith)
-front_same (x ∷ xs) [] us vs n e = absurd (omega arith)
-front_same (x ∷ xs) (y ∷ ys) us vs n e =
-    let head : x ≡ y = cc in
-    let tail : xs ++ us ≡ ys ++ vs = cc in
-    let rest = front_same xs ys us vs (omega arith) tail in
-    (λ i. head i ∷ rest.0 i, rest.1)
-
 -- a name has no `:`
 name_lacks : (text : List ℕ) → All (λ b. IsTrue (is_name_byte b)) text → Lacks 58 text
 name_lacks [] h = tt
@@ -169,7 +159,7 @@ suffix_same p q h k e =
         | inl none ↦ let apart = rw (ne_eqb p 0 some, eq-eqb q 0 none) at e in absurd (cc)
         | inr other ↦
             let both = rw (ne_eqb p 0 some, ne_eqb q 0 other) at e in
-            decimal_injective p q (omega arith) (omega arith) (front_same (95 ∷ []) (95 ∷ []) (decimal p) (decimal q) refl both).1
+            decimal_injective p q (omega arith) (omega arith) (append-fronts (95 ∷ []) (95 ∷ []) (decimal p) (decimal q) refl both).1
       ]
     ]
 
@@ -202,7 +192,7 @@ length-source a b h k e =
 -- no two identifiers share a text
 pub identifier_text_injective : (a b : Identifier) → IsIdentifier a → IsIdentifier b → identifier_text a ≡ identifier_text b → a ≡ b
 identifier_text_injective a b h k e =
-    let alike : (xs ys us vs : List ℕ) → length xs ≡ length ys → xs ++ us ≡ ys ++ vs → (xs ≡ ys) × (us ≡ vs) = front_same in
+    let alike : (xs ys us vs : List ℕ) → length xs ≡ length ys → xs ++ us ≡ ys ++ vs → (xs ≡ ys) × (us ≡ vs) = append-fronts in
     let long = λ (s t : ℕ). length-instant_text s ∙ sym (length-instant_text t) in
     let sources = alike a.source b.source (beyond_source a) (beyond_source b) (length-source a b h k e) (sym (identifier_text-beyond a) ∙ e ∙ identifier_text-beyond b) in
     let first = alike (95 ∷ []) (95 ∷ []) _ _ refl sources.1 in

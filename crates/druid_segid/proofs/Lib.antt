@@ -2,7 +2,6 @@ pub mod OrderLemmas
 pub mod GroupLemmas
 pub mod IdentifierLemmas
 pub mod NameLemmas
-pub mod NumberLemmas
 pub mod EqualLemmas
 pub mod ParsedLemmas
 pub mod SpelledLemmas

@@ -7,22 +7,9 @@ use Rattle.std.specs.Cmp.Lexicographic.{slice_cmp}
 use Rattle.std.proofs.lemmas.List.{take-append-drop, length-take-le}
 use Rattle.std.proofs.lemmas.Cmp.{nat_list_cmp_total}
 use Rattle.std.proofs.lemmas.Bool.Decides.{nat_tests}
-
-pub ordering_then-assoc : (o p q : Ordering) → ordering_then (ordering_then o p) q ≡ ordering_then o (ordering_then p q)
-ordering_then-assoc Less p q = refl
-ordering_then-assoc Equal p q = refl
-ordering_then-assoc Greater p q = refl
+use Rattle.druid_base.proofs.OrderLemmas.{ordering_then-assoc, nat_cmp-eq}
 
 -- ---- numbers
-
-pub nat_cmp-lt : (x y : ℕ) → x < y → nat_cmp x y ≡ Less
-nat_cmp-lt x y h = grind (arith, nat_tests)
-
-pub nat_cmp-eq : (x : ℕ) → nat_cmp x x ≡ Equal
-nat_cmp-eq x = grind (arith, nat_tests)
-
-pub nat_cmp-gt : (x y : ℕ) → y < x → nat_cmp x y ≡ Greater
-nat_cmp-gt x y h = grind (arith, nat_tests)
 
 pub nat_cmp-Equal : (x y : ℕ) → nat_cmp x y ≡ Equal → x ≡ y
 nat_cmp-Equal x y h = grind (arith, nat_tests)

@@ -1,12 +1,11 @@
 -- Identifiers read from texts: what the code sees of a text.
-use Rattle.std.proofs.Common.{◌≡◌, ◌≢◌, ℕ, ◌+◌, ◌-◌, ◌<◌, ◌≤◌, Bool, true, false, not, List, [], ◌∷◌, suc, length, get_or, take, drop, refl, sym, ap, ◌∙◌, subst, arith, inl, inr, Some, None, Result, Ok, Err}
-use Rattle.std.specs.Str.{IsUtf8, bytes_eq}
+use Rattle.std.proofs.Common.{◌≡◌, ◌≢◌, ℕ, ◌+◌, ◌-◌, ◌<◌, ◌≤◌, true, false, List, [], ◌∷◌, suc, length, get_or, take, drop, refl, sym, ap, ◌∙◌, subst, arith, inl, inr, Some, None, Result, Ok, Err}
+use Rattle.std.specs.Str.{IsUtf8}
 use Rattle.std.specs.Result.{result_ok}
 use Rattle.std.specs.List.{list_any, position_or_len, before_first}
 use Rattle.std.proofs.lemmas.Bool.{cases_Bool, and_from, eq-eqb, le-leb, false_from_ne_true}
 use Rattle.std.proofs.lemmas.List.{length-drop, take_all}
 use Rattle.std.proofs.lemmas.List.Sums.{position_or_len_is}
-use Rattle.std.proofs.lemmas.Slice.Eq.{bytes_eq-Decides}
 use Rattle.std.proofs.lemmas.Str.{IsUtf8-from_ascii}
 use Rattle.druid_time.specs.declared.fault.TimeFault.{TimeFault}
 use Rattle.druid_time.specs.Texts.{instant_at}
@@ -93,19 +92,6 @@ partition_at-some tail digits place e other within cut =
     rw here (ap (λ n. partition_number (drop (n + 1) tail)) (sym e) ∙ ap partition_number (sym (cut ∙ whole)))
 
 -- what the comparison of two texts tells
-pub texts_differ : (a b : List ℕ) (r : Bool) → r ≡ not (bytes_eq a b) → r ≡ true → a ≢ b
-texts_differ a b r is h e =
-    let same = (bytes_eq-Decides a b).1 e in
-    let off : r ≡ false = is ∙ ap not same in
-    absurd (cc)
-
-pub texts_same : (a b : List ℕ) (r : Bool) → r ≡ not (bytes_eq a b) → r ≡ false → a ≡ b
-texts_same a b r is h =
-    elim (cases_Bool (bytes_eq a b)) [
-      | inl same ↦ (bytes_eq-Decides a b).0 same
-      | inr other ↦ let on : r ≡ true = is ∙ ap not other in absurd (cc)
-    ]
-
 pub ruleset tail_facts = (tail_at-found)
 
 pub ruleset version_facts = (version_at-not_utf8)

@@ -20,11 +20,11 @@ use Rattle.druid_time.proofs.PrintedLemmas.{instant_text-instant_at}
 use Rattle.druid_segid.specs.Names.{IsName, IsVersion, is_version}
 use Rattle.druid_segid.specs.Identifier.{Identifier, Spells, partition_suffix}
 use Rattle.druid_segid.specs.Parsed.{Refusal, other_source, bad_parts, bad_interval, bad_version, bad_partition, is_underscore, beyond, rest_at, tail_at, printed_at, interval_at, version_at, partition_number, partition_at, identifier_at}
-use Rattle.druid_segid.specs.Numbers.{number_at}
+use Rattle.druid_base.specs.Numbers.{number_at}
 use Rattle.druid_segid.proofs.IdentifierLemmas.{identifier_text-beyond}
 use Rattle.druid_segid.proofs.NameLemmas.{is_version-true, is_version-to}
 use Rattle.druid_segid.proofs.ParsedLemmas.{any_underscore, no_underscore}
-use Rattle.druid_segid.proofs.NumberLemmas.{number_at-found, number_at-to}
+use Rattle.druid_base.proofs.NumberLemmas.{number_at-found, number_at-to}
 
 -- ---- steps
 

@@ -1,6 +1,5 @@
 -- what public contracts rest on
 pub mod Names
-pub mod Numbers
 pub mod Identifier
 pub mod Parsed
 pub mod Group

@@ -7,7 +7,7 @@ use Rattle.druid_time.specs.Extent.{Extent}
 use Rattle.druid_time.specs.Results.{◌>>=◌}
 use Rattle.druid_time.specs.Texts.{instant_at}
 use Rattle.druid_segid.specs.Names.{is_version}
-use Rattle.druid_segid.specs.Numbers.{number_at}
+use Rattle.druid_base.specs.Numbers.{number_at}
 use Rattle.druid_segid.specs.Identifier.{Identifier}
 use Rattle.druid_segid.specs.declared.fault.IdFault.{IdFault}
 use Rattle.druid_segid.specs.declared.fault.IdFault.TheVariants as faults

@@ -8,7 +8,6 @@ mod identifier;
 mod laws;
 mod meter;
 mod name;
-mod number;
 mod order;
 mod parsing;
 mod spelling;
@@ -23,5 +22,4 @@ pub use laws::{
 };
 pub use meter::Meter;
 pub use name::{MAX_NAME, Name};
-pub use number::number_of;
 pub use version::{MAX_VERSION, Version};

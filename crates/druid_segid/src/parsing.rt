@@ -6,7 +6,8 @@ ghost use Rattle.druid_segid.specs.Identifier.{IsIdentifier};
 ghost use Rattle.druid_segid.specs.Names.{IsVersion};
 ghost use Rattle.druid_segid.specs.Parsed.{is_underscore, rest_at, tail_at, printed_at, interval_at, version_at, partition_number, partition_at, identifier_at, Gives};
 
-use crate::{IdFault, Name, SegmentId, Version, number_of};
+use crate::{IdFault, Name, SegmentId, Version};
+use druid_base::number_of;
 use druid_time::{Instant, Interval};
 use std::alloc::Global;
 use std::str;

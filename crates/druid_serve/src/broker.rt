@@ -285,7 +285,7 @@ fn worker_of<R: Net + Clock + Wait + Copy, J: Publication>(
 
 /// What a broker is made of.
 #[derive(Drop)]
-pub(crate) struct Opening {
+pub(crate) struct BrokerParts {
     /// What it knows first of the nodes.
     pub(crate) inventory: Inventory,
     /// Where it listens.
@@ -374,19 +374,19 @@ pub(crate) fn start_broker<
     rt: &R,
     alloc: Global,
     list: Opened,
-    opening: Opening,
+    parts: BrokerParts,
     nodes: &[NodeConfig],
 ) -> Result<Broker, DeviceFailed>
     requires book { list ≡ J.book }
-    requires opening { opening.inventory ≡ J.opening }
-    requires nodes { length nodes.now ≡ length opening.inventory }
+    requires opening { parts.inventory ≡ J.opening }
+    requires nodes { length nodes.now ≡ length parts.inventory }
 {
-    let Opening {
+    let BrokerParts {
         inventory,
         listener,
         workers,
         turns,
-    } = opening;
+    } = parts;
     let gate = Arc::new(alloc, Gate::new())?;
     let (publisher, mut views) = open_views::<J, R>(rt, alloc, list, inventory, workers)?;
     let syncers = start_syncers(rt, alloc, turns, nodes, &publisher, &mut views)?;

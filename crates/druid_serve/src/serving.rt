@@ -10,7 +10,7 @@ ghost use Rattle.druid_serve.specs.declared.fault.ServeFault.{ServeFault};
 
 use crate::ServeFault;
 use crate::asking::ask;
-use crate::broker::{Broker, Opening, start_broker};
+use crate::broker::{Broker, BrokerParts, start_broker};
 use crate::gate::Gate;
 use crate::stop::{Ended, Stop};
 use druid_command_line::{Ending, Exit, reason_text, write_below};
@@ -107,12 +107,12 @@ fn start_one<
     rt: &R,
     alloc: Global,
     list: Opened,
-    opening: Opening,
+    parts: BrokerParts,
     nodes: &[NodeConfig],
 ) -> Result<Broker, DeviceFailed>
-    requires { length nodes.now ≡ length opening.inventory }
+    requires { length nodes.now ≡ length parts.inventory }
 {
-    start_broker::<R, Brand>(rt, alloc, list, opening, nodes)
+    start_broker::<R, Brand>(rt, alloc, list, parts, nodes)
 }
 
 // Starts the brokers after their listeners.
@@ -139,13 +139,13 @@ fn start_brokers<
     let mut standing = Vec::new(alloc);
     for (broker, listener) in brokers.iter().zip(listeners) {
         let inventory = fresh(alloc, nodes)?;
-        let opening = Opening {
+        let parts = BrokerParts {
             inventory,
             listener,
             workers: broker.workers(),
             turns,
         };
-        standing.push(start_one(rt, alloc, Opened::new(), opening, nodes)?)?;
+        standing.push(start_one(rt, alloc, Opened::new(), parts, nodes)?)?;
     }
     Ok(standing)
 }
@@ -285,7 +285,7 @@ where
 {
     let config = match read_config(alloc, bytes) {
         Ok(config) => config,
-        Err(fault) => return Err(Ended::unread(alloc, bytes, fault)),
+        Err(fault) => return Err(Ended::at_config(alloc, bytes, fault)),
     };
     match serve_cluster(rt, alloc, &config, out) {
         Ok(()) => Ok(()),

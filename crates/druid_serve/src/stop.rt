@@ -130,7 +130,7 @@ impl Ended {
     }
 
     /// Of bytes that were not read as a config.
-    pub(crate) fn unread(alloc: Global, bytes: &[u8], fault: ConfigFault) -> Ended
+    pub(crate) fn at_config(alloc: Global, bytes: &[u8], fault: ConfigFault) -> Ended
         ensures { result.fault ≡ of_config fault }
     {
         let reason = match fault {

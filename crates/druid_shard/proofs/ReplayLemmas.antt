@@ -7,7 +7,7 @@ use Rattle.std.specs.declared.cmp.Ordering.{Ordering}
 use Rattle.std.specs.declared.cmp.Ordering.TheVariants.{Less, Equal, Greater}
 use Rattle.std.specs.Cmp.Lexicographic.{slice_cmp}
 use Rattle.std.specs.List.{All, AllPairs, Contains, filter, insert, list_any, remove}
-use Rattle.std.proofs.lemmas.Bool.{false≢true}
+use Rattle.std.proofs.lemmas.Bool.{false≢true, not-true}
 use Rattle.std.proofs.lemmas.Cmp.{nat_list_cmp_total}
 use Rattle.std.proofs.lemmas.List.{get_or_default}
 use Rattle.std.proofs.lemmas.List.Edits.{length-insert}
@@ -16,6 +16,8 @@ use Rattle.std.proofs.lemmas.List.Folds.{Any-from_list_any, list_any-from_Any}
 use Rattle.std.proofs.lemmas.List.Kept.{AllPairs-cons, AllPairs-filter}
 use Rattle.std.proofs.lemmas.Option.{same_Some, none-some}
 use Rattle.std.proofs.lemmas.Slice.Eq.{bytes_eq-Decides}
+use Rattle.druid_base.proofs.OptionLemmas.{chained}
+use Rattle.druid_base.proofs.OrderLemmas.{is_lt-Less}
 use Rattle.druid_segid.specs.Identifier.{identifier_text}
 use Rattle.druid_segid.proofs.OrderLemmas.{slice_cmp-Equal}
 use Rattle.druid_shard.specs.Described.{Described, same_described}
@@ -24,7 +26,7 @@ use Rattle.druid_shard.specs.Replay.{IsSegmentSet, IsChangedBy, shares_identifie
 use Rattle.druid_shard.specs.declared.change.Change.{Change}
 use Rattle.druid_shard.specs.declared.change.Change.TheVariants.{Load, Drop}
 use Rattle.druid_shard.proofs.DescribedLemmas.{same_described-decides}
-use Rattle.druid_shard.proofs.MemberLemmas.{Contains-nil, Contains-cons, Contains-later, Contains-insert}
+use Rattle.druid_base.proofs.MemberLemmas.{Contains-nil, Contains-cons, Contains-later, Contains-insert}
 use Rattle.druid_shard.proofs.SortedLemmas.{AreSorted-later, not_before_itself}
 
 -- ---- in order, as pairs
@@ -54,13 +56,8 @@ before_trans a b c ab bc = nat_list_cmp_total.trans (identifier_text a.id) (iden
 abbrev pub HasOtherIdentifier : Described → Described → Type 0
 HasOtherIdentifier d x = identifier_text x.id ≡ identifier_text d.id → ⊥
 
-less_only : (o : Ordering) → is_lt o ≡ true → o ≡ Less
-less_only Less e = refl
-less_only Equal e = absurd (false≢true e)
-less_only Greater e = absurd (false≢true e)
-
 pub is_before-true : (a b : Described) → is_before a b ≡ true → IsBefore a b
-is_before-true a b e = less_only (slice_cmp nat_cmp (identifier_text a.id) (identifier_text b.id)) e
+is_before-true a b e = is_lt-Less (slice_cmp nat_cmp (identifier_text a.id) (identifier_text b.id)) e
 
 after_unless : (a b : Described) (o : Ordering) → o ≡ slice_cmp nat_cmp (identifier_text a.id) (identifier_text b.id) → is_lt o ≡ false → HasOtherIdentifier a b → IsBefore b a
 after_unless a b Less e h other = absurd (false≢true (sym h))
@@ -169,10 +166,6 @@ all_pass : (p : Described → Bool) (s : List Described) → All (λ x. p x ≡ 
 all_pass p [] h = refl
 all_pass p (y ∷ ys) h =
     rw (All-head (λ x. p x ≡ true) y ys h) (ap (λ zs. y ∷ zs) (all_pass p ys (All-tail (λ x. p x ≡ true) y ys h)))
-
-not-true : (b : Bool) → not b ≡ true → b ≡ false
-not-true true e = absurd (false≢true e)
-not-true false e = refl
 
 is_not : (b : Bool) → (b ≡ true → ⊥) → not b ≡ true
 is_not true h = absurd (h refl)
@@ -313,19 +306,14 @@ replay_from-append s (c ∷ a) b = by_first (λ t. replay_from-append t a b) (ch
   by_first rest None = refl
   by_first rest (Some t) = rest t
 
--- what a chain gives, each part gives
-pub and_then-some : {A B : Type 0} (f : A → Option B) (o : Option A) (y : B) → option_and_then f o ≡ Some y → (x : A) × (o ≡ Some x) × (f x ≡ Some y)
-and_then-some f None y e = absurd (none-some y e)
-and_then-some f (Some x) y e = (x, refl, e)
-
 pub replay_from-front : (s u : List Described) (a b : List Change) → replay_from s (a ++ b) ≡ Some u
     → (t : List Described) × (replay_from s a ≡ Some t) × (replay_from t b ≡ Some u)
-replay_from-front s u a b e = and_then-some (λ t. replay_from t b) (replay_from s a) u (sym (replay_from-append s a b) ∙ e)
+replay_from-front s u a b e = chained (λ t. replay_from t b) (replay_from s a) u (sym (replay_from-append s a b) ∙ e)
 
 pub replay_from-set : (s t : List Described) (cs : List Change) → IsSegmentSet s → replay_from s cs ≡ Some t → IsSegmentSet t
 replay_from-set s t [] h e = subst IsSegmentSet (same_Some s t e) h
 replay_from-set s t (c ∷ cs) h e =
-    let step = and_then-some (λ u. replay_from u cs) (changed s c) t e in
+    let step = chained (λ u. replay_from u cs) (changed s c) t e in
     replay_from-set step.0 t cs (changed-one s step.0 c h step.1).0 step.2
 
 -- ---- a set has one list

@@ -7,11 +7,13 @@ use Rattle.std.specs.Cmp.Lexicographic.{slice_cmp}
 use Rattle.std.specs.List.Sorted.{IsPermutation, IsSorted}
 use Rattle.std.proofs.lemmas.Bool.{cases_order, false≢true}
 use Rattle.std.proofs.lemmas.Cmp.{nat_list_cmp_total, tied_itself}
+use Rattle.druid_base.proofs.OrderLemmas.{nat_cmp-eq}
 use Rattle.druid_segid.specs.Identifier.{identifier_text, parts_cmp}
 use Rattle.druid_segid.proofs.OrderLemmas.{slice_cmp-Equal}
 use Rattle.druid_shard.specs.Described.{Described, described_cmp}
+use Rattle.druid_shard.specs.Mark.{Point, mark_cmp}
 use Rattle.druid_shard.specs.Reply.{IsBefore, AreSorted, HaveOwnIdentifiers}
-use Rattle.druid_shard.proofs.MovedLemmas.{alone-permutation}
+use Rattle.druid_base.proofs.MovedLemmas.{alone-permutation}
 
 -- no identifier comes before itself
 pub not_before_itself : (a b : Described) → IsBefore a b → identifier_text a.id ≡ identifier_text b.id → ⊥
@@ -72,3 +74,8 @@ own-AreSorted ds sorted own k d l =
 -- in whatever order they stand
 pub own-permutation : (xs ys : List Described) → IsPermutation xs ys → HaveOwnIdentifiers xs → HaveOwnIdentifiers ys
 own-permutation xs ys moved own = alone-permutation (λ a b. identifier_text a.id ≡ identifier_text b.id) xs ys moved own
+
+-- ---- marks
+
+pub mark_cmp-same : (m : Point) → mark_cmp m m ≡ Equal
+mark_cmp-same m = λ i. ordering_then (nat_cmp-eq m.incarnation i) (nat_cmp-eq m.count i)

@@ -12,7 +12,7 @@ use Rattle.serde_json.specs.View.{items_of}
 use Rattle.serde_json.specs.Written.{outline, items_outline, members_outline, compact_text}
 use Rattle.serde_json.specs.Read.{read, of_json, of_items, max_depth}
 use Rattle.serde_json.proofs.Texts.{print-outline}
-use Rattle.druid_shard.proofs.MemberLemmas.{Contains-later}
+use Rattle.druid_base.proofs.MemberLemmas.{Contains-later}
 
 -- the value that was parsed, where nothing follows it
 abbrev whole : Option (json.Json × List Token) → Option Data

@@ -1,8 +1,9 @@
 -- The JSON of a descriptor, and of a mark.
-use Rattle.std.specs.Prelude.{◌≡◌, ◌==◌, ◌&&◌, ℕ, Bool, false, true, List, codes, Option, Some, None, Result, Ok, Err, IsOk, ⊤, option_and_then, nat_le, if◌then◌else◌}
+use Rattle.std.specs.Prelude.{◌≡◌, ◌==◌, ◌&&◌, ℕ, Bool, false, true, List, codes, Option, Some, None, Result, Ok, Err, IsOk, ⊤, option_and_then, if◌then◌else◌}
 use Rattle.std.specs.Str.{bytes_eq}
 use Rattle.serde_json.specs.Data.{Data, null, boolean, number, string, array, object, Members, member, no_members, unsigned}
-use Rattle.serde_json.specs.Find.{get, as_str, as_number, as_u64, as_object}
+use Rattle.serde_json.specs.Find.{get, as_object}
+use Rattle.druid_base.specs.Fields.{text_at, limited_at, number_at}
 use Rattle.druid_time.specs.Extent.{Extent}
 use Rattle.druid_time.specs.Results.{◌>>=◌}
 use Rattle.druid_time.specs.Texts.{extent_text, extent_at}
@@ -57,14 +58,6 @@ abbrev pub or_refuse : {A : Type 0} → Option A → Refusal → Result A Refusa
 or_refuse None e = Err e
 or_refuse (Some x) e = Ok x
 
--- the text at a key
-abbrev pub text_at : List ℕ → Data → Option (List ℕ)
-text_at key d = option_and_then as_str (get key d)
-
--- the whole number at a key
-abbrev pub number_at : List ℕ → Data → Option ℕ
-number_at key d = option_and_then as_u64 (option_and_then as_number (get key d))
-
 abbrev pub source_at : Data → Option (List ℕ)
 source_at d = option_and_then (λ s. if is_name s then Some s else None) (text_at (codes "dataSource") d)
 
@@ -77,10 +70,6 @@ result_ok (Err e) = None
 
 abbrev pub interval_at : Data → Option Extent
 interval_at d = option_and_then (λ s. result_ok (extent_at s)) (text_at (codes "interval") d)
-
--- the number at a key, where it is at most a limit
-abbrev pub limited_at : ℕ → List ℕ → Data → Option ℕ
-limited_at limit key d = option_and_then (λ n. if nat_le n limit then Some n else None) (number_at key d)
 
 -- a shard spec: an object, then its type, then its two numbers
 unfoldable pub place_at : Data → Result Place Refusal

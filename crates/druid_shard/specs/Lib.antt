@@ -1,5 +1,4 @@
 -- what public contracts rest on
-pub mod Each
 pub mod Described
 pub mod Json
 pub mod Mark

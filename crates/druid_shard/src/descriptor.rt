@@ -2,13 +2,11 @@ ghost use Rattle.std.specs.Prelude.{◌≡◌, ◌≤◌, ◌<◌, ◌↔◌, So
 ghost use Rattle.druid_shard.specs.Described.{IsDescribed, same_described, described_cmp, max_core};
 ghost use Rattle.druid_shard.specs.Orders as orders;
 
+use crate::limits::MAX_CORE;
 use druid_segid::SegmentId;
 use std::alloc::AllocError;
 use std::cmp::Ordering;
 use std::marker::Model;
-
-/// The most core partitions that a numbered shard spec names.
-pub const MAX_CORE: u16 = 32_768;
 
 /// A numbered shard spec: the partition of a segment in its chunk, and the number of core partitions of the chunk.
 #[derive(Clone, Copy, Debug, PartialEq, Eq, Hash)]

@@ -1,11 +1,11 @@
-ghost use Rattle.std.specs.Prelude.{◌≡◌, ◌≢◌, ◌≤◌, false, true, IfOk, option_map, option_and_then, option_copied};
+ghost use Rattle.std.specs.Prelude.{◌≡◌, ◌≢◌, ◌≤◌, false, true, IfOk, option_map};
 ghost use Rattle.serde_json.specs.View.{view};
-ghost use Rattle.serde_json.specs.Find.{as_object, as_str, get};
-ghost use Rattle.druid_shard.specs.Json.{shard_data, flagged_data, descriptor_data, descriptor_at, segment_at, place_at, text_at, number_at, limited_at, interval_at, source_at, version_at, flag_at, tombstone_at, Gives, Checks};
-ghost use Rattle.druid_shard.specs.Described.{max_core};
+ghost use Rattle.serde_json.specs.Find.{as_str, get};
+ghost use Rattle.druid_shard.specs.Json.{shard_data, flagged_data, descriptor_data, descriptor_at, segment_at, place_at, interval_at, source_at, version_at, flag_at, tombstone_at, Gives, Checks};
 
-use crate::descriptor::MAX_CORE;
+use crate::limits::MAX_CORE;
 use crate::{Descriptor, Shard, ShardFault};
+use druid_base::{limited_field, number_field, text_field};
 use druid_segid::{Name, SegmentId, Version};
 use druid_time::Interval;
 use serde_json::{Value, json, put};
@@ -61,32 +61,6 @@ pub fn descriptor_value(alloc: Global, descriptor: &Descriptor) -> Result<Value,
         tombstone_value(alloc, descriptor)
     } else {
         segment_value(alloc, descriptor)
-    }
-}
-
-/// The text at a key of an object; None where there is no such key or it holds no text.
-pub fn text_field<'a>(value: &'a Value, key: &str) -> Option<&'a str>
-    ensures { option_map (λ s. s.now) result ≡ text_at key.now (view value.now) }
-{
-    value.get(key).and_then(Value::as_str)
-}
-
-/// The whole number at a key of an object, below 2^64; None where there is none.
-pub fn number_field(value: &Value, key: &str) -> Option<u64>
-    ensures { result ≡ number_at key.now (view value.now) }
-{
-    value.get(key).and_then(Value::as_u64)
-}
-
-/// The whole number at a key of an object, where it is at most the limit.
-pub fn limited_field(value: &Value, key: &str, limit: u16) -> Option<u16>
-    ensures { result ≡ limited_at limit key.now (view value.now) }
-{
-    let number = number_field(value, key)?;
-    if number <= limit as u64 {
-        Some(number as u16)
-    } else {
-        None
     }
 }
 

@@ -1,22 +1,11 @@
 ghost use Rattle.std.specs.Prelude.{◌≡◌, ◌≢◌, ◌↔◌, ◌<◌, ◌≤◌, ◌⊎◌, IfOk, IsErrOf, IsTrue, length};
 ghost use Rattle.druid_shard.specs.Reply.{max_segments, max_page, max_changes, HaveOwnIdentifiers, AreSorted, IsAsFar, IsFull, IsPageOf};
 
+use crate::limits::{MAX_CHANGES, MAX_PAGE, MAX_PAGES, MAX_SEGMENTS};
 use crate::{Cause, Change, Descriptor, Items, Mark};
 use std::cmp::Ordering;
 use std::marker::Model;
 use thiserror::Error;
-
-/// The most segments that a node serves.
-pub const MAX_SEGMENTS: usize = 200_000;
-
-/// The most segments of a page: a snapshot that has more is sent in pages.
-pub const MAX_PAGE: usize = 20_000;
-
-/// The most pages of a snapshot.
-pub const MAX_PAGES: u16 = 10;
-
-/// The most changes that a delta has, and that a node keeps of its history.
-pub const MAX_CHANGES: usize = 1_000;
 
 /// Why values make no reply.
 #[derive(Clone, Copy, Debug, PartialEq, Eq, Drop, Error)]

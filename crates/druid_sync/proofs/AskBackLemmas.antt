@@ -9,7 +9,7 @@ use Rattle.std.proofs.lemmas.List.Elements.{All-nil, All-cons, All-append}
 use Rattle.std.proofs.lemmas.Bool.{and_parts}
 use Rattle.form_urlencoded.specs.Form.{split_once, split_pair, raw_pairs}
 use Rattle.form_urlencoded.proofs.FormLemmas.{raw_pairs-nil, raw_pairs_first, split_once_before_at, split_once_after_at, split_once_before_none, split_once_after_none}
-use Rattle.druid_segid.proofs.NumberLemmas.{number_at-found}
+use Rattle.druid_base.proofs.NumberLemmas.{number_at-found}
 use Rattle.druid_shard.specs.Mark.{Point, IsWord}
 use Rattle.druid_shard.specs.declared.change.Ask.{Ask}
 use Rattle.druid_shard.specs.declared.change.Ask.TheVariants.{Whole, Since, Page}

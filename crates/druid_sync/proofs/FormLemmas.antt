@@ -4,14 +4,14 @@ use Rattle.std.proofs.lemmas.Bool.Decides.{nat_tests}
 use Rattle.serde_json.specs.Data.{Data}
 use Rattle.serde_json.specs.View.{items_view}
 use Rattle.serde_json.specs.declared.value.Value.{Value}
-use Rattle.druid_time.specs.Options.{◌>>=◌}
+use Rattle.druid_base.specs.Options.{◌>>=◌}
 use Rattle.druid_shard.specs.Described.{Described}
 use Rattle.druid_shard.specs.Mark.{Point}
 use Rattle.druid_shard.specs.declared.change.Change.{Change}
-use Rattle.druid_shard.specs.Each.{each_of}
+use Rattle.druid_base.specs.Each.{each_of}
 use Rattle.druid_shard.specs.Reply.{IsPageOf}
 use Rattle.druid_sync.specs.Read.{followed, whole, paged, mark_at, change_at, load_at, none_in, snapshot_at, delta_at, page_at, MayBePage}
-use Rattle.druid_shard.proofs.EachLemmas.{Reads, all_read, not_all_read}
+use Rattle.druid_base.proofs.EachLemmas.{Reads, all_read, not_all_read}
 
 -- ---- snapshots
 

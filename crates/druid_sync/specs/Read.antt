@@ -4,10 +4,11 @@ use Rattle.std.specs.Str.{bytes_eq}
 use Rattle.serde_json.specs.Data.{Data, Items, no_items, item}
 use Rattle.serde_json.specs.Find.{get, as_null, as_bool, as_array, as_str}
 use Rattle.druid_base.specs.Json.{ReadsAs}
-use Rattle.druid_time.specs.Options.{◌>>=◌}
+use Rattle.druid_base.specs.Options.{◌>>=◌}
 use Rattle.druid_shard.specs.Described.{Described}
 use Rattle.druid_shard.specs.Mark.{Point}
-use Rattle.druid_shard.specs.Json.{text_at, number_at, limited_at, descriptor_at, result_ok}
+use Rattle.druid_shard.specs.Json.{descriptor_at, result_ok}
+use Rattle.druid_base.specs.Fields.{text_at, number_at, limited_at}
 use Rattle.druid_shard.specs.Reply.{max_segments, max_page, max_pages, max_changes, HaveOwnIdentifiers, IsAsFar, IsFull, IsPageOf}
 use Rattle.druid_shard.specs.ReplyBody.{IsSnapshotOf}
 use Rattle.druid_shard.specs.declared.change.Change.{Change}
@@ -16,7 +17,7 @@ use Rattle.druid_shard.specs.declared.change.Cause.{Cause}
 use Rattle.druid_shard.specs.declared.change.Cause.TheVariants.{OtherIncarnation, Ahead, TooOld}
 use Rattle.druid_shard.specs.declared.reply.Body.{Body}
 use Rattle.druid_shard.specs.declared.reply.Body.TheVariants.{Delta, Snapshot, Page, Reset}
-use Rattle.druid_shard.specs.Each.{each_of}
+use Rattle.druid_base.specs.Each.{each_of}
 use Rattle.druid_sync.specs.declared.fault.SyncFault.{SyncFault}
 use Rattle.druid_sync.specs.declared.fault.SyncFault.TheVariants as faults
 

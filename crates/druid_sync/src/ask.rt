@@ -4,7 +4,7 @@ ghost use Rattle.druid_sync.specs.Asks.{ask_text, target_at, parameters_of, IsOf
 ghost use Rattle.druid_sync.specs.Given.{IsGiven};
 
 use crate::AskFault;
-use druid_segid::number_of;
+use druid_base::number_of;
 use druid_shard::{Ask, Mark};
 use form_urlencoded::raw_pairs;
 use std::alloc::{AllocError, Global};

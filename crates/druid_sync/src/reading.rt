@@ -3,15 +3,15 @@ ghost use Rattle.std.specs.Prelude.{◌≡◌, ◌≤◌, ◌↔◌, IsTrue, Som
 ghost use Rattle.std.specs.List.{list_all};
 ghost use Rattle.serde_json.specs.View.{view, items_view};
 ghost use Rattle.druid_shard.specs.Reply.{IsAsFar};
-ghost use Rattle.druid_shard.specs.Each.{each_of};
+ghost use Rattle.druid_base.specs.Each.{each_of};
 ghost use Rattle.druid_sync.specs.Borrowed.{five_borrowed};
 ghost use Rattle.druid_sync.specs.Read.{mark_at, change_at, load_at, cause_at, five_at, begun_again, none_in, reset_at, snapshot_at, delta_at, changes_at, page_at, paged_at, tells_page, unpaged_at, form_at, MayBePage, Answers, IsRead, IsReadOf};
 
 use crate::SyncFault;
-use druid_base::{JsonFault, list_field, parse_json};
+use druid_base::{JsonFault, limited_field, list_field, number_field, parse_json, text_field};
 use druid_shard::{
     Cause, Change, Descriptor, MAX_CHANGES, MAX_PAGE, MAX_PAGES, MAX_SEGMENTS, Mark, Reply,
-    ReplyFault, check_descriptor, limited_field, number_field, read_descriptor, text_field,
+    ReplyFault, check_descriptor, read_descriptor,
 };
 use serde_json::Value;
 use std::alloc::{AllocError, Global};

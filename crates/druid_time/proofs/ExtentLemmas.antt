@@ -1,7 +1,8 @@
 -- Intervals and lists of intervals as sets of instants.
-use Rattle.std.proofs.Common.{◌≡◌, ◌↔◌, ℕ, zero, suc, List, [], ◌∷◌, ◌++◌, length, get_or, subst, ◌<◌, ◌≤◌, max, min, ◌⊎◌, inl, inr, true, false, refl, sym, ap, arith, IsSome, IfSome, nat_cmp}
+use Rattle.std.proofs.Common.{◌≡◌, ◌↔◌, ℕ, zero, suc, List, [], ◌∷◌, ◌++◌, length, get_or, subst, ◌<◌, ◌≤◌, max, min, ◌⊎◌, inl, inr, true, false, refl, sym, ap, arith, IsSome, nat_cmp}
 use Rattle.std.proofs.lemmas.Bool.{cases_lt, lt-ltb, le-ltb, false≢true}
-use Rattle.druid_time.specs.Extent.{Extent, IsExtent, Has, Share, IsMeet, common, AnyHas, SameInstants, AreApart, AreParts}
+use Rattle.druid_base.proofs.OrderLemmas.{is_le-from}
+use Rattle.druid_time.specs.Extent.{Extent, IsExtent, Has, Share, common, AnyHas, SameInstants, AreApart, AreParts}
 use Rattle.std.specs.List.{Contains, All}
 use Rattle.std.specs.List.Sorted.{IsPermutation, IsNonDecreasingBy, IsPartitionedBy, IsPartitionPoint}
 use Rattle.std.proofs.lemmas.Bool.Decides.{nat_tests}
@@ -141,9 +142,6 @@ SameInstants-sorted xs copy sorted seen parts copied moved same h t = (
   λ has. (h t).1 (rw same (AnyHas-IsPermutation copy sorted t moved (rw copied has))),
 )
 
-up_to : (x y : ℕ) → x ≤ y → is_le (nat_cmp x y) ≡ true
-up_to x y h = grind (arith, nat_tests)
-
 pub at_most : (x y : ℕ) → is_le (nat_cmp x y) ≡ true → x ≤ y
 at_most x y h = grind (arith, nat_tests)
 
@@ -153,7 +151,7 @@ above x y h = grind (arith, nat_tests)
 -- ends up to an instant come before the others
 pub ends_partitioned : (xs : List Extent) (t : ℕ) → AreParts xs → IsPartitionedBy (λ e. is_le (nat_cmp e.end t)) xs
 ends_partitioned xs t h i j d low below e =
-    up_to (get_or xs i d).end t (omega (arith, ends_rise xs h i j d low below, at_most (get_or xs j d).end t e))
+    is_le-from (get_or xs i d).end t (omega (arith, ends_rise xs h i j d low below, at_most (get_or xs j d).end t e))
 
 -- the first part that ends after an instant holds it, or none does
 abbrev IsFirstPast : List Extent → ℕ → ℕ → Type 0

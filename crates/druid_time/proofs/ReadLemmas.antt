@@ -2,6 +2,7 @@
 use Rattle.std.proofs.Common.{◌≡◌, ◌≢◌, ℕ, zero, suc, ◌+◌, ◌<◌, ◌≤◌, ◌^◌, nat_eq, Bool, true, false, ◌&&◌, List, [], ◌∷◌, length, get_or, take, drop, refl, sym, ap, ◌∙◌, arith, add-one, drop-cons, codes, ◌||◌, Fits, w8}
 use Rattle.std.proofs.lemmas.Bool.{and_left, and_right, eqb-false}
 use Rattle.std.proofs.Math.ListN.{drop_of_length-le}
+use Rattle.std.proofs.Math.Bool.{or-false}
 use Rattle.druid_time.specs.Texts.{fits_form, has_form, byte_fits, digits_value}
 
 pub fits_form-length : (fs bs : List ℕ) → length fs ≢ length bs → fits_form fs bs ≡ false
@@ -62,37 +63,33 @@ has_form-cases : (text : List ℕ) (a b c d e f g : Bool) → fits_form (codes "
 unfolding has_form
 has_form-cases text a b c d e f g ha hb hc hd he hf hg = rw (ha, hb, hc, hd, he, hf, hg) refl
 
-or_false : (x : Bool) → (x || false) ≡ x
-or_false true = refl
-or_false false = refl
-
 pub has_form-10 : (text : List ℕ) → length text ≡ 10 → has_form text ≡ fits_form (codes "dddd-dd-dd") text
 has_form-10 text h =
-    has_form-cases text _ false false false false false false refl (fits_form-length (codes "dddd-dd-ddTdd:dd") text (λ e. lit_ne 16 10 refl (e ∙ h))) (fits_form-length (codes "dddd-dd-ddTdd:ddZ") text (λ e. lit_ne 17 10 refl (e ∙ h))) (fits_form-length (codes "dddd-dd-ddTdd:dd:dd") text (λ e. lit_ne 19 10 refl (e ∙ h))) (fits_form-length (codes "dddd-dd-ddTdd:dd:ddZ") text (λ e. lit_ne 20 10 refl (e ∙ h))) (fits_form-length (codes "dddd-dd-ddTdd:dd:dd.ddd") text (λ e. lit_ne 23 10 refl (e ∙ h))) (fits_form-length (codes "dddd-dd-ddTdd:dd:dd.dddZ") text (λ e. lit_ne 24 10 refl (e ∙ h))) ∙ or_false _
+    has_form-cases text _ false false false false false false refl (fits_form-length (codes "dddd-dd-ddTdd:dd") text (λ e. lit_ne 16 10 refl (e ∙ h))) (fits_form-length (codes "dddd-dd-ddTdd:ddZ") text (λ e. lit_ne 17 10 refl (e ∙ h))) (fits_form-length (codes "dddd-dd-ddTdd:dd:dd") text (λ e. lit_ne 19 10 refl (e ∙ h))) (fits_form-length (codes "dddd-dd-ddTdd:dd:ddZ") text (λ e. lit_ne 20 10 refl (e ∙ h))) (fits_form-length (codes "dddd-dd-ddTdd:dd:dd.ddd") text (λ e. lit_ne 23 10 refl (e ∙ h))) (fits_form-length (codes "dddd-dd-ddTdd:dd:dd.dddZ") text (λ e. lit_ne 24 10 refl (e ∙ h))) ∙ or-false _
 
 pub has_form-16 : (text : List ℕ) → length text ≡ 16 → has_form text ≡ fits_form (codes "dddd-dd-ddTdd:dd") text
 has_form-16 text h =
-    has_form-cases text false _ false false false false false (fits_form-length (codes "dddd-dd-dd") text (λ e. lit_ne 10 16 refl (e ∙ h))) refl (fits_form-length (codes "dddd-dd-ddTdd:ddZ") text (λ e. lit_ne 17 16 refl (e ∙ h))) (fits_form-length (codes "dddd-dd-ddTdd:dd:dd") text (λ e. lit_ne 19 16 refl (e ∙ h))) (fits_form-length (codes "dddd-dd-ddTdd:dd:ddZ") text (λ e. lit_ne 20 16 refl (e ∙ h))) (fits_form-length (codes "dddd-dd-ddTdd:dd:dd.ddd") text (λ e. lit_ne 23 16 refl (e ∙ h))) (fits_form-length (codes "dddd-dd-ddTdd:dd:dd.dddZ") text (λ e. lit_ne 24 16 refl (e ∙ h))) ∙ or_false _
+    has_form-cases text false _ false false false false false (fits_form-length (codes "dddd-dd-dd") text (λ e. lit_ne 10 16 refl (e ∙ h))) refl (fits_form-length (codes "dddd-dd-ddTdd:ddZ") text (λ e. lit_ne 17 16 refl (e ∙ h))) (fits_form-length (codes "dddd-dd-ddTdd:dd:dd") text (λ e. lit_ne 19 16 refl (e ∙ h))) (fits_form-length (codes "dddd-dd-ddTdd:dd:ddZ") text (λ e. lit_ne 20 16 refl (e ∙ h))) (fits_form-length (codes "dddd-dd-ddTdd:dd:dd.ddd") text (λ e. lit_ne 23 16 refl (e ∙ h))) (fits_form-length (codes "dddd-dd-ddTdd:dd:dd.dddZ") text (λ e. lit_ne 24 16 refl (e ∙ h))) ∙ or-false _
 
 pub has_form-17 : (text : List ℕ) → length text ≡ 17 → has_form text ≡ fits_form (codes "dddd-dd-ddTdd:ddZ") text
 has_form-17 text h =
-    has_form-cases text false false _ false false false false (fits_form-length (codes "dddd-dd-dd") text (λ e. lit_ne 10 17 refl (e ∙ h))) (fits_form-length (codes "dddd-dd-ddTdd:dd") text (λ e. lit_ne 16 17 refl (e ∙ h))) refl (fits_form-length (codes "dddd-dd-ddTdd:dd:dd") text (λ e. lit_ne 19 17 refl (e ∙ h))) (fits_form-length (codes "dddd-dd-ddTdd:dd:ddZ") text (λ e. lit_ne 20 17 refl (e ∙ h))) (fits_form-length (codes "dddd-dd-ddTdd:dd:dd.ddd") text (λ e. lit_ne 23 17 refl (e ∙ h))) (fits_form-length (codes "dddd-dd-ddTdd:dd:dd.dddZ") text (λ e. lit_ne 24 17 refl (e ∙ h))) ∙ or_false _
+    has_form-cases text false false _ false false false false (fits_form-length (codes "dddd-dd-dd") text (λ e. lit_ne 10 17 refl (e ∙ h))) (fits_form-length (codes "dddd-dd-ddTdd:dd") text (λ e. lit_ne 16 17 refl (e ∙ h))) refl (fits_form-length (codes "dddd-dd-ddTdd:dd:dd") text (λ e. lit_ne 19 17 refl (e ∙ h))) (fits_form-length (codes "dddd-dd-ddTdd:dd:ddZ") text (λ e. lit_ne 20 17 refl (e ∙ h))) (fits_form-length (codes "dddd-dd-ddTdd:dd:dd.ddd") text (λ e. lit_ne 23 17 refl (e ∙ h))) (fits_form-length (codes "dddd-dd-ddTdd:dd:dd.dddZ") text (λ e. lit_ne 24 17 refl (e ∙ h))) ∙ or-false _
 
 pub has_form-19 : (text : List ℕ) → length text ≡ 19 → has_form text ≡ fits_form (codes "dddd-dd-ddTdd:dd:dd") text
 has_form-19 text h =
-    has_form-cases text false false false _ false false false (fits_form-length (codes "dddd-dd-dd") text (λ e. lit_ne 10 19 refl (e ∙ h))) (fits_form-length (codes "dddd-dd-ddTdd:dd") text (λ e. lit_ne 16 19 refl (e ∙ h))) (fits_form-length (codes "dddd-dd-ddTdd:ddZ") text (λ e. lit_ne 17 19 refl (e ∙ h))) refl (fits_form-length (codes "dddd-dd-ddTdd:dd:ddZ") text (λ e. lit_ne 20 19 refl (e ∙ h))) (fits_form-length (codes "dddd-dd-ddTdd:dd:dd.ddd") text (λ e. lit_ne 23 19 refl (e ∙ h))) (fits_form-length (codes "dddd-dd-ddTdd:dd:dd.dddZ") text (λ e. lit_ne 24 19 refl (e ∙ h))) ∙ or_false _
+    has_form-cases text false false false _ false false false (fits_form-length (codes "dddd-dd-dd") text (λ e. lit_ne 10 19 refl (e ∙ h))) (fits_form-length (codes "dddd-dd-ddTdd:dd") text (λ e. lit_ne 16 19 refl (e ∙ h))) (fits_form-length (codes "dddd-dd-ddTdd:ddZ") text (λ e. lit_ne 17 19 refl (e ∙ h))) refl (fits_form-length (codes "dddd-dd-ddTdd:dd:ddZ") text (λ e. lit_ne 20 19 refl (e ∙ h))) (fits_form-length (codes "dddd-dd-ddTdd:dd:dd.ddd") text (λ e. lit_ne 23 19 refl (e ∙ h))) (fits_form-length (codes "dddd-dd-ddTdd:dd:dd.dddZ") text (λ e. lit_ne 24 19 refl (e ∙ h))) ∙ or-false _
 
 pub has_form-20 : (text : List ℕ) → length text ≡ 20 → has_form text ≡ fits_form (codes "dddd-dd-ddTdd:dd:ddZ") text
 has_form-20 text h =
-    has_form-cases text false false false false _ false false (fits_form-length (codes "dddd-dd-dd") text (λ e. lit_ne 10 20 refl (e ∙ h))) (fits_form-length (codes "dddd-dd-ddTdd:dd") text (λ e. lit_ne 16 20 refl (e ∙ h))) (fits_form-length (codes "dddd-dd-ddTdd:ddZ") text (λ e. lit_ne 17 20 refl (e ∙ h))) (fits_form-length (codes "dddd-dd-ddTdd:dd:dd") text (λ e. lit_ne 19 20 refl (e ∙ h))) refl (fits_form-length (codes "dddd-dd-ddTdd:dd:dd.ddd") text (λ e. lit_ne 23 20 refl (e ∙ h))) (fits_form-length (codes "dddd-dd-ddTdd:dd:dd.dddZ") text (λ e. lit_ne 24 20 refl (e ∙ h))) ∙ or_false _
+    has_form-cases text false false false false _ false false (fits_form-length (codes "dddd-dd-dd") text (λ e. lit_ne 10 20 refl (e ∙ h))) (fits_form-length (codes "dddd-dd-ddTdd:dd") text (λ e. lit_ne 16 20 refl (e ∙ h))) (fits_form-length (codes "dddd-dd-ddTdd:ddZ") text (λ e. lit_ne 17 20 refl (e ∙ h))) (fits_form-length (codes "dddd-dd-ddTdd:dd:dd") text (λ e. lit_ne 19 20 refl (e ∙ h))) refl (fits_form-length (codes "dddd-dd-ddTdd:dd:dd.ddd") text (λ e. lit_ne 23 20 refl (e ∙ h))) (fits_form-length (codes "dddd-dd-ddTdd:dd:dd.dddZ") text (λ e. lit_ne 24 20 refl (e ∙ h))) ∙ or-false _
 
 pub has_form-23 : (text : List ℕ) → length text ≡ 23 → has_form text ≡ fits_form (codes "dddd-dd-ddTdd:dd:dd.ddd") text
 has_form-23 text h =
-    has_form-cases text false false false false false _ false (fits_form-length (codes "dddd-dd-dd") text (λ e. lit_ne 10 23 refl (e ∙ h))) (fits_form-length (codes "dddd-dd-ddTdd:dd") text (λ e. lit_ne 16 23 refl (e ∙ h))) (fits_form-length (codes "dddd-dd-ddTdd:ddZ") text (λ e. lit_ne 17 23 refl (e ∙ h))) (fits_form-length (codes "dddd-dd-ddTdd:dd:dd") text (λ e. lit_ne 19 23 refl (e ∙ h))) (fits_form-length (codes "dddd-dd-ddTdd:dd:ddZ") text (λ e. lit_ne 20 23 refl (e ∙ h))) refl (fits_form-length (codes "dddd-dd-ddTdd:dd:dd.dddZ") text (λ e. lit_ne 24 23 refl (e ∙ h))) ∙ or_false _
+    has_form-cases text false false false false false _ false (fits_form-length (codes "dddd-dd-dd") text (λ e. lit_ne 10 23 refl (e ∙ h))) (fits_form-length (codes "dddd-dd-ddTdd:dd") text (λ e. lit_ne 16 23 refl (e ∙ h))) (fits_form-length (codes "dddd-dd-ddTdd:ddZ") text (λ e. lit_ne 17 23 refl (e ∙ h))) (fits_form-length (codes "dddd-dd-ddTdd:dd:dd") text (λ e. lit_ne 19 23 refl (e ∙ h))) (fits_form-length (codes "dddd-dd-ddTdd:dd:ddZ") text (λ e. lit_ne 20 23 refl (e ∙ h))) refl (fits_form-length (codes "dddd-dd-ddTdd:dd:dd.dddZ") text (λ e. lit_ne 24 23 refl (e ∙ h))) ∙ or-false _
 
 pub has_form-24 : (text : List ℕ) → length text ≡ 24 → has_form text ≡ fits_form (codes "dddd-dd-ddTdd:dd:dd.dddZ") text
 has_form-24 text h =
-    has_form-cases text false false false false false false _ (fits_form-length (codes "dddd-dd-dd") text (λ e. lit_ne 10 24 refl (e ∙ h))) (fits_form-length (codes "dddd-dd-ddTdd:dd") text (λ e. lit_ne 16 24 refl (e ∙ h))) (fits_form-length (codes "dddd-dd-ddTdd:ddZ") text (λ e. lit_ne 17 24 refl (e ∙ h))) (fits_form-length (codes "dddd-dd-ddTdd:dd:dd") text (λ e. lit_ne 19 24 refl (e ∙ h))) (fits_form-length (codes "dddd-dd-ddTdd:dd:ddZ") text (λ e. lit_ne 20 24 refl (e ∙ h))) (fits_form-length (codes "dddd-dd-ddTdd:dd:dd.ddd") text (λ e. lit_ne 23 24 refl (e ∙ h))) refl ∙ or_false _
+    has_form-cases text false false false false false false _ (fits_form-length (codes "dddd-dd-dd") text (λ e. lit_ne 10 24 refl (e ∙ h))) (fits_form-length (codes "dddd-dd-ddTdd:dd") text (λ e. lit_ne 16 24 refl (e ∙ h))) (fits_form-length (codes "dddd-dd-ddTdd:ddZ") text (λ e. lit_ne 17 24 refl (e ∙ h))) (fits_form-length (codes "dddd-dd-ddTdd:dd:dd") text (λ e. lit_ne 19 24 refl (e ∙ h))) (fits_form-length (codes "dddd-dd-ddTdd:dd:ddZ") text (λ e. lit_ne 20 24 refl (e ∙ h))) (fits_form-length (codes "dddd-dd-ddTdd:dd:dd.ddd") text (λ e. lit_ne 23 24 refl (e ∙ h))) refl ∙ or-false _
 
 pub has_form-other : (text : List ℕ) → length text ≢ 10 → length text ≢ 16 → length text ≢ 17 → length text ≢ 19 → length text ≢ 20 → length text ≢ 23 → length text ≢ 24 → has_form text ≡ false
 has_form-other text h10 h16 h17 h19 h20 h23 h24 =

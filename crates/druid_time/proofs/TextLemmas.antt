@@ -6,13 +6,13 @@ use Rattle.std.proofs.lemmas.Str.{IsUtf8-from_ascii}
 use Rattle.std.proofs.lemmas.Str.Ascii.{IsAscii-from_all}
 use Rattle.std.proofs.lemmas.List.Elements.{All-from_recursion}
 use Rattle.std.proofs.lemmas.Bool.{or_left, or_right, and_from, le-leb, lt-ltb, le-ltb, eq-eqb, ne_eqb, cases_order, cases_Bool, and_parts, leb-true, ltb-true, false_from_ne_true, false≢true, or_cases, or_parts}
-use Rattle.std.proofs.lemmas.Bool.Decides.{nat_tests}
 use Rattle.std.specs.Ordering.{ordering_then}
 use Rattle.std.specs.Cmp.Lexicographic.{slice_cmp}
 use Rattle.std.proofs.lemmas.List.Sums.{sum_by-cons}
 use Rattle.std.specs.Option.{ok_or}
 use Rattle.std.specs.List.{All, AllByRecursion, count_by, list_any, position_or_len, before_first, after_first}
 use Rattle.jiff_core.proofs.CalendarLemmas.{days_in_month_bounds}
+use Rattle.druid_base.proofs.OrderLemmas.{ordering_then-assoc, nat_cmp-lt, nat_cmp-eq, nat_cmp-gt}
 use Rattle.druid_time.proofs.CivilLemmas.{civil_same, IsInstant-instant_of, IsCivil-civil_of, instant_of-civil_of, time_of_day_limit, day_number-lt_year, day_number-lt_month, day_number-lt_day, day_number-same}
 use Rattle.druid_time.specs.declared.fault.TimeFault.{TimeFault}
 use Rattle.druid_time.specs.declared.fault.TimeFault.TheVariants.{NotATime, OutOfRange, Empty}
@@ -129,36 +129,22 @@ instant_text_injective s t h k e =
 
 -- ---- the order of the texts
 
-cmp_less : (a b : ℕ) → a < b → nat_cmp a b ≡ Less
-cmp_less a b h = grind (arith, nat_tests)
-
-cmp_same : (a : ℕ) → nat_cmp a a ≡ Equal
-cmp_same a = grind (arith, nat_tests)
-
-cmp_greater : (a b : ℕ) → b < a → nat_cmp a b ≡ Greater
-cmp_greater a b h = grind (arith, nat_tests)
-
 -- a and b are compared by x and y first
 cmp_first : (a b x y : ℕ) (o : Ordering) → (x < y → a < b) → (y < x → b < a) → (x ≡ y → nat_cmp a b ≡ o) → nat_cmp a b ≡ ordering_then (nat_cmp x y) o
 cmp_first a b x y o less greater same =
     elim (cases_order x y) [
-      | inl e ↦ rw (e, cmp_same y) (same e)
-      | inr (inl before) ↦ rw (cmp_less x y before, cmp_less a b (less before)) refl
-      | inr (inr after) ↦ rw (cmp_greater x y after, cmp_greater a b (greater after)) refl
+      | inl e ↦ rw (e, nat_cmp-eq y) (same e)
+      | inr (inl before) ↦ rw (nat_cmp-lt x y before, nat_cmp-lt a b (less before)) refl
+      | inr (inr after) ↦ rw (nat_cmp-gt x y after, nat_cmp-gt a b (greater after)) refl
     ]
 
 cmp_shift : (a b x y : ℕ) → (x < y → a < b) → (y < x → b < a) → (x ≡ y → a ≡ b) → nat_cmp a b ≡ nat_cmp x y
 cmp_shift a b x y less greater same =
     elim (cases_order x y) [
-      | inl e ↦ rw (e, same e, cmp_same y, cmp_same b) refl
-      | inr (inl before) ↦ rw (cmp_less x y before, cmp_less a b (less before)) refl
-      | inr (inr after) ↦ rw (cmp_greater x y after, cmp_greater a b (greater after)) refl
+      | inl e ↦ rw (e, same e, nat_cmp-eq y, nat_cmp-eq b) refl
+      | inr (inl before) ↦ rw (nat_cmp-lt x y before, nat_cmp-lt a b (less before)) refl
+      | inr (inr after) ↦ rw (nat_cmp-gt x y after, nat_cmp-gt a b (greater after)) refl
     ]
-
-then-assoc : (x y z : Ordering) → ordering_then (ordering_then x y) z ≡ ordering_then x (ordering_then y z)
-then-assoc Less y z = refl
-then-assoc Equal y z = refl
-then-assoc Greater y z = refl
 
 digit_cmp : (a b : ℕ) → nat_cmp (digit a) (digit b) ≡ nat_cmp (a % 10) (b % 10)
 digit_cmp a b = cmp_shift (digit a) (digit b) (a % 10) (b % 10) (λ h. omega arith) (λ h. omega arith) (λ h. omega arith)
@@ -174,13 +160,13 @@ one_digit a b h k = cmp_shift a b (digit a) (digit b) (λ e. omega arith) (λ e.
 
 two_cmp : (a b : ℕ) (o : Ordering) → a < 100 → b < 100 → ordering_then (nat_cmp (digit (a / 10)) (digit (b / 10))) (ordering_then (nat_cmp (digit a) (digit b)) o) ≡ ordering_then (nat_cmp a b) o
 two_cmp a b o h k =
-    rw (more_digits a b, one_digit (a / 10) (b / 10) (omega arith) (omega arith)) (sym (then-assoc _ _ o))
+    rw (more_digits a b, one_digit (a / 10) (b / 10) (omega arith) (omega arith)) (sym (ordering_then-assoc _ _ o))
 
 three_cmp : (a b : ℕ) (o : Ordering) → a < 1000 → b < 1000 → ordering_then (nat_cmp (digit (a / 100)) (digit (b / 100))) (ordering_then (nat_cmp (digit (a / 10)) (digit (b / 10))) (ordering_then (nat_cmp (digit a) (digit b)) o)) ≡ ordering_then (nat_cmp a b) o
 three_cmp a b o h k =
     let first : a / 10 / 10 ≡ a / 100 = omega arith in
     let second : b / 10 / 10 ≡ b / 100 = omega arith in
-    rw (more_digits a b) (rw (first, second) at (two_cmp (a / 10) (b / 10) (ordering_then (nat_cmp (digit a) (digit b)) o) (omega arith) (omega arith)) ∙ sym (then-assoc _ _ o))
+    rw (more_digits a b) (rw (first, second) at (two_cmp (a / 10) (b / 10) (ordering_then (nat_cmp (digit a) (digit b)) o) (omega arith) (omega arith)) ∙ sym (ordering_then-assoc _ _ o))
 
 four_cmp : (a b : ℕ) (o : Ordering) → a < 10_000 → b < 10_000 → ordering_then (nat_cmp (digit (a / 1000)) (digit (b / 1000))) (ordering_then (nat_cmp (digit (a / 100)) (digit (b / 100))) (ordering_then (nat_cmp (digit (a / 10)) (digit (b / 10))) (ordering_then (nat_cmp (digit a) (digit b)) o))) ≡ ordering_then (nat_cmp a b) o
 four_cmp a b o h k =
@@ -188,7 +174,7 @@ four_cmp a b o h k =
     let second : b / 10 / 100 ≡ b / 1000 = omega arith in
     let first_two : a / 10 / 10 ≡ a / 100 = omega arith in
     let second_two : b / 10 / 10 ≡ b / 100 = omega arith in
-    rw (more_digits a b) (rw (first, second, first_two, second_two) at (three_cmp (a / 10) (b / 10) (ordering_then (nat_cmp (digit a) (digit b)) o) (omega arith) (omega arith)) ∙ sym (then-assoc _ _ o))
+    rw (more_digits a b) (rw (first, second, first_two, second_two) at (three_cmp (a / 10) (b / 10) (ordering_then (nat_cmp (digit a) (digit b)) o) (omega arith) (omega arith)) ∙ sym (ordering_then-assoc _ _ o))
 
 -- dates and times by their parts, the larger ones first
 abbrev civil_cmp : Civil → Civil → Ordering
@@ -252,7 +238,7 @@ instant_cmp a b h k =
     let t = day_number b * day_length + time_of_day b in
     cmp_first s t (day_number a) (day_number b) (nat_cmp (time_of_day a) (time_of_day b)) (λ e. omega arith) (λ e. omega arith)
     (λ day. cmp_shift s t (time_of_day a) (time_of_day b) (λ e. omega arith) (λ e. omega arith) (λ e. omega arith))
-    ∙ rw (day_cmp a b h k, time_cmp a b h k) (then-assoc (nat_cmp a.year b.year) _ _ ∙ ap (ordering_then (nat_cmp a.year b.year)) (then-assoc (nat_cmp a.month b.month) _ _))
+    ∙ rw (day_cmp a b h k, time_cmp a b h k) (ordering_then-assoc (nat_cmp a.year b.year) _ _ ∙ ap (ordering_then (nat_cmp a.year b.year)) (ordering_then-assoc (nat_cmp a.month b.month) _ _))
 
 -- texts of instants stand in the order of the instants
 pub slice_cmp-instant_text : (s t : ℕ) → IsInstant s → IsInstant t → slice_cmp nat_cmp (instant_text s) (instant_text t) ≡ nat_cmp s t

@@ -6,4 +6,3 @@ pub mod Texts
 pub mod Granularity
 -- words of private contracts
 pub mod Results
-pub mod Options

@@ -8,7 +8,7 @@ use Rattle.std.specs.List.Sorted.{IsPermutation, IsNonDecreasingBy}
 use Rattle.std.proofs.lemmas.List.Sorted.{Contains-permutation, IsNonDecreasingBy-drop}
 use Rattle.druid_time.specs.Extent.{Has}
 use Rattle.druid_segid.specs.Group.{Group}
-use Rattle.druid_shard.proofs.MemberLemmas.{Contains-nil, Contains-cons, Contains-later, Contains-map, Contains-map_back}
+use Rattle.druid_base.proofs.MemberLemmas.{Contains-nil, Contains-cons, Contains-later, Contains-map, Contains-map_back}
 use Rattle.druid_timeline.specs.Candidates.{IsCandidateOf, IsBestOf}
 use Rattle.druid_timeline.specs.Pieces.{Shown, Shows}
 use Rattle.druid_timeline.specs.Active.{StartInOrder, StartLater, AreSplit}

@@ -4,7 +4,7 @@ use Rattle.std.specs.List.{Contains}
 use Rattle.druid_time.specs.Extent.{Has}
 use Rattle.druid_segid.specs.Group.{Group, Outranks}
 use Rattle.druid_segid.proofs.GroupLemmas.{Outranks-cases, Outranks-onward}
-use Rattle.druid_shard.proofs.MemberLemmas.{Contains-nil, Contains-cons, Contains-later}
+use Rattle.druid_base.proofs.MemberLemmas.{Contains-nil, Contains-cons, Contains-later}
 use Rattle.druid_timeline.specs.Candidates.{IsCandidateOf, IsBest}
 
 -- a group that is the best one so far, or that it outranks

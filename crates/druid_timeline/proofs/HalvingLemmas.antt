@@ -1,6 +1,5 @@
 -- Runs that are found by halving.
 use Rattle.std.proofs.Common.{◌≡◌, ◌+◌, ◌<◌, ◌≤◌, ◌⊎◌, ℕ, zero, suc, true, false, List, [], ◌∷◌, length, get_or, take, drop, map, add-one, nat_cmp, nat_lt, refl, sym, ◌∙◌, subst, inl, inr, arith}
-use Rattle.std.proofs.lemmas.Bool.Decides.{nat_tests}
 use Rattle.std.specs.List.{Contains, AllWithin}
 use Rattle.std.specs.List.Sorted.{IsNonDecreasingBy, IsPartitionedBy, IsPartitionPoint}
 use Rattle.std.specs.Ordering.{is_le}
@@ -8,6 +7,7 @@ use Rattle.std.proofs.lemmas.Bool.{cases_lt, ltb-true, ltb-false}
 use Rattle.std.proofs.lemmas.List.{get_or_default, get_or-take, get_or-drop, length-take, length-drop, drop_all}
 use Rattle.std.proofs.lemmas.List.Elements.{Contains-get_or}
 use Rattle.std.proofs.lemmas.List.Sorted.{IsNonDecreasingBy-from_all_adjacent}
+use Rattle.druid_base.proofs.OrderLemmas.{is_le-from}
 use Rattle.druid_time.specs.Extent.{Has}
 use Rattle.druid_time.proofs.ExtentLemmas.{at_most, above}
 use Rattle.druid_segid.specs.Group.{Group}
@@ -40,12 +40,9 @@ starts_rise rs runs =
     IsNonDecreasingBy-from_all_adjacent (λ (r : Run). r.0.start) rs
     (λ k d l. omega (arith, adjacent rs runs k d l, stretch_at rs runs k d (omega (arith, l))))
 
-up_to : (x y : ℕ) → x ≤ y → is_le (nat_cmp x y) ≡ true
-up_to x y h = grind (arith, nat_tests)
-
 -- what `partition_point` asks at the test `n(x) <= t`
 pub parted_le : (n : Run → ℕ) (rs : List Run) (t : ℕ) → IsNonDecreasingBy n rs → IsPartitionedBy (λ r. is_le (nat_cmp (n r) t)) rs
-parted_le n rs t up i j d low below e = up_to (n (get_or rs i d)) t (omega (arith, up i j d low below, at_most (n (get_or rs j d)) t e))
+parted_le n rs t up i j d low below e = is_le-from (n (get_or rs i d)) t (omega (arith, up i j d low below, at_most (n (get_or rs j d)) t e))
 
 -- ---- what stands before and after a place
 

@@ -4,7 +4,7 @@ use Rattle.std.specs.List.{Contains}
 use Rattle.std.proofs.lemmas.Bool.{false≢true}
 use Rattle.druid_segid.specs.Group.{Group, same_group}
 use Rattle.druid_members.specs.Members.{Member, IsComplete, SameMembers}
-use Rattle.druid_shard.proofs.MemberLemmas.{Contains-cons, Contains-later, Contains-nil, Contains-map, Contains-map_back}
+use Rattle.druid_base.proofs.MemberLemmas.{Contains-cons, Contains-later, Contains-nil, Contains-map, Contains-map_back}
 use Rattle.druid_members.proofs.SlotLemmas.{core_count-same}
 use Rattle.druid_timeline.specs.Holding.{Held, members_of, SameHeld}
 use Rattle.druid_timeline.specs.Overshadowed.{IsOvershadowed}

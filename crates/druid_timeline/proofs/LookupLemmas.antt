@@ -7,7 +7,7 @@ use Rattle.std.specs.Result.{IfOk}
 use Rattle.std.proofs.lemmas.Bool.{cases_lt, lt-ltb, false≢true}
 use Rattle.std.proofs.lemmas.List.{map-append}
 use Rattle.druid_time.specs.Extent.{Extent, common}
-use Rattle.druid_shard.proofs.MemberLemmas.{Contains-nil, Contains-cons, Contains-later}
+use Rattle.druid_base.proofs.MemberLemmas.{Contains-nil, Contains-cons, Contains-later}
 use Rattle.druid_members.specs.Members.{Member}
 use Rattle.druid_chunks.specs.Chunks.{Chunk, AreChunks, members_at}
 use Rattle.druid_timeline.specs.Chunks.{held_in}

@@ -15,6 +15,7 @@ use Rattle.std.proofs.lemmas.List.Sorted.{IsPermutation-trans, IsPermutation-app
 use Rattle.std.proofs.lemmas.Cmp.{then_total, on_total, nat_cmp_total, nat_list_cmp_total}
 use Rattle.std.proofs.lemmas.Map.Keys.{sorted_from_all_adjacent}
 use Rattle.std.proofs.lemmas.Map.Made.{AllPairs-from_IsDistinct}
+use Rattle.druid_base.proofs.OrderLemmas.{reverse-Greater}
 use Rattle.druid_segid.specs.Group.{Group, same_group, rank_cmp, Outranks}
 use Rattle.druid_segid.proofs.GroupLemmas.{group_same, rank_cmp-total, Outranks-cases}
 use Rattle.druid_segid.proofs.OrderLemmas.{both-Equal, nat_cmp-Equal, slice_cmp-Equal}
@@ -32,11 +33,6 @@ place_cmp-Equal g h e =
     let ends = both-Equal (nat_cmp g.interval.start h.interval.start) (nat_cmp g.interval.end h.interval.end) front.0 in
     group_same g h (nat_cmp-Equal _ _ ends.0) (nat_cmp-Equal _ _ ends.1) (slice_cmp-Equal g.version h.version front.1)
 
-reversed : (o p : Ordering) → o ≡ ordering_reverse p → o ≡ Greater → p ≡ Less
-reversed o Less e f = refl
-reversed o Equal e f = absurd (cc)
-reversed o Greater e f = absurd (cc)
-
 then_level : (o p : Ordering) → p ≡ Equal → ordering_then o p ≡ o
 then_level Less p e = refl
 then_level Equal p e = e
@@ -50,7 +46,7 @@ place_cmp-rank g h e =
 
 pub place_cmp-below : (g h : Group) → ordering_then (nat_cmp g.interval.start h.interval.start) (nat_cmp g.interval.end h.interval.end) ≡ Equal → Outranks h g → Less ≡ place_cmp g h
 place_cmp-below g h e above =
-    sym (place_cmp-rank g h e ∙ reversed (rank_cmp h g) (rank_cmp g h) (rank_cmp-total.antisymm h g) above)
+    sym (place_cmp-rank g h e ∙ reverse-Greater (rank_cmp h g) (rank_cmp g h) (rank_cmp-total.antisymm h g) above)
 
 level : (o : Ordering) → o ≡ ordering_reverse o → o ≡ Equal
 level Less e = absurd (cc)
@@ -71,7 +67,7 @@ adjacent : (g h : Group) (o : Ordering) → place_cmp g h ≡ o → g ≢ h → 
 adjacent g h Less e other not = e
 adjacent g h Equal e other not = absurd (other (place_cmp-Equal g h e))
 adjacent g h Greater e other not =
-    let below = reversed (place_cmp g h) (place_cmp h g) (place_cmp-total.antisymm g h) e in
+    let below = reverse-Greater (place_cmp g h) (place_cmp h g) (place_cmp-total.antisymm g h) e in
     absurd (false≢true (sym not ∙ ap is_lt below))
 
 -- sorted, and none twice

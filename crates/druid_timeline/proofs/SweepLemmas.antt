@@ -11,7 +11,7 @@ use Rattle.std.proofs.lemmas.Nat.{row_fits}
 use Rattle.druid_time.specs.Extent.{Extent, IsExtent, Has}
 use Rattle.druid_segid.specs.Group.{Group}
 use Rattle.druid_segid.proofs.GroupLemmas.{Outranks-one_way}
-use Rattle.druid_shard.proofs.MemberLemmas.{Contains-nil, Contains-cons}
+use Rattle.druid_base.proofs.MemberLemmas.{Contains-nil, Contains-cons}
 use Rattle.druid_timeline.specs.Pieces.{Shown, shown_at, IsStretch, AreRuns, Shows}
 use Rattle.druid_timeline.specs.Candidates.{IsCandidateOf, NoneOf, IsBestOf}
 use Rattle.druid_timeline.specs.Stretches.{EndBy, IsBoundIf, HaveBounds, NoBoundWithin}

@@ -10,7 +10,7 @@ use Rattle.std.proofs.lemmas.List.Sorted.{IsPermutation-to_front, IsPermutation-
 use Rattle.std.proofs.lemmas.Map.Keys.{IsDistinct-head, IsDistinct-tail, IsDistinct-cons, IsDistinct-from_apart, IsDistinct-IsPermutation}
 use Rattle.druid_segid.specs.Group.{Group, same_group}
 use Rattle.druid_members.specs.Members.{IsComplete}
-use Rattle.druid_shard.proofs.MemberLemmas.{Contains-nil, Contains-cons, Contains-later}
+use Rattle.druid_base.proofs.MemberLemmas.{Contains-nil, Contains-cons, Contains-later}
 use Rattle.druid_chunks.specs.Chunks.{Chunk, AreChunks, IsCompleteOf}
 use Rattle.druid_chunks.proofs.ChunkLemmas.{same_group-exact, same_group-same, same_group-equiv}
 use Rattle.druid_timeline.specs.Chunks.{held_in}

@@ -6,7 +6,7 @@ use Rattle.druid_time.specs.Extent.{Extent, Has}
 use Rattle.druid_segid.specs.Group.{Group, same_group, Outranks}
 use Rattle.druid_segid.proofs.GroupLemmas.{Outranks-cases, Outranks-onward}
 use Rattle.druid_members.specs.Members.{Member, HasPartition, IsComplete, core_count}
-use Rattle.druid_shard.proofs.MemberLemmas.{Contains-cons, Contains-later, Contains-nil, Contains-map, Contains-map_back}
+use Rattle.druid_base.proofs.MemberLemmas.{Contains-cons, Contains-later, Contains-nil, Contains-map, Contains-map_back}
 use Rattle.druid_chunks.proofs.ChunkLemmas.{same_group-exact}
 use Rattle.druid_timeline.specs.Holding.{Held, members_of}
 use Rattle.druid_timeline.specs.Pieces.{Shown, Shows, ArePieces}

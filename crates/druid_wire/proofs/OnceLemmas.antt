@@ -1,22 +1,14 @@
 -- A message is read in one way, and has no fault.
 use Rattle.std.proofs.Common.{◌≡◌, ℕ, ◌⊎◌, List, [], ◌++◌, length, length-append, refl, sym, ap, subst, ◌∙◌, arith, inl, inr, Result, Ok, Err}
-use Rattle.std.proofs.lemmas.List.{take_at, drop_at}
-use Rattle.std.specs.Prelude.{take, drop}
 use Rattle.httparse.specs.Grammar.{RequestHead, ResponseHead, ReadsResponse, status_code}
 use Rattle.httparse.proofs.GrammarLemmas.{request_unique, response_unique}
+use Rattle.druid_base.proofs.ListLemmas.{append-fronts}
 use Rattle.druid_message.specs.Requests.{RequestValue}
 use Rattle.druid_wire.specs.Messages.{IsRequestHead, IsResponseHead, RequestSays, ResponseSays, request_length, response_length, HasBadHead, HasFault, EndsInBody, IsRequest, IsResponse}
 use Rattle.druid_message.specs.declared.fault.WireFault.{WireFault}
 use Rattle.druid_message.specs.declared.fault.WireFault.TheVariants.{Cut, Read, Write, BadHead, HeadTooLong, NoLength, BodyTooLong, Connect, Memory}
 use Rattle.druid_wire.proofs.FramedLemmas.{one_head, not_cut, not_long}
 use Rattle.druid_wire.proofs.GrammarLines.{request_stays, response_stays}
-
--- texts of one length, and what is after them
-split_once : (a b r s : List ℕ) → length a ≡ length b → a ++ r ≡ b ++ s → (a ≡ b) × (r ≡ s)
-split_once a b r s same e = (
-  sym (take_at a r (length b) same) ∙ ap (λ (l : List ℕ). take (length b) l) e ∙ take_at b s (length b) refl,
-  sym (drop_at a r (length b) same) ∙ ap (λ (l : List ℕ). drop (length b) l) e ∙ drop_at b s (length b) refl,
-)
 
 same_count : (m n : ℕ) → ◌≡◌ {A = Result ℕ WireFault} (Ok m) (Ok n) → m ≡ n
 same_count m n e = cc
@@ -34,7 +26,7 @@ one_request input a b r s p q =
     let heads = one_head input p.bytes q.bytes (a.body ++ r) (b.body ++ s) p.framed q.framed in
     let same = same_request_head q.bytes p.head q.head (subst (λ (l : List ℕ). IsRequestHead l p.head) heads.0 p.reads) q.reads in
     let count = same_count (length a.body) (length b.body) (sym p.whole ∙ ap request_length same ∙ q.whole) in
-    let bodies = split_once a.body b.body r s count heads.1 in
+    let bodies = append-fronts a.body b.body r s count heads.1 in
     let method = p.method ∙ ap (λ (h : RequestHead). h.method) same ∙ sym q.method in
     let target = p.target ∙ ap (λ (h : RequestHead). h.target) same ∙ sym q.target in
     (λ i. record { method = method i; target = target i; body = bodies.0 i }, bodies.1)
@@ -96,7 +88,7 @@ one_response input m n a b r s p q =
     let heads = one_head input p.bytes q.bytes (a ++ r) (b ++ s) p.framed q.framed in
     let same = same_response_head q.bytes p.head q.head (subst (λ (l : List ℕ). ReadsResponse l p.head []) heads.0 p.reads.reads) q.reads.reads in
     let count = same_count (length a) (length b) (sym p.whole ∙ ap response_length same ∙ q.whole) in
-    let bodies = split_once a b r s count heads.1 in
+    let bodies = append-fronts a b r s count heads.1 in
     (p.code ∙ ap status_code same ∙ sym q.code, bodies.0, bodies.1)
 
 response_says_it : (bytes : List ℕ) (h : ResponseHead) (n m : ℕ) → IsResponseHead bytes h → response_length h ≡ Ok n → ResponseSays bytes (Ok m) → m ≡ n

@@ -5,6 +5,7 @@ pub mod Heads
 pub mod Messages
 pub mod Grammar
 pub mod Written
+pub mod Response
 pub mod Served
 -- words of private contracts
 pub mod Parts

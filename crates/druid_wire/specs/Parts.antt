@@ -4,8 +4,8 @@ use Rattle.std.specs.Io.KnownBytes.{Consumes}
 use Rattle.druid_stream.specs.declared.lines.Part.{Part}
 use Rattle.druid_stream.specs.declared.lines.Part.TheVariants.{More, Feed, Ended}
 use Rattle.druid_wire.specs.Frame.{IsFramed, EndsInHead, IsLongHead}
-use Rattle.druid_wire.specs.declared.frame.Found.{Found}
-use Rattle.druid_wire.specs.declared.frame.Found.TheVariants as found
+use Rattle.druid_wire.specs.declared.frame.HeadEnd.{HeadEnd}
+use Rattle.druid_wire.specs.declared.frame.HeadEnd.TheVariants as found
 
 -- how the line ended that old grew by: at its line feed, at the end of the input, or with as many bytes as there was room for, after which
 -- one more came; the first two where there was room
@@ -21,7 +21,7 @@ pub record IsLine (part : Part) (old new : List ℕ) (room : ℕ) (before after 
   pub ends : EndsAs part front room before after
 
 -- what reading a head finds, what it keeps, and what it leaves
-abbrev pub Finds : Found → List ℕ → List ℕ → Option (List ℕ) → Type 0
+abbrev pub Finds : HeadEnd → List ℕ → List ℕ → Option (List ℕ) → Type 0
 Finds found.Head input head after = (rest : List ℕ) × (after ≡ Some rest) × IsFramed input head rest
 Finds found.Ended input head after = EndsInHead input
 Finds found.TooLong input head after = IsLongHead input

@@ -1,5 +1,5 @@
 -- What a server writes for what it reads: the words that all servers share.
-use Rattle.std.specs.Prelude.{◌≡◌, ◌⊎◌, ℕ, Bool, true, false, List, codes, length, nat_le, Option, Some, None, IfSome, if◌then◌else◌}
+use Rattle.std.specs.Prelude.{◌≡◌, ◌⊎◌, ℕ, Bool, true, false, List, codes, bytes_eq, length, nat_le, Option, Some, None, IfSome, if◌then◌else◌}
 use Rattle.std.specs.Io.KnownBytes.{Appends, Keeps}
 use Rattle.druid_stream.specs.Fronts.{AppendsFront}
 use Rattle.druid_message.specs.Requests.{RequestValue}
@@ -18,6 +18,14 @@ pub record Tells (wanted : ℕ) (text : List ℕ) (status : ℕ) (body : List �
 abbrev pub Allows : Bool → (ℕ → List ℕ → Type 0) → ℕ → List ℕ → Type 0
 Allows true P status body = P status body
 Allows false P status body = Tells 405 (codes "{\"error\":\"Method\"}") status body
+
+-- an answer to a request that gets something
+abbrev pub Gets : RequestValue → (ℕ → List ℕ → Type 0) → ℕ → List ℕ → Type 0
+Gets request P status body = Allows (bytes_eq request.method (codes "GET")) P status body
+
+-- memory was refused for the answer
+abbrev pub IsOutOfMemory : ℕ → List ℕ → Type 0
+IsOutOfMemory status body = Tells 500 (codes "{\"error\":\"Memory\"}") status body
 
 -- what is answered to what is no request; where the input is cut off, or was not read, nothing is
 abbrev pub refusal_text : WireFault → Option (List ℕ)

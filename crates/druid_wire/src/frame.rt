@@ -5,16 +5,14 @@ ghost use Rattle.druid_wire.specs.Frame.{IsBlank};
 ghost use Rattle.druid_wire.specs.Limits.{max_head};
 ghost use Rattle.druid_wire.specs.Parts.{IsLine, Finds};
 
+use crate::limits::MAX_HEAD;
 use druid_stream::{Part, next_part};
 use std::io;
 use std::io::{BufRead, ErrorKind};
 
-/// The most bytes of a head, from the first byte that is read to the end of the empty line: blank lines before it count too.
-pub const MAX_HEAD: usize = 16_384;
-
 /// What reading a head finds.
 #[derive(Clone, Copy, Debug, PartialEq, Eq, Drop)]
-pub(crate) enum Found {
+pub(crate) enum HeadEnd {
     // A head, up to its end.
     Head,
     // The end of the input.
@@ -62,7 +60,7 @@ fn read_line<R: BufRead>(reader: &mut R, head: &mut Vec<u8>, room: usize) -> io:
 
 // Reads blank lines, which are not kept but count, and after them a head, up to and with the blank line that ends it. No more
 // than the limit and two bytes are taken.
-pub(crate) fn find_head<R: BufRead>(reader: &mut R, head: &mut Vec<u8>) -> io::Result<Found>
+pub(crate) fn find_head<R: BufRead>(reader: &mut R, head: &mut Vec<u8>) -> io::Result<HeadEnd>
     ensures found { IfOk result (λ found. IfSome (R.remaining reader.old)
         (λ input. Finds found input head.new.items (R.remaining reader.new))) }
     ensures taken { TakesAtMost (max_head + 2) (R.remaining reader.old) (R.remaining reader.new) }
@@ -74,15 +72,15 @@ pub(crate) fn find_head<R: BufRead>(reader: &mut R, head: &mut Vec<u8>) -> io::R
         let start = head.len();
         let part = read_line(reader, head, MAX_HEAD - passed - start)?;
         match part {
-            Part::More => return Ok(Found::TooLong),
-            Part::Ended => return Ok(Found::Ended),
+            Part::More => return Ok(HeadEnd::TooLong),
+            Part::Ended => return Ok(HeadEnd::Ended),
             Part::Feed => {}
         }
         let blank = is_blank(head, start);
         head.push(b'\n')?;
         if blank {
             if start > 0 {
-                return Ok(Found::Head);
+                return Ok(HeadEnd::Head);
             }
             passed += head.len();
             head.clear();

@@ -4,7 +4,8 @@ ghost use Rattle.druid_wire.specs.Frame.{IsPlain, IsFramed};
 ghost use Rattle.druid_wire.specs.Messages.{IsOfBytes};
 ghost use Rattle.druid_wire.specs.HeadParts.{LacksHead};
 
-use crate::frame::{MAX_HEAD, is_blank};
+use crate::frame::is_blank;
+use crate::limits::MAX_HEAD;
 use druid_message::WireFault;
 
 // The first line, without its line feed, and what follows it; or none where no line ends.

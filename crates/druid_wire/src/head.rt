@@ -5,15 +5,13 @@ ghost use Rattle.druid_wire.specs.Messages.{body_length, RequestSays, ResponseSa
 ghost use Rattle.druid_wire.specs.HeadParts.{TellsRequest, TellsResponse};
 
 use crate::length::{Length, is_coded, length_in};
+use crate::limits::MAX_FIELDS;
 use druid_message::WireFault;
 use http::StatusCode;
 use httparse::spans::{
     EMPTY_HEADER_SPAN, HeaderSpan, RequestSpans, ResponseSpans, Span, parse_request, parse_response,
 };
 use httparse::{Error, Status};
-
-/// The most fields of a head.
-pub const MAX_FIELDS: usize = 64;
 
 /// What the head of a request says.
 #[derive(Clone, Copy, Debug)]

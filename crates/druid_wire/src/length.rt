@@ -5,11 +5,9 @@ ghost use Rattle.std.specs.Char.{is_ascii_digit};
 ghost use Rattle.httparse.specs.Spans.{IsHeaderWithin, header_bytes};
 ghost use Rattle.druid_wire.specs.Heads.{is_named, is_length, length_value, length_in, is_coded};
 
+use crate::limits::MAX_BODY;
 use httparse::spans::HeaderSpan;
 use std::str;
-
-/// The most bytes of a body.
-pub const MAX_BODY: usize = 16_777_216;
 
 // The most digits of a length.
 const MAX_DIGITS: usize = 20;

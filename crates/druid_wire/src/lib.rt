@@ -7,20 +7,19 @@ mod framed;
 mod head;
 mod laws;
 mod length;
+mod limits;
 mod reading;
 mod response;
 mod serving;
 mod writing;
 
-pub use frame::MAX_HEAD;
-pub use head::MAX_FIELDS;
 pub use laws::{
     heads_are_framed, messages_are_of_the_grammar, one_head, one_request, one_response,
     requests_are_read_back, requests_have_no_fault, responses_are_read_back,
     responses_have_no_fault,
 };
-pub use length::MAX_BODY;
-pub use reading::{read_request, read_response};
-pub use response::response_of;
+pub use limits::{MAX_BODY, MAX_FIELDS, MAX_HEAD};
+pub use reading::{read_request, read_response, response_of};
+pub use response::Response;
 pub use serving::{refuse_request, send_response};
 pub use writing::{request_bytes, write_request, write_response};

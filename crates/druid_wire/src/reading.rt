@@ -1,5 +1,5 @@
 //! Messages, read.
-ghost use Rattle.std.specs.Prelude.{◌≡◌, ◌↔◌, ◌⊎◌, ◌+◌, ℕ, List, true, Some, OnOk, IfOk, IfErr, IfSome};
+ghost use Rattle.std.specs.Prelude.{◌≡◌, ◌↔◌, ◌⊎◌, ◌+◌, ℕ, List, true, Some, OnOk, OnErr, IfOk, IfErr, IfSome};
 ghost use Rattle.std.specs.IoError.{error_kind};
 ghost use Rattle.httparse.specs.Spans.{span_bytes};
 ghost use Rattle.druid_stream.specs.Taken.{TakesAtMost};
@@ -7,10 +7,11 @@ ghost use Rattle.druid_wire.specs.Frame.{IsFramed};
 ghost use Rattle.druid_wire.specs.Limits.{max_head, max_body, most_taken};
 ghost use Rattle.druid_wire.specs.Bodies.{EndsBody};
 ghost use Rattle.druid_wire.specs.HeadParts.{TellsRequest, LacksHead, LacksBody};
-ghost use Rattle.druid_wire.specs.Messages.{IsRequest, IsResponse, HasFault, RequestSays, ResponseSays};
+ghost use Rattle.druid_wire.specs.Messages.{IsRequest, IsResponse, HasFault, IsOfBytes, RequestSays, ResponseSays};
 
 use crate::body::read_body;
-use crate::frame::{Found, find_head};
+use crate::frame::{HeadEnd, find_head};
+use crate::framed::split_head;
 use crate::head::{RequestParts, parse_request_head, parse_response_head};
 use druid_message::{Request, WireFault};
 use http::method::MethodError;
@@ -38,9 +39,9 @@ fn take_head<R: BufRead>(reader: &mut R, head: &mut Vec<u8>) -> Result<(), WireF
     ensures taken { TakesAtMost (max_head + 2) (R.remaining reader.old) (R.remaining reader.new) }
 {
     match find_head(reader, head) {
-        Ok(Found::Head) => Ok(()),
-        Ok(Found::Ended) => Err(WireFault::Cut),
-        Ok(Found::TooLong) => Err(WireFault::HeadTooLong),
+        Ok(HeadEnd::Head) => Ok(()),
+        Ok(HeadEnd::Ended) => Err(WireFault::Cut),
+        Ok(HeadEnd::TooLong) => Err(WireFault::HeadTooLong),
         Err(error) => Err(read_fault(&error)),
     }
 }
@@ -138,5 +139,30 @@ pub fn read_response<R: BufRead>(
         Ok(()) => {}
         Err(fault) => return Err(fault),
     }
+    Ok((parts.status, body))
+}
+
+/// The status and the body, which is borrowed, of the response that stands in these bytes; what follows the body is passed over.
+/// Where it has several faults, any of them is reported: `Cut` where the bytes end in it, `HeadTooLong` where its head passes a
+/// limit, `BadHead` where the head is none, names its length twice or badly, or has a status below 100, `NoLength` where its
+/// body is coded or it names no length, `BodyTooLong` where the length passes the limit. Does not allocate.
+pub fn response_of(bytes: &[u8]) -> Result<(StatusCode, &[u8]), WireFault>
+    ensures ok { IfOk result (λ response. (rest : List ℕ) × IsResponse bytes.now response.0 response.1.now rest) }
+    ensures err { IfErr result (λ fault. HasFault ResponseSays bytes.now fault) }
+    ensures none { OnErr result ((status : ℕ) (body rest : List ℕ) → ¬ (IsResponse bytes.now status body rest)) }
+    ensures never { IfErr result IsOfBytes }
+{
+    let (head, rest) = match split_head(bytes) {
+        Ok(parts) => parts,
+        Err(fault) => return Err(fault),
+    };
+    let parts = match parse_response_head(head) {
+        Ok(parts) => parts,
+        Err(fault) => return Err(fault),
+    };
+    if rest.len() < parts.length {
+        return Err(WireFault::Cut);
+    }
+    let (body, _) = rest.split_at(parts.length);
     Ok((parts.status, body))
 }

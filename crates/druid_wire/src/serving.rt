@@ -3,7 +3,8 @@ ghost use Rattle.std.specs.Prelude.{◌≡◌, ◌⊎◌, ℕ, List, Some, None,
 ghost use Rattle.std.specs.Io.KnownBytes.{Keeps};
 ghost use Rattle.druid_wire.specs.Served.{refusal_text, IsSent, IsCutShort};
 
-use crate::length::MAX_BODY;
+use crate::Response;
+use crate::limits::MAX_BODY;
 use crate::writing::write_response;
 use druid_message::WireFault;
 use http::StatusCode;
@@ -21,14 +22,12 @@ fn status_sent(status: StatusCode, count: usize) -> u16
 }
 
 /// Writes a response as `write_response` does, and gives the status that was written.
-pub fn send_response<W: Write>(
-    status: StatusCode,
-    body: &[u8],
-    writer: &mut W,
-) -> Result<u16, WireFault>
-    ensures ok { IfOk result (IsSent (W.contents writer.old) (W.contents writer.new) status body.now) }
-    ensures err { IfErr result (IsCutShort (W.contents writer.old) (W.contents writer.new) status body.now) }
+pub fn send_response<W: Write>(response: &Response, writer: &mut W) -> Result<u16, WireFault>
+    ensures ok { IfOk result (IsSent (W.contents writer.old) (W.contents writer.new) response.now.status response.now.body) }
+    ensures err { IfErr result (IsCutShort (W.contents writer.old) (W.contents writer.new) response.now.status response.now.body) }
 {
+    let status = response.status();
+    let body = response.body();
     match write_response(status, body, writer) {
         Ok(()) => Ok(status_sent(status, body.len())),
         Err(fault) => Err(fault),
@@ -36,14 +35,14 @@ pub fn send_response<W: Write>(
 }
 
 // The text that is answered where no request was read.
-fn refusal_text(fault: WireFault) -> Option<&'static [u8]>
+fn refusal_text(fault: WireFault) -> Option<&'static str>
     ensures { option_map (λ text. text.now) result ≡ refusal_text fault }
 {
     match fault {
-        WireFault::BadHead => Some(b"{\"error\":\"X4\"}"),
-        WireFault::HeadTooLong => Some(b"{\"error\":\"X5\"}"),
-        WireFault::NoLength => Some(b"{\"error\":\"X6\"}"),
-        WireFault::BodyTooLong => Some(b"{\"error\":\"X7\"}"),
+        WireFault::BadHead => Some("{\"error\":\"X4\"}"),
+        WireFault::HeadTooLong => Some("{\"error\":\"X5\"}"),
+        WireFault::NoLength => Some("{\"error\":\"X6\"}"),
+        WireFault::BodyTooLong => Some("{\"error\":\"X7\"}"),
         WireFault::Cut => None,
         WireFault::Read => None,
         WireFault::Write => None,
@@ -63,7 +62,10 @@ pub fn refuse_request<W: Write>(fault: WireFault, writer: &mut W) -> Result<u16,
         × IsCutShort (W.contents writer.old) (W.contents writer.new) 400 text reported)) }
 {
     match refusal_text(fault) {
-        Some(text) => send_response(StatusCode::BAD_REQUEST, text, writer),
+        Some(text) => {
+            let refusal = Response::of_static(StatusCode::BAD_REQUEST, text);
+            send_response(&refusal, writer)
+        }
         None => Err(fault),
     }
 }

@@ -6,7 +6,7 @@ ghost use Rattle.druid_stream.specs.Fronts.{AppendsFront};
 ghost use Rattle.druid_wire.specs.Limits.{max_body};
 ghost use Rattle.druid_wire.specs.Written.{joined, phrase_of, request_text, response_text, answer_text, LacksRequest};
 
-use crate::length::MAX_BODY;
+use crate::limits::MAX_BODY;
 use druid_message::{Request, WireFault};
 use druid_stream::write_text;
 use http::StatusCode;

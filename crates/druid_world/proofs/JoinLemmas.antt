@@ -3,8 +3,10 @@ use Rattle.std.proofs.Common.{subst, ◌≡◌, ◌⊎◌, ℕ, suc, Bool, true,
 use Rattle.std.specs.Ordering.{is_lt, is_eq, ordering_reverse}
 use Rattle.std.specs.declared.cmp.Ordering.{Ordering}
 use Rattle.std.specs.declared.cmp.Ordering.TheVariants.{Less, Equal, Greater}
-use Rattle.std.proofs.lemmas.Bool.{false≢true, cases_Bool, eqb-true}
+use Rattle.std.proofs.lemmas.Bool.{false≢true, cases_Bool, eqb-true, and_parts}
 use Rattle.std.proofs.lemmas.Option.{same_Some}
+use Rattle.druid_inventory.proofs.JoinLemmas.{later_each-names}
+use Rattle.druid_base.proofs.OrderLemmas.{is_lt-Less}
 use Rattle.druid_shard.specs.Described.{Described, same_described}
 use Rattle.druid_shard.specs.Mark.{Point, mark_cmp}
 use Rattle.druid_shard.specs.Orders.{mark_cmp-total, mark_cmp-ties}
@@ -50,11 +52,6 @@ agreed a b h = elim (same_list a b) [ inl other ↦ absurd (h other) | inr same 
 
 -- ---- the order of marks
 
-less_only : (o : Ordering) → is_lt o ≡ true → o ≡ Less
-less_only Less e = refl
-less_only Equal e = absurd (false≢true e)
-less_only Greater e = absurd (false≢true e)
-
 is_less : (o : Ordering) → o ≡ Less → is_lt o ≡ true
 is_less o e = ap is_lt e
 
@@ -75,7 +72,7 @@ later_assoc : (x y z : Entry) → later (later x y) z ≡ later x (later y z)
 later_assoc x y z = by (is_lt (mark_cmp x.mark y.mark)) (is_lt (mark_cmp y.mark z.mark)) refl refl where
   by : (a b : Bool) → is_lt (mark_cmp x.mark y.mark) ≡ a → is_lt (mark_cmp y.mark z.mark) ≡ b → later (later x y) z ≡ later x (later y z)
   by true true e f =
-      let across = mark_cmp-total.trans x.mark y.mark z.mark (less_only (mark_cmp x.mark y.mark) e) (less_only (mark_cmp y.mark z.mark) f) in
+      let across = mark_cmp-total.trans x.mark y.mark z.mark (is_lt-Less (mark_cmp x.mark y.mark) e) (is_lt-Less (mark_cmp y.mark z.mark) f) in
       let left : later (later x y) z ≡ z = ap (λ v. later v z) (later-less x y e) ∙ later-less y z f in
       let right : later x (later y z) ≡ z = ap (later x) (later-less y z f) ∙ later-less x z (is_less (mark_cmp x.mark z.mark) across) in
       left ∙ sym right
@@ -86,7 +83,7 @@ later_assoc x y z = by (is_lt (mark_cmp x.mark y.mark)) (is_lt (mark_cmp y.mark 
   by false true e f = ap (λ v. later v z) (later-not x y e) ∙ sym (ap (later x) (later-less y z f))
   by false false e f =
       let across : is_lt (mark_cmp x.mark z.mark) ≡ false = elim (cases_Bool (is_lt (mark_cmp x.mark z.mark))) [
-        | inl less ↦ absurd (not_less x.mark y.mark z.mark (mark_cmp x.mark y.mark) refl e f (less_only (mark_cmp x.mark z.mark) less))
+        | inl less ↦ absurd (not_less x.mark y.mark z.mark (mark_cmp x.mark y.mark) refl e f (is_lt-Less (mark_cmp x.mark z.mark) less))
         | inr other ↦ other
       ] in
       let left : later (later x y) z ≡ x = ap (λ v. later v z) (later-not x y e) ∙ later-not x z across in
@@ -108,13 +105,9 @@ join_assoc a b c ab bc left right first l second r =
 
 -- ---- the order of the two
 
-both : (a b : Bool) → (a && b) ≡ true → (a ≡ true) × (b ≡ true)
-both true b e = (refl, e)
-both false b e = absurd (false≢true e)
-
 tied : (p q : Point) → mark_cmp p q ≡ Equal → p ≡ q
 tied p q e =
-    let parts = both (nat_eq p.incarnation q.incarnation) (nat_eq p.count q.count) (mark_cmp-ties p q ∙ ap is_eq e) in
+    let parts = and_parts (nat_eq p.incarnation q.incarnation) (nat_eq p.count q.count) (mark_cmp-ties p q ∙ ap is_eq e) in
     let incarnations = eqb-true p.incarnation q.incarnation parts.0 in
     let counts = eqb-true p.count q.count parts.1 in
     λ i. record { incarnation = incarnations i; count = counts i }
@@ -187,22 +180,6 @@ later_marks [] b = refl
 later_marks (x ∷ a) [] = refl
 later_marks (x ∷ a) (y ∷ b) = let first = later_mark x y in let rest = later_marks a b in λ i. first i ∷ rest i
 
-later_name : (x y : Entry) → x.name ≡ y.name → (later x y).name ≡ x.name
-later_name x y name = by_test (is_lt (mark_cmp x.mark y.mark)) where
-  by_test : (b : Bool) → (cond b y x).name ≡ x.name
-  by_test true = sym name
-  by_test false = refl
-
-later_names : (a b : List Entry) → names_of a ≡ names_of b → names_of (later_each a b) ≡ names_of a
-later_names [] b names = refl
-later_names (x ∷ a) [] names = absurd (cc)
-later_names (x ∷ a) (y ∷ b) names =
-    let name : x.name ≡ y.name = cc in
-    let more : names_of a ≡ names_of b = cc in
-    let first = later_name x y name in
-    let rest = later_names a b more in
-    λ i. first i ∷ rest i
-
 pub join_there : (world : List Life) (a b : List Entry) → IsInventoryOf world a → IsInventoryOf world b → names_of a ≡ names_of b
     → (joined : List Entry) × IsJoin a b joined
 join_there world a b h k names = (later_each a b, record { same_nodes = names; agree = λ node. never_conflict world a b node h k; entries = refl })
@@ -211,5 +188,5 @@ pub joined_true : (world : List Life) (a b joined : List Entry) → IsInventoryO
     → IsInventoryOf world joined × (names_of joined ≡ names_of a) × AreLaterOf (marks_of a) (marks_of b) (marks_of joined)
 joined_true world a b joined h k join =
     let P : List Entry → Type 0 = λ c. IsInventoryOf world c × (names_of c ≡ names_of a) × AreLaterOf (marks_of a) (marks_of b) (marks_of c) in
-    let together : P (later_each a b) = (later_each-true world a b h k, later_names a b join.same_nodes, later_marks a b) in
+    let together : P (later_each a b) = (later_each-true world a b h k, later_each-names a b join.same_nodes, later_marks a b) in
     subst P (sym join.entries) together

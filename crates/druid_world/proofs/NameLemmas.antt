@@ -10,7 +10,7 @@ use Rattle.std.proofs.lemmas.List.Elements.{All-nil, All-cons}
 use Rattle.std.proofs.lemmas.List.FromFn.{length-map-range_with_len, get_or-map-range_with_len}
 use Rattle.std.proofs.lemmas.Str.Parse.{digit_from_value}
 use Rattle.druid_segid.specs.Names.{is_name_byte, IsName}
-use Rattle.druid_inventory.specs.Entry.{HaveOwnNames}
+use Rattle.druid_base.specs.Distinct.{AreDistinct}
 use Rattle.druid_world.specs.Run.{node_name, node_names}
 
 digit_byte : (c : ℕ) → digit_value c < 10 → is_name_byte c ≡ true
@@ -30,7 +30,7 @@ node_name-valid i l =
       bytes = All-cons (λ b. IsTrue (is_name_byte b)) 110 (decimal i) refl (digit_bytes (decimal i) digits.1);
     }
 
-pub node_names-own : (n : ℕ) → n ≤ 64 → HaveOwnNames (node_names n)
+pub node_names-own : (n : ℕ) → n ≤ 64 → AreDistinct (node_names n)
 node_names-own n few i j d li lj e =
     let long = length-map-range_with_len node_name 0 n in
     let at_i = get_or-map-range_with_len node_name 0 n i i d (omega arith) (omega arith) in

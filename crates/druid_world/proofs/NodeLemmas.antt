@@ -2,11 +2,12 @@
 use Rattle.std.proofs.Common.{◌≡◌, ◌↔◌, ℕ, Bool, true, false, List, [], ◌∷◌, length, Some, None, IsTrue, refl, sym, ap, ◌∙◌, arith, nat_le}
 use Rattle.std.specs.Option.{option_and_then}
 use Rattle.std.proofs.lemmas.Bool.{lt-ltb, ltb-true, lt-leb}
+use Rattle.druid_base.proofs.OptionLemmas.{chained}
 use Rattle.druid_shard.specs.Replay.{replay_from, changed}
 use Rattle.druid_shard.specs.declared.change.Ask.{Ask}
 use Rattle.druid_shard.specs.declared.change.Change.{Change}
 use Rattle.druid_shard.specs.declared.reply.Body.{Body}
-use Rattle.druid_shard.proofs.ReplayLemmas.{replay_from-append, and_then-some, changed-is}
+use Rattle.druid_shard.proofs.ReplayLemmas.{replay_from-append, changed-is}
 use Rattle.druid_changes.specs.Answer.{answer}
 use Rattle.druid_changes.specs.Kept.{Kept, StandsFor, frozen_count, last_count, refusal}
 use Rattle.druid_changes.proofs.HistoryLemmas.{no_refusal, stands-more}
@@ -38,7 +39,7 @@ accepted ended history changes kept c h t =
     let count = h.stands.count in
     let step : replay_from history.set (c ∷ []) ≡ Some is.0.0 =
     ap (option_and_then (λ s. replay_from s (c ∷ []))) (sym h.stands.set) ∙ sym (replay_from-append [] changes (c ∷ [])) ∙ is.0.1 in
-    let made = and_then-some (λ s. replay_from s []) (changed history.set c) is.0.0 step in
+    let made = chained (λ s. replay_from s []) (changed history.set c) is.0.0 step in
     let parts = changed-is history.set made.0 c made.1 in
     let end : nat_le last_count history.count ≡ false = lt-leb last_count history.count (omega arith) in
     rw (parts.0, parts.1, end) refl

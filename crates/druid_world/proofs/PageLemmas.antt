@@ -1,27 +1,23 @@
 -- Pages that come: what true ones give is true, and each is taken in one way, or refused.
 use Rattle.std.proofs.Common.{◌≡◌, ◌<◌, ℕ, Bool, true, false, cond, List, [], length, take, Option, Some, None, refl, sym, ap, ◌∙◌, subst, inl, inr, ⊎_elim, arith}
-use Rattle.std.specs.Bool.{⊤, Decides}
-use Rattle.std.specs.Cmp.Lexicographic.{pointwise}
+use Rattle.std.specs.Bool.{⊤}
 use Rattle.std.specs.List.{slice_get}
 use Rattle.std.specs.Option.{option_and_then, option_map}
 use Rattle.std.specs.Ordering.{is_lt, ordering_reverse}
 use Rattle.std.specs.declared.cmp.Ordering.{Ordering}
 use Rattle.std.specs.declared.cmp.Ordering.TheVariants.{Less, Equal, Greater}
-use Rattle.std.proofs.lemmas.List.{length-set}
-use Rattle.std.proofs.lemmas.Slice.Eq.{slice_eq-Decides}
-use Rattle.std.proofs.lemmas.Option.{same_Some, none-some}
-use Rattle.druid_shard.specs.Described.{Described, same_described}
-use Rattle.druid_shard.proofs.DescribedLemmas.{same_described-decides}
+use Rattle.std.proofs.lemmas.Option.{same_Some}
+use Rattle.druid_base.proofs.OptionLemmas.{chained}
+use Rattle.druid_shard.specs.Described.{Described}
 use Rattle.druid_shard.specs.Mark.{Point, never, same_mark, mark_cmp}
 use Rattle.druid_shard.specs.Orders.{mark_cmp-total}
 use Rattle.druid_shard.specs.Reply.{max_page, AreSorted}
 use Rattle.druid_shard.specs.Replay.{IsSegmentSet}
 use Rattle.druid_shard.specs.declared.reply.Body.{Body}
 use Rattle.druid_shard.specs.declared.reply.Body.TheVariants as bodies
-use Rattle.druid_shard.proofs.ReplayLemmas.{replay_from-set, and_then-some}
-use Rattle.druid_pages.specs.Pages.{page_at, pages_in, IsCutInto}
-use Rattle.druid_pages.specs.Assembly.{Parts, Page, IsPage, AreOf, IsPageOf, IsOutdated, IsLacking, Conflicts, Puts, Takes, Refuses, no_pages, with_page, parts_for, whole_of}
-use Rattle.druid_pages.specs.declared.fault.PageFault.TheVariants.{Conflict}
+use Rattle.druid_shard.proofs.ReplayLemmas.{replay_from-set}
+use Rattle.druid_pages.specs.Pages.{IsCutInto}
+use Rattle.druid_pages.specs.Assembly.{Parts, Page, IsPage, AreOf, IsPageOf, IsOutdated, Puts, Takes, no_pages, with_page, parts_for, whole_of}
 use Rattle.druid_pages.proofs.SetLemmas.{cut_into, cut_once, set_is_whole, of_none, of_with, is_page}
 use Rattle.druid_pages.proofs.TakeLemmas.{tied, begins, passes, put_takes, takes_one, takes_fit}
 use Rattle.druid_inventory.specs.Assembly.{IsPageReply, TakesReply, RefusesReply}
@@ -42,7 +38,7 @@ set_at-valid eras mark ds e = by (same_mark mark never) e where
   by : (b : Bool) → cond b (Some []) (option_and_then (λ cs. set_after cs mark.count) (changes_of eras mark.incarnation)) ≡ Some ds → IsSegmentSet ds
   by true f = subst IsSegmentSet (same_Some [] ds f) nothing_served
   by false f =
-      let found = and_then-some (λ cs. set_after cs mark.count) (changes_of eras mark.incarnation) ds f in
+      let found = chained (λ cs. set_after cs mark.count) (changes_of eras mark.incarnation) ds f in
       replay_from-set [] ds (take mark.count found.0) nothing_served (set_after-is found.0 mark.count ds found.2).1
 
 -- a true page is one of the set at its mark
@@ -207,6 +203,3 @@ take_some life old (bodies.Page at page of segments) true_old honest is =
     (option_map (bodies.Snapshot at) made.0, made.1, (made.0, made.2, refl))
 
 -- ---- in the steps of the code
-
-pub same_sets : (s t : List Described) → Decides (pointwise same_described s t) (s ≡ t)
-same_sets s t = slice_eq-Decides same_described-decides s t (pointwise same_described s t) refl

@@ -1,12 +1,13 @@
 -- What every run keeps: the world is one, every packet that was put tells the truth of it, and so does each inventory.
-use Rattle.std.proofs.Common.{◌≡◌, ◌+◌, ◌<◌, ◌≤◌, ℕ, zero, suc, Bool, true, false, cond, ◌&&◌, List, [], ◌∷◌, ◌++◌, length, map, replicate, set, Option, Some, None, refl, sym, ap, ◌∙◌, subst, inl, inr, arith, append_assoc, length-append, nat_eq, nat_le, nat_lt}
+use Rattle.std.proofs.Common.{◌≡◌, ◌+◌, ◌<◌, ◌≤◌, ℕ, Bool, true, false, cond, ◌&&◌, List, [], ◌∷◌, ◌++◌, length, map, replicate, set, Option, Some, None, refl, sym, ap, ◌∙◌, subst, inl, inr, arith, append_assoc, length-append, nat_eq, nat_le, nat_lt}
 use Rattle.std.specs.List.{AllByRecursion, AllZip, Contains, slice_get}
 use Rattle.std.specs.Option.{is_some}
-use Rattle.std.proofs.lemmas.Bool.{leb-false, ltb-true}
+use Rattle.std.proofs.lemmas.Bool.{leb-false, ltb-true, and_parts}
 use Rattle.std.proofs.lemmas.List.{append-nil, length-replicate, take-append-le}
 use Rattle.std.proofs.lemmas.List.Elements.{All-from_recursion, All-contains}
 use Rattle.std.proofs.lemmas.List.FromFn.{length-map-range_with_len}
 use Rattle.std.proofs.lemmas.Option.{same_Some}
+use Rattle.druid_inventory.proofs.JoinLemmas.{names-set}
 use Rattle.druid_shard.specs.Described.{Described}
 use Rattle.druid_shard.specs.Mark.{same_mark}
 use Rattle.druid_shard.specs.Reply.{max_page}
@@ -78,16 +79,12 @@ some_of : {A : Type 0} (o : Option A) → is_some o ≡ true → (x : A) × (o �
 some_of None e = absurd (cc)
 some_of (Some x) e = (x, refl)
 
-both : (a b : Bool) → (a && b) ≡ true → (a ≡ true) × (b ≡ true)
-both true b e = (refl, e)
-both false b e = absurd (cc)
-
 -- a node's history takes the change
 pub takes-is : (life : Life) (c : Change) → takes life c ≡ true
     → ((set : List Described) × (replay (life.last.changes ++ c ∷ []) ≡ Some set)) × (nat_lt (length life.last.changes) last_incarnation ≡ true)
 unfolding takes
 takes-is life c e =
-    let parts = both (is_some (replay (life.last.changes ++ c ∷ []))) (nat_lt (length life.last.changes) last_incarnation) e in
+    let parts = and_parts (is_some (replay (life.last.changes ++ c ∷ []))) (nat_lt (length life.last.changes) last_incarnation) e in
     (some_of (replay (life.last.changes ++ c ∷ [])) parts.0, parts.1)
 
 there_more : (limit n m : ℕ) (frozen : Option ℕ) → n ≤ m → IsThere frozen n → IsThere (still_frozen limit m frozen) m
@@ -237,11 +234,6 @@ step_name e new reply outcome h = elim (Steps-left e reply outcome new h) [
   moved_name (bodies.Page at page of segments) k = absurd k
   moved_name (bodies.Reset cause at) k = absurd k
 
-names_set : (inventory : List Entry) (node : ℕ) (e new : Entry) → slice_get inventory node ≡ Some e → new.name ≡ e.name → names_of (set inventory node new) ≡ names_of inventory
-names_set [] node e new is same = refl
-names_set (x ∷ xs) zero e new is same = ap (λ n. n ∷ names_of xs) (same ∙ ap (λ (y : Entry). y.name) (sym (same_Some x e is)))
-names_set (x ∷ xs) (suc node) e new is same = ap (λ ns. x.name ∷ ns) (names_set xs node e new is same)
-
 pub applies_true : (world : List Life) (inventory after : List Entry) (node : ℕ) (reply : Body) → IsWorld world → IsInventoryOf world inventory
     → IsHonestAt world node reply → Applies inventory node reply after → IsInventoryOf world after × (names_of after ≡ names_of inventory)
 applies_true world inventory after node reply valid is honest (inl h) =
@@ -250,7 +242,7 @@ applies_true world inventory after node reply valid is honest (inl h) =
     let known = pairs_at IsTrueEntry world inventory node honest.0 at.0 is honest.1 at.1 in
     let new = step_true honest.0 at.0 h.1 reply h.0 life known honest.2 at.2 in (
       subst (IsInventoryOf world) (sym h.3) (pairs_set IsTrueEntry world inventory node honest.0 h.1 is honest.1 new),
-      ap names_of h.3 ∙ names_set inventory node at.0 h.1 at.1 (step_name at.0 h.1 reply h.0 at.2),
+      ap names_of h.3 ∙ names-set inventory node at.0 h.1 at.1 (step_name at.0 h.1 reply h.0 at.2),
     )
 applies_true world inventory after node reply valid is honest (inr h) = (subst (IsInventoryOf world) (sym h.2) is, ap names_of h.2)
 

@@ -7,6 +7,7 @@ use Rattle.std.specs.Result.{IfErr, OnErr, OnOk, IsErrOf}
 use Rattle.std.proofs.lemmas.Bool.{lt-ltb}
 use Rattle.std.proofs.lemmas.List.FromFn.{map-range_with_len_more}
 use Rattle.std.proofs.lemmas.Option.{same_Some, none-some, get_or_from_slice_get}
+use Rattle.druid_base.proofs.ListLemmas.{set-found}
 use Rattle.druid_shard.specs.Mark.{Point, never}
 use Rattle.druid_shard.specs.declared.change.Ask.{Ask}
 use Rattle.druid_shard.specs.declared.change.Ask.TheVariants as asks
@@ -27,7 +28,7 @@ use Rattle.druid_world.specs.declared.event.Packet.{Packet}
 use Rattle.druid_world.specs.declared.event.Packet.TheVariants.{Request, Reply}
 use Rattle.druid_world.specs.declared.event.SimFault.{SimFault}
 use Rattle.druid_world.specs.declared.event.SimFault.TheVariants as faults
-use Rattle.druid_world.proofs.ListLemmas.{each_get, get_below, below_get, set_same}
+use Rattle.druid_world.proofs.ListLemmas.{each_get, get_below, below_get}
 use Rattle.druid_world.proofs.RunLemmas.{IsPut, reached-holds, goes_on}
 use Rattle.druid_world.proofs.NextLemmas.{entry_at, parts_there, parts_at-is, can_answer, can_deliver, not_refused}
 
@@ -304,7 +305,7 @@ node_by : (r : Result ⊤ SimFault) (v : State) (event : Event) (node : ℕ) (at
 node_by (Ok x) v event node at made new h there next ok err =
     subst (λ (l : Life). IsReached (with_node v node l)) (sym ok) (goes_on v (with_node v node made) event h next)
 node_by (Err fault) v event node at made new h there next ok err =
-    let same : v.world ≡ set v.world node new = sym (ap (set v.world node) err ∙ set_same v.world node at there) in
+    let same : v.world ≡ set v.world node new = sym (ap (set v.world node) err ∙ set-found v.world node at there) in
     subst (λ (w : List Life). IsReached (record { world = w; packets = v.packets; brokers = v.brokers; assemblies = v.assemblies })) same h
 
 node_next : (r : Result ⊤ SimFault) (v : State) (event : Event) (node : ℕ) (made new : Life) → Next v event (with_node v node made)

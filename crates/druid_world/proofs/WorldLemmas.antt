@@ -6,6 +6,7 @@ use Rattle.std.specs.Option.{option_and_then, option_map, unwrap_or}
 use Rattle.std.proofs.lemmas.Bool.{false≢true, eq-eqb, eqb-true, ne_eqb, leb-true, leb-false, le-leb, ltb-true}
 use Rattle.std.proofs.lemmas.List.{append-nil, drop-drop, drop-take, take-append-le, take-append-drop, take_all, take-take}
 use Rattle.std.proofs.lemmas.Option.{same_Some, none-some}
+use Rattle.druid_base.proofs.OptionLemmas.{chained}
 use Rattle.druid_shard.specs.Described.{Described}
 use Rattle.druid_shard.specs.Mark.{Point, never, same_mark}
 use Rattle.druid_shard.specs.Replay.{replay, replay_from}
@@ -18,7 +19,7 @@ use Rattle.druid_shard.specs.declared.change.Cause.TheVariants.{OtherIncarnation
 use Rattle.druid_shard.specs.declared.change.Change.{Change}
 use Rattle.druid_shard.specs.declared.reply.Body.{Body}
 use Rattle.druid_shard.specs.declared.reply.Body.TheVariants.{Delta, Snapshot, Page, Reset}
-use Rattle.druid_shard.proofs.ReplayLemmas.{replay_from-append, replay_from-front, and_then-some}
+use Rattle.druid_shard.proofs.ReplayLemmas.{replay_from-append, replay_from-front}
 use Rattle.druid_changes.specs.Answer.{answer, asked_page, cause_of, first_page, is_frozen, mark_after, page_answer, page_of, reset_or_delta, whole_answer}
 use Rattle.druid_pages.specs.Pages.{pages_in}
 use Rattle.druid_changes.proofs.HistoryLemmas.{no_cause}
@@ -121,7 +122,7 @@ set_at-grows old new mark set g e = by_test (same_mark mark never) e where
       → cond b (Some []) (option_and_then (λ cs. set_after cs mark.count) (changes_of (eras_of new) mark.incarnation)) ≡ Some set
   by_test true f = f
   by_test false f =
-      let found = and_then-some (λ cs. set_after cs mark.count) (changes_of (eras_of old) mark.incarnation) set f in
+      let found = chained (λ cs. set_after cs mark.count) (changes_of (eras_of old) mark.incarnation) set f in
       let more = grown old new mark.incarnation found.0 g found.1 in
       rw more.1 (set_after-grows found.0 more.0 mark.count set found.2)
 
@@ -201,7 +202,7 @@ unfolding set_at
 set_at-is eras mark cs set low e h =
     let test = same_mark-never mark low in
     let f = rw test at h in
-    let found = and_then-some (λ xs. set_after xs mark.count) (changes_of eras mark.incarnation) set f in
+    let found = chained (λ xs. set_after xs mark.count) (changes_of eras mark.incarnation) set f in
     let same : found.0 ≡ cs = same_Some found.0 cs (sym found.1 ∙ e) in
     set_after-is cs mark.count set (ap (λ xs. set_after xs mark.count) (sym same) ∙ found.2)
 
@@ -461,7 +462,7 @@ unfolding set_at
 came_to life mark set e = by_test (nat_eq mark.incarnation 0) (nat_eq mark.count 0) refl refl e where
   later : option_and_then (λ cs. set_after cs mark.count) (changes_of (eras_of life) mark.incarnation) ≡ Some set → CameTo life mark
   later f =
-      let found = and_then-some (λ cs. set_after cs mark.count) (changes_of (eras_of life) mark.incarnation) set f in
+      let found = chained (λ cs. set_after cs mark.count) (changes_of (eras_of life) mark.incarnation) set f in
       inr (found.0, found.1, (set_after-is found.0 mark.count set found.2).0)
 
   by_test : (a b : Bool) → nat_eq mark.incarnation 0 ≡ a → nat_eq mark.count 0 ≡ b

@@ -2,7 +2,7 @@
 ghost use Rattle.std.specs.Prelude.{◌≡◌, ◌↔◌, ◌<◌, Option, None, Some, IsTrue, length, replicate, option_map, slice_get, IfOk, IfErr, OnOk, OnErr};
 ghost use Rattle.druid_shard.specs.declared.reply.Body.TheVariants.{Page};
 ghost use Rattle.druid_pages.specs.Assembly.{Parts};
-ghost use Rattle.druid_inventory.specs.Assembly.{IsPageReply, OfPage, TakesReply, RefusesReply};
+ghost use Rattle.druid_inventory.specs.Assembly.{IsPageReply, OfPage, TakesReply};
 ghost use Rattle.druid_world.specs.Run.{Applies, AppliesGiven, Delivers, TakesPage};
 ghost use Rattle.druid_world.specs.Node.{DeliversAt, IsAhead, GivesOrRefuses, mark_of, later_mark};
 
@@ -171,7 +171,7 @@ fn copies_of(alloc: Global, segments: &[Descriptor]) -> Result<Vec<Descriptor>, 
 }
 
 // Whether they are the same segments.
-#[tactic(auto, using(crate::proofs::PageLemmas::same_sets))]
+#[tactic(auto, using(druid_shard::proofs::DescribedLemmas::same_sets))]
 fn are_same(a: &[Descriptor], b: &[Descriptor]) -> bool
     ensures { IsTrue result ↔ (a.now ≡ b.now) }
 {

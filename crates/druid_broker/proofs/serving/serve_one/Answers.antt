@@ -10,11 +10,11 @@ returns-in-Ok-clause-view g c =
 pub returns-in-Ok-clause-ok : goal.returns-in-Ok-clause-ok
 returns-in-Ok-clause-ok g c =
     sent (RespondsBy g.L.Link.exchanges (g.P.Pick.orders c.args.pick.now c.args.turn) g.J.Publication.opening c.args.view.now c.respond-response.new.view c.args.links.now c.respond-response.new.links)
-    _ c.in-Ok.request _ _ _ _ c.respond-response.result.status c.status.result c.respond-response.result.body c.body.result.now c.send_response.result
-    c.in-Ok.ensures.ok c.respond-response.ensures c.status.ensures c.body.ensures c.send_response.ensures.ok
+    _ c.in-Ok.request _ _ _ _ c.respond-response.result.status c.respond-response.result.body c.send_response.result
+    c.in-Ok.ensures.ok c.respond-response.ensures c.send_response.ensures.ok
 
 pub returns-in-Ok-clause-err : goal.returns-in-Ok-clause-err
 returns-in-Ok-clause-err g c =
     cut_short (RespondsBy g.L.Link.exchanges (g.P.Pick.orders c.args.pick.now c.args.turn) g.J.Publication.opening c.args.view.now c.respond-response.new.view c.args.links.now c.respond-response.new.links)
-    _ c.in-Ok.request _ _ _ _ c.respond-response.result.status c.status.result c.respond-response.result.body c.body.result.now c.send_response.result
-    c.in-Ok.ensures.ok c.respond-response.ensures c.status.ensures c.body.ensures c.send_response.ensures.err
+    _ c.in-Ok.request _ _ _ _ c.respond-response.result.status c.respond-response.result.body c.send_response.result
+    c.in-Ok.ensures.ok c.respond-response.ensures c.send_response.ensures.err

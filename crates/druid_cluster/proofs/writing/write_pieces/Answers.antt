@@ -1,7 +1,7 @@
 use Rattle.std.proofs.Common.{◌+◌, nat_lt, [], drop, codes, ◌++◌}
 use Rattle.druid_cluster.specs.Answers.{line_text, piece_data}
 use Rattle.serde_json.specs.Written.{compact_text, comma_if}
-use Rattle.druid_cluster.specs.declared.answer.Answer.TheVariants.{Found}
+use Rattle.druid_cluster.specs.declared.answer.CommandAnswer.TheVariants.{Found}
 use Rattle.druid_cluster.proofs.PieceLemmas.{rest_of, found_line, piece_next, piece_last}
 use Rattle.druid_stream.proofs.WriteLemmas.{begins, goes_on, stops_inside, any_err, err_more}
 use Rattle.druid_cluster.proofs.writing.write_pieces.Goals as goal

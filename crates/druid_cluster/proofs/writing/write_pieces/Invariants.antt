@@ -1,6 +1,6 @@
 use Rattle.std.proofs.Common.{nat_lt, drop}
 use Rattle.druid_cluster.specs.Answers.{line_text}
-use Rattle.druid_cluster.specs.declared.answer.Answer.TheVariants.{Found}
+use Rattle.druid_cluster.specs.declared.answer.CommandAnswer.TheVariants.{Found}
 use Rattle.druid_cluster.proofs.PieceLemmas.{rest_of}
 use Rattle.druid_stream.proofs.WriteLemmas.{IsUnderWay}
 use Rattle.druid_cluster.proofs.writing.write_pieces.Given as goal

@@ -1,5 +1,5 @@
 use Rattle.std.proofs.Common.{◌∙◌, ap, is_some, option_and_then}
-use Rattle.druid_shard.specs.Each.{each_of}
+use Rattle.druid_base.specs.Each.{each_of}
 use Rattle.druid_config.specs.Configs.{query_at}
 use Rattle.druid_config.proofs.FormLemmas.{queries_judged}
 use Rattle.druid_config.proofs.judging.wrong_queries.Goals as goal

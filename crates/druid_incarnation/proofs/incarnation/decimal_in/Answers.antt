@@ -1,27 +1,21 @@
-use Rattle.std.proofs.Common.{◌≡◌, ◌≤◌, get_or, arith, rules}
-use Rattle.druid_incarnation.proofs.Decimal.{Spells, SpellsNone, empty_spells_none, low_spells_none, no_text_spells_none, no_text_at, parsed, found_at, none_at}
+use Rattle.std.proofs.Common.{◌≡◌, ◌≤◌, None, Some, sym, rules}
+use Rattle.druid_base.specs.Numbers.{number_at}
+use Rattle.druid_incarnation.proofs.Decimal.{spells, spells_no_number, spells_zero}
 use Rattle.druid_incarnation.proofs.incarnation.decimal_in.Goals as goal
-use Rattle.druid_incarnation.proofs.incarnation.decimal_in.Goals.{then-first-eq48-via-then-first-eq48, then-first-eq48-via-else-first-eq48+then-first-eq43}
 
-pub returns-then-is_empty-clause-none : goal.returns-then-is_empty-clause-none
-returns-then-is_empty-clause-none c = empty_spells_none c.args.digits.now (search rules)
+pub returns-in_err-number-clause-none : goal.returns-in_err-number-clause-none
+returns-in_err-number-clause-none c =
+    let none : number_at c.args.digits.now ≡ None = search rules in
+    rw c.from_residual.ensures (spells_no_number c.args.digits.now (sym none))
 
-pub returns-then-first-eq48-clause-none : goal.returns-then-first-eq48-clause-none
-returns-then-first-eq48-clause-none c = low_spells_none c.args.digits.now (elim c.then-first-eq48.branch as (λ x. get_or c.args.digits.now 0 0 ≤ 48) [
-  | then-first-eq48-via-then-first-eq48 w ↦ omega arith
-  | then-first-eq48-via-else-first-eq48+then-first-eq43 w ↦ omega arith
-])
-
-pub returns-in_err-text-clause-none : goal.returns-in_err-text-clause-none
-returns-in_err-text-clause-none c =
-    rw c.from_residual.ensures (no_text_spells_none c.args.digits.now (no_text_at c.args.digits.now _ c.from_utf8.result c.in_err-text.ensures.value c.from_utf8.ensures.cases))
+pub returns-then-number-eq0-clause-none : goal.returns-then-number-eq0-clause-none
+returns-then-number-eq0-clause-none c =
+    let is : number_at c.args.digits.now ≡ Some c.in_ok-number.number = search rules in
+    let zero : c.in_ok-number.number ≡ 0 = search rules in
+    spells_zero c.args.digits.now c.in_ok-number.number (sym is) zero
 
 pub returns-clause-found : goal.returns-clause-found
 returns-clause-found c =
-    let text : c.in_ok-text.text.now ≡ c.args.digits.now = search rules in
-    found_at (Spells c.args.digits.now) (SpellsNone c.args.digits.now) c.parse.result c.ok-2.result c.ok-2.ensures.value (parsed c.args.digits.now c.parse.result (rw text at c.parse.ensures.value.0) (λ e. omega arith) (λ e. omega arith))
-
-pub returns-clause-none : goal.returns-clause-none
-returns-clause-none c =
-    let text : c.in_ok-text.text.now ≡ c.args.digits.now = search rules in
-    none_at (Spells c.args.digits.now) (SpellsNone c.args.digits.now) c.parse.result c.ok-2.result c.ok-2.ensures.value (parsed c.args.digits.now c.parse.result (rw text at c.parse.ensures.value.0) (λ e. omega arith) (λ e. omega arith))
+    let is : number_at c.args.digits.now ≡ Some c.in_ok-number.number = search rules in
+    let some : 1 ≤ c.in_ok-number.number = search rules in
+    spells c.args.digits.now c.in_ok-number.number (sym is) some

@@ -4,9 +4,9 @@ use Rattle.std.proofs.lemmas.Option.{slice_get_within}
 use Rattle.std.specs.Arc.{arc_value}
 use Rattle.std.proofs.lemmas.List.{length-map, map-set}
 use Rattle.std.proofs.lemmas.Result.{on_err_weaker, on_ok_weaker}
+use Rattle.druid_base.proofs.ListLemmas.{set-found}
 use Rattle.druid_inventory.specs.Entry.{Entry}
 use Rattle.druid_inventory.proofs.EditLemmas.{replay_start, replay_end}
-use Rattle.druid_inventory.proofs.EntryLemmas.{set-found}
 use Rattle.druid_inventory.proofs.TimelineLemmas.{found_beyond}
 use Rattle.druid_inventory.proofs.advance.advance_entries.Goals as goal
 

@@ -2,6 +2,7 @@ use Rattle.std.proofs.Common.{◌≡◌, List, Some, map, inl, inr, sym, subst, 
 use Rattle.std.specs.Arc.{arc_value}
 use Rattle.std.specs.List.{slice_get}
 use Rattle.std.proofs.lemmas.Result.{on_err_weaker, on_ok_weaker}
+use Rattle.druid_base.proofs.ListLemmas.{map-copied}
 use Rattle.druid_chunks.proofs.EditLemmas.{always_err, was_ok}
 use Rattle.druid_shard.specs.Described.{Described}
 use Rattle.druid_shard.specs.Replay.{replay_from}
@@ -10,7 +11,7 @@ use Rattle.druid_inventory.specs.Moves.{MovesAt}
 use Rattle.druid_inventory.specs.Sources.{Serves}
 use Rattle.druid_inventory.specs.Timelines.{AreTimelines, IsInventory}
 use Rattle.druid_inventory.proofs.EditLemmas.{copied_entries, AreTimelines-copied}
-use Rattle.druid_inventory.proofs.EntryLemmas.{err_case, map-copied}
+use Rattle.druid_inventory.proofs.EntryLemmas.{err_case}
 use Rattle.druid_inventory.proofs.advance.advance_shared.Goals as goal
 
 pub returns-in_err-entries-clause-err : goal.returns-in_err-entries-clause-err

@@ -7,5 +7,5 @@ use Rattle.druid_inventory.proofs.answer.page_of.Goals as goal
 pub returns : goal.returns
 returns c =
     IfOk-weaker c.page_of_set.result _ _
-    (λ reply e. e ∙ (λ i. Page (c.synced.ensures.value i) c.args.page (pages_in (length (c.set.ensures.value i))) (page_at (c.set.ensures.value i) c.args.page)))
+    (λ reply e. e ∙ (λ i. Page (c.synced_mark.ensures.value i) c.args.page (pages_in (length (c.set.ensures.value i))) (page_at (c.set.ensures.value i) c.args.page)))
     c.page_of_set.ensures

@@ -2,7 +2,7 @@ use Rattle.std.proofs.Common.{◌≢◌, map, refl, sym, ◌∙◌, arith}
 use Rattle.std.specs.Arc.{arc_value}
 use Rattle.std.proofs.lemmas.Bool.{false≢true}
 use Rattle.std.proofs.lemmas.List.{length-map}
-use Rattle.druid_segid.proofs.ParsedLemmas.{texts_differ}
+use Rattle.druid_base.proofs.OrderLemmas.{texts_differ}
 use Rattle.druid_inventory.proofs.JoinLemmas.{names_same, names_apart}
 use Rattle.druid_inventory.proofs.join.are_of_same_nodes.Goals as goal
 

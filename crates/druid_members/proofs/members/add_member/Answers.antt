@@ -4,7 +4,7 @@ use Rattle.std.specs.BTreeMap as tree
 use Rattle.std.specs.List.{Contains}
 use Rattle.std.specs.Result.{IfOk}
 use Rattle.std.specs.Bool.{IsTrue}
-use Rattle.druid_shard.proofs.MemberLemmas.{Contains-nil}
+use Rattle.druid_base.proofs.MemberLemmas.{Contains-nil}
 use Rattle.druid_members.proofs.OneLemmas.{Contains-one, one-Contains}
 use Rattle.druid_members.specs.Slots.{Statement, Replica, NoneEmpty}
 use Rattle.druid_members.proofs.SlotLemmas.{NoneEmpty-update, HasOne, HasOne-added}

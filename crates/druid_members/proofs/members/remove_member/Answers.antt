@@ -4,7 +4,7 @@ use Rattle.std.specs.BTreeMap as tree
 use Rattle.std.specs.Bool.{IsTrue}
 use Rattle.std.specs.List.{Contains}
 use Rattle.std.proofs.lemmas.Bool.{cases_eq, false≢true}
-use Rattle.druid_shard.proofs.MemberLemmas.{Contains-nil, Contains-cons, Contains-later, Contains-map_back}
+use Rattle.druid_base.proofs.MemberLemmas.{Contains-nil, Contains-cons, Contains-later, Contains-map_back}
 use Rattle.druid_members.proofs.SlotLemmas.{NoneEmpty-update, HasOne}
 use Rattle.druid_members.specs.Slots.{Statement, Replica, EachOnce}
 use Rattle.druid_members.proofs.members.remove_member.Goals as goal

@@ -1,7 +1,7 @@
 use Rattle.std.proofs.Common.{◌≡◌, ◌↔◌, ◌⊎◌, ℕ, List, sym, subst, inl, inr}
 use Rattle.std.specs.Bool.{IsTrue}
 use Rattle.std.specs.List.{Contains, insert}
-use Rattle.druid_shard.proofs.MemberLemmas.{Contains-insert}
+use Rattle.druid_base.proofs.MemberLemmas.{Contains-insert}
 use Rattle.druid_members.proofs.roster.insert_node.Goals as goal
 
 -- of a node that serves

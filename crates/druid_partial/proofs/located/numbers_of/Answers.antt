@@ -1,5 +1,5 @@
 use Rattle.std.proofs.Common.{arith}
-use Rattle.druid_partial.specs.declared.located.Source.TheVariants as sources
+use Rattle.druid_partial.specs.declared.located.NumberSource.TheVariants as sources
 use Rattle.druid_partial.proofs.SourceLemmas.{numbers_more}
 use Rattle.druid_partial.proofs.located.numbers_of.Goals as goal
 

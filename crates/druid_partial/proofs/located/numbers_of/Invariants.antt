@@ -1,5 +1,5 @@
 use Rattle.std.proofs.Common.{take}
-use Rattle.druid_partial.specs.Plans.{AreNumbers}
+use Rattle.druid_partial.specs.Scans.{AreNumbers}
 use Rattle.druid_partial.proofs.located.numbers_of.Given as goal
 
 abbrev pub invariant-loop-source : goal.invariant-loop-source

@@ -2,7 +2,7 @@ use Rattle.std.proofs.Common.{List, Option, IfNone, rules, subst}
 use Rattle.serde_json.specs.View.{view, items_view}
 use Rattle.druid_query.specs.Asked.{Asked}
 use Rattle.druid_partial.specs.Groups.{Group}
-use Rattle.druid_partial_text.specs.Answers.{NodeAnswer}
+use Rattle.druid_partial.specs.Answer.{Answer}
 use Rattle.druid_partial_text.specs.Missed.{AreLists, TellBoth}
 use Rattle.druid_partial_text.proofs.MissedLemmas.{no_lists, not_both, lists_answer}
 use Rattle.druid_partial_text.proofs.answer_reading.answer_of.Goals as goal
@@ -12,7 +12,7 @@ returns-in-Ok-None c =
     let ds = items_view c.in-Some.listed.missing.now in
     let rs = items_view c.in-Some.listed.rows.now in
     let lists : AreLists c.args.sub.now (view c.args.value.now) ds rs = search rules in
-    let none = subst (λ (o : Option NodeAnswer). IfNone o ((pieces : List Asked) (groups : List Group) → TellBoth c.args.sub.now ds rs pieces groups → ⊥)) c.in-Ok-None.field-0-is c.in-Ok-None.ensures.none in
+    let none = subst (λ (o : Option Answer). IfNone o ((pieces : List Asked) (groups : List Group) → TellBoth c.args.sub.now ds rs pieces groups → ⊥)) c.in-Ok-None.field-0-is c.in-Ok-None.ensures.none in
     not_both c.args.sub.now (view c.args.value.now) ds rs lists none
 
 pub returns-in_default : goal.returns-in_default

@@ -1,7 +1,7 @@
 use Rattle.std.proofs.Common.{◌≡◌, ◌↔◌, List, Some, IsTrue, Contains, rules, sym, subst, ◌∙◌}
 use Rattle.std.proofs.lemmas.Bool.{false≢true}
 use Rattle.serde_json.specs.View.{items_view}
-use Rattle.druid_shard.specs.Each.{each_of}
+use Rattle.druid_base.specs.Each.{each_of}
 use Rattle.druid_query.specs.Asked.{Asked, asked_at}
 use Rattle.druid_partial_text.proofs.MissedLemmas.{missed, not_missed}
 use Rattle.druid_partial_text.proofs.missing.missing_in.Goals as goal

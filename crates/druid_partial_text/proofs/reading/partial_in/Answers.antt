@@ -1,7 +1,7 @@
 use Rattle.std.proofs.Common.{◌≡◌, All, rules, Some, sym, subst}
 use Rattle.std.specs.List.Sorted.{IsPermutation}
 use Rattle.serde_json.specs.View.{items_view}
-use Rattle.druid_shard.specs.Each.{each_of}
+use Rattle.druid_base.specs.Each.{each_of}
 use Rattle.druid_partial.specs.Groups.{InOrder}
 use Rattle.druid_partial.specs.Rows.{kinds_of, Partial, IsPartialFor}
 use Rattle.druid_partial_text.specs.Read.{group_at}

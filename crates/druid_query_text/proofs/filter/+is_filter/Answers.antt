@@ -2,11 +2,11 @@ use Rattle.std.proofs.Common.{◌<◌, ◌≤◌, sym, ◌∙◌, arith, option_
 use Rattle.serde_json.specs.Data.{depth, items_depth}
 use Rattle.serde_json.specs.View.{view, items_view}
 use Rattle.druid_filter.specs.Filters.{has_among, all_of, any_of, is_not}
-use Rattle.druid_shard.specs.Each.{each_of}
+use Rattle.druid_base.specs.Each.{each_of}
 use Rattle.druid_base.specs.Fields.{text_or_null}
 use Rattle.druid_query.specs.Filters.{filter_at, each_filter}
 use Rattle.druid_query_text.specs.Levels.{selector, among, all, any, negation}
-use Rattle.druid_shard.proofs.EachLemmas.{all_reads}
+use Rattle.druid_base.proofs.EachLemmas.{all_reads}
 use Rattle.druid_query_text.proofs.FilterLemmas.{within, item_depth, judged, none_judged, filters_more, filters_refused, filters_last, map_some, reported}
 use Rattle.druid_query_text.specs.declared.filter.Level.TheVariants as levels
 use Rattle.druid_query_text.proofs.filter.+is_filter.Goals as goal

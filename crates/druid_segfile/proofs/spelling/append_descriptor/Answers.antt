@@ -4,7 +4,7 @@ use Rattle.druid_segfile.proofs.spelling.append_descriptor.Goals as goal
 
 pub returns : goal.returns
 returns c =
-    descriptor_grown c.args.announced.now c.args.out.now.items c.append_short_text.new.out.items c.append_interval.new.out.items c.append_short_text-2.new.out.items c.extend_from_slice.new.self.items c.extend_from_slice-2.new.self.items c.extend_from_slice-3.new.self.items
+    descriptor_grown c.args.announcement.now c.args.out.now.items c.append_short_text.new.out.items c.append_interval.new.out.items c.append_short_text-2.new.out.items c.extend_from_slice.new.self.items c.extend_from_slice-2.new.self.items c.extend_from_slice-3.new.self.items
     c.as_str.result.now c.interval.result c.as_str-2.result.now c.partition.result c.core.result c.size.result
     (c.as_str.ensures.value ∙ (c.source.ensures.value ∙ ap (λ id. id.source) c.id-id.ensures.value))
     (c.interval.ensures.value ∙ ap (λ id. id.interval) c.id-id.ensures.value)

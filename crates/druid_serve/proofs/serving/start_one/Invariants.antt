@@ -2,4 +2,4 @@ use Rattle.druid_serve.proofs.serving.start_one.Given as goal
 
 -- the broker's publisher and views are of this list, and begin with its inventory
 abbrev pub ghosts-start_broker : goal.ghosts-start_broker
-ghosts-start_broker g a = record { opening = a.opening.inventory; book = a.list }
+ghosts-start_broker g a = record { opening = a.parts.inventory; book = a.list }

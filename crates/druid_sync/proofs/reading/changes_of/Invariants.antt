@@ -1,8 +1,8 @@
 use Rattle.std.proofs.Common.{◌≡◌, drop}
 use Rattle.serde_json.specs.View.{items_view}
-use Rattle.druid_shard.specs.Each.{each_of}
+use Rattle.druid_base.specs.Each.{each_of}
 use Rattle.druid_sync.specs.Read.{change_at}
-use Rattle.druid_shard.proofs.EachLemmas.{with_front}
+use Rattle.druid_base.proofs.EachLemmas.{with_front}
 use Rattle.druid_sync.proofs.reading.changes_of.Given as goal
 
 abbrev pub invariant-loop-value : goal.invariant-loop-value

@@ -2,7 +2,7 @@ use Rattle.std.proofs.Common.{◌≡◌, rules, arith, false, sym, subst, refl, 
 use Rattle.serde_json.specs.View.{view}
 use Rattle.druid_sync.specs.Read.{change_at, Answers}
 use Rattle.druid_sync.specs.declared.fault.SyncFault.TheVariants.{Shape, TooMany, LengthOfDelta, Memory}
-use Rattle.druid_shard.proofs.EachLemmas.{Reads, all_read, each_of_length}
+use Rattle.druid_base.proofs.EachLemmas.{Reads, all_read, each_of_length}
 use Rattle.druid_sync.proofs.FormLemmas.{delta_some, delta_none, changes_read}
 use Rattle.druid_sync.proofs.reading.delta_of.Goals as goal
 

@@ -1,7 +1,7 @@
 use Rattle.std.proofs.Common.{◌≡◌, rules, arith, false, length, sym, subst, refl, Err}
 use Rattle.druid_sync.specs.Read.{load_at, Answers}
 use Rattle.druid_sync.specs.declared.fault.SyncFault.TheVariants.{Shape, TooMany, BadPage, Memory}
-use Rattle.druid_shard.proofs.EachLemmas.{Reads, all_read, each_of_length}
+use Rattle.druid_base.proofs.EachLemmas.{Reads, all_read, each_of_length}
 use Rattle.druid_sync.proofs.FormLemmas.{page_some, page_none, may_be_page, no_page, loads_read}
 use Rattle.druid_sync.proofs.reading.page_of.Goals as goal
 

@@ -1,7 +1,7 @@
 use Rattle.std.proofs.Common.{◌≡◌, rules, arith, false, sym, subst, refl, Err}
 use Rattle.druid_sync.specs.Read.{load_at, Answers}
 use Rattle.druid_sync.specs.declared.fault.SyncFault.TheVariants.{Shape, TooMany, Memory}
-use Rattle.druid_shard.proofs.EachLemmas.{Reads, all_read, each_of_length}
+use Rattle.druid_base.proofs.EachLemmas.{Reads, all_read, each_of_length}
 use Rattle.druid_sync.proofs.FormLemmas.{snapshot_some, snapshot_none, loads_read}
 use Rattle.druid_sync.proofs.reading.snapshot_of.Goals as goal
 

@@ -7,12 +7,14 @@ use Rattle.druid_wire.proofs.serving.refuse_request.Goals as goal
 pub returns-in-Some-clause-ok : goal.returns-in-Some-clause-ok
 returns-in-Some-clause-ok g c =
     let text = sym c.refusal_text.ensures ∙ ap (option_map (λ t. t.now)) c.in-Some.is in
-    IfOk-weaker c.send_response.result _ _ (λ sent is. (c.in-Some.text.now, text, is)) c.send_response.ensures.ok
+    let refused = c.of_static-refusal.ensures in
+    IfOk-weaker c.send_response.result _ _ (λ sent is. (c.in-Some.text.now, text, rw (sym refused.status_is, sym refused.body_is) is)) c.send_response.ensures.ok
 
 pub returns-in-Some-clause-err : goal.returns-in-Some-clause-err
 returns-in-Some-clause-err g c =
     let text = sym c.refusal_text.ensures ∙ ap (option_map (λ t. t.now)) c.in-Some.is in
-    IfErr-weaker c.send_response.result _ _ (λ reported is. inr (c.in-Some.text.now, text, is)) c.send_response.ensures.err
+    let refused = c.of_static-refusal.ensures in
+    IfErr-weaker c.send_response.result _ _ (λ reported is. inr (c.in-Some.text.now, text, rw (sym refused.status_is, sym refused.body_is) is)) c.send_response.ensures.err
 
 pub returns-in-None-clause-err : goal.returns-in-None-clause-err
 returns-in-None-clause-err g c =

@@ -1,10 +1,11 @@
+use Rattle.std.proofs.Common.{sym}
 use Rattle.druid_wire.proofs.serving.send_response.Goals as goal
 
 pub returns-in-Ok-clause-ok : goal.returns-in-Ok-clause-ok
 returns-in-Ok-clause-ok g c = record {
-  written = c.in-Ok.ensures.ok;
-  status_is = c.status_sent.ensures;
+  written = rw (sym c.status-status.ensures, sym c.body-body.ensures) c.in-Ok.ensures.ok;
+  status_is = rw (sym c.status-status.ensures, sym c.body-body.ensures) c.status_sent.ensures;
 }
 
 pub returns-in-Err-clause-err : goal.returns-in-Err-clause-err
-returns-in-Err-clause-err g c = record { front = c.in-Err.ensures.err; reported = c.in-Err.ensures.faults }
+returns-in-Err-clause-err g c = record { front = rw (sym c.status-status.ensures, sym c.body-body.ensures) c.in-Err.ensures.err; reported = c.in-Err.ensures.faults }

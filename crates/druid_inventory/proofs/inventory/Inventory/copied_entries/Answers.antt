@@ -1,7 +1,8 @@
 use Rattle.std.proofs.Common.{map, ◌∙◌}
 use Rattle.std.specs.Arc.{arc_value}
 use Rattle.std.proofs.lemmas.Result.{IfOk-weaker}
-use Rattle.druid_inventory.proofs.EntryLemmas.{map-copied, ok_case}
+use Rattle.druid_base.proofs.ListLemmas.{map-copied}
+use Rattle.druid_inventory.proofs.EntryLemmas.{ok_case}
 use Rattle.druid_inventory.proofs.inventory.Inventory.copied_entries.Goals as goal
 
 -- the copied pointers point to the same

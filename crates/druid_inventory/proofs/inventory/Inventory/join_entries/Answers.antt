@@ -10,7 +10,7 @@ returns-then-not-has_later c =
     let b = c.args.other.now in
     let none : NoneLater a b =
     none_later-of _ _ a b c.entries-entries.ensures.value c.entries-others.ensures.value (c.has_later.ensures c.if-not-has_later.true) in
-    IfOk-weaker c.shared.result _ _ (λ inventory e. e ∙ sym (none_later-left a b (names_long a b c.requires.same_nodes) none)) c.shared.ensures
+    IfOk-weaker c.share.result _ _ (λ inventory e. e ∙ sym (none_later-left a b (names_long a b c.requires.same_nodes) none)) c.share.ensures
 
 pub returns-then-not-has_later-2 : goal.returns-then-not-has_later-2
 returns-then-not-has_later-2 c =
@@ -18,5 +18,5 @@ returns-then-not-has_later-2 c =
     let b = c.args.other.now in
     let none : NoneLater b a =
     none_later-of _ _ b a c.entries-others.ensures.value c.entries-entries.ensures.value (c.has_later-2.ensures c.if-not-has_later-2.true) in
-    IfOk-weaker c.shared-then-not-has_later-2.result _ _ (λ inventory e. e ∙ sym (none_later-right a b c.requires.same_nodes none c.requires.agree))
-    c.shared-then-not-has_later-2.ensures
+    IfOk-weaker c.share-then-not-has_later-2.result _ _ (λ inventory e. e ∙ sym (none_later-right a b c.requires.same_nodes none c.requires.agree))
+    c.share-then-not-has_later-2.ensures

@@ -1,7 +1,7 @@
 use Rattle.std.proofs.Common.{sym, subst}
+use Rattle.druid_base.proofs.ListLemmas.{set-found}
 use Rattle.druid_inventory.specs.Step.{Steps}
 use Rattle.druid_inventory.specs.declared.fault.Outcome.{Outcome}
-use Rattle.druid_inventory.proofs.EntryLemmas.{set-found}
 use Rattle.druid_inventory.proofs.StepLemmas.{Steps-known, Steps-asked, Steps-paged}
 use Rattle.druid_inventory.proofs.inventory.Inventory.step.Goals as goal
 

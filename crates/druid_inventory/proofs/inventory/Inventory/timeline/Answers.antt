@@ -21,7 +21,7 @@ pub returns-clause-some : goal.returns-clause-some
 returns-clause-some c =
     let kept = IsInventory-same (map arc_value (arc_value c.self.inside.entries).items) c.args.self.now (arc_value c.self.inside.timelines) c.deref.result.now
     (sym c.self.view_is) c.deref.ensures c.self.invariant in
-    some_so c.get.result c.in_ok-timeline.timeline c.borrowed.result (HasSource c.args.self.now c.args.source.now) c.in_ok-timeline.was
+    some_so c.get.result c.in_ok-timeline.timeline c.as_timeline.result (HasSource c.args.self.now c.args.source.now) c.in_ok-timeline.was
     (found_some c.args.self.now c.args.source.now c.deref.result.now c.get.result c.get.ensures.value kept.over)
 
 pub returns-clause-held : goal.returns-clause-held
@@ -29,5 +29,5 @@ returns-clause-held c =
     let kept = IsInventory-same (map arc_value (arc_value c.self.inside.entries).items) c.args.self.now (arc_value c.self.inside.timelines) c.deref.result.now
     (sym c.self.view_is) c.deref.ensures c.self.invariant in
     let held = found_held c.args.self.now c.args.source.now c.deref.result.now c.get.result c.get.ensures.value kept.over in
-    subst (λ (t : Serving). IsHoldingOf c.args.self.now c.args.source.now t.held) (sym c.borrowed.ensures)
+    subst (λ (t : Serving). IsHoldingOf c.args.self.now c.args.source.now t.held) (sym c.as_timeline.ensures)
     (MatchOption-at_some ⊤ (λ (t : Bor Serving). IsHoldingOf c.args.self.now c.args.source.now t.now.held) c.in_ok-timeline.timeline c.in_ok-timeline.was held)

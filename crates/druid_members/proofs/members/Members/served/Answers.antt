@@ -1,6 +1,6 @@
 use Rattle.std.proofs.Common.{◌≡◌, ◌↔◌, ℕ, List, [], Option, unwrap_or, sym, ap, subst}
 use Rattle.std.specs.List.{Contains}
-use Rattle.druid_shard.proofs.MemberLemmas.{Contains-nil}
+use Rattle.druid_base.proofs.MemberLemmas.{Contains-nil}
 use Rattle.druid_members.specs.Members.{Member, ServesPlace}
 use Rattle.druid_members.specs.Slots.{Replica, Serves}
 use Rattle.druid_members.proofs.SlotLemmas.{ServesPlace-slot}

@@ -2,7 +2,7 @@ use Rattle.std.proofs.Common.{◌∙◌, ◌↔◌, ◌⊎◌, ◌≡◌, ◌≤
 use Rattle.std.specs.List.{Contains, zip, insert, remove}
 use Rattle.std.specs.List.Sorted.{IsStrictlyIncreasing}
 use Rattle.std.proofs.lemmas.Bool.{false≢true}
-use Rattle.druid_shard.proofs.MemberLemmas.{Contains-insert}
+use Rattle.druid_base.proofs.MemberLemmas.{Contains-insert}
 use Rattle.druid_members.proofs.PairLemmas.{map-zip, zip-insert, remove-insert}
 use Rattle.druid_members.specs.Slots.{Statement, Replica}
 use Rattle.druid_members.proofs.replicas.Replicas.add.Goals as goal

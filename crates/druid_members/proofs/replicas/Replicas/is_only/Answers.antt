@@ -4,7 +4,7 @@ use Rattle.std.specs.List.Sorted.{IsStrictlyIncreasing}
 use Rattle.std.proofs.lemmas.Bool.{false≢true}
 use Rattle.std.proofs.lemmas.List.{get_or_default}
 use Rattle.std.proofs.lemmas.List.Elements.{Contains-get_or}
-use Rattle.druid_shard.proofs.MemberLemmas.{Contains-map, Contains-map_back}
+use Rattle.druid_base.proofs.MemberLemmas.{Contains-map, Contains-map_back}
 use Rattle.druid_members.proofs.PairLemmas.{map-zip, rising-once}
 use Rattle.druid_members.specs.Slots.{Replica}
 use Rattle.druid_members.proofs.replicas.Replicas.is_only.Goals as goal

@@ -3,7 +3,7 @@ use Rattle.std.specs.List.{Contains, zip, remove}
 use Rattle.std.specs.List.Sorted.{IsStrictlyIncreasing}
 use Rattle.std.proofs.lemmas.Bool.{false≢true}
 use Rattle.std.proofs.lemmas.List.{length-map, get_or-map, get_or_default}
-use Rattle.druid_shard.proofs.MemberLemmas.{Contains-map_back}
+use Rattle.druid_base.proofs.MemberLemmas.{Contains-map_back}
 use Rattle.druid_members.proofs.PairLemmas.{no_replica, map-zip, zip-remove, Contains-remove, Contains-taken}
 use Rattle.druid_members.specs.Slots.{Statement, Replica}
 use Rattle.druid_members.proofs.replicas.Replicas.remove.Goals as goal

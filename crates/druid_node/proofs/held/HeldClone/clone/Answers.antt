@@ -1,7 +1,7 @@
 use Rattle.std.proofs.Common.{sym, ◌∙◌, subst}
 use Rattle.std.specs.Arc.{arc_value}
+use Rattle.druid_base.proofs.ListLemmas.{map-copied}
 use Rattle.druid_node.specs.Held.{IsHeld}
-use Rattle.druid_node.proofs.PlaceLemmas.{map-copied}
 use Rattle.druid_node.proofs.held.HeldClone.clone.Goals as goal
 
 pub invariant_of-result : goal.invariant_of-result

@@ -1,6 +1,6 @@
 use Rattle.std.proofs.Common.{sym, ap, ◌∙◌}
 use Rattle.serde_json.specs.View.{view}
-use Rattle.druid_query.specs.Query.{are_distinct}
+use Rattle.druid_base.specs.Distinct.{are_distinct}
 use Rattle.druid_query_text.specs.Found.{Finds}
 use Rattle.druid_query_text.specs.Parts.{tail_at}
 use Rattle.druid_query_text.proofs.NameLemmas.{names_read}

@@ -7,7 +7,7 @@ use Rattle.druid_segfile.proofs.reading.Judged.of_columns.Goals as goal
 
 pub columns-requires-clause-judged : goal.columns-requires-clause-judged
 columns-requires-clause-judged c =
-    let d = c.args.self.now.announced in
+    let d = c.args.self.now.announcement in
     let fields = c.args.self.now.fields in
     let shape = c.shape_of-shape.result in
     let bytes = c.args.self.now.rows.now in
@@ -17,7 +17,7 @@ columns-requires-clause-judged c =
 
 pub of_columns-requires-clause-valid : goal.of_columns-requires-clause-valid
 of_columns-requires-clause-valid c =
-    let d = c.args.self.now.announced in
+    let d = c.args.self.now.announcement in
     let fields = c.args.self.now.fields in
     let shape = c.shape_of-shape.result in
     let bytes = c.args.self.now.rows.now in
@@ -42,7 +42,7 @@ of_columns-requires-clause-metrics c =
 
 pub returns : goal.returns
 returns c =
-    let d = c.args.self.now.announced in
+    let d = c.args.self.now.announcement in
     let fields = c.args.self.now.fields in
     let shape = c.shape_of-shape.result in
     let bytes = c.args.self.now.rows.now in
