@@ -95,7 +95,7 @@ pub(crate) fn tell_load_status(inventory: &Inventory) -> Response
 pub(crate) fn unknown_node() -> Response
     ensures { Tells 404 (codes "{\"error\":\"V2\"}") result.status result.body }
 {
-    Response::of_static(StatusCode::NOT_FOUND, "{\"error\":\"V2\"}")
+    Response::of_error(StatusCode::NOT_FOUND, "V2")
 }
 
 fn tell_reply(alloc: Global, reply: &Reply) -> Response
@@ -114,10 +114,7 @@ fn tell_node(alloc: Global, inventory: &Inventory, node: NodeNo, ask: &Ask) -> R
     match inventory.entry_page(node, ask) {
         Ok(reply) => tell_reply(alloc, &reply),
         Err(InventoryFault::UnknownNode) => unknown_node(),
-        Err(InventoryFault::NotSynced) => Response::of_static(
-            StatusCode::NOT_FOUND,
-            "{\"error\":\"V3\"}",
-        ),
+        Err(InventoryFault::NotSynced) => Response::of_error(StatusCode::NOT_FOUND, "V3"),
         Err(InventoryFault::Memory) => Response::out_of_memory(),
         Err(InventoryFault::DoubledNode) => unreachable!(),
     }

@@ -10,7 +10,7 @@ ghost use Rattle.druid_broker.specs.Routes.{AnswersPost};
 use druid_inventory::Inventory;
 use druid_link::Link;
 use druid_partial_text::{result_text, shortfall_text};
-use druid_query::{Query, QueryFault, refusal_text};
+use druid_query::{Query, QueryFault};
 use druid_scatter::{Answer, Pick, gather, plan};
 use druid_wire::Response;
 use http::StatusCode;
@@ -26,22 +26,6 @@ pub(crate) struct Turn<'a, P> {
     pub(crate) pick: &'a P,
 }
 
-// The answer to what is no query, for a field of another shape: its text is written anew.
-fn refuse_field(alloc: Global, fault: QueryFault) -> Response
-    ensures { Tells 400 (refusal_text fault) result.status result.body ⊎ IsOutOfMemory result.status result.body }
-{
-    match refusal_text(alloc, fault) {
-        Ok(text) => Response::of_text(StatusCode::BAD_REQUEST, text),
-        Err(_) => Response::out_of_memory(),
-    }
-}
-
-fn refuse(text: &'static str) -> Response
-    ensures { Tells 400 text.now result.status result.body }
-{
-    Response::of_static(StatusCode::BAD_REQUEST, text)
-}
-
 /// The answer to what is no query. Memory is taken only to name a field.
 pub(crate) fn refuse_query(alloc: Global, fault: QueryFault) -> Response
     ensures refused { (fault ≢ QueryFault.Memory)
@@ -49,13 +33,18 @@ pub(crate) fn refuse_query(alloc: Global, fault: QueryFault) -> Response
     ensures memory { fault ≡ QueryFault.Memory → IsOutOfMemory result.status result.body }
 {
     match fault {
-        QueryFault::NotJson => refuse("{\"error\":\"Q1\"}"),
-        QueryFault::UnknownType => refuse("{\"error\":\"Q2\"}"),
-        QueryFault::Field(_) => refuse_field(alloc, fault),
-        QueryFault::BadInterval => refuse("{\"error\":\"Q4\"}"),
-        QueryFault::LimitPassed => refuse("{\"error\":\"Q5\"}"),
-        QueryFault::DoubledName => refuse("{\"error\":\"Q6\"}"),
         QueryFault::Memory => Response::out_of_memory(),
+        QueryFault::Field(key) => {
+            match Response::of_field(alloc, StatusCode::BAD_REQUEST, fault.code(), key) {
+                Ok(response) => response,
+                Err(_) => Response::out_of_memory(),
+            }
+        }
+        QueryFault::NotJson
+        | QueryFault::UnknownType
+        | QueryFault::BadInterval
+        | QueryFault::LimitPassed
+        | QueryFault::DoubledName => Response::of_error(StatusCode::BAD_REQUEST, fault.code()),
     }
 }
 
@@ -73,28 +62,6 @@ fn tell_rows(alloc: Global, query: &Query, answer: &Answer) -> Result<Response, 
     Ok(Response::of_text(StatusCode::SERVICE_UNAVAILABLE, text))
 }
 
-fn answer_rows<T: Threads + Sync, P: Pick, L: Link + Send>(
-    rt: &T,
-    alloc: Global,
-    inventory: &Inventory,
-    query: &Query,
-    turn: &Turn<'_, P>,
-    links: &mut [L],
-) -> Result<Response, AllocError>
-    requires { length inventory.now ≤ length links.old }
-    ensures ok { IfOk result (λ r. AnswersRows L.exchanges (P.orders turn.now.pick.now turn.now.number) inventory.now query.now links.old links.new r.status r.body) }
-    ensures err { OnErr result ((links.new ≡ links.old)
-        ⊎ AsksRows L.exchanges (P.orders turn.now.pick.now turn.now.number) inventory.now query.now links.old links.new) }
-{
-    let Ok(pairs) = plan(alloc, inventory, query) else {
-        return Err(AllocError);
-    };
-    let Ok(gathered) = gather(rt, alloc, query, &pairs, turn.number, turn.pick, links) else {
-        return Err(AllocError);
-    };
-    tell_rows(alloc, query, &gathered)
-}
-
 /// The answer to a query, whatever bytes it was read of: its rows, of what the nodes of the inventory serve, gathered over their
 /// links.
 pub(crate) fn answer_query<T: Threads + Sync, P: Pick, L: Link + Send>(
@@ -109,7 +76,13 @@ pub(crate) fn answer_query<T: Threads + Sync, P: Pick, L: Link + Send>(
     ensures { (bytes : List ℕ) → IsReadOf bytes (Ok query.now)
         → AnswersPost L.exchanges (P.orders turn.now.pick.now turn.now.number) true inventory.now bytes links.old links.new result.status result.body }
 {
-    match answer_rows(rt, alloc, inventory, query, turn, links) {
+    let Ok(pairs) = plan(alloc, inventory, query) else {
+        return Response::out_of_memory();
+    };
+    let Ok(gathered) = gather(rt, alloc, query, &pairs, turn.number, turn.pick, links) else {
+        return Response::out_of_memory();
+    };
+    match tell_rows(alloc, query, &gathered) {
         Ok(response) => response,
         Err(_) => Response::out_of_memory(),
     }

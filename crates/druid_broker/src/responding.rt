@@ -18,7 +18,6 @@ use druid_inventory::Inventory;
 use druid_link::Link;
 use druid_message::Request;
 use druid_published::{Publication, PublishFault, View};
-use druid_query::Query;
 use druid_query_text::read_query;
 use druid_scatter::Pick;
 use druid_sync::read_ask;
@@ -110,22 +109,15 @@ fn answer_known<L: Link>(
     }
 }
 
-// The response where what was found is older than what the view knows.
-fn no_reading() -> Response
-    ensures { Tells 500 (codes "{\"error\":\"NoReading\"}") result.status result.body }
-{
-    Response::of_static(
-        StatusCode::INTERNAL_SERVER_ERROR,
-        "{\"error\":\"NoReading\"}",
-    )
-}
-
-// The response to a failed read of the view: 500. (A read applies no reply.)
+// The response to a failed read of the view: 500, `NoReading` where what was found is older than what the view knows. (A read applies
+// no reply.)
 fn answer_unread(fault: PublishFault) -> Response
     ensures { AnswersUnread result.status result.body }
 {
     match fault {
-        PublishFault::NoReading => no_reading(),
+        PublishFault::NoReading => {
+            Response::of_error(StatusCode::INTERNAL_SERVER_ERROR, "NoReading")
+        }
         PublishFault::Memory => Response::out_of_memory(),
         PublishFault::Apply(_) => Response::out_of_memory(),
     }
@@ -151,27 +143,6 @@ fn answer_got<J: Publication, L: Link>(
     }
 }
 
-// What is answered to a query that was posted.
-fn answer_read<T: Threads + Wait + Sync, J: Publication, P: Pick, L: Link + Send>(
-    rt: &T,
-    alloc: Global,
-    view: &mut View<J>,
-    request: &Request,
-    asked: &Query,
-    turn: &Turn<'_, P>,
-    links: &mut [L],
-) -> Response
-    requires links { length J.opening ≤ length links.old }
-    requires posted { bytes_eq request.now.method (codes "POST") ≡ true }
-    requires read { IsReadOf request.now.body (Ok asked.now) }
-    ensures { RespondsAt L.exchanges (P.orders turn.now.pick.now turn.now.number) J.opening query view.old view.new links.old links.new request.now result.status result.body }
-{
-    match view.read() {
-        Ok(inventory) => answer_query(rt, alloc, &inventory, asked, turn, links),
-        Err(fault) => answer_unread(fault),
-    }
-}
-
 // What is answered where queries go. The view is read once the body reads as a query.
 fn answer_posted<T: Threads + Wait + Sync, J: Publication, P: Pick, L: Link + Send>(
     rt: &T,
@@ -187,9 +158,13 @@ fn answer_posted<T: Threads + Wait + Sync, J: Publication, P: Pick, L: Link + Se
     if !request.has_method("POST") {
         return Response::other_method();
     }
-    match read_query(alloc, request.body()) {
-        Ok(asked) => answer_read(rt, alloc, view, request, &asked, turn, links),
-        Err(fault) => refuse_query(alloc, fault),
+    let asked = match read_query(alloc, request.body()) {
+        Ok(asked) => asked,
+        Err(fault) => return refuse_query(alloc, fault),
+    };
+    match view.read() {
+        Ok(inventory) => answer_query(rt, alloc, &inventory, &asked, turn, links),
+        Err(fault) => answer_unread(fault),
     }
 }
 

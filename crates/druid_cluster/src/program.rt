@@ -93,7 +93,7 @@ pub fn run_program<R: BufRead, W: Write, E: Write>(
     errors: &mut E,
     explain: bool,
 ) -> Ending
-    ensures read_refusal { OnErr words ((result.status ≡ 3)
+    ensures unread { OnErr words ((result.status ≡ 3)
         × Keeps (R.remaining reader.old) (R.remaining reader.new)
         × Keeps (W.contents writer.old) (W.contents writer.new)
         × OnOk result.reported (Appends (E.contents errors.old) (E.contents errors.new)

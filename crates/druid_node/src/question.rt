@@ -8,7 +8,7 @@ ghost use Rattle.druid_node.specs.Questions.{Asks};
 use crate::NodeFault;
 use crate::routes::{Route, route_of};
 use druid_message::Request;
-use druid_query::{QueryFault, SubQuery, refusal_text};
+use druid_query::{QueryFault, SubQuery};
 use druid_query_text::read_subquery;
 use druid_shard::Ask;
 use druid_sync::read_ask;
@@ -34,10 +34,19 @@ fn refuse(alloc: Global, fault: QueryFault) -> Result<Question, NodeFault>
 {
     match fault {
         QueryFault::Memory => Err(NodeFault::Memory),
-        fault => match refusal_text(alloc, fault) {
-            Ok(text) => Ok(Question::Settled(Response::of_text(StatusCode::BAD_REQUEST, text))),
-            Err(_) => Err(NodeFault::Memory),
-        },
+        QueryFault::Field(key) => {
+            match Response::of_field(alloc, StatusCode::BAD_REQUEST, fault.code(), key) {
+                Ok(response) => Ok(Question::Settled(response)),
+                Err(_) => Err(NodeFault::Memory),
+            }
+        }
+        QueryFault::NotJson
+        | QueryFault::UnknownType
+        | QueryFault::BadInterval
+        | QueryFault::LimitPassed
+        | QueryFault::DoubledName => {
+            Ok(Question::Settled(Response::of_error(StatusCode::BAD_REQUEST, fault.code())))
+        }
     }
 }
 

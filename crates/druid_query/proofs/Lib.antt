@@ -5,4 +5,3 @@ pub mod PartLemmas
 pub mod BackLemmas
 pub mod ExtentLemmas
 pub mod SoundLemmas
-pub mod RefusalLemmas

@@ -1,3 +1,6 @@
+ghost use Rattle.std.specs.Prelude.{◌≡◌, option_map};
+ghost use Rattle.druid_query.specs.Refused.{code_of, field_of};
+
 use thiserror::Error;
 
 /// Why a text is no query.
@@ -24,4 +27,36 @@ pub enum QueryFault {
     /// Q9: out of memory.
     #[error("Q9: out of memory")]
     Memory,
+}
+
+impl QueryFault {
+    /// The code by which a client is told of it.
+    pub fn code(self) -> &'static str
+        ensures { result.now ≡ code_of self }
+    {
+        match self {
+            QueryFault::NotJson => "Q1",
+            QueryFault::UnknownType => "Q2",
+            QueryFault::Field(_) => "Q3",
+            QueryFault::BadInterval => "Q4",
+            QueryFault::LimitPassed => "Q5",
+            QueryFault::DoubledName => "Q6",
+            QueryFault::Memory => "Memory",
+        }
+    }
+
+    /// The key of the field that it names.
+    pub fn field(self) -> Option<&'static str>
+        ensures { option_map (λ key. key.now) result ≡ field_of self }
+    {
+        match self {
+            QueryFault::Field(key) => Some(key),
+            QueryFault::NotJson
+            | QueryFault::UnknownType
+            | QueryFault::BadInterval
+            | QueryFault::LimitPassed
+            | QueryFault::DoubledName
+            | QueryFault::Memory => None,
+        }
+    }
 }

@@ -8,7 +8,6 @@ mod limits;
 mod names;
 mod query;
 mod query_type;
-mod refusal;
 mod subquery;
 
 pub use aggregator::{Aggregator, AggregatorKind};
@@ -21,5 +20,4 @@ pub use limits::{
 pub use names::{is_label, is_short};
 pub use query::Query;
 pub use query_type::QueryType;
-pub use refusal::refusal_text;
 pub use subquery::{Asked, SubQuery};

@@ -5,13 +5,13 @@ use druid_partial::Partial;
 use druid_partial_text::{
     NodeAnswer, PartialFault, answer_of, node_answer_text, read_node_answer, read_partial,
 };
-use druid_query::{
-    Aggregator, AggregatorKind, Dimension, Query, QueryFault, SubQuery, refusal_text,
-};
+use druid_query::{Aggregator, AggregatorKind, Dimension, Query, QueryFault, SubQuery};
 use druid_query_text::{
     query_of, query_text, query_value, read_query, read_subquery, subquery_of, subquery_text,
     subquery_value,
 };
+use druid_wire::Response;
+use http::StatusCode;
 use serde_json::Value;
 use std::alloc::Global;
 use std::process::Abort;
@@ -70,12 +70,16 @@ fn parts(rt: &impl Abort, alloc: Global) {
         },
     );
     begin(rt, alloc);
-    let text = end(rt, alloc, refusal_text(alloc, QueryFault::Field("filter")));
+    let made = end(
+        rt,
+        alloc,
+        Response::of_field(alloc, StatusCode::BAD_REQUEST, "Q3", "filter"),
+    );
     assert_call(
         rt,
-        "refusal_text",
-        match &text {
-            Ok(text) => text.as_str() == "{\"error\":\"Q3\",\"field\":\"filter\"}",
+        "Response::of_field",
+        match &made {
+            Ok(made) => made.status() == StatusCode::BAD_REQUEST,
             Err(_) => true,
         },
     );

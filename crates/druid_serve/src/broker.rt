@@ -15,7 +15,7 @@ use druid_scatter::Rotate;
 use druid_serve_node::{DeviceFailed, REST_MILLISECONDS, limit};
 use druid_shard::NodeNo;
 use std::alloc::{AllocError, Global};
-use std::io::{BufRead, BufReader, BufWriter, Write};
+use std::io::{BufReader, BufWriter, Write};
 use std::net::{Net, TcpListener, TcpStream};
 use std::sync::{Arc, Mutex, Wait};
 use std::thread;
@@ -124,36 +124,6 @@ fn start_syncer<
     }
 }
 
-// Answers what comes by a reader, and tells whether that was done.
-fn respond<
-    R: Net<Listener = TcpListener, Stream = TcpStream>
-        + Wait
-        + Threads
-        + Clock
-        + Copy
-        + Send
-        + Sync,
-    J: Publication,
-    I: BufRead,
-    O: Write,
->(rt: &R, alloc: Global, worker: &mut Worker<R, J>, reader: &mut I, writer: &mut O) -> bool
-    ensures view { IsPrefix worker.old.view worker.new.view }
-    ensures turn { worker.new.turn ≡ worker.old.turn }
-{
-    let served = serve_one(
-        rt,
-        alloc,
-        &worker.routes,
-        reader,
-        writer,
-        &mut worker.view,
-        worker.turn,
-        &Rotate,
-        &mut worker.links,
-    );
-    served.is_ok()
-}
-
 // Answers one connection, and tells whether that was done.
 fn answer<
     R: Net<Listener = TcpListener, Stream = TcpStream>
@@ -177,7 +147,18 @@ fn answer<
     let Ok(mut writer) = BufWriter::new(alloc, stream) else {
         return false;
     };
-    respond(rt, alloc, worker, &mut reader, &mut writer) && writer.flush().is_ok()
+    let served = serve_one(
+        rt,
+        alloc,
+        &worker.routes,
+        &mut reader,
+        &mut writer,
+        &mut worker.view,
+        worker.turn,
+        &Rotate,
+        &mut worker.links,
+    );
+    served.is_ok() && writer.flush().is_ok()
 }
 
 // Answers a connection, counts it once it is closed, and tells whether it was answered: then the next has the next turn.

@@ -1,11 +1,12 @@
 //! What all servers write.
 ghost use Rattle.std.specs.Prelude.{◌≡◌, ◌⊎◌, ℕ, List, Some, None, IfOk, IfErr, nat_le, if◌then◌else◌, option_map};
 ghost use Rattle.std.specs.Io.KnownBytes.{Keeps};
+ghost use Rattle.druid_wire.specs.Response.{error_text};
 ghost use Rattle.druid_wire.specs.Served.{refusal_text, IsSent, IsCutShort};
 
 use crate::Response;
 use crate::limits::MAX_BODY;
-use crate::writing::write_response;
+use crate::writing::{length_of, write_body};
 use druid_message::WireFault;
 use http::StatusCode;
 use std::io::Write;
@@ -21,28 +22,29 @@ fn status_sent(status: StatusCode, count: usize) -> u16
     }
 }
 
-/// Writes a response as `write_response` does, and gives the status that was written.
+/// Writes a response as `write_response` does its status and body, and gives the status that was written.
 pub fn send_response<W: Write>(response: &Response, writer: &mut W) -> Result<u16, WireFault>
     ensures ok { IfOk result (IsSent (W.contents writer.old) (W.contents writer.new) response.now.status response.now.body) }
     ensures err { IfErr result (IsCutShort (W.contents writer.old) (W.contents writer.new) response.now.status response.now.body) }
 {
     let status = response.status();
-    let body = response.body();
-    match write_response(status, body, writer) {
-        Ok(()) => Ok(status_sent(status, body.len())),
+    let pieces = response.pieces();
+    let count = length_of(&pieces);
+    match write_body(status, &pieces, count, writer) {
+        Ok(()) => Ok(status_sent(status, count)),
         Err(fault) => Err(fault),
     }
 }
 
-// The text that is answered where no request was read.
-fn refusal_text(fault: WireFault) -> Option<&'static str>
-    ensures { option_map (λ text. text.now) result ≡ refusal_text fault }
+// The code that is answered where no request was read.
+fn refusal_code(fault: WireFault) -> Option<&'static str>
+    ensures { option_map (λ code. error_text code.now) result ≡ refusal_text fault }
 {
     match fault {
-        WireFault::BadHead => Some("{\"error\":\"X4\"}"),
-        WireFault::HeadTooLong => Some("{\"error\":\"X5\"}"),
-        WireFault::NoLength => Some("{\"error\":\"X6\"}"),
-        WireFault::BodyTooLong => Some("{\"error\":\"X7\"}"),
+        WireFault::BadHead => Some("X4"),
+        WireFault::HeadTooLong => Some("X5"),
+        WireFault::NoLength => Some("X6"),
+        WireFault::BodyTooLong => Some("X7"),
         WireFault::Cut => None,
         WireFault::Read => None,
         WireFault::Write => None,
@@ -61,9 +63,9 @@ pub fn refuse_request<W: Write>(fault: WireFault, writer: &mut W) -> Result<u16,
         ⊎ ((text : List ℕ) × (refusal_text fault ≡ Some text)
         × IsCutShort (W.contents writer.old) (W.contents writer.new) 400 text reported)) }
 {
-    match refusal_text(fault) {
-        Some(text) => {
-            let refusal = Response::of_static(StatusCode::BAD_REQUEST, text);
+    match refusal_code(fault) {
+        Some(code) => {
+            let refusal = Response::of_error(StatusCode::BAD_REQUEST, code);
             send_response(&refusal, writer)
         }
         None => Err(fault),

@@ -1,5 +1,5 @@
 //! Messages, written to a writer, which does not allocate, and the bytes of requests.
-ghost use Rattle.std.specs.Prelude.{◌≡◌, ◌↔◌, ◌≤◌, ◌⊎◌, length, decimal, IfOk, IfErr, OnOk, OnErr};
+ghost use Rattle.std.specs.Prelude.{◌≡◌, ◌↔◌, ◌≤◌, ◌⊎◌, ◌-◌, ◌^◌, min, length, decimal, IfOk, IfErr, OnOk, OnErr};
 ghost use Rattle.std.specs.Io.KnownBytes.{Appends};
 ghost use Rattle.std.specs.IoError.{error_kind};
 ghost use Rattle.druid_stream.specs.Fronts.{AppendsFront};
@@ -7,6 +7,7 @@ ghost use Rattle.druid_wire.specs.Limits.{max_body};
 ghost use Rattle.druid_wire.specs.Written.{joined, phrase_of, request_text, response_text, answer_text, LacksRequest};
 
 use crate::limits::MAX_BODY;
+use crate::response::error_pieces;
 use druid_message::{Request, WireFault};
 use druid_stream::write_text;
 use http::StatusCode;
@@ -83,16 +84,22 @@ fn write_request_text<W: Write>(request: &Request, writer: &mut W) -> io::Result
     write_pieces(writer, &pieces)
 }
 
-// Writes the text of a response, whatever its length.
-fn write_response_text<W: Write>(status: StatusCode, body: &[u8], writer: &mut W) -> io::Result<()>
-    ensures ok { OnOk result (Appends (W.contents writer.old) (W.contents writer.new) (response_text status body.now)) }
+// Writes the text of a response, whatever the length of its body.
+fn write_response_text<W: Write>(
+    status: StatusCode,
+    body: &[&[u8]],
+    count: usize,
+    writer: &mut W,
+) -> io::Result<()>
+    requires { count ≡ length (joined body.now) }
+    ensures ok { OnOk result (Appends (W.contents writer.old) (W.contents writer.new) (response_text status (joined body.now))) }
     ensures err { OnErr result
-        (AppendsFront (W.contents writer.old) (W.contents writer.new) (response_text status body.now)) }
+        (AppendsFront (W.contents writer.old) (W.contents writer.new) (response_text status (joined body.now))) }
 {
     let mut code_digits = Buffer::new();
     let code = code_digits.format(status.as_u16()).as_bytes();
     let mut length_digits = Buffer::new();
-    let length = length_digits.format(body.len()).as_bytes();
+    let digits = length_digits.format(count).as_bytes();
     write_pieces(
         writer,
         &[
@@ -102,22 +109,29 @@ fn write_response_text<W: Write>(status: StatusCode, body: &[u8], writer: &mut W
             phrase_of(&status),
             b"\r\n",
             BEFORE_LENGTH,
-            length,
+            digits,
             BEHIND_LENGTH,
-            body,
         ],
-    )
+    )?;
+    write_pieces(writer, body)
+}
+
+// How long pieces are together, or the most that a number can be where they are longer.
+pub(crate) fn length_of(pieces: &[&[u8]]) -> usize
+    ensures { result ≡ min (length (joined pieces.now)) (2 ^ 64 - 1) }
+{
+    let mut length: usize = 0;
+    for piece in pieces {
+        length = length.saturating_add(piece.len());
+    }
+    length
 }
 
 // Pieces, one after another, in room for all of them.
-fn join_pieces(alloc: Global, pieces: &[&[u8]]) -> Result<Vec<u8>, AllocError>
+pub(crate) fn join_pieces(alloc: Global, pieces: &[&[u8]]) -> Result<Vec<u8>, AllocError>
     ensures { IfOk result (λ bytes. bytes.items ≡ joined pieces.now) }
 {
-    let mut room: usize = 0;
-    for piece in pieces {
-        room = room.saturating_add(piece.len());
-    }
-    let mut bytes = Vec::with_capacity(alloc, room)?;
+    let mut bytes = Vec::with_capacity(alloc, length_of(pieces))?;
     for piece in pieces {
         bytes.extend_from_slice(piece)?;
     }
@@ -150,16 +164,46 @@ pub fn write_request<W: Write>(request: &Request, writer: &mut W) -> Result<(), 
     }
 }
 
-// Writes a response, whatever its length.
-fn write_whole<W: Write>(status: StatusCode, body: &[u8], writer: &mut W) -> Result<(), WireFault>
-    ensures ok { OnOk result (Appends (W.contents writer.old) (W.contents writer.new) (response_text status body.now)) }
-    ensures err { OnErr result (AppendsFront (W.contents writer.old) (W.contents writer.new) (response_text status body.now)) }
+// Writes a response, whatever the length of its body.
+fn write_whole<W: Write>(
+    status: StatusCode,
+    body: &[&[u8]],
+    count: usize,
+    writer: &mut W,
+) -> Result<(), WireFault>
+    requires { count ≡ length (joined body.now) }
+    ensures ok { OnOk result (Appends (W.contents writer.old) (W.contents writer.new) (response_text status (joined body.now))) }
+    ensures err { OnErr result (AppendsFront (W.contents writer.old) (W.contents writer.new) (response_text status (joined body.now))) }
     ensures faults { IfErr result (λ fault. (fault ≡ WireFault.Write) ⊎ (fault ≡ WireFault.Memory)) }
 {
-    match write_response_text(status, body, writer) {
+    match write_response_text(status, body, count, writer) {
         Ok(()) => Ok(()),
         Err(error) => Err(write_fault(&error)),
     }
+}
+
+// Writes a response whose body is in pieces of so many bytes together, as `write_response` does.
+pub(crate) fn write_body<W: Write>(
+    status: StatusCode,
+    body: &[&[u8]],
+    count: usize,
+    writer: &mut W,
+) -> Result<(), WireFault>
+    requires { count ≡ min (length (joined body.now)) (2 ^ 64 - 1) }
+    ensures ok { OnOk result (Appends (W.contents writer.old) (W.contents writer.new) (answer_text status (joined body.now))) }
+    ensures err { OnErr result (AppendsFront (W.contents writer.old) (W.contents writer.new) (answer_text status (joined body.now))) }
+    ensures faults { IfErr result (λ fault. (fault ≡ WireFault.Write) ⊎ (fault ≡ WireFault.Memory)) }
+{
+    if count <= MAX_BODY {
+        return write_whole(status, body, count, writer);
+    }
+    let refusal = error_pieces("TooLarge");
+    write_whole(
+        StatusCode::INTERNAL_SERVER_ERROR,
+        &refusal,
+        length_of(&refusal),
+        writer,
+    )
 }
 
 /// Writes a response, and does not allocate. In place of one whose body passes the limit, status 500 and
@@ -174,12 +218,6 @@ pub fn write_response<W: Write>(
     ensures err { OnErr result (AppendsFront (W.contents writer.old) (W.contents writer.new) (answer_text status body.now)) }
     ensures faults { IfErr result (λ fault. (fault ≡ WireFault.Write) ⊎ (fault ≡ WireFault.Memory)) }
 {
-    if body.len() <= MAX_BODY {
-        return write_whole(status, body, writer);
-    }
-    write_whole(
-        StatusCode::INTERNAL_SERVER_ERROR,
-        b"{\"error\":\"TooLarge\"}",
-        writer,
-    )
+    let pieces = [body];
+    write_body(status, &pieces, body.len(), writer)
 }

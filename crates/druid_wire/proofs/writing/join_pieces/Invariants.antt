@@ -2,5 +2,5 @@ use Rattle.std.proofs.Common.{◌≡◌, take}
 use Rattle.druid_wire.specs.Written.{joined}
 use Rattle.druid_wire.proofs.writing.join_pieces.Given as goal
 
-abbrev pub invariant-loop-piece-2 : goal.invariant-loop-piece-2
-invariant-loop-piece-2 l = l.bytes.items ≡ joined (take l.piece-index l.pieces)
+abbrev pub invariant-loop-piece : goal.invariant-loop-piece
+invariant-loop-piece l = l.bytes.items ≡ joined (take l.piece-index l.pieces)

@@ -1,6 +1,6 @@
 use Rattle.std.proofs.Common.{length}
 use Rattle.druid_broker.proofs.PlanLemmas.{are_linked}
-use Rattle.druid_broker.proofs.querying.answer_rows.Goals as goal
+use Rattle.druid_broker.proofs.querying.answer_query.Goals as goal
 
 pub gather-requires-after_bounds : goal.gather-requires-after_bounds
 gather-requires-after_bounds g c κs within =
