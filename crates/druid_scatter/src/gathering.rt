@@ -15,7 +15,6 @@ use crate::{Answer, GatherFault};
 use druid_link::Link;
 use druid_message::WireFault;
 use druid_partial::{Partial, merge};
-use druid_partial_text::NodeAnswer;
 use druid_query::{Query, SubQuery};
 use std::alloc::{AllocError, Global};
 use std::marker::Model;
@@ -44,53 +43,8 @@ impl Gathering {
         Gathering { waiting, partial }
     }
 
-    // After an answer of a node.
-    fn take_answer(
-        self,
-        alloc: Global,
-        round: usize,
-        node: usize,
-        answer: NodeAnswer,
-    ) -> Result<Gathering, GatherFault>
-        requires { self.partial.kinds ≡ answer.partial.kinds }
-        ensures kept { IfOk result (λ new. Keeps round node answer.missing self.waiting new.waiting) }
-        ensures merged { IfOk result (λ new. IsMerge self.partial.kinds self.partial.groups answer.partial.groups new.partial.groups) }
-        ensures itself { IfOk result (λ _. IsResult answer.partial.kinds answer.partial.groups answer.partial.groups) }
-        ensures of_query { (query : Query) → IsPartialFor query self.partial → IsPartialFor query answer.partial
-            → IfOk result (λ new. IsPartialFor query new.partial) }
-    {
-        let (reported, missing) = answer.into_parts();
-        // For the proof: reading it exposes the invariant of its type.
-        let _ = reported.groups();
-        let waiting = keep_missing(alloc, self.waiting, round, node, &missing)?;
-        match merge(alloc, self.partial, reported) {
-            Ok(partial) => Ok(Gathering { waiting, partial }),
-            Err(_) => Err(GatherFault::Memory),
-        }
-    }
-
-    // After an exchange with a node.
+    // After what came of asking a node, if it was asked.
     fn after(
-        self,
-        alloc: Global,
-        round: usize,
-        node: usize,
-        sub: &SubQuery,
-        came: &Result<Vec<u8>, WireFault>,
-    ) -> Result<Gathering, GatherFault>
-        requires { IsPartialFor sub.now.query self.partial }
-        ensures took { IfOk result (λ new. Took sub.now.query round node self new (exchange_of sub.now (came_of came.now) node)) }
-        ensures of_query { IfOk result (λ new. IsPartialFor sub.now.query new.partial) }
-        ensures err { OnErr result (MayLackMemory (came_of came.now)) }
-    {
-        match answer_of(alloc, sub, came)? {
-            Some(answer) => self.take_answer(alloc, round, node, answer),
-            None => Ok(self),
-        }
-    }
-
-    // The same, if there was an exchange.
-    fn after_if(
         self,
         alloc: Global,
         query: &Query,
@@ -105,12 +59,20 @@ impl Gathering {
         ensures of_query { IfOk result (λ new. IsPartialFor query.now new.partial) }
         ensures err { OnErr result (IsSomeAnd (option_map came_of came.now) MayLackMemory) }
     {
-        match sub {
-            None => Ok(self),
-            Some(sub) => match came {
-                None => Ok(self),
-                Some(came) => self.after(alloc, round, node, sub, came),
-            },
+        let (Some(sub), Some(came)) = (sub, came) else {
+            return Ok(self);
+        };
+        let answer = match answer_of(alloc, sub, came)? {
+            Some(answer) => answer,
+            None => return Ok(self),
+        };
+        let (reported, missing) = answer.into_parts();
+        // For the proof: reading it exposes the invariant of its type.
+        let _ = reported.groups();
+        let waiting = keep_missing(alloc, self.waiting, round, node, &missing)?;
+        match merge(alloc, self.partial, reported) {
+            Ok(partial) => Ok(Gathering { waiting, partial }),
+            Err(_) => Err(GatherFault::Memory),
         }
     }
 
@@ -133,7 +95,7 @@ impl Gathering {
     {
         let mut gathering = self;
         for node in 0..subs.len() {
-            gathering = gathering.after_if(alloc, query, round, node, &subs[node], &came[node])?;
+            gathering = gathering.after(alloc, query, round, node, &subs[node], &came[node])?;
         }
         Ok(gathering)
     }
