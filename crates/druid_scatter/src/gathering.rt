@@ -2,11 +2,10 @@
 ghost use Rattle.std.specs.Prelude.{◌≡◌, ◌⊎◌, List, [], Any, IfOk, OnErr, IfSome, IsSomeAnd, Option, length, map, option_map, is_some};
 ghost use Rattle.std.specs.List.{range_with_len, AllZip};
 ghost use Rattle.druid_query.specs.Query.{Query};
-ghost use Rattle.druid_partial.specs.Groups.{IsMerge, IsResult};
 ghost use Rattle.druid_partial.specs.Rows.{IsPartialFor};
-ghost use Rattle.druid_link.specs.Links.{Came, came_of};
+ghost use Rattle.druid_link.specs.Links.{came_of};
 ghost use Rattle.druid_scatter.specs.Gathered.{Exchange, AreMade};
-ghost use Rattle.druid_scatter.specs.Waiting.{Keeps, Took, TookIf, Goes, AsksOn, MayLackMemory, pieces_of, sub_if, wanted_of, made_from, exchange_of};
+ghost use Rattle.druid_scatter.specs.Waiting.{TookIf, Goes, AsksOn, MayLackMemory, pieces_of, sub_if, wanted_of, made_from};
 
 use crate::answering::answer_of;
 use crate::requests::{ask, subs_for};
@@ -16,7 +15,7 @@ use druid_link::Link;
 use druid_message::WireFault;
 use druid_partial::{Partial, merge};
 use druid_query::{Query, SubQuery};
-use std::alloc::{AllocError, Global};
+use std::alloc::Global;
 use std::marker::Model;
 use std::thread::Threads;
 
@@ -62,9 +61,8 @@ impl Gathering {
         let (Some(sub), Some(came)) = (sub, came) else {
             return Ok(self);
         };
-        let answer = match answer_of(alloc, sub, came)? {
-            Some(answer) => answer,
-            None => return Ok(self),
+        let Some(answer) = answer_of(alloc, sub, came)? else {
+            return Ok(self);
         };
         let (reported, missing) = answer.into_parts();
         // For the proof: reading it exposes the invariant of its type.
@@ -100,20 +98,6 @@ impl Gathering {
         Ok(gathering)
     }
 
-    // The subqueries of a round to so many nodes, place by place.
-    fn wanted_subs(
-        &self,
-        alloc: Global,
-        query: &Query,
-        round: usize,
-        count: usize,
-    ) -> Result<Vec<Option<SubQuery>>, AllocError>
-        ensures { IfOk result (λ subs. subs.items
-            ≡ map (λ node. sub_if query.now (wanted_of round self.now.waiting node)) (range_with_len 0 count)) }
-    {
-        subs_for(alloc, query, &self.waiting, round, count)
-    }
-
     // After a round: each piece that waits is asked of the next node in its order.
     pub(crate) fn round<L: Link + Send, R: Threads + Sync>(
         self,
@@ -130,7 +114,7 @@ impl Gathering {
         ensures err { OnErr result ((more : List Exchange) × AreMade L.exchanges query.now more links.old links.new
             × AsksOn query.now round self more × ((more ≡ []) ⊎ Any (λ e. MayLackMemory e.came) more)) }
     {
-        let subs = self.wanted_subs(alloc, query, round, links.len())?;
+        let subs = subs_for(alloc, query, &self.waiting, round, links.len())?;
         let came = ask(rt, alloc, &subs, links)?;
         self.settle_round(alloc, query, round, &subs, &came)
     }
