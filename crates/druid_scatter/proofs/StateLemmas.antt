@@ -4,7 +4,7 @@ use Rattle.std.specs.List.{AllByRecursion, AllZip, slice_get, range_with_len}
 use Rattle.std.proofs.lemmas.List.FromFn.{get_or-map-range_with_len, length-map-range_with_len}
 use Rattle.std.specs.List.Sorted.{IsStrictlySortedBy}
 use Rattle.std.specs.Option.{IfSome, IfNone}
-use Rattle.std.specs.Result.{IfOk, OnErr}
+use Rattle.std.specs.Result.{IfOk}
 use Rattle.std.specs.declared.cmp.Ordering.{Ordering}
 use Rattle.std.specs.declared.cmp.Ordering.TheVariants.{Less}
 use Rattle.std.proofs.lemmas.Bool.{false≢true}
@@ -45,15 +45,19 @@ partial_reported query e missing p a kinds = record {
   each = All-permutation (IsGroupFor query) a.reported.reported.rows p.groups a.reported.reported.same a.reported.reported.listed.each;
 }
 
-pub taken : (query : Query) (round node : ℕ) (old new : State) (e : Exchange) (missing : List Asked) (kinds : List AggregatorKind) (groups : List Group) → old.partial.kinds ≡ kinds_of query → kinds ≡ kinds_of query
-    → Answers query e missing groups → Keeps round node missing old.waiting new.waiting → IsMerge old.partial.kinds old.partial.groups groups new.partial.groups → IsResult kinds groups groups → Took query round node old new e
-taken query round node old new e missing kinds groups mine theirs a k m i = inl (record {
+-- of an answer, whose parts were merged and kept
+pub taken : (query : Query) (round node : ℕ) (old before new : State) (e : Exchange) (missing there : List Asked) (p reported : Partial) → before ≡ old → there ≡ missing → reported ≡ p
+    → old.partial.kinds ≡ kinds_of query → p.kinds ≡ kinds_of query → Answers query e missing p.groups → Keeps round node there before.waiting new.waiting
+    → IsMerge before.partial.kinds before.partial.groups reported.groups new.partial.groups → IsPartial reported → Took query round node old new e
+taken query round node old before new e missing there p reported b m r mine theirs a k g valid = inl (record {
   missing = missing;
-  groups = groups;
+  groups = p.groups;
   answers = a;
-  kept = k;
-  merged = subst (λ (ks : List AggregatorKind). IsMerge ks old.partial.groups groups new.partial.groups) mine m;
-  itself = subst (λ (ks : List AggregatorKind). IsResult ks groups groups) theirs i;
+  kept = subst (λ (s : State). Keeps round node missing s.waiting new.waiting) b (subst (λ (xs : List Asked). Keeps round node xs before.waiting new.waiting) m k);
+  merged = subst (λ (ks : List AggregatorKind). IsMerge ks old.partial.groups p.groups new.partial.groups) mine
+      (subst (λ (s : State). IsMerge s.partial.kinds s.partial.groups p.groups new.partial.groups) b
+      (subst (λ (q : Partial). IsMerge before.partial.kinds before.partial.groups q.groups new.partial.groups) r g));
+  itself = subst (λ (ks : List AggregatorKind). IsResult ks p.groups p.groups) theirs (tells_itself p (subst IsPartial r valid));
 })
 
 -- ---- what is reported
@@ -206,11 +210,11 @@ at_some o x P e h = subst (λ (r : _). IfSome r P) e h
 pub at_none : {X : Type 0} (o : Option X) (P : Type 0) → o ≡ None → IfNone o P → P
 at_none o P e h = subst (λ (r : _). IfNone r P) e h
 
-pub took_of : (query : Query) (round node : ℕ) (old : State) (e : Exchange) (missing : List Asked) (p : Partial) (r : Result State GatherFault) → old.partial.kinds ≡ kinds_of query → p.kinds ≡ kinds_of query
-    → Answers query e missing p.groups → IfOk r (λ new. Keeps round node missing old.waiting new.waiting) → IfOk r (λ new. IsMerge old.partial.kinds old.partial.groups p.groups new.partial.groups)
-    → IfOk r (λ _. IsResult p.kinds p.groups p.groups) → IfOk r (λ new. Took query round node old new e)
-took_of query round node old e missing p (Ok new) mine theirs a k m i = taken query round node old new e missing p.kinds p.groups mine theirs a k m i
-took_of query round node old e missing p (Err f) mine theirs a k m i = tt
+-- of a node that was asked
+pub took_if : {X : Type 0} (f : X → Came) (round node : ℕ) (old new : State) (s : Option SubQuery) (sub : SubQuery) (c : Option X) (came : X) → s ≡ Some sub → c ≡ Some came
+    → Took sub.query round node old new (exchange_of sub (f came) node) → TookIf round node old new s (option_map f c)
+took_if f round node old new s sub c came e d t =
+    subst (λ (x : Option SubQuery). TookIf round node old new x (option_map f c)) (sym e) (subst (λ (y : _). TookIf round node old new (Some sub) (option_map f y)) (sym d) t)
 
 -- ---- one round
 
@@ -308,6 +312,11 @@ inside_came subs f came k m within = let n = as_many subs (map f came) m in let 
 
 pub as_many_subs : (f : ℕ → Option SubQuery) (subs : List (Option SubQuery)) (n : ℕ) → subs ≡ map f (range_with_len 0 n) → length subs ≡ n
 as_many_subs f subs n e = ap length e ∙ length-map-range_with_len f 0 n
+
+-- what is asked for, of the pieces that wait
+pub wanted_there : (query : Query) (round n : ℕ) (there waits : List Waiting) (subs : List (Option SubQuery)) → there ≡ waits → subs ≡ map (λ node. sub_if query (wanted_of round there node)) (range_with_len 0 n)
+    → subs ≡ map (λ node. sub_if query (wanted_of round waits node)) (range_with_len 0 n)
+wanted_there query round n there waits subs same e = subst (λ (ws : List Waiting). subs ≡ map (λ node. sub_if query (wanted_of round ws node)) (range_with_len 0 n)) same e
 
 pub subs_again : (f : ℕ → Option SubQuery) (subs there : List (Option SubQuery)) (n : ℕ) → there ≡ subs → subs ≡ map f (range_with_len 0 n) → there ≡ map f (range_with_len 0 (length there))
 subs_again f subs there n same e =

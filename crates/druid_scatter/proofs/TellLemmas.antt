@@ -1,5 +1,5 @@
 -- What an answer tells is one, and what is no answer tells nothing.
-use Rattle.std.proofs.Common.{◌≡◌, ◌∙◌, inl, inr, ℕ, List, Option, Some, None, Ok, Err, Result, true, not, eqb, refl, sym, ap, subst}
+use Rattle.std.proofs.Common.{◌≡◌, ◌∙◌, inr, ℕ, List, Option, Some, None, IsSomeAnd, option_map, Ok, Err, Result, true, not, eqb, refl, sym, ap, subst}
 use Rattle.std.specs.Option.{IfNone}
 use Rattle.std.specs.Result.{IfOk, OnErr}
 use Rattle.std.proofs.lemmas.Bool.{false≢true, eq-eqb}
@@ -104,10 +104,7 @@ pub lacks_of : (sub : SubQuery) (bytes there : List ℕ) (came : Came) (r : Resu
 lacks_of sub bytes there came (Ok a) same is lacks = tt
 lacks_of sub bytes there came (Err f) same is lacks = inr (bytes, is, subst (ReadingLacksMemory sub) same lacks)
 
-pub lacks_may : (sub : SubQuery) (came : Came) → LacksMemory sub came → MayLackMemory came
-lacks_may sub came (inl link) = inl link
-lacks_may sub came (inr h) = inr (h.0, h.2.0, h.2.1, h.1, h.2.2)
-
 -- an answer is a response, whose body is read
-pub answer_may : (sub : SubQuery) (came : Came) (node : ℕ) (missing : List Asked) (groups : List Group) → Answers sub.query (exchange_of sub came node) missing groups → MayLackMemory came
-answer_may sub came node missing groups a = inr (a.bytes, a.body, a.rest, a.came, a.response)
+pub answer_may : {X : Type 0} (f : X → Came) (c : Option X) (came : X) (sub : SubQuery) (node : ℕ) (missing : List Asked) (groups : List Group) → c ≡ Some came
+    → Answers sub.query (exchange_of sub (f came) node) missing groups → IsSomeAnd (option_map f c) MayLackMemory
+answer_may f c came sub node missing groups d a = subst (λ (y : _). IsSomeAnd (option_map f y) MayLackMemory) (sym d) (inr (a.bytes, a.body, a.rest, a.came, a.response))

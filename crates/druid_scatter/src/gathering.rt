@@ -2,11 +2,10 @@
 ghost use Rattle.std.specs.Prelude.{◌≡◌, ◌⊎◌, List, [], Any, IfOk, OnErr, IfSome, IsSomeAnd, Option, length, map, option_map, is_some};
 ghost use Rattle.std.specs.List.{range_with_len, AllZip};
 ghost use Rattle.druid_query.specs.Query.{Query};
-ghost use Rattle.druid_partial.specs.Groups.{IsMerge, IsResult};
 ghost use Rattle.druid_partial.specs.Rows.{IsPartialFor};
-ghost use Rattle.druid_link.specs.Links.{Came, came_of};
+ghost use Rattle.druid_link.specs.Links.{came_of};
 ghost use Rattle.druid_scatter.specs.Gathered.{Exchange, AreMade};
-ghost use Rattle.druid_scatter.specs.Waiting.{Keeps, Took, TookIf, Goes, AsksOn, MayLackMemory, pieces_of, sub_if, wanted_of, made_from, exchange_of};
+ghost use Rattle.druid_scatter.specs.Waiting.{TookIf, Goes, AsksOn, MayLackMemory, pieces_of, sub_if, wanted_of, made_from};
 
 use crate::answering::answer_of;
 use crate::requests::{ask, subs_for};
@@ -15,9 +14,8 @@ use crate::{Answer, GatherFault};
 use druid_link::Link;
 use druid_message::WireFault;
 use druid_partial::{Partial, merge};
-use druid_partial_text::NodeAnswer;
 use druid_query::{Query, SubQuery};
-use std::alloc::{AllocError, Global};
+use std::alloc::Global;
 use std::marker::Model;
 use std::thread::Threads;
 
@@ -44,53 +42,8 @@ impl Gathering {
         Gathering { waiting, partial }
     }
 
-    // After an answer of a node.
-    fn take_answer(
-        self,
-        alloc: Global,
-        round: usize,
-        node: usize,
-        answer: NodeAnswer,
-    ) -> Result<Gathering, GatherFault>
-        requires { self.partial.kinds ≡ answer.partial.kinds }
-        ensures kept { IfOk result (λ new. Keeps round node answer.missing self.waiting new.waiting) }
-        ensures merged { IfOk result (λ new. IsMerge self.partial.kinds self.partial.groups answer.partial.groups new.partial.groups) }
-        ensures itself { IfOk result (λ _. IsResult answer.partial.kinds answer.partial.groups answer.partial.groups) }
-        ensures of_query { (query : Query) → IsPartialFor query self.partial → IsPartialFor query answer.partial
-            → IfOk result (λ new. IsPartialFor query new.partial) }
-    {
-        let (reported, missing) = answer.into_parts();
-        // For the proof: reading it exposes the invariant of its type.
-        let _ = reported.groups();
-        let waiting = keep_missing(alloc, self.waiting, round, node, &missing)?;
-        match merge(alloc, self.partial, reported) {
-            Ok(partial) => Ok(Gathering { waiting, partial }),
-            Err(_) => Err(GatherFault::Memory),
-        }
-    }
-
-    // After an exchange with a node.
+    // After what came of asking a node, if it was asked.
     fn after(
-        self,
-        alloc: Global,
-        round: usize,
-        node: usize,
-        sub: &SubQuery,
-        came: &Result<Vec<u8>, WireFault>,
-    ) -> Result<Gathering, GatherFault>
-        requires { IsPartialFor sub.now.query self.partial }
-        ensures took { IfOk result (λ new. Took sub.now.query round node self new (exchange_of sub.now (came_of came.now) node)) }
-        ensures of_query { IfOk result (λ new. IsPartialFor sub.now.query new.partial) }
-        ensures err { OnErr result (MayLackMemory (came_of came.now)) }
-    {
-        match answer_of(alloc, sub, came)? {
-            Some(answer) => self.take_answer(alloc, round, node, answer),
-            None => Ok(self),
-        }
-    }
-
-    // The same, if there was an exchange.
-    fn after_if(
         self,
         alloc: Global,
         query: &Query,
@@ -105,12 +58,19 @@ impl Gathering {
         ensures of_query { IfOk result (λ new. IsPartialFor query.now new.partial) }
         ensures err { OnErr result (IsSomeAnd (option_map came_of came.now) MayLackMemory) }
     {
-        match sub {
-            None => Ok(self),
-            Some(sub) => match came {
-                None => Ok(self),
-                Some(came) => self.after(alloc, round, node, sub, came),
-            },
+        let (Some(sub), Some(came)) = (sub, came) else {
+            return Ok(self);
+        };
+        let Some(answer) = answer_of(alloc, sub, came)? else {
+            return Ok(self);
+        };
+        let (reported, missing) = answer.into_parts();
+        // For the proof: reading it exposes the invariant of its type.
+        let _ = reported.groups();
+        let waiting = keep_missing(alloc, self.waiting, round, node, &missing)?;
+        match merge(alloc, self.partial, reported) {
+            Ok(partial) => Ok(Gathering { waiting, partial }),
+            Err(_) => Err(GatherFault::Memory),
         }
     }
 
@@ -133,23 +93,9 @@ impl Gathering {
     {
         let mut gathering = self;
         for node in 0..subs.len() {
-            gathering = gathering.after_if(alloc, query, round, node, &subs[node], &came[node])?;
+            gathering = gathering.after(alloc, query, round, node, &subs[node], &came[node])?;
         }
         Ok(gathering)
-    }
-
-    // The subqueries of a round to so many nodes, place by place.
-    fn wanted_subs(
-        &self,
-        alloc: Global,
-        query: &Query,
-        round: usize,
-        count: usize,
-    ) -> Result<Vec<Option<SubQuery>>, AllocError>
-        ensures { IfOk result (λ subs. subs.items
-            ≡ map (λ node. sub_if query.now (wanted_of round self.now.waiting node)) (range_with_len 0 count)) }
-    {
-        subs_for(alloc, query, &self.waiting, round, count)
     }
 
     // After a round: each piece that waits is asked of the next node in its order.
@@ -168,7 +114,7 @@ impl Gathering {
         ensures err { OnErr result ((more : List Exchange) × AreMade L.exchanges query.now more links.old links.new
             × AsksOn query.now round self more × ((more ≡ []) ⊎ Any (λ e. MayLackMemory e.came) more)) }
     {
-        let subs = self.wanted_subs(alloc, query, round, links.len())?;
+        let subs = subs_for(alloc, query, &self.waiting, round, links.len())?;
         let came = ask(rt, alloc, &subs, links)?;
         self.settle_round(alloc, query, round, &subs, &came)
     }

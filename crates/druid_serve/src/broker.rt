@@ -12,7 +12,7 @@ use druid_inventory::Inventory;
 use druid_link::{Link, TcpLink};
 use druid_published::{Opened, Publication, Publisher, View, open};
 use druid_scatter::Rotate;
-use druid_serve_node::{DeviceFailed, REST_MILLISECONDS, limit};
+use druid_serve_node::{DeviceFailed, limit, start_worker};
 use druid_shard::NodeNo;
 use std::alloc::{AllocError, Global};
 use std::io::{BufReader, BufWriter, Write};
@@ -20,7 +20,7 @@ use std::net::{Net, TcpListener, TcpStream};
 use std::sync::{Arc, Mutex, Wait};
 use std::thread;
 use std::thread::{JoinHandle, Threads};
-use std::time::{Clock, Duration};
+use std::time::Clock;
 
 /// A broker that stands.
 #[derive(Drop)]
@@ -187,31 +187,8 @@ fn take<
     true
 }
 
-// Answers connections.
-fn work<
-    R: Net<Listener = TcpListener, Stream = TcpStream>
-        + Wait
-        + Threads
-        + Clock
-        + Copy
-        + Send
-        + Sync,
-    J: Publication,
->(rt: &R, alloc: Global, worker: &mut Worker<R, J>, gate: &Gate, listener: &TcpListener)
-    ensures { IsPrefix worker.old.view worker.new.view }
-{
-    for stream in listener.incoming() {
-        match stream {
-            Ok(stream) => {
-                take(rt, alloc, worker, gate, stream);
-            }
-            Err(_) => thread::sleep(rt, Duration::from_millis(REST_MILLISECONDS)),
-        }
-    }
-}
-
 // Starts a thread that answers connections.
-fn start_worker<
+fn start_broker_worker<
     R: Net<Listener = TcpListener, Stream = TcpStream>
         + Wait
         + Threads
@@ -228,17 +205,12 @@ fn start_worker<
     gate: &Arc<Gate, Global>,
     listener: &Arc<TcpListener, Global>,
 ) -> Result<(), DeviceFailed> {
-    let rt = *rt;
+    let own = *rt;
     let mut worker = worker;
     let gate = Arc::try_clone(gate)?;
-    let listener = Arc::try_clone(listener)?;
-    match thread::spawn(&rt, move || work(&rt, alloc, &mut worker, &gate, &listener)) {
-        Ok(thread) => {
-            drop(thread);
-            Ok(())
-        }
-        Err(_) => Err(DeviceFailed),
-    }
+    start_worker(rt, listener, move |stream: TcpStream| {
+        take(&own, alloc, &mut worker, &gate, stream);
+    })
 }
 
 // What a worker answers with.
@@ -373,7 +345,7 @@ pub(crate) fn start_broker<
     let syncers = start_syncers(rt, alloc, turns, nodes, &publisher, &mut views)?;
     for view in views {
         let worker = worker_of(rt, alloc, view, nodes, &publisher)?;
-        start_worker(rt, alloc, worker, &gate, &listener)?;
+        start_broker_worker(rt, alloc, worker, &gate, &listener)?;
     }
     Ok(Broker { gate, syncers })
 }

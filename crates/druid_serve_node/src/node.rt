@@ -13,7 +13,7 @@ ghost use Rattle.druid_serve_node.specs.Faults.{of_node, NamesFile, IsOfRaise, I
 ghost use Rattle.druid_serve_node.specs.Files.{is_segment_file, IsTaken, HoldsSegments, IsStarted};
 
 use crate::fault::{Cause, DeviceFailed, StartFault};
-use crate::outside::{REST_MILLISECONDS, limit, listen};
+use crate::outside::{limit, listen, start_worker};
 use druid_changes::HistoryFault;
 use druid_config::NodeConfig;
 use druid_folder::{Folder, StoreFault};
@@ -31,7 +31,7 @@ use std::rt::Files;
 use std::sync::{Arc, Wait};
 use std::thread;
 use std::thread::{JoinHandle, Threads};
-use std::time::{Clock, Duration};
+use std::time::Clock;
 
 // The end of the name of a segment file.
 const SEGMENT_END: &[u8] = b".seg";
@@ -274,26 +274,8 @@ fn answer<R: Wait, I: Incarnation>(
     }
 }
 
-// Answers connections.
-fn work<R: Wait + Clock, I: Incarnation>(
-    rt: &R,
-    alloc: Global,
-    node: &DataNode<I>,
-    listener: &TcpListener,
-    seen: &mut Mark,
-)
-    ensures { mark_cmp seen.old seen.new ≢ Greater }
-{
-    for stream in listener.incoming() {
-        match stream {
-            Ok(stream) => answer(rt, alloc, node, &stream, seen),
-            Err(_) => thread::sleep(rt, Duration::from_millis(REST_MILLISECONDS)),
-        }
-    }
-}
-
 // Starts a thread that answers connections.
-fn start_worker<
+fn start_node_worker<
     R: Wait + Threads + Clock + Copy + Send + Sync + 'static,
     I: Incarnation + Send + Sync + 'static,
 >(
@@ -302,17 +284,12 @@ fn start_worker<
     node: &Arc<DataNode<I>, Global>,
     listener: &Arc<TcpListener, Global>,
 ) -> Result<(), DeviceFailed> {
-    let rt = *rt;
+    let own = *rt;
     let node = Arc::try_clone(node)?;
-    let listener = Arc::try_clone(listener)?;
-    let job = move || work(&rt, alloc, &node, &listener, &mut Mark::never());
-    match thread::spawn(&rt, job) {
-        Ok(worker) => {
-            drop(worker);
-            Ok(())
-        }
-        Err(_) => Err(DeviceFailed),
-    }
+    let mut seen = Mark::never();
+    start_worker(rt, listener, move |stream: TcpStream| {
+        answer(&own, alloc, &node, &stream, &mut seen)
+    })
 }
 
 // Starts a node that goes on from that state, whose incarnation its folder has: loads the segment files of the folder, places
@@ -353,7 +330,7 @@ where
     let loads = copies_of(alloc, config.loads())?;
     let loader = start_loader::<R, L, I>(rt, &node, path, loads)?;
     for _ in 0..config.workers() {
-        start_worker(rt, alloc, &node, &listener)?;
+        start_node_worker(rt, alloc, &node, &listener)?;
     }
     Ok(loader)
 }

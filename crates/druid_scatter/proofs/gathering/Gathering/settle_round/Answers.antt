@@ -10,8 +10,8 @@ use Rattle.druid_scatter.proofs.gathering.Gathering.settle_round.Goals as goal
 pub bounds-came-node : goal.bounds-came-node
 bounds-came-node c = inside_came c.args.subs.now (option_map came_of) c.args.came.now c.loop-node.node c.requires.matched (omega arith)
 
-pub after_if-requires-clause-query : goal.after_if-requires-clause-query
-after_if-requires-clause-query c =
+pub after-requires-clause-query : goal.after-requires-clause-query
+after-requires-clause-query c =
     of_query_at c.args.query.now (wanted_of c.args.round c.args.self.waiting) c.args.subs.now c.loop-node.node c.index-subs-node.result c.requires.subs (omega arith) c.index-subs-node.is
 
 pub loop-node-preserved : goal.loop-node-preserved
