@@ -12,7 +12,7 @@ use druid_inventory::Inventory;
 use druid_link::{Link, TcpLink};
 use druid_published::{Opened, Publication, Publisher, View, open};
 use druid_scatter::Rotate;
-use druid_serve_node::{DeviceFailed, limit, start_worker};
+use druid_serve_node::{DeviceFailed, answer_each, limit};
 use druid_shard::NodeNo;
 use std::alloc::{AllocError, Global};
 use std::io::{BufReader, BufWriter, Write};
@@ -187,8 +187,35 @@ fn take<
     true
 }
 
+// Answers connections, and gives the worker as it is by then.
+fn work<
+    R: Net<Listener = TcpListener, Stream = TcpStream>
+        + Wait
+        + Threads
+        + Clock
+        + Copy
+        + Send
+        + Sync,
+    J: Publication,
+>(rt: &R, alloc: Global, worker: Worker<R, J>, gate: &Gate, listener: &TcpListener) -> Worker<R, J>
+    ensures { IsPrefix worker.view result.view }
+{
+    answer_each(
+        rt,
+        listener,
+        worker,
+        |worker: Worker<R, J>, stream: TcpStream|
+            ensures { IsPrefix worker.view result.view }
+        {
+            let mut worker = worker;
+            take(rt, alloc, &mut worker, gate, stream);
+            worker
+        },
+    )
+}
+
 // Starts a thread that answers connections.
-fn start_broker_worker<
+fn start_worker<
     R: Net<Listener = TcpListener, Stream = TcpStream>
         + Wait
         + Threads
@@ -205,12 +232,17 @@ fn start_broker_worker<
     gate: &Arc<Gate, Global>,
     listener: &Arc<TcpListener, Global>,
 ) -> Result<(), DeviceFailed> {
-    let own = *rt;
-    let mut worker = worker;
+    let rt = *rt;
     let gate = Arc::try_clone(gate)?;
-    start_worker(rt, listener, move |stream: TcpStream| {
-        take(&own, alloc, &mut worker, &gate, stream);
-    })
+    let listener = Arc::try_clone(listener)?;
+    let job = move || drop(work(&rt, alloc, worker, &gate, &listener));
+    match thread::spawn(&rt, job) {
+        Ok(thread) => {
+            drop(thread);
+            Ok(())
+        }
+        Err(_) => Err(DeviceFailed),
+    }
 }
 
 // What a worker answers with.
@@ -345,7 +377,7 @@ pub(crate) fn start_broker<
     let syncers = start_syncers(rt, alloc, turns, nodes, &publisher, &mut views)?;
     for view in views {
         let worker = worker_of(rt, alloc, view, nodes, &publisher)?;
-        start_broker_worker(rt, alloc, worker, &gate, &listener)?;
+        start_worker(rt, alloc, worker, &gate, &listener)?;
     }
     Ok(Broker { gate, syncers })
 }

@@ -7,4 +7,4 @@ mod outside;
 
 pub use fault::{Cause, ClusterFault, DeviceFailed, StartFault};
 pub use node::{EndOfLoads, load_later, start_node};
-pub use outside::{PEER_SECONDS, limit, listen, start_worker};
+pub use outside::{PEER_SECONDS, answer_each, limit, listen};

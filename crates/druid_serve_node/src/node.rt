@@ -13,7 +13,7 @@ ghost use Rattle.druid_serve_node.specs.Faults.{of_node, NamesFile, IsOfRaise, I
 ghost use Rattle.druid_serve_node.specs.Files.{is_segment_file, IsTaken, HoldsSegments, IsStarted};
 
 use crate::fault::{Cause, DeviceFailed, StartFault};
-use crate::outside::{limit, listen, start_worker};
+use crate::outside::{answer_each, limit, listen};
 use druid_changes::HistoryFault;
 use druid_config::NodeConfig;
 use druid_folder::{Folder, StoreFault};
@@ -274,8 +274,32 @@ fn answer<R: Wait, I: Incarnation>(
     }
 }
 
+// Answers connections, and gives the mark of what was seen of the node by then.
+fn work<R: Wait + Clock, I: Incarnation>(
+    rt: &R,
+    alloc: Global,
+    node: &DataNode<I>,
+    listener: &TcpListener,
+    seen: Mark,
+) -> Mark
+    ensures { mark_cmp seen result ≢ Greater }
+{
+    answer_each(
+        rt,
+        listener,
+        seen,
+        |seen: Mark, stream: TcpStream|
+            ensures { mark_cmp seen result ≢ Greater }
+        {
+            let mut seen = seen;
+            answer(rt, alloc, node, &stream, &mut seen);
+            seen
+        },
+    )
+}
+
 // Starts a thread that answers connections.
-fn start_node_worker<
+fn start_worker<
     R: Wait + Threads + Clock + Copy + Send + Sync + 'static,
     I: Incarnation + Send + Sync + 'static,
 >(
@@ -284,12 +308,17 @@ fn start_node_worker<
     node: &Arc<DataNode<I>, Global>,
     listener: &Arc<TcpListener, Global>,
 ) -> Result<(), DeviceFailed> {
-    let own = *rt;
+    let rt = *rt;
     let node = Arc::try_clone(node)?;
-    let mut seen = Mark::never();
-    start_worker(rt, listener, move |stream: TcpStream| {
-        answer(&own, alloc, &node, &stream, &mut seen)
-    })
+    let listener = Arc::try_clone(listener)?;
+    let job = move || work(&rt, alloc, &node, &listener, Mark::never());
+    match thread::spawn(&rt, job) {
+        Ok(worker) => {
+            drop(worker);
+            Ok(())
+        }
+        Err(_) => Err(DeviceFailed),
+    }
 }
 
 // Starts a node that goes on from that state, whose incarnation its folder has: loads the segment files of the folder, places
@@ -330,7 +359,7 @@ where
     let loads = copies_of(alloc, config.loads())?;
     let loader = start_loader::<R, L, I>(rt, &node, path, loads)?;
     for _ in 0..config.workers() {
-        start_node_worker(rt, alloc, &node, &listener)?;
+        start_worker(rt, alloc, &node, &listener)?;
     }
     Ok(loader)
 }

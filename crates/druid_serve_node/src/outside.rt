@@ -1,10 +1,12 @@
 //! What comes from outside: sockets, and those who connect to them.
+ghost use Rattle.std.specs.Prelude.{List};
+ghost use Rattle.std.specs.List.{FoldsTo};
+
 use crate::fault::DeviceFailed;
 use std::alloc::Global;
 use std::net::{Net, SocketAddr, TcpListener, TcpStream};
-use std::sync::{Arc, Wait};
+use std::sync::Wait;
 use std::thread;
-use std::thread::Threads;
 use std::time::{Clock, Duration};
 
 /// How long one read or one write waits for whoever connected, in seconds. Then the connection is given up, so one that keeps
@@ -34,36 +36,23 @@ pub fn limit(stream: &TcpStream) -> bool {
     stream.set_read_timeout(limit).is_ok() && stream.set_write_timeout(limit).is_ok()
 }
 
-// Answers connections, one after another.
-fn answer_each<R: Wait + Clock, F: FnMut(TcpStream)>(rt: &R, listener: &TcpListener, answer: &mut F)
-    requires { (state : F) (stream : _) → F.pre state stream }
+/// Answers the connections of a listener, one after another, by a worker that each answer takes and gives back; it rests where none
+/// could be accepted.
+pub fn answer_each<R: Wait + Clock, W, F: Fn(W, TcpStream) -> W>(
+    rt: &R,
+    listener: &TcpListener,
+    worker: W,
+    answer: F,
+) -> W
+    requires { (before : W) (stream : _) → F.pre answer before stream }
+    ensures { (streams : List _) × FoldsTo (λ before stream after. F.post answer before stream after) worker streams result }
 {
+    let mut worker = worker;
     for stream in listener.incoming() {
         match stream {
-            Ok(stream) => answer(stream),
+            Ok(stream) => worker = answer(worker, stream),
             Err(_) => thread::sleep(rt, Duration::from_millis(REST_MILLISECONDS)),
         }
     }
-}
-
-/// Starts a thread that answers connections, one after another, as long as the process runs: a worker of a node or of a broker.
-pub fn start_worker<
-    R: Wait + Threads + Clock + Copy + Send + Sync + 'static,
-    F: FnMut(TcpStream) + Send + 'static,
->(rt: &R, listener: &Arc<TcpListener, Global>, answer: F) -> Result<(), DeviceFailed>
-    requires { (state : F) (stream : _) → F.pre state stream }
-{
-    let rt = *rt;
-    let mut answer = answer;
-    let listener = Arc::try_clone(listener)?;
-    let job = move ||
-        requires { (state : F) (stream : _) → F.pre state stream }
-    { answer_each(&rt, &listener, &mut answer) };
-    match thread::spawn(&rt, job) {
-        Ok(worker) => {
-            drop(worker);
-            Ok(())
-        }
-        Err(_) => Err(DeviceFailed),
-    }
+    worker
 }
