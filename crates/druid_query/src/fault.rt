@@ -30,7 +30,7 @@ pub enum QueryFault {
 }
 
 impl QueryFault {
-    /// The code by which a client is told of it.
+    /// The code of it in the text of a response.
     pub fn code(self) -> &'static str
         ensures { result.now ≡ code_of self }
     {

@@ -9,7 +9,7 @@ pub record Response : Type 0 where
   pub status : ℕ
   pub body : List ℕ
 
--- what a client is told of a fault with this code
+-- the text that reports a fault with this code
 abbrev pub error_text : List ℕ → List ℕ
 error_text code = codes "{\"error\":\"" ++ (code ++ codes "\"}")
 
