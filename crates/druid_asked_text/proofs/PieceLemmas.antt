@@ -1,11 +1,11 @@
 -- What a piece that reads is.
 use Rattle.std.proofs.Common.{◌≡◌, ℕ, List, Option, Some, None, Bool, true, false, if◌then◌else◌, Contains, refl, sym, ap, ◌∙◌, subst}
 use Rattle.std.proofs.lemmas.Option.{same_Some}
+use Rattle.std.specs.Result.{result_ok}
 use Rattle.serde_json.specs.Data.{Data, Items}
 use Rattle.druid_time.specs.Extent.{Extent, IsExtent}
 use Rattle.druid_base.specs.Options.{◌>>=◌}
 use Rattle.druid_time.specs.Texts.{extent_at}
-use Rattle.druid_shard.specs.Json.{result_ok}
 use Rattle.druid_base.specs.Each.{each_of}
 use Rattle.druid_base.proofs.EachLemmas.{each_sound}
 use Rattle.druid_query.specs.Asked.{Asked, lies_inside, Spelled, spelled_at, named_by, asked_at, inside_at}

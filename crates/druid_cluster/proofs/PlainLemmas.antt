@@ -5,7 +5,7 @@ use Rattle.serde_json.specs.View.{items_of}
 use Rattle.serde_json.specs.Written.{has_float, items_have_float}
 use Rattle.druid_timeline.specs.Pieces.{Reported}
 use Rattle.druid_shard.specs.Mark.{Point}
-use Rattle.druid_shard.specs.Json.{mark_data}
+use Rattle.druid_shard_text.specs.Json.{mark_data}
 use Rattle.druid_cluster.specs.Answers.{parts_data, piece_data, pieces_data, marks_data, answer_data}
 use Rattle.druid_cluster.specs.declared.answer.CommandAnswer.{CommandAnswer}
 use Rattle.druid_cluster.specs.declared.answer.CommandAnswer.TheVariants.{Refused, Taken, Stepped, Found, Marked, Joined, Compared}

@@ -5,7 +5,7 @@ use Rattle.serde_json.specs.View.{items_of}
 use Rattle.serde_json.specs.Written.{compact_text}
 use Rattle.druid_time.specs.Texts.{extent_text}
 use Rattle.druid_shard.specs.Mark.{Point}
-use Rattle.druid_shard.specs.Json.{mark_data}
+use Rattle.druid_shard_text.specs.Json.{mark_data}
 use Rattle.druid_timeline.specs.Pieces.{Reported}
 use Rattle.druid_inventory.specs.declared.fault.Outcome.{Outcome}
 use Rattle.druid_inventory.specs.declared.fault.Outcome.TheVariants.{Moved, AlreadyHave, AskWhole, AskPages}

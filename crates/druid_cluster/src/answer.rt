@@ -5,7 +5,8 @@ ghost use Rattle.serde_json.specs.Written.{has_float};
 ghost use Rattle.druid_cluster.specs.Answers.{code_of, outcome_text, parts_data, piece_data, pieces_data, marks_data, answer_data, line_text};
 
 use druid_inventory::Outcome;
-use druid_shard::{Mark, mark_value};
+use druid_shard::Mark;
+use druid_shard_text::mark_value;
 use druid_timeline::Piece;
 use serde_json::{Value, json};
 use std::alloc::{AllocError, Global};

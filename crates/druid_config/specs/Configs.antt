@@ -11,7 +11,7 @@ use Rattle.druid_segid.specs.Identifier.{Identifier}
 use Rattle.druid_base.specs.Numbers as numbers
 use Rattle.druid_base.specs.Distinct.{AreDistinct, are_distinct}
 use Rattle.druid_base.specs.Fields.{list_at, text_at, number_at}
-use Rattle.druid_shard.specs.Json.{source_at, interval_at, version_at}
+use Rattle.druid_shard_text.specs.Json.{source_at, interval_at, version_at}
 use Rattle.druid_base.specs.Each.{each_of}
 use Rattle.druid_config.specs.Limits.{max_servers, max_workers, max_kept, max_count, max_port}
 

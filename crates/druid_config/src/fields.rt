@@ -4,7 +4,7 @@ ghost use Rattle.serde_json.specs.View.{view};
 ghost use Rattle.druid_segid.specs.Names.{is_name};
 ghost use Rattle.druid_base.specs.Numbers as numbers;
 ghost use Rattle.druid_config.specs.Configs.{is_port, is_address, address_at, name_at, tombstone_at, some_at, count_at, place_at, object_at};
-ghost use Rattle.druid_shard.specs.Json.{source_at, interval_at, version_at};
+ghost use Rattle.druid_shard_text.specs.Json.{source_at, interval_at, version_at};
 
 use crate::limits::{MAX_COUNT, MAX_PORT};
 use druid_base::{number_field, number_of, text_field};

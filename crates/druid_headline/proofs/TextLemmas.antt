@@ -27,7 +27,7 @@ use Rattle.druid_partial_text.specs.Written.{number_data, group_data, IsHeld}
 use Rattle.druid_partial_text.specs.Answers.{answer_data}
 use Rattle.druid_partial_text.specs.Missed.{IsOfSegment}
 use Rattle.druid_partial_text.proofs.TextBackLemmas.{bucket_fits}
-use Rattle.druid_shard.proofs.WrittenLemmas.{read_tokens, compact_tokens, outline_deep, IsBack, AreBack, items_back, any_items_back, one_more_back}
+use Rattle.druid_shard_text.proofs.WrittenLemmas.{read_tokens, compact_tokens, outline_deep, IsBack, AreBack, items_back, any_items_back, one_more_back}
 use Rattle.druid_partial_text.proofs.AnswerTextLemmas.{answer_read}
 
 -- ---- subqueries

@@ -1,5 +1,6 @@
 -- The fields of a query as JSON: what is written is read back.
 use Rattle.std.proofs.Common.{◌≡◌, ℕ, List, [], ◌∷◌, map, codes, Option, Some, None, is_some, true, false, refl, ap}
+use Rattle.std.specs.Result.{result_ok}
 use Rattle.serde_json.specs.Data.{Data, string, Items, no_items, item}
 use Rattle.serde_json.specs.View.{items_of}
 use Rattle.serde_json.specs.Find.{as_null, as_str}
@@ -9,7 +10,6 @@ use Rattle.druid_time.specs.Texts.{extent_text}
 use Rattle.druid_time.specs.declared.granularity.Granularity.{Granularity}
 use Rattle.druid_time.specs.declared.granularity.Granularity.TheVariants.{All, Second, Minute, Hour, Day}
 use Rattle.druid_time.proofs.TextLemmas.{extent_at-extent_text}
-use Rattle.druid_shard.specs.Json.{result_ok}
 use Rattle.druid_filter.specs.Filters.{Condition, has, has_among, all_of, any_of, is_not, Conditions, no_conditions, condition}
 use Rattle.druid_query.specs.Query.{Dimension, Aggregator}
 use Rattle.druid_base.specs.Each.{each_of}

@@ -1,13 +1,13 @@
 -- What is read is valid.
 use Rattle.std.proofs.Common.{◌≡◌, ℕ, List, [], ◌∷◌, Option, Some, None, Result, Ok, Err, is_some, if◌then◌else◌, option_map, codes, true, false, Bool, refl, subst}
 use Rattle.std.proofs.lemmas.Option.{same_Some}
+use Rattle.std.specs.Result.{result_ok}
 use Rattle.serde_json.specs.Data.{Data, Items, no_items, item}
 use Rattle.serde_json.specs.Find.{as_str, as_array}
 use Rattle.druid_time.specs.Extent.{Extent, IsExtent}
 use Rattle.druid_base.specs.Options.{◌>>=◌}
 use Rattle.druid_time.specs.Texts.{extent_at}
 use Rattle.druid_time.specs.declared.fault.TimeFault.{TimeFault}
-use Rattle.druid_shard.specs.Json.{result_ok}
 use Rattle.druid_base.specs.Fields.{text_at}
 use Rattle.druid_query.specs.Query.{Aggregator}
 use Rattle.druid_base.specs.Each.{each_of}

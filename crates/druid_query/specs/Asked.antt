@@ -2,6 +2,7 @@
 use Rattle.std.specs.Prelude.{◌≡◌, ◌<◌, ℕ, Bool, true, ◌&&◌, not, nat_le, List, [], ◌∷◌, length, slice_index_or, codes, Option, Some, None, is_some, option_and_then, if◌then◌else◌}
 use Rattle.std.specs.List.{list_any}
 use Rattle.std.specs.Str.{bytes_eq}
+use Rattle.std.specs.Result.{result_ok}
 use Rattle.serde_json.specs.Data.{Data, object, member, no_members, number, unsigned, string, Items}
 use Rattle.serde_json.specs.Find.{get, as_array}
 use Rattle.druid_time.specs.Extent.{Extent, Has, Share, common}
@@ -9,7 +10,6 @@ use Rattle.druid_base.specs.Options.{◌>>=◌}
 use Rattle.druid_time.specs.Texts.{extent_text, extent_at}
 use Rattle.druid_segid.specs.Names.{is_version}
 use Rattle.druid_segid.specs.Identifier.{Identifier, same_identifier}
-use Rattle.druid_shard.specs.Json.{result_ok}
 use Rattle.druid_base.specs.Fields.{text_at, limited_at}
 use Rattle.druid_query.specs.Fields.{each_among}
 

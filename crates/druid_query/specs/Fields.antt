@@ -1,6 +1,7 @@
 -- The fields of a query, read out of JSON: the shape of each.
 use Rattle.std.specs.Prelude.{ℕ, Bool, true, false, List, codes, Option, Some, None, is_some, option_map, option_and_then, if◌then◌else◌}
 use Rattle.std.specs.Str.{bytes_eq, str_eq_ignore_ascii_case}
+use Rattle.std.specs.Result.{result_ok}
 use Rattle.serde_json.specs.Data.{Data, null, boolean, number, string, array, object, Items, no_items, item, no_members, member}
 use Rattle.serde_json.specs.Find.{get, as_str, as_array}
 use Rattle.druid_time.specs.Extent.{Extent}
@@ -8,7 +9,6 @@ use Rattle.druid_base.specs.Options.{◌>>=◌}
 use Rattle.druid_time.specs.Texts.{extent_at}
 use Rattle.druid_time.specs.declared.granularity.Granularity.{Granularity}
 use Rattle.druid_time.specs.declared.granularity.Granularity.TheVariants.{All, Second, Minute, Hour, Day}
-use Rattle.druid_shard.specs.Json.{result_ok}
 use Rattle.druid_base.specs.Fields.{text_at}
 use Rattle.druid_query.specs.Query.{Dimension, Aggregator}
 use Rattle.druid_base.specs.Each.{each_of}

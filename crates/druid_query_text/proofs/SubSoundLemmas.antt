@@ -2,6 +2,7 @@
 use Rattle.std.proofs.Common.{◌≡◌, ◌≤◌, ℕ, Bool, true, false, List, [], ◌∷◌, nat_le, codes, Option, Some, None, is_some, option_and_then, if◌then◌else◌, refl, sym, ap, ◌∙◌, subst, arith}
 use Rattle.std.proofs.lemmas.Bool.{leb-true}
 use Rattle.std.proofs.lemmas.Option.{same_Some}
+use Rattle.std.specs.Result.{result_ok}
 use Rattle.serde_json.specs.Data.{Data, Items, no_items, item}
 use Rattle.druid_time.specs.Extent.{Extent, IsExtent}
 use Rattle.druid_base.specs.Options.{◌>>=◌}
@@ -9,7 +10,6 @@ use Rattle.druid_time.specs.Texts.{extent_at}
 use Rattle.druid_segid.specs.Names.{IsName, is_version, IsVersion}
 use Rattle.druid_segid.specs.Identifier.{IsIdentifier}
 use Rattle.druid_segid.proofs.NameLemmas.{is_version-to}
-use Rattle.druid_shard.specs.Json.{result_ok}
 use Rattle.druid_base.specs.Fields.{text_at, limited_at, number_at}
 use Rattle.druid_query.specs.Asked.{Asked, Spelled, version_of, spelled_at, named_by, asked_at, inside_at, lies_inside, segments_in, asked_items}
 use Rattle.druid_query.specs.Fields.{each_among}

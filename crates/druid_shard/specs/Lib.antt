@@ -1,6 +1,5 @@
 -- what public contracts rest on
 pub mod Described
-pub mod Json
 pub mod Mark
 pub mod Reply
 pub mod ReplyBody

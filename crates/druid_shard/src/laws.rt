@@ -1,16 +1,10 @@
-ghost use Rattle.std.specs.Prelude.{◌≡◌, ◌↔◌, ◌++◌, List, Ok, Some, IsTrue, Contains, option_and_then};
+ghost use Rattle.std.specs.Prelude.{◌≡◌, ◌↔◌, ◌++◌, List, Some, IsTrue, Contains, option_and_then};
 ghost use Rattle.druid_segid.specs.Identifier.{identifier_text};
-ghost use Rattle.druid_shard.specs.Described.{Described, IsDescribed};
-ghost use Rattle.druid_shard.specs.Json.{descriptor_at, descriptor_data};
+ghost use Rattle.druid_shard.specs.Described.{Described};
 ghost use Rattle.druid_shard.specs.Reply.{AreSorted};
 ghost use Rattle.druid_shard.specs.Replay.{IsSegmentSet, IsChangedBy, changed, is_strict, replay_from};
 ghost use Rattle.druid_shard.specs.declared.change.Change.{Change};
 ghost use Rattle.druid_shard.specs.declared.change.Change.TheVariants.{Load, Drop};
-
-/// What is written of a descriptor is read back as that descriptor.
-pub fn descriptors_are_read_back()
-    ensures { (d : Described) → IsDescribed d → descriptor_at (descriptor_data d) ≡ Ok d }
-{}
 
 /// A change that is strict and has room makes of a set the set with that segment more, or without it; and no set is
 /// another with the same members.

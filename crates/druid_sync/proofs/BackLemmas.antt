@@ -7,7 +7,7 @@ use Rattle.druid_segid.proofs.NameLemmas.{is_name-true, is_version-true}
 use Rattle.druid_shard.specs.Mark.{Point}
 use Rattle.druid_base.proofs.EachLemmas.{each_back}
 use Rattle.druid_shard.specs.Described.{Described, IsDescribed, IsWholeChunk}
-use Rattle.druid_shard.specs.Json.{mark_data, descriptor_at, segment_at, place_at, tombstone_at}
+use Rattle.druid_shard_text.specs.Json.{mark_data, descriptor_at, segment_at, place_at, tombstone_at}
 use Rattle.druid_base.specs.Fields.{text_at}
 use Rattle.druid_shard.specs.declared.change.Change.{Change}
 use Rattle.druid_shard.specs.declared.change.Change.TheVariants.{Load, Drop}

@@ -11,7 +11,7 @@ use Rattle.serde_json.specs.Find.{as_object}
 use Rattle.serde_json.specs.View.{items_of}
 use Rattle.serde_json.specs.Written.{compact_text, items_text, comma_if, has_float}
 use Rattle.druid_shard.specs.Mark.{Point}
-use Rattle.druid_shard.specs.Json.{mark_data, flagged_data, descriptor_data}
+use Rattle.druid_shard_text.specs.Json.{mark_data, flagged_data, descriptor_data}
 use Rattle.druid_shard.specs.Described.{Described}
 use Rattle.druid_shard.specs.declared.change.Change.{Change}
 use Rattle.druid_shard.specs.declared.change.Cause.{Cause}

@@ -7,14 +7,14 @@ use Rattle.serde_json.specs.View.{items_of}
 use Rattle.serde_json.specs.Read.{read}
 use Rattle.serde_json.proofs.Numbers.{number_of-decimal}
 use Rattle.druid_shard.specs.Mark.{Point, IsWord}
-use Rattle.druid_shard.specs.Json.{mark_data}
+use Rattle.druid_shard_text.specs.Json.{mark_data}
 use Rattle.druid_shard.specs.Described.{Described, IsDescribed}
 use Rattle.druid_shard.specs.declared.change.Change.{Change}
 use Rattle.druid_shard.specs.declared.change.Change.TheVariants.{Load, Drop}
 use Rattle.druid_shard.specs.declared.change.Cause.{Cause}
 use Rattle.druid_shard.specs.declared.reply.Body.{Body}
 use Rattle.druid_shard.specs.declared.reply.Body.TheVariants.{Delta, Snapshot, Page, Reset}
-use Rattle.druid_shard.proofs.WrittenLemmas.{IsBack, AreBack, items_back, items_shallow, compact_read}
+use Rattle.druid_shard_text.proofs.WrittenLemmas.{IsBack, AreBack, items_back, items_shallow, compact_read}
 use Rattle.druid_shard.specs.ReplyBody.{IsReply}
 use Rattle.druid_sync.specs.Back.{IsReadBack}
 use Rattle.druid_sync.proofs.BackLemmas.{delta_back, snapshot_back, page_back, reset_back}

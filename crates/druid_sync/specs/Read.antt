@@ -1,13 +1,14 @@
 -- Replies, read out of JSON.
 use Rattle.std.specs.Prelude.{◌≡◌, ℕ, ◌<◌, ◌≤◌, ◌||◌, List, codes, length, nat_le, ⊤, IsUtf8, Bool, Option, Some, None, is_some, Result, Ok, Err, option_and_then, if◌then◌else◌}
 use Rattle.std.specs.Str.{bytes_eq}
+use Rattle.std.specs.Result.{result_ok}
 use Rattle.serde_json.specs.Data.{Data, Items, no_items, item}
 use Rattle.serde_json.specs.Find.{get, as_null, as_bool, as_array, as_str}
 use Rattle.druid_base.specs.Json.{ReadsAs}
 use Rattle.druid_base.specs.Options.{◌>>=◌}
 use Rattle.druid_shard.specs.Described.{Described}
 use Rattle.druid_shard.specs.Mark.{Point}
-use Rattle.druid_shard.specs.Json.{descriptor_at, result_ok}
+use Rattle.druid_shard_text.specs.Json.{descriptor_at}
 use Rattle.druid_base.specs.Fields.{text_at, number_at, limited_at}
 use Rattle.druid_shard.specs.Reply.{max_segments, max_page, max_pages, max_changes, HaveOwnIdentifiers, IsAsFar, IsFull, IsPageOf}
 use Rattle.druid_shard.specs.ReplyBody.{IsSnapshotOf}

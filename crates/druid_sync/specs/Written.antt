@@ -6,7 +6,7 @@ use Rattle.serde_json.specs.Written.{compact_text}
 use Rattle.druid_time.specs.Texts.{extent_text}
 use Rattle.druid_shard.specs.Mark.{Point, IsWord}
 use Rattle.druid_shard.specs.Described.{Described, IsDescribed}
-use Rattle.druid_shard.specs.Json.{shard_data, flagged, mark_data}
+use Rattle.druid_shard_text.specs.Json.{shard_data, flagged, mark_data}
 use Rattle.druid_shard.specs.declared.change.Change.{Change}
 use Rattle.druid_shard.specs.declared.change.Change.TheVariants.{Load, Drop}
 use Rattle.druid_shard.specs.declared.change.Cause.{Cause}

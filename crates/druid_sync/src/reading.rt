@@ -11,8 +11,9 @@ use crate::SyncFault;
 use druid_base::{JsonFault, limited_field, list_field, number_field, parse_json, text_field};
 use druid_shard::{
     Cause, Change, Descriptor, MAX_CHANGES, MAX_PAGE, MAX_PAGES, MAX_SEGMENTS, Mark, Reply,
-    ReplyFault, check_descriptor, read_descriptor,
+    ReplyFault,
 };
+use druid_shard_text::{check_descriptor, read_descriptor};
 use serde_json::Value;
 use std::alloc::{AllocError, Global};
 

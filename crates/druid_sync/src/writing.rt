@@ -9,7 +9,8 @@ ghost use Rattle.druid_shard.specs.Described.{IsDescribed};
 ghost use Rattle.druid_sync.specs.Back.{IsReadBack};
 ghost use Rattle.druid_sync.specs.Written.{from_data, request_data, change_data, load_data, segment_of, numbers_text, front_text, back_text, reply_data, reply_text};
 
-use druid_shard::{Body, Cause, Change, Descriptor, Mark, Reply, descriptor_value, mark_value};
+use druid_shard::{Body, Cause, Change, Descriptor, Mark, Reply};
+use druid_shard_text::{descriptor_value, mark_value};
 use serde_json::{Map, Value};
 use std::alloc::{AllocError, Global};
 

@@ -1,12 +1,12 @@
 ghost use Rattle.std.specs.Prelude.{◌≡◌, ◌≢◌, ◌≤◌, false, true, IfOk, option_map};
 ghost use Rattle.serde_json.specs.View.{view};
 ghost use Rattle.serde_json.specs.Find.{as_str, get};
-ghost use Rattle.druid_shard.specs.Json.{shard_data, flagged_data, descriptor_data, descriptor_at, segment_at, place_at, interval_at, source_at, version_at, flag_at, tombstone_at, Gives, Checks};
+ghost use Rattle.druid_shard_text.specs.Json.{shard_data, flagged_data, descriptor_data, descriptor_at, segment_at, place_at, interval_at, source_at, version_at, flag_at, tombstone_at, Gives, Checks};
 
-use crate::limits::MAX_CORE;
-use crate::{Descriptor, Shard, ShardFault};
+use crate::ShardFault;
 use druid_base::{limited_field, number_field, text_field};
 use druid_segid::{Name, SegmentId, Version};
+use druid_shard::{Descriptor, MAX_CORE, Shard};
 use druid_time::Interval;
 use serde_json::{Value, json, put};
 use std::alloc::{AllocError, Global};

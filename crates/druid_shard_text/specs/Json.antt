@@ -1,6 +1,7 @@
 -- The JSON of a descriptor, and of a mark.
 use Rattle.std.specs.Prelude.{◌≡◌, ◌==◌, ◌&&◌, ℕ, Bool, false, true, List, codes, Option, Some, None, Result, Ok, Err, IsOk, ⊤, option_and_then, if◌then◌else◌}
 use Rattle.std.specs.Str.{bytes_eq}
+use Rattle.std.specs.Result.{result_ok}
 use Rattle.serde_json.specs.Data.{Data, null, boolean, number, string, array, object, Members, member, no_members, unsigned}
 use Rattle.serde_json.specs.Find.{get, as_object}
 use Rattle.druid_base.specs.Fields.{text_at, limited_at, number_at}
@@ -10,8 +11,8 @@ use Rattle.druid_time.specs.Texts.{extent_text, extent_at}
 use Rattle.druid_segid.specs.Names.{is_name, is_version}
 use Rattle.druid_shard.specs.Described.{Described, Place, max_core}
 use Rattle.druid_shard.specs.Mark.{Point}
-use Rattle.druid_shard.specs.declared.fault.ShardFault.{ShardFault}
-use Rattle.druid_shard.specs.declared.fault.ShardFault.TheVariants as faults
+use Rattle.druid_shard_text.specs.declared.fault.ShardFault.{ShardFault}
+use Rattle.druid_shard_text.specs.declared.fault.ShardFault.TheVariants as faults
 
 -- ---- written
 
@@ -63,10 +64,6 @@ source_at d = option_and_then (λ s. if is_name s then Some s else None) (text_a
 
 abbrev pub version_at : Data → Option (List ℕ)
 version_at d = option_and_then (λ s. if is_version s then Some s else None) (text_at (codes "version") d)
-
-abbrev pub result_ok : {A E : Type 0} → Result A E → Option A
-result_ok (Ok x) = Some x
-result_ok (Err e) = None
 
 abbrev pub interval_at : Data → Option Extent
 interval_at d = option_and_then (λ s. result_ok (extent_at s)) (text_at (codes "interval") d)

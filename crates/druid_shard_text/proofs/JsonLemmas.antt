@@ -4,7 +4,7 @@ use Rattle.druid_time.proofs.TextLemmas.{extent_at-extent_text}
 use Rattle.druid_segid.proofs.NameLemmas.{is_name-true, is_version-true}
 use Rattle.druid_segid.specs.Identifier.{Identifier}
 use Rattle.druid_shard.specs.Described.{Described, IsDescribed}
-use Rattle.druid_shard.specs.Json.{flagged_data, descriptor_data, descriptor_at, segment_at, place_at, tombstone_at}
+use Rattle.druid_shard_text.specs.Json.{flagged_data, descriptor_data, descriptor_at, segment_at, place_at, tombstone_at}
 
 -- the flag decides which members there are
 partition_small : (p : ℕ) → p < 65_536 → p ≤ 65_535

@@ -1,9 +1,9 @@
 ghost use Rattle.std.specs.Prelude.{◌≡◌, IfOk};
 ghost use Rattle.serde_json.specs.View.{view};
 ghost use Rattle.druid_shard.specs.Mark.{IsWord};
-ghost use Rattle.druid_shard.specs.Json.{mark_data};
+ghost use Rattle.druid_shard_text.specs.Json.{mark_data};
 
-use crate::Mark;
+use druid_shard::Mark;
 use serde_json::{Value, json};
 use std::alloc::{AllocError, Global};
 
