@@ -1,6 +1,6 @@
 //! What is answered to queries.
 ghost use Rattle.std.specs.Prelude.{◌≡◌, ◌≢◌, ◌↔◌, ◌≤◌, ◌⊎◌, ℕ, true, Ok, List, length, IfOk, OnErr};
-ghost use Rattle.druid_partial.specs.Rows.{IsPartialFor};
+ghost use Rattle.druid_partial.specs.Partials.{IsPartialFor};
 ghost use Rattle.druid_query.specs.Read.{IsReadOf};
 ghost use Rattle.druid_query.specs.Refused.{refusal_text};
 ghost use Rattle.druid_wire.specs.Served.{Tells, IsOutOfMemory};

@@ -17,8 +17,8 @@ use Rattle.druid_query.specs.SubQuery.{SubQuery, IsAsked, subquery_data, subquer
 use Rattle.druid_query.proofs.AskedLemmas.{all_of_each}
 use Rattle.druid_query_text.proofs.SubBackLemmas.{sub_back}
 use Rattle.druid_partial.specs.Groups.{Group, IsResult}
-use Rattle.druid_partial.specs.Rows.{kinds_of}
-use Rattle.druid_partial.specs.Once.{segment_named, counted_in, counted_of, counted_groups}
+use Rattle.druid_partial.specs.Partials.{kinds_of}
+use Rattle.druid_scan.specs.Once.{segment_named, counted_in, counted_of, counted_groups}
 use Rattle.druid_partial_text.specs.Read.{TellsGroups}
 use Rattle.druid_partial_text.specs.PieceOrder.{same_asked-true}
 use Rattle.druid_partial.specs.Answer.{Answer}

@@ -25,10 +25,11 @@ use Rattle.druid_query.specs.declared.aggregator.AggregatorKind.TheVariants.{Cou
 use Rattle.druid_query.proofs.AskedLemmas.{all_of_each}
 use Rattle.druid_query_text.proofs.QueryBackLemmas.{query_sound}
 use Rattle.druid_partial.specs.Groups.{Key, Group, AreWords, key_cmp, known, column, number_at, IsReported, IsAggregate, IsGroupOf, IsResult}
-use Rattle.druid_partial.specs.Rows.{number_in, earliest, taken, tells, passes_if, is_asked, kinds_of}
-use Rattle.druid_partial.specs.Once.{segment_named, counted_in, counted_of, counted_groups}
+use Rattle.druid_partial.specs.Partials.{earliest, kinds_of}
+use Rattle.druid_scan.specs.Rows.{number_in, taken, tells, passes_if, is_asked}
+use Rattle.druid_scan.specs.Once.{segment_named, counted_in, counted_of, counted_groups}
 use Rattle.druid_partial.proofs.MergedLemmas.{IsWord}
-use Rattle.druid_partial.proofs.SourceLemmas.{number_word, one_word}
+use Rattle.druid_scan.proofs.SourceLemmas.{number_word, one_word}
 use Rattle.druid_partial_text.specs.Written.{IsHeld}
 use Rattle.druid_node.proofs.HeldLemmas.{found_each}
 

@@ -16,8 +16,8 @@ use Rattle.druid_query.specs.Asked.{Asked}
 use Rattle.druid_query.specs.SubQuery.{IsAsked}
 use Rattle.druid_query.specs.Read.{IsReadOf}
 use Rattle.druid_partial.specs.Groups.{Group, IsResult}
-use Rattle.druid_partial.specs.Once.{HaveOwnSegments, segment_named}
-use Rattle.druid_partial.specs.Rows.{kinds_of}
+use Rattle.druid_scan.specs.Once.{HaveOwnSegments, segment_named}
+use Rattle.druid_partial.specs.Partials.{kinds_of}
 use Rattle.druid_partial_text.specs.Written.{result_text}
 use Rattle.druid_partial_text.specs.Answers.{shortfall_text}
 use Rattle.druid_link.specs.Links.{Came}

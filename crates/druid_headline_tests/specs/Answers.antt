@@ -7,8 +7,8 @@ use Rattle.druid_rows.specs.Segment.{Segment}
 use Rattle.druid_query.specs.Query.{Query}
 use Rattle.druid_query.specs.Asked.{Asked}
 use Rattle.druid_partial.specs.Groups.{Group, IsResult}
-use Rattle.druid_partial.specs.Once.{segment_named}
-use Rattle.druid_partial.specs.Rows.{kinds_of}
+use Rattle.druid_scan.specs.Once.{segment_named}
+use Rattle.druid_partial.specs.Partials.{kinds_of}
 use Rattle.druid_partial_text.specs.Written.{result_text}
 use Rattle.druid_partial_text.specs.Answers.{shortfall_text}
 use Rattle.druid_message.specs.Requests.{RequestValue}

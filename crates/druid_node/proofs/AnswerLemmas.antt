@@ -6,8 +6,8 @@ use Rattle.druid_rows.specs.Segment.{Segment}
 use Rattle.druid_query.specs.Query.{Query}
 use Rattle.druid_query.specs.Asked.{Asked}
 use Rattle.druid_node.specs.Answers.{missing}
-use Rattle.druid_partial.specs.Once.{segment_named, counted_in, counted_of, counted_groups}
-use Rattle.druid_partial.specs.Rows.{counted_by}
+use Rattle.druid_scan.specs.Once.{segment_named, counted_in, counted_of, counted_groups}
+use Rattle.druid_scan.specs.Rows.{counted_by}
 use Rattle.druid_node.specs.Placed.{Placed, counted_at}
 use Rattle.std.specs.List.{flat_map}
 

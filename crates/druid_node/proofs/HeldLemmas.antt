@@ -23,7 +23,7 @@ use Rattle.druid_changes.specs.Segments.{IsEntry}
 use Rattle.druid_changes.proofs.SetLemmas as sets
 use Rattle.druid_rows.specs.Segment.{Segment}
 use Rattle.druid_node.specs.State.{descriptor_of, descriptors_of, HoldsMore, HoldsLess}
-use Rattle.druid_partial.specs.Once.{segment_named}
+use Rattle.druid_scan.specs.Once.{segment_named}
 use Rattle.druid_node.specs.Held.{IsWhole, IsHeld, with_held, without_held}
 
 -- two identifiers that tie are one

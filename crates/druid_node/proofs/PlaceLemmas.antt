@@ -16,7 +16,7 @@ use Rattle.druid_shard.specs.Replay.{StandsAt, BelongsAt}
 use Rattle.druid_shard.proofs.PlaceLemmas.{Precedes}
 use Rattle.druid_shard.proofs.ReplayLemmas.{AreInOrder, first_before, rest_in_order}
 use Rattle.druid_rows.specs.Segment.{Segment}
-use Rattle.druid_partial.specs.Once.{segment_named}
+use Rattle.druid_scan.specs.Once.{segment_named}
 use Rattle.druid_node.specs.State.{descriptor_of, descriptors_of}
 use Rattle.druid_node.specs.Held.{with_held, without_held}
 use Rattle.druid_node.proofs.RowLemmas.{have_own}

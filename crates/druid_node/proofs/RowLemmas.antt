@@ -4,10 +4,10 @@ use Rattle.druid_rows.specs.Segment.{Segment}
 use Rattle.druid_query.specs.Query.{Query}
 use Rattle.druid_query.specs.Asked.{Asked, StandApart}
 use Rattle.druid_partial.specs.Groups.{Group, IsResult}
-use Rattle.druid_partial.specs.Rows.{kinds_of}
-use Rattle.druid_partial.proofs.OnceLemmas as once
+use Rattle.druid_partial.specs.Partials.{kinds_of}
+use Rattle.druid_scan.proofs.OnceLemmas as once
 use Rattle.druid_node.specs.State.{descriptor_of, descriptors_of}
-use Rattle.druid_partial.specs.Once.{segment_named, HaveOwnSegments}
+use Rattle.druid_scan.specs.Once.{segment_named, HaveOwnSegments}
 use Rattle.druid_node.proofs.HeldLemmas.{found_each, found_id}
 use Rattle.druid_shard.specs.Reply.{IsBefore}
 use Rattle.druid_shard.specs.Replay.{IsSegmentSet}
@@ -17,7 +17,7 @@ use Rattle.druid_shard.proofs.SortedLemmas.{not_before_itself}
 use Rattle.druid_segid.specs.Identifier.{identifier_text}
 use Rattle.std.specs.List.{Contains}
 use Rattle.std.proofs.lemmas.List.Elements.{All-contains, All-contains_itself}
-use Rattle.druid_partial.specs.Once.{counted_groups, counted_once}
+use Rattle.druid_scan.specs.Once.{counted_groups, counted_once}
 
 -- in the order of their identifiers none stands twice
 pub have_own : (held : List Segment) → AreInOrder (descriptors_of held) → HaveOwnSegments held

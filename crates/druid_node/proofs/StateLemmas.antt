@@ -17,7 +17,7 @@ use Rattle.druid_changes.specs.declared.fault.HistoryFault.TheVariants.{Served, 
 use Rattle.druid_changes.proofs.HistoryLemmas.{no_refusal, stands-more}
 use Rattle.druid_rows.specs.Segment.{Segment, IsSegment, HaveWords}
 use Rattle.druid_node.specs.State.{State, IsState, descriptor_of, descriptors_of, with_rows, HoldsMore, HoldsLess, Records, Takes, Leaves, Freezes}
-use Rattle.druid_partial.specs.Once.{segment_named}
+use Rattle.druid_scan.specs.Once.{segment_named}
 use Rattle.druid_node.specs.Held.{IsWhole, IsHeld, with_held, without_held}
 use Rattle.druid_node.proofs.HeldLemmas.{absent, with_held-descriptors, without_held-descriptors, All-with_held, All-without_held, not_there, holds_more, holds_less, undone, found_id, found_each, found_there}
 use Rattle.druid_node.proofs.TombstoneLemmas.{kept_set, with_rows-strict, with_rows-room, with_rows-more, with_rows-over, with_rows-less, with_rows-under, named_id, named_ordinary, named_tombstone, named_held}

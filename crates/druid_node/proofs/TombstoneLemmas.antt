@@ -18,7 +18,7 @@ use Rattle.druid_shard.proofs.ReplayLemmas.{AreInOrder, in_order, are_sorted, fi
 use Rattle.druid_shard.proofs.SortedLemmas.{not_before_itself}
 use Rattle.druid_changes.specs.Kept.{Kept, IsKept, described_named}
 use Rattle.druid_rows.specs.Segment.{Segment}
-use Rattle.druid_partial.specs.Once.{segment_named}
+use Rattle.druid_scan.specs.Once.{segment_named}
 use Rattle.druid_node.specs.State.{descriptor_of, descriptors_of, with_rows}
 
 -- ---- the set

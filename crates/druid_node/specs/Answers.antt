@@ -5,8 +5,8 @@ use Rattle.druid_query.specs.Asked.{Asked}
 use Rattle.druid_query.specs.SubQuery.{SubQuery}
 use Rattle.druid_partial.specs.Answer.{Answer}
 use Rattle.druid_partial.specs.Groups.{IsResult}
-use Rattle.druid_partial.specs.Rows.{kinds_of, IsPartialFor}
-use Rattle.druid_partial.specs.Once.{segment_named, counted_groups}
+use Rattle.druid_partial.specs.Partials.{kinds_of, IsPartialFor}
+use Rattle.druid_scan.specs.Once.{segment_named, counted_groups}
 
 -- the segment of the piece is not held
 abbrev pub is_missing : List Segment → Asked → Bool

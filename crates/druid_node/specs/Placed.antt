@@ -4,7 +4,7 @@ use Rattle.druid_time.specs.Extent.{Extent}
 use Rattle.druid_rows.specs.Segment.{Segment}
 use Rattle.druid_query.specs.Query.{Query}
 use Rattle.druid_partial.specs.Groups.{Group}
-use Rattle.druid_partial.specs.Once.{counted_in}
+use Rattle.druid_scan.specs.Once.{counted_in}
 
 -- a piece of the segment at a place
 abbrev pub Placed : Type 0

@@ -5,7 +5,7 @@ use Rattle.druid_shard.specs.Described.{Described}
 use Rattle.druid_shard.specs.declared.change.Change.{Change}
 use Rattle.druid_shard.specs.declared.change.Change.TheVariants.{Load, Drop}
 use Rattle.druid_rows.specs.Segment.{Segment, IsSegment, HaveWords}
-use Rattle.druid_partial.specs.Once.{segment_named}
+use Rattle.druid_scan.specs.Once.{segment_named}
 use Rattle.druid_changes.specs.Kept.{Kept, StandsFor, KeepsOrFreezes, refusal}
 use Rattle.druid_changes.specs.declared.fault.HistoryFault.TheVariants.{NotServed}
 use Rattle.druid_node.specs.declared.fault.NodeFault.{NodeFault}

@@ -3,16 +3,17 @@ ghost use Rattle.std.specs.Prelude.{◌≡◌, ◌↔◌, ◌<◌, length, All, 
 ghost use Rattle.std.specs.List.{flat_map};
 ghost use Rattle.druid_query.specs.Asked.{Asked};
 ghost use Rattle.druid_partial.specs.Groups.{IsResult};
-ghost use Rattle.druid_partial.specs.Rows.{kinds_of, IsPartialFor};
+ghost use Rattle.druid_partial.specs.Partials.{kinds_of, IsPartialFor};
 ghost use Rattle.druid_query.specs.Query.{Query};
 ghost use Rattle.druid_node.specs.Answers.{missing, IsAnswerOf};
 ghost use Rattle.druid_node.specs.Placed.{counted_at, IsWithin};
-ghost use Rattle.druid_partial.specs.Once.{counted_groups};
+ghost use Rattle.druid_scan.specs.Once.{counted_groups};
 
 use crate::held::Held;
-use druid_partial::{Partial, merge, partial_over};
+use druid_partial::{Partial, merge};
 use druid_partial_text::NodeAnswer;
 use druid_query::{Asked, Query, SubQuery};
+use druid_scan::partial_over;
 use druid_time::Interval;
 use std::alloc::{AllocError, Global};
 

@@ -7,7 +7,7 @@ ghost use Rattle.druid_shard.specs.Reply.{AreSorted};
 ghost use Rattle.druid_shard.specs.Replay.{StandsAt, BelongsAt, is_strict, has_room};
 ghost use Rattle.druid_shard.specs.declared.change.Change.TheVariants.{Load};
 ghost use Rattle.druid_node.specs.State.{descriptors_of};
-ghost use Rattle.druid_partial.specs.Once.{segment_named};
+ghost use Rattle.druid_scan.specs.Once.{segment_named};
 ghost use Rattle.druid_node.specs.Held.{IsHeld, with_held, without_held};
 
 use druid_rows::Segment;

@@ -4,10 +4,10 @@ ghost use Rattle.druid_rows.specs.Segment.{Segment};
 ghost use Rattle.druid_query.specs.Query.{Query};
 ghost use Rattle.druid_query.specs.Asked.{Asked, StandApart};
 ghost use Rattle.druid_partial.specs.Groups.{Group, IsResult};
-ghost use Rattle.druid_partial.specs.Rows.{kinds_of};
+ghost use Rattle.druid_partial.specs.Partials.{kinds_of};
 ghost use Rattle.druid_shard.specs.Replay.{IsSegmentSet};
 ghost use Rattle.druid_node.specs.State.{descriptors_of};
-ghost use Rattle.druid_partial.specs.Once.{counted_groups, counted_once};
+ghost use Rattle.druid_scan.specs.Once.{counted_groups, counted_once};
 
 /// Where no two pieces of one segment overlap, what a node answers is the result over the rows of the segments that it holds
 /// and that lie in some piece, each row once, however the pieces cut the segments.

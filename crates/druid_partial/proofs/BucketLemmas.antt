@@ -13,7 +13,7 @@ use Rattle.druid_query.specs.Refusal.{Refusal, bad_field, bad_interval, limit_pa
 use Rattle.druid_query.specs.Read.{IsQuery, intervals_at, list_of, fit_intervals}
 use Rattle.druid_query.proofs.PartLemmas.{parts_whole}
 use Rattle.druid_query.proofs.SoundLemmas.{HasItem, texts_item, IsSomeList, read_some}
-use Rattle.druid_partial.specs.Rows.{earliest}
+use Rattle.druid_partial.specs.Partials.{earliest}
 use Rattle.druid_partial.specs.First.{joined, first_of}
 
 -- ---- one interval more

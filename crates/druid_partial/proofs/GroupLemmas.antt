@@ -257,6 +257,24 @@ alike_swap kinds a b = record {
 pub alike_itself : (kinds : List AggregatorKind) (a : List Group) → Alike kinds a a
 alike_itself kinds a = record { to = λ key o. o; back = λ key o. o; same = λ place kind k key. refl }
 
+pub alike_through : (kinds : List AggregatorKind) (a b c : List Group) → Alike kinds a b → Alike kinds b c → Alike kinds a c
+alike_through kinds a b c p q = record {
+  to = λ key o. q.to key (p.to key o);
+  back = λ key o. p.back key (q.back key o);
+  same = λ place kind k key. p.same place kind k key ∙ q.same place kind k key;
+}
+
+pub alike_equal : (kinds : List AggregatorKind) (a b : List Group) → a ≡ b → Alike kinds a b
+alike_equal kinds a b e = subst (Alike kinds a) e (alike_itself kinds a)
+
+-- the second of three lists put first
+pub second_first : (kinds : List AggregatorKind) (a b c : List Group) → Alike kinds (a ++ (b ++ c)) (b ++ (a ++ c))
+second_first kinds a b c =
+    alike_through kinds (a ++ (b ++ c)) ((b ++ a) ++ c) (b ++ (a ++ c))
+    (alike_through kinds (a ++ (b ++ c)) ((a ++ b) ++ c) ((b ++ a) ++ c) (alike_equal kinds (a ++ (b ++ c)) ((a ++ b) ++ c) (sym (append_assoc a b c)))
+    (alike_append kinds (a ++ b) (b ++ a) c c (alike_swap kinds a b) (alike_itself kinds c)))
+    (alike_equal kinds ((b ++ a) ++ c) (b ++ (a ++ c)) (append_assoc b a c))
+
 -- ---- the laws
 
 -- the merge of two results is the result over the rows of both

@@ -7,7 +7,7 @@ use Rattle.std.proofs.lemmas.Int.{SFits-int_wrap}
 use Rattle.std.proofs.lemmas.List.Elements.{All-contains, All-nil, All-cons, All-head, All-tail}
 use Rattle.druid_query.specs.declared.aggregator.AggregatorKind.TheVariants.{Count, LongSum, LongMin, LongMax}
 use Rattle.druid_query.specs.Query.{Query, Aggregator}
-use Rattle.druid_partial.specs.Rows.{Partial, IsPartial, HasNumbers, kinds_of, IsGroupFor, IsPartialFor}
+use Rattle.druid_partial.specs.Partials.{Partial, IsPartial, HasNumbers, kinds_of, IsGroupFor, IsPartialFor}
 use Rattle.druid_partial.proofs.MergedLemmas.{IsWord, joined_at, joined_length, merged_is_merge}
 use Rattle.std.specs.Ordering.{match_ordering}
 use Rattle.std.specs.declared.cmp.Ordering.{Ordering}

@@ -12,7 +12,7 @@ use Rattle.druid_base.proofs.MemberLemmas.{Contains-later, Contains-nil, Contain
 use Rattle.druid_query.specs.declared.aggregator.AggregatorKind.{AggregatorKind}
 use Rattle.druid_query.specs.declared.aggregator.AggregatorKind.TheVariants.{Count, LongSum, LongMin, LongMax}
 use Rattle.druid_partial.specs.Groups.{Key, Group, AreWords, key_cmp, InOrder, number_at, Occurs, IsAggregate, IsGroupOf, IsResult, IsMerge, known, column}
-use Rattle.druid_partial.specs.Rows.{HasNumbers}
+use Rattle.druid_partial.specs.Partials.{HasNumbers}
 use Rattle.druid_partial.specs.Joined.{alone, joined, join_numbers, join_groups, put, merged}
 use Rattle.druid_partial.specs.Orders.{key_cmp-total}
 use Rattle.druid_partial.proofs.OrderLemmas.{no_rows}

@@ -10,9 +10,8 @@ use Rattle.std.proofs.lemmas.List.Sorted.{IsPermutation-keeps}
 use Rattle.druid_query.specs.declared.aggregator.AggregatorKind.{AggregatorKind}
 use Rattle.druid_query.specs.Query.{Query}
 use Rattle.druid_partial.specs.Groups.{Group, IsResult, IsMerge}
-use Rattle.druid_partial.specs.Rows.{Partial, kinds_of, IsPartialFor}
-use Rattle.druid_partial.proofs.GroupLemmas.{Alike, result_alike, alike_append, alike_itself, merge_of_results}
-use Rattle.druid_partial.proofs.OnceLemmas.{alike_through, alike_equal, second_first}
+use Rattle.druid_partial.specs.Partials.{Partial, kinds_of, IsPartialFor}
+use Rattle.druid_partial.proofs.GroupLemmas.{Alike, result_alike, alike_append, alike_itself, merge_of_results, alike_through, alike_equal, second_first}
 
 module _ {X : Type 0} (kinds : List AggregatorKind) (tells : X → List Group) where
   abbrev all : List X → List Group

@@ -1,7 +1,7 @@
 -- What is answered of segment slices.
 use Rattle.std.specs.Prelude.{List}
 use Rattle.druid_query.specs.Asked.{Asked}
-use Rattle.druid_partial.specs.Rows.{Partial}
+use Rattle.druid_partial.specs.Partials.{Partial}
 
 -- a partial, and the slices that it has nothing of, since nobody gave them
 pub record Answer : Type 0 where

@@ -1,4 +1,4 @@
--- Numbers that aggregators tell, joined. Only proofs and private functions use this: what it means is in Groups.
+-- Numbers that aggregators tell, joined: what it means is in Groups.
 use Rattle.std.specs.Prelude.{◌≡◌, ◌+◌, ◌<◌, ℤ, ◌+ℤ◌, List, [], ◌∷◌, length, Option, Some, None}
 use Rattle.std.specs.Int.{int_wrap, int_min, int_max, w64}
 use Rattle.std.specs.declared.cmp.Ordering.{Ordering}

@@ -1,7 +1,7 @@
 //! Which instants label the buckets of a query.
 ghost use Rattle.std.specs.Prelude.{◌≡◌, ◌↔◌, IsTrue};
 ghost use Rattle.druid_query.specs.Query.{Query};
-ghost use Rattle.druid_partial.specs.Rows.{earliest, IsBucketOf};
+ghost use Rattle.druid_partial.specs.Partials.{earliest, IsBucketOf};
 ghost use Rattle.druid_partial.specs.First.{joined, first_of};
 
 use druid_query::Query;

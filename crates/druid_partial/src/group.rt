@@ -1,5 +1,5 @@
 ghost use Rattle.std.specs.Prelude.{◌≡◌};
-ghost use Rattle.druid_rows.specs.Rows.{nullable_texts_of};
+ghost use Rattle.druid_filter.specs.Values.{nullable_texts_of};
 ghost use Rattle.druid_partial.specs.Groups.{key_cmp, AreWords};
 ghost use Rattle.druid_partial.specs.Joined.{join_groups};
 
@@ -19,7 +19,7 @@ pub struct Group {
 }
 
 impl Model for Group {
-    ghost use Rattle.druid_rows.specs.Rows.{nullable_texts_of};
+    ghost use Rattle.druid_filter.specs.Values.{nullable_texts_of};
     ghost use Rattle.druid_partial.specs.Groups.{Group, AreWords};
 
     ghost Value = { Group };

@@ -12,12 +12,8 @@ fn sum(mine: i64, theirs: i64) -> i64
     mine.wrapping_add(theirs)
 }
 
-// What an aggregator tells of the rows after two numbers. Null is of no rows.
-pub(crate) fn join_number(
-    kind: AggregatorKind,
-    mine: Option<i64>,
-    theirs: Option<i64>,
-) -> Option<i64>
+/// What an aggregator tells of the rows after two numbers. Null is of no rows.
+pub fn join_number(kind: AggregatorKind, mine: Option<i64>, theirs: Option<i64>) -> Option<i64>
     ensures { result ≡ joined kind mine theirs }
 {
     let Some(mine) = mine else {
@@ -33,13 +29,9 @@ pub(crate) fn join_number(
     })
 }
 
-// Joins the numbers of one group to those of another.
+/// Joins the numbers of one group to those of another.
 #[tactic(auto, using(crate::proofs::JoinLemmas::join_steps))]
-pub(crate) fn join_numbers(
-    kinds: &[AggregatorKind],
-    mine: &mut [Option<i64>],
-    theirs: &[Option<i64>],
-)
+pub fn join_numbers(kinds: &[AggregatorKind], mine: &mut [Option<i64>], theirs: &[Option<i64>])
     ensures { mine.new ≡ join_numbers kinds.now mine.old theirs.now }
 {
     let len = kinds.len().min(mine.len()).min(theirs.len());

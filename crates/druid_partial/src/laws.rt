@@ -2,12 +2,7 @@
 //! merged by the definition that makes them.
 ghost use Rattle.std.specs.Prelude.{◌≡◌, List, [], ◌++◌};
 ghost use Rattle.druid_query.specs.declared.aggregator.AggregatorKind.{AggregatorKind};
-ghost use Rattle.druid_rows.specs.Segment.{Segment};
-ghost use Rattle.druid_query.specs.Query.{Query};
-ghost use Rattle.druid_query.specs.Asked.{Asked, StandApart};
 ghost use Rattle.druid_partial.specs.Groups.{Group, IsResult, IsMerge};
-ghost use Rattle.druid_partial.specs.Once.{HaveOwnSegments, counted_groups, counted_once};
-ghost use Rattle.druid_partial.specs.Rows.{kinds_of};
 
 /// Rows have one result.
 pub fn one_result()
@@ -36,12 +31,4 @@ pub fn merges_regroup()
 pub fn no_rows_change_nothing()
     ensures { (kinds : List AggregatorKind) (rows x y z : List Group) → IsResult kinds rows x → IsResult kinds [] y
         → IsMerge kinds x y z → z ≡ x }
-{}
-
-/// Where no two pieces of one segment overlap, the result over what all pieces tell is that over the rows of these segments that
-/// lie in some piece, each row once, however the pieces cut the segments.
-pub fn rows_are_counted_once()
-    ensures { (query : Query) (segments : List Segment) (asked : List Asked) (groups : List Group) → HaveOwnSegments segments → StandApart asked
-        → IsResult (kinds_of query) (counted_groups query segments asked) groups
-        → IsResult (kinds_of query) (counted_once query asked segments) groups }
 {}

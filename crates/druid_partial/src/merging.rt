@@ -3,7 +3,7 @@ ghost use Rattle.std.specs.Prelude.{◌≡◌, ◌+◌, ◌<◌, ◌≤◌, [], 
 ghost use Rattle.druid_query.specs.Query.{Query};
 ghost use Rattle.druid_partial.specs.Groups.{IsMerge};
 ghost use Rattle.druid_partial.specs.Joined.{merged, turn, Takes};
-ghost use Rattle.druid_partial.specs.Rows.{IsPartialFor};
+ghost use Rattle.druid_partial.specs.Partials.{IsPartialFor};
 
 use crate::{Group, Partial};
 use druid_query::AggregatorKind;

@@ -1,6 +1,6 @@
 ghost use Rattle.std.specs.Prelude.{◌≡◌, [], IfOk};
 ghost use Rattle.druid_partial.specs.Groups.{IsResult};
-ghost use Rattle.druid_partial.specs.Rows.{Partial, IsPartial, IsPartialFor, kinds_of};
+ghost use Rattle.druid_partial.specs.Partials.{Partial, IsPartial, IsPartialFor, kinds_of};
 
 use crate::Group;
 use druid_query::{AggregatorKind, Query};
@@ -16,7 +16,7 @@ pub struct Partial {
 }
 
 impl Model for Partial {
-    ghost use Rattle.druid_partial.specs.Rows.{Partial, IsPartial};
+    ghost use Rattle.druid_partial.specs.Partials.{Partial, IsPartial};
 
     ghost Value = { Partial };
 

@@ -16,7 +16,7 @@ use Rattle.serde_json.specs.View.{view, items_view}
 use Rattle.serde_json.specs.declared.value.Value.{Value}
 use Rattle.druid_base.proofs.OrderLemmas.{reverse-Greater}
 use Rattle.druid_base.specs.Options.{◌>>=◌}
-use Rattle.druid_rows.specs.Rows.{nullable_texts_of}
+use Rattle.druid_filter.specs.Values.{nullable_texts_of}
 use Rattle.druid_query.specs.Query.{Query}
 use Rattle.druid_query.specs.declared.aggregator.AggregatorKind.{AggregatorKind}
 use Rattle.druid_base.specs.Each.{each_of}
@@ -24,7 +24,7 @@ use Rattle.druid_base.specs.Fields.{text_or_null}
 use Rattle.druid_base.proofs.EachLemmas.{with_front, each_of_more, each_of_last, each_of_refused}
 use Rattle.druid_partial.specs.Groups.{Key, Group, key_of, key_cmp, InOrder}
 use Rattle.druid_partial.specs.Orders.{key_cmp-total}
-use Rattle.druid_partial.specs.Rows.{IsPartial, IsGroupFor, IsPartialFor, kinds_of}
+use Rattle.druid_partial.specs.Partials.{IsPartial, IsGroupFor, IsPartialFor, kinds_of}
 use Rattle.druid_partial_text.specs.Read.{number_or_null, Parts, parts_at, group_of, group_at, Lists, TellsGroups}
 use Rattle.druid_partial_text.specs.Borrowed.{parts_borrowed, HasWords, AreRows, IsBefore}
 use Rattle.druid_partial_text.specs.declared.reading.Borrowed.{Borrowed}

@@ -24,7 +24,7 @@ use Rattle.druid_base.specs.Fields.{text_or_null}
 use Rattle.druid_query.specs.Written.{value_data}
 use Rattle.druid_query.proofs.BackLemmas.{value_back}
 use Rattle.druid_partial.specs.Groups.{Group, InOrder}
-use Rattle.druid_partial.specs.Rows.{IsGroupFor}
+use Rattle.druid_partial.specs.Partials.{IsGroupFor}
 use Rattle.druid_partial_text.specs.Written.{IsHeld, number_data, group_data, partial_data}
 use Rattle.druid_partial_text.specs.Read.{number_or_null, parts_at, group_of, group_at, TellsGroups}
 use Rattle.druid_partial_text.proofs.TextBackLemmas.{bucket_fits}

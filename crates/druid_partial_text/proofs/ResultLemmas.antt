@@ -12,7 +12,7 @@ use Rattle.druid_query.specs.Query.{Query}
 use Rattle.druid_query.specs.Asked.{Asked}
 use Rattle.druid_query.specs.declared.query_type.QueryType.{QueryType}
 use Rattle.druid_partial.specs.Groups.{Group}
-use Rattle.druid_partial.specs.Rows.{IsGroupFor}
+use Rattle.druid_partial.specs.Partials.{IsGroupFor}
 use Rattle.druid_partial_text.specs.Written.{kinded_row, row_data, result_text}
 use Rattle.druid_partial_text.specs.Answers.{shortfall_of, shortfall_text}
 use Rattle.druid_partial_text.specs.Tokens.{tokens_of, rest_of}

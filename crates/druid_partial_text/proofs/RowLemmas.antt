@@ -16,7 +16,7 @@ use Rattle.druid_query.specs.declared.aggregator.AggregatorKind.{AggregatorKind}
 use Rattle.druid_query.specs.declared.aggregator.AggregatorKind.TheVariants.{Count}
 use Rattle.druid_base.proofs.EachLemmas.{all_reads, each_of_length}
 use Rattle.druid_partial.specs.Groups.{Group}
-use Rattle.druid_partial.specs.Rows.{IsBucketOf, IsGroupFor, kinds_of}
+use Rattle.druid_partial.specs.Partials.{IsBucketOf, IsGroupFor, kinds_of}
 use Rattle.druid_partial_text.specs.Read.{number_or_null, group_of, group_at}
 use Rattle.druid_partial_text.specs.Borrowed.{parts_borrowed, IsNumberFor, AreNumbersFor, AreRows}
 use Rattle.druid_partial_text.specs.declared.reading.Borrowed.{Borrowed}

@@ -10,7 +10,7 @@ use Rattle.serde_json.specs.View.{items_of}
 use Rattle.serde_json.proofs.Texts.{print-outline}
 use Rattle.json.specs.Print.{print}
 use Rattle.druid_time.specs.Instant.{unix_ms}
-use Rattle.druid_rows.specs.Rows.{nullable_texts_of}
+use Rattle.druid_filter.specs.Values.{nullable_texts_of}
 use Rattle.druid_query.specs.Written.{value_data}
 use Rattle.druid_partial.specs.Groups.{Group}
 use Rattle.druid_partial_text.specs.Written.{number_data, values_data, numbers_data, group_data, partial_data, partial_text}

@@ -12,7 +12,7 @@ use Rattle.druid_query.specs.Asked.{Asked, asked_at}
 use Rattle.druid_query.specs.SubQuery.{SubQuery, pieces_data}
 use Rattle.druid_partial.specs.Answer.{Answer}
 use Rattle.druid_partial.specs.Groups.{Group}
-use Rattle.druid_partial.specs.Rows.{kinds_of}
+use Rattle.druid_partial.specs.Partials.{kinds_of}
 use Rattle.druid_partial_text.specs.Written.{partial_data, result_data}
 use Rattle.druid_partial_text.specs.Read.{Lists, TellsGroups}
 use Rattle.druid_partial_text.specs.declared.fault.PartialFault.{PartialFault}

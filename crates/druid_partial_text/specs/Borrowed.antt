@@ -9,7 +9,7 @@ use Rattle.druid_base.specs.Each.{each_of}
 use Rattle.druid_query.specs.declared.aggregator.AggregatorKind.{AggregatorKind}
 use Rattle.druid_query.specs.declared.aggregator.AggregatorKind.TheVariants.{Count}
 use Rattle.druid_partial.specs.Groups.{Group, key_cmp, AreWords}
-use Rattle.druid_partial.specs.Rows.{IsGroupFor}
+use Rattle.druid_partial.specs.Partials.{IsGroupFor}
 use Rattle.druid_partial_text.specs.Read as spec
 use Rattle.druid_partial_text.specs.declared.reading.Three.{Three}
 use Rattle.druid_partial_text.specs.declared.reading.Borrowed.{Borrowed}

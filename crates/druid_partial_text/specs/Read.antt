@@ -9,7 +9,7 @@ use Rattle.druid_query.specs.Query.{Query}
 use Rattle.druid_base.specs.Each.{each_of}
 use Rattle.druid_base.specs.Fields.{text_or_null}
 use Rattle.druid_partial.specs.Groups.{Group, InOrder}
-use Rattle.druid_partial.specs.Rows.{Partial, IsGroupFor, kinds_of}
+use Rattle.druid_partial.specs.Partials.{Partial, IsGroupFor, kinds_of}
 use Rattle.druid_partial_text.specs.declared.fault.PartialFault.{PartialFault}
 use Rattle.druid_partial_text.specs.declared.fault.PartialFault.TheVariants as faults
 

@@ -4,7 +4,7 @@ ghost use Rattle.serde_json.specs.View.{view, items_view};
 ghost use Rattle.druid_base.specs.Each.{each_of};
 ghost use Rattle.druid_query.specs.Asked.{Asked, asked_at};
 ghost use Rattle.druid_partial.specs.Groups.{Group};
-ghost use Rattle.druid_partial.specs.Rows.{kinds_of};
+ghost use Rattle.druid_partial.specs.Partials.{kinds_of};
 ghost use Rattle.druid_partial_text.specs.Borrowed.{AreRows};
 ghost use Rattle.druid_partial_text.specs.Answers.{ListsAnswer, IsAnswer, IsAnswerOf};
 ghost use Rattle.druid_partial_text.specs.Missed.{AreLists, TellBoth};

@@ -5,11 +5,11 @@ ghost use Rattle.std.specs.List.{AllAdjacentBelow};
 ghost use Rattle.std.specs.List.Sorted.{IsPermutation, IsSortedByKey};
 ghost use Rattle.serde_json.specs.Data.{array};
 ghost use Rattle.serde_json.specs.View.{view, items_view};
-ghost use Rattle.druid_rows.specs.Rows.{nullable_texts_of};
+ghost use Rattle.druid_filter.specs.Values.{nullable_texts_of};
 ghost use Rattle.druid_base.specs.Each.{each_of};
 ghost use Rattle.druid_base.specs.Fields.{text_or_null};
 ghost use Rattle.druid_partial.specs.Groups.{Group, key_of, key_cmp, InOrder, AreWords};
-ghost use Rattle.druid_partial.specs.Rows.{earliest, kinds_of, IsGroupFor, IsPartialFor};
+ghost use Rattle.druid_partial.specs.Partials.{earliest, kinds_of, IsGroupFor, IsPartialFor};
 ghost use Rattle.druid_partial_text.specs.Read.{integer_at, number_or_null, instant_of, three_of, parts_at, group_of, group_at, Lists, TellsGroups, IsRead};
 ghost use Rattle.druid_partial_text.specs.Borrowed.{three_borrowed, parts_borrowed, IsNumberFor, AreNumbersFor, HasWords, AreRows, IsBefore};
 

@@ -4,7 +4,7 @@ ghost use Rattle.serde_json.specs.Data.{object, put};
 ghost use Rattle.druid_time.specs.Texts.{instant_text};
 ghost use Rattle.druid_query.specs.Query.{Dimension, Aggregator};
 ghost use Rattle.druid_partial.specs.Groups.{Group, number_at};
-ghost use Rattle.druid_partial.specs.Rows.{IsPartialFor, IsGroupFor};
+ghost use Rattle.druid_partial.specs.Partials.{IsPartialFor, IsGroupFor};
 ghost use Rattle.druid_partial_text.specs.Written.{with_values, with_numbers, label_data, timeseries_row, group_by_row, row_data, result_data, result_text};
 ghost use Rattle.druid_partial_text.specs.Tokens.{tokens_of};
 ghost use Rattle.druid_partial_text.specs.Named.{column_data, members_by, NamesValues, NamesNumbers, TellsBy, row_by, rows_by};

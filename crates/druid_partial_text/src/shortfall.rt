@@ -2,7 +2,7 @@
 ghost use Rattle.std.specs.Prelude.{◌≡◌, ◌++◌, IfOk, OnOk, string_bytes};
 ghost use Rattle.druid_partial_text.specs.Answers.{shortfall_of, shortfall_text};
 ghost use Rattle.druid_partial_text.specs.Named.{rows_by};
-ghost use Rattle.druid_partial.specs.Rows.{IsPartialFor};
+ghost use Rattle.druid_partial.specs.Partials.{IsPartialFor};
 ghost use Rattle.druid_partial_text.specs.Tokens.{tokens_of};
 
 use crate::answer_writing::push_pieces;

@@ -5,7 +5,7 @@ ghost use Rattle.druid_query.specs.Query.{Query};
 ghost use Rattle.druid_query.specs.Asked.{Asked};
 ghost use Rattle.druid_query.specs.SubQuery.{SubQuery};
 ghost use Rattle.druid_partial.specs.Groups.{Group, InOrder};
-ghost use Rattle.druid_partial.specs.Rows.{IsGroupFor};
+ghost use Rattle.druid_partial.specs.Partials.{IsGroupFor};
 ghost use Rattle.druid_partial_text.specs.Written.{IsHeld, partial_data};
 ghost use Rattle.druid_partial_text.specs.Read.{TellsGroups};
 ghost use Rattle.druid_partial_text.specs.Answers.{AreOfSource, WereAsked, TellsAnswer, answer_data};

@@ -2,7 +2,7 @@
 ghost use Rattle.std.specs.Prelude.{◌≡◌, ◌++◌, [], OnOk, option_map, string_bytes};
 ghost use Rattle.json.specs.Lex.{tokens as tokens_in};
 ghost use Rattle.json.specs.Print.{print};
-ghost use Rattle.druid_rows.specs.Rows.{nullable_texts_of};
+ghost use Rattle.druid_filter.specs.Values.{nullable_texts_of};
 ghost use Rattle.druid_query.specs.Written.{value_data};
 ghost use Rattle.druid_partial_text.specs.Written.{number_data, values_data, numbers_data};
 ghost use Rattle.druid_partial_text.specs.Tokens.{tokens_of};

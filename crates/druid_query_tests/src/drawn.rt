@@ -1,9 +1,10 @@
 //! Drawn segments, written by columns and read again, and drawn queries over them, beside a plain computation row by row.
 use crate::node::{Layout, file_of};
 use crate::partial::{query, segment};
-use druid_partial::{Group, partial_of};
+use druid_partial::Group;
 use druid_query::{Aggregator, AggregatorKind, Query};
 use druid_rows::{Row, Schema, Segment, matches};
+use druid_scan::partial_of;
 use druid_segfile::read_segment;
 use druid_time::Interval;
 use std::alloc::Global;

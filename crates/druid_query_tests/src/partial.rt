@@ -1,11 +1,12 @@
 //! What queries answer over rows of segments, put together in either order.
-ghost use Rattle.druid_partial.specs.Rows.{IsPartialFor};
+ghost use Rattle.druid_partial.specs.Partials.{IsPartialFor};
 
-use druid_partial::{Partial, kinds_of, merge, partial_of};
+use druid_partial::{Partial, kinds_of, merge};
 use druid_partial_text::result_text;
 use druid_query::{AggregatorKind, Query};
 use druid_query_text::read_query;
 use druid_rows::{Row, Schema, Segment};
+use druid_scan::partial_of;
 use druid_segid::{Name, SegmentId, Version};
 use druid_shard::Descriptor;
 use druid_time::{Instant, Interval};

@@ -1,14 +1,15 @@
 //! Rows, segments, messages, and what queries tell of segments.
-ghost use Rattle.druid_partial.specs.Rows.{IsPartialFor};
+ghost use Rattle.druid_partial.specs.Partials.{IsPartialFor};
 
 use crate::marks::{assert_call, begin, end};
 use crate::texts::{asked_query, text_of};
 use crate::values::{day, descriptor};
 use druid_message::{Request, WireFault};
-use druid_partial::{Partial, kinds_of, merge, partial_of, partial_over};
+use druid_partial::{Partial, kinds_of, merge};
 use druid_partial_text::{partial_text, result_text, shortfall_text};
 use druid_query::Query;
 use druid_rows::{Row, RowFault, Schema, Segment, SegmentBuilder};
+use druid_scan::{partial_of, partial_over};
 use druid_time::Instant;
 use druid_wire::{read_request, read_response, request_bytes};
 use http::Method;

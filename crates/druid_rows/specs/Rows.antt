@@ -1,9 +1,8 @@
 -- The rows of a segment.
-use Rattle.std.specs.Prelude.{◌≡◌, ℕ, ℤ, ◌≤◌, List, [], ◌++◌, length, map, All, Option, IfSome, FitsSigned, string_bytes, String}
-use Rattle.std.specs.Int.{w64}
+use Rattle.std.specs.Prelude.{◌≡◌, ℕ, ℤ, ◌≤◌, List, [], ◌++◌, length, map, All, Option, IfSome, string_bytes, String}
 use Rattle.std.specs.Global.{Global}
 use Rattle.druid_time.specs.Extent.{Extent, Has}
-pub use Rattle.druid_filter.specs.Values.{texts_by, nullable_texts_of}
+pub use Rattle.druid_filter.specs.Values.{texts_by, nullable_texts_of, AreWords}
 use Rattle.druid_rows.specs.Names.{IsFieldName}
 use Rattle.druid_base.specs.Distinct.{AreDistinct}
 
@@ -44,10 +43,6 @@ AreShort values = All (λ value. IfSome value (λ text. length text ≤ max_valu
 -- no value of a dimension is longer
 abbrev pub HasShortValues : Row → Type 0
 HasShortValues row = AreShort row.dimensions
-
--- each number is of 64 bits
-abbrev pub AreWords : List (Option ℤ) → Type 0
-AreWords numbers = All (λ number. IfSome number (FitsSigned w64)) numbers
 
 -- each value of a metric is
 abbrev pub HasWords : Row → Type 0

@@ -34,15 +34,16 @@ use Rattle.druid_query.specs.Asked.{Asked, Overlap, do_overlap, stand_apart}
 use Rattle.druid_query.specs.AskedOrder.{same_asked, same_asked-equiv}
 use Rattle.druid_query.proofs.AskedLemmas.{overlap_seen}
 use Rattle.druid_partial.specs.Groups.{Group as Reported, IsResult}
-use Rattle.druid_partial.specs.Rows.{kinds_of, is_asked, passes_if, tells}
-use Rattle.druid_partial.specs.Once.{counted_groups, counted_of, counted_once, is_counted}
+use Rattle.druid_partial.specs.Partials.{kinds_of}
+use Rattle.druid_scan.specs.Rows.{is_asked, passes_if, tells}
+use Rattle.druid_scan.specs.Once.{counted_groups, counted_of, counted_once, is_counted}
 use Rattle.druid_partial_text.specs.Answers.{missing_at}
 use Rattle.druid_partial_text.specs.PieceOrder.{same_asked-true}
 use Rattle.serde_json.specs.Read.{read}
 use Rattle.druid_wire.specs.Messages.{IsResponse}
 use Rattle.druid_wire.proofs.OnceLemmas.{one_response}
-use Rattle.druid_partial.proofs.GroupLemmas.{Alike, result_alike, result_is_alike, alike_append}
-use Rattle.druid_partial.proofs.OnceLemmas.{alike_through, alike_equal, counted_alike}
+use Rattle.druid_partial.proofs.GroupLemmas.{Alike, result_alike, result_is_alike, alike_append, alike_through, alike_equal}
+use Rattle.druid_scan.proofs.OnceLemmas.{counted_alike}
 use Rattle.druid_scatter.specs.Plan.{Pair, asked_of, place_cmp, IsWanted, IsPlanOf}
 use Rattle.druid_scatter.specs.Gathered.{Exchange, Answers, Gives, TellAll, AtOnePlace, IsGathered}
 use Rattle.druid_scatter.specs.Exact.{without, IsHonest, AreServed, Sees, counts, counted_visible}

@@ -7,7 +7,7 @@ use Rattle.std.proofs.lemmas.List.Sorted.{Contains-permutation, IsPermutation-sy
 use Rattle.druid_query.specs.Asked.{Asked}
 use Rattle.druid_query.specs.Query.{Query}
 use Rattle.druid_partial.specs.Groups.{IsResult}
-use Rattle.druid_partial.specs.Rows.{Partial, kinds_of}
+use Rattle.druid_partial.specs.Partials.{Partial, kinds_of}
 use Rattle.druid_link.specs.Links.{Came}
 use Rattle.druid_scatter.specs.declared.fault.GatherFault.{GatherFault}
 use Rattle.druid_scatter.specs.Plan.{Pair, place_cmp}

@@ -18,7 +18,7 @@ use Rattle.druid_query.specs.Query.{Query}
 use Rattle.druid_query.specs.SubQuery.{SubQuery}
 use Rattle.druid_query.specs.declared.aggregator.AggregatorKind.{AggregatorKind}
 use Rattle.druid_partial.specs.Groups.{Group, IsMerge, IsResult}
-use Rattle.druid_partial.specs.Rows.{Partial, HasNumbers, IsPartial, IsPartialFor, IsGroupFor, kinds_of}
+use Rattle.druid_partial.specs.Partials.{Partial, HasNumbers, IsPartial, IsPartialFor, IsGroupFor, kinds_of}
 use Rattle.druid_partial.proofs.GroupLemmas.{merge_of_results}
 use Rattle.druid_partial.proofs.MergedLemmas.{settled}
 use Rattle.druid_link.specs.Links.{Came}

@@ -15,8 +15,9 @@ use Rattle.druid_query.specs.Query.{Query}
 use Rattle.druid_query.specs.Asked.{Asked}
 use Rattle.druid_query.specs.AskedOrder.{same_asked}
 use Rattle.druid_partial.specs.Groups.{Group, IsResult}
-use Rattle.druid_partial.specs.Once.{HaveOwnSegments, counted_groups, is_counted}
-use Rattle.druid_partial.specs.Rows.{kinds_of, tells, passes_if}
+use Rattle.druid_scan.specs.Once.{HaveOwnSegments, counted_groups, is_counted}
+use Rattle.druid_partial.specs.Partials.{kinds_of}
+use Rattle.druid_scan.specs.Rows.{tells, passes_if}
 use Rattle.druid_scatter.specs.Gathered.{Exchange, Answers}
 
 -- the pieces that an answer gives: those that were asked for and that it does not list as missing

@@ -7,7 +7,7 @@ use Rattle.druid_base.specs.Json.{ReadsAs}
 use Rattle.druid_query.specs.SubQuery.{SubQuery, subquery_text}
 use Rattle.druid_partial_text.specs.Answers.{TellsAnswer}
 use Rattle.druid_partial.specs.Groups.{Group, IsResult}
-use Rattle.druid_partial.specs.Rows.{kinds_of}
+use Rattle.druid_partial.specs.Partials.{kinds_of}
 use Rattle.druid_link.specs.Links.{Came}
 use Rattle.druid_message.specs.Requests.{RequestValue}
 use Rattle.druid_message.specs.declared.fault.WireFault.TheVariants.{Memory}

@@ -10,7 +10,7 @@ use Rattle.druid_query.specs.SubQuery.{SubQuery}
 use Rattle.druid_partial_text.specs.Answers.{TellsAnswer, IsAnswerOf}
 use Rattle.druid_partial_text.specs.declared.fault.PartialFault.TheVariants as faults
 use Rattle.druid_partial.specs.Groups.{Group, IsMerge, IsResult}
-use Rattle.druid_partial.specs.Rows.{Partial, kinds_of}
+use Rattle.druid_partial.specs.Partials.{Partial, kinds_of}
 use Rattle.druid_link.specs.Links.{Came}
 use Rattle.druid_message.specs.declared.fault.WireFault.TheVariants as wire
 use Rattle.druid_wire.specs.Messages.{IsResponse}

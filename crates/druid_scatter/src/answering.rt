@@ -1,7 +1,7 @@
 //! What came back from a node, read.
 ghost use Rattle.std.specs.Prelude.{◌≡◌, ℕ, IfOk, OnErr, IfSome, IfNone};
 ghost use Rattle.druid_link.specs.Links.{came_of};
-ghost use Rattle.druid_partial.specs.Rows.{kinds_of};
+ghost use Rattle.druid_partial.specs.Partials.{kinds_of};
 ghost use Rattle.druid_scatter.specs.Gathered.{Answers, IsLost};
 ghost use Rattle.druid_scatter.specs.Waiting.{Tells, TellsNothing, ReadingLacksMemory, LacksMemory, exchange_of};
 

@@ -2,7 +2,7 @@
 ghost use Rattle.std.specs.Prelude.{◌≡◌, ◌⊎◌, List, [], Any, IfOk, OnErr, IfSome, IsSomeAnd, Option, length, map, option_map, is_some};
 ghost use Rattle.std.specs.List.{range_with_len, AllZip};
 ghost use Rattle.druid_query.specs.Query.{Query};
-ghost use Rattle.druid_partial.specs.Rows.{IsPartialFor};
+ghost use Rattle.druid_partial.specs.Partials.{IsPartialFor};
 ghost use Rattle.druid_link.specs.Links.{came_of};
 ghost use Rattle.druid_scatter.specs.Gathered.{Exchange, AreMade};
 ghost use Rattle.druid_scatter.specs.Waiting.{TookIf, Goes, AsksOn, MayLackMemory, pieces_of, sub_if, wanted_of, made_from};

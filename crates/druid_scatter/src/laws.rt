@@ -11,7 +11,7 @@ ghost use Rattle.druid_query.specs.Query.{Query};
 ghost use Rattle.druid_query.specs.Asked.{Asked};
 ghost use Rattle.druid_query.specs.SubQuery.{IsAsked};
 ghost use Rattle.druid_partial.specs.Groups.{Group, IsResult};
-ghost use Rattle.druid_partial.specs.Rows.{kinds_of};
+ghost use Rattle.druid_partial.specs.Partials.{kinds_of};
 ghost use Rattle.druid_scatter.specs.Exact.{IsHonest, AreServed, Sees, counted_visible};
 ghost use Rattle.druid_scatter.specs.Gathered.{Exchange, IsGathered};
 ghost use Rattle.druid_scatter.specs.Plan.{Pair, asked_of, place_cmp, IsPlanOf};

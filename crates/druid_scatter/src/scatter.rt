@@ -1,6 +1,6 @@
 //! Queries, asked of data nodes.
 ghost use Rattle.std.specs.Prelude.{List, IfOk, OnErr, length};
-ghost use Rattle.druid_partial.specs.Rows.{IsPartialFor};
+ghost use Rattle.druid_partial.specs.Partials.{IsPartialFor};
 ghost use Rattle.druid_scatter.specs.Gathered.{Exchange, AreMade, AreAsked, IsGathered};
 ghost use Rattle.druid_scatter.specs.Rounds.{AreLinked};
 

@@ -2,7 +2,8 @@ use Rattle.std.proofs.Common.{◌≡◌, ◌∙◌, map, List, ap, subst, arith,
 use Rattle.std.specs.List.{flat_map}
 use Rattle.std.proofs.lemmas.Result.{IfOk-weaker}
 use Rattle.druid_partial.specs.Groups.{Group, IsResult}
-use Rattle.druid_partial.specs.Rows.{kinds_of, counted_by}
+use Rattle.druid_partial.specs.Partials.{kinds_of}
+use Rattle.druid_scan.specs.Rows.{counted_by}
 use Rattle.druid_node.specs.Placed.{Placed}
 use Rattle.druid_node.proofs.AnswerLemmas.{one_place}
 use Rattle.druid_node.proofs.answering.partial_at.Goals as goal

@@ -3,7 +3,7 @@ use Rattle.std.specs.List.Sorted.{IsPermutation}
 use Rattle.std.proofs.lemmas.List.Sorted.{All-permutation}
 use Rattle.std.proofs.lemmas.Result.{IfOk-weaker}
 use Rattle.druid_partial.specs.Groups.{Group, IsResult}
-use Rattle.druid_partial.specs.Rows.{kinds_of}
+use Rattle.druid_partial.specs.Partials.{kinds_of}
 use Rattle.druid_partial.proofs.MovedLemmas.{moved_result}
 use Rattle.druid_node.specs.Placed.{Placed, counted_at, IsWithin}
 use Rattle.druid_node.proofs.answering.partial_of_asked.Goals as goal

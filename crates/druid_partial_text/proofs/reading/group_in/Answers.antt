@@ -1,6 +1,6 @@
 use Rattle.std.proofs.Common.{rules, Some, sym, ap, ◌∙◌}
 use Rattle.serde_json.specs.View.{view}
-use Rattle.druid_rows.specs.Rows.{nullable_texts_of}
+use Rattle.druid_filter.specs.Values.{nullable_texts_of}
 use Rattle.druid_partial_text.specs.Borrowed.{parts_borrowed}
 use Rattle.druid_partial_text.proofs.MadeLemmas.{group_made}
 use Rattle.druid_partial_text.proofs.reading.group_in.Goals as goal

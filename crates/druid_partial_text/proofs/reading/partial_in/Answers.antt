@@ -3,7 +3,7 @@ use Rattle.std.specs.List.Sorted.{IsPermutation}
 use Rattle.serde_json.specs.View.{items_view}
 use Rattle.druid_base.specs.Each.{each_of}
 use Rattle.druid_partial.specs.Groups.{InOrder}
-use Rattle.druid_partial.specs.Rows.{kinds_of, Partial, IsPartialFor}
+use Rattle.druid_partial.specs.Partials.{kinds_of, Partial, IsPartialFor}
 use Rattle.druid_partial_text.specs.Read.{group_at}
 use Rattle.druid_partial_text.specs.Borrowed.{AreRows, HasWords}
 use Rattle.druid_partial_text.proofs.MadeLemmas.{reported_for, reported_valid}

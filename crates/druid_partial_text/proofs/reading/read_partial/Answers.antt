@@ -2,7 +2,7 @@ use Rattle.std.proofs.Common.{◌≡◌, List, Option, IfNone, rules, subst}
 use Rattle.serde_json.specs.Data.{array}
 use Rattle.serde_json.specs.View.{view, items_view}
 use Rattle.druid_partial.specs.Groups.{Group}
-use Rattle.druid_partial.specs.Rows.{Partial}
+use Rattle.druid_partial.specs.Partials.{Partial}
 use Rattle.druid_partial_text.specs.Read.{TellsGroups}
 use Rattle.druid_partial_text.proofs.MadeLemmas.{not_reported}
 use Rattle.druid_partial_text.proofs.reading.read_partial.Goals as goal

@@ -1,5 +1,5 @@
 use Rattle.druid_base.specs.Fields.{text_or_null}
-use Rattle.druid_rows.specs.Rows.{nullable_texts_of}
+use Rattle.druid_filter.specs.Values.{nullable_texts_of}
 use Rattle.druid_partial_text.proofs.MadeLemmas.{Made}
 use Rattle.druid_partial_text.proofs.reading.values_in.Given as goal
 

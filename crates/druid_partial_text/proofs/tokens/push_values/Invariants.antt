@@ -1,5 +1,5 @@
 use Rattle.std.proofs.Common.{◌≡◌, ◌++◌, drop}
-use Rattle.druid_rows.specs.Rows.{nullable_texts_of}
+use Rattle.druid_filter.specs.Values.{nullable_texts_of}
 use Rattle.druid_partial_text.specs.Written.{values_data}
 use Rattle.druid_partial_text.specs.Tokens.{tokens_of, rest_of}
 use Rattle.druid_partial_text.proofs.TokenLemmas.{value_items}

@@ -1,4 +1,4 @@
-use Rattle.druid_partial.specs.Rows.{IsPartialFor}
+use Rattle.druid_partial.specs.Partials.{IsPartialFor}
 use Rattle.druid_scatter.proofs.GatherLemmas.{Leading}
 use Rattle.druid_scatter.proofs.scatter.gather.Given as goal
 

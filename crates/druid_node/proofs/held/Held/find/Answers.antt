@@ -3,7 +3,7 @@ use Rattle.std.specs.Arc.{arc_value}
 use Rattle.std.specs.List.{slice_get}
 use Rattle.druid_shard.specs.Replay.{StandsAt, BelongsAt}
 use Rattle.druid_shard.proofs.ReplayLemmas.{in_order}
-use Rattle.druid_partial.specs.Once.{segment_named}
+use Rattle.druid_scan.specs.Once.{segment_named}
 use Rattle.druid_node.specs.State.{descriptors_of}
 use Rattle.druid_node.proofs.PlaceLemmas.{found_at, absent_at}
 use Rattle.druid_node.proofs.held.Held.find.Goals as goal

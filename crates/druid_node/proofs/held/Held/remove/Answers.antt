@@ -3,7 +3,7 @@ use Rattle.std.specs.Arc.{arc_value}
 use Rattle.std.specs.Option.{is_some}
 use Rattle.druid_shard.specs.Replay.{StandsAt, BelongsAt}
 use Rattle.druid_shard.proofs.ReplayLemmas.{in_order}
-use Rattle.druid_partial.specs.Once.{segment_named}
+use Rattle.druid_scan.specs.Once.{segment_named}
 use Rattle.druid_node.specs.State.{descriptors_of}
 use Rattle.druid_node.specs.Held.{IsHeld, without_held}
 use Rattle.druid_node.proofs.HeldLemmas.{removed-held}

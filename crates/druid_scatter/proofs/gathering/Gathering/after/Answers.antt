@@ -1,6 +1,6 @@
 use Rattle.std.proofs.Common.{ℕ, ◌≡◌, ◌∙◌, sym, ap, subst}
 use Rattle.druid_query.specs.Query.{Query}
-use Rattle.druid_partial.specs.Rows.{IsPartialFor, kinds_of}
+use Rattle.druid_partial.specs.Partials.{IsPartialFor, kinds_of}
 use Rattle.druid_chunks.proofs.EditLemmas.{always_err}
 use Rattle.druid_link.specs.Links.{came_of}
 use Rattle.druid_scatter.specs.Gathered.{Answers, IsLost}

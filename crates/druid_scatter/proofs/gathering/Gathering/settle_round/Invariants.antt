@@ -1,5 +1,5 @@
 use Rattle.std.proofs.Common.{◌≡◌, ◌≤◌, ℕ, map, option_map, take}
-use Rattle.druid_partial.specs.Rows.{IsPartialFor}
+use Rattle.druid_partial.specs.Partials.{IsPartialFor}
 use Rattle.druid_link.specs.Links.{came_of}
 use Rattle.druid_scatter.specs.Waiting.{Goes, wanted_of, made_from}
 use Rattle.druid_scatter.proofs.gathering.Gathering.settle_round.Given as goal

@@ -1,0 +1,15 @@
+pub mod KeyLemmas
+pub mod PlaceLemmas
+pub mod EntryLemmas
+pub mod TellLemmas
+pub mod CodeFilterLemmas
+pub mod OnceLemmas
+pub mod CellLemmas
+pub mod RadixLemmas
+pub mod IntoLemmas
+pub mod RankLemmas
+pub mod CodeLemmas
+pub mod SourceLemmas
+pub mod RunLemmas
+pub mod PutLemmas
+pub mod SparseLemmas

@@ -1,0 +1,9 @@
+-- what public contracts rest on
+pub mod Rows
+pub mod Once
+-- words of private contracts
+pub mod Places
+pub mod Entries
+pub mod CodeFilters
+pub mod Scans
+pub mod Cells

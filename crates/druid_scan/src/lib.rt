@@ -1,0 +1,14 @@
+//! What a query tells of the rows of a segment.
+#![tactic(auto)]
+
+mod cells;
+mod code_filter;
+mod column;
+mod counting;
+mod group_map;
+mod key;
+mod laws;
+mod located;
+
+pub use counting::{partial_of, partial_over};
+pub use laws::rows_are_counted_once;
