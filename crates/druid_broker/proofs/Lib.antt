@@ -1,8 +1,6 @@
-pub mod TurnLemmas
 pub mod NameLemmas
 pub mod LoadLemmas
 pub mod PlanLemmas
 pub mod ServeLemmas
 pub mod RowLemmas
 pub mod RouteLemmas
-pub mod PagingLemmas

@@ -8,8 +8,8 @@ use crate::cluster::{
 };
 use crate::printing::assert_holds;
 use crate::reading::mark_read;
-use druid_broker::fetch;
 use druid_folder::Folder;
+use druid_follow::fetch;
 use druid_inventory::Inventory;
 use druid_link::Link;
 use druid_message::WireFault;

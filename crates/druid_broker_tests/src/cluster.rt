@@ -2,7 +2,8 @@
 ghost use Rattle.std.specs.Prelude.{◌≡◌, ◌⊎◌, ◌≤◌, IsTrue, length, IfOk, IfErr, IsErrAnd};
 ghost use Rattle.druid_link.specs.Links.{IsLinkFault, came_of, faults_after};
 
-use druid_broker::{Routes, serve_one, sync_turn};
+use druid_broker::{Routes, serve_one};
+use druid_follow::sync_turn;
 use druid_inventory::{Inventory, MAX_NODES};
 use druid_link::{Link, MAX_EXCHANGE};
 use druid_message::WireFault;

@@ -5,7 +5,7 @@ use crate::broker::answer_of;
 use crate::cluster::inventory;
 use crate::printing::{all_replaced, assert_reported, halves, printed, replaced};
 use crate::turns::{mark_text, outcome_of, reply};
-use druid_broker::{TurnFault, seed_turn, sync_turn};
+use druid_follow::{TurnFault, seed_turn, sync_turn};
 use druid_inventory::{Inventory, Outcome};
 use druid_link::MemoryLink;
 use druid_published::{Opened, Publication, Publisher, Receipt, open};

@@ -3,7 +3,7 @@ ghost use Rattle.std.specs.Prelude.{◌≡◌, ◌≤◌};
 
 use crate::printing::{assert_reported, printed};
 use crate::turns::{link, mark_text, one_node};
-use druid_broker::fetch;
+use druid_follow::fetch;
 use druid_inventory::Inventory;
 use druid_published::{Opened, Publication, Publisher, View, open};
 use druid_shard::Reply;

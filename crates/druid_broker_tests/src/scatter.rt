@@ -10,7 +10,7 @@ use crate::cluster::{
 use crate::printing::{assert_reported, halves};
 use crate::published::SNAPSHOT;
 use crate::turns::link;
-use druid_broker::fetch_entry;
+use druid_follow::fetch_entry;
 use druid_inventory::Inventory;
 use druid_link::{Link, MemoryLink};
 use druid_published::Publication;

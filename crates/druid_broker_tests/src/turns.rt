@@ -4,7 +4,7 @@ ghost use Rattle.std.specs.Prelude.{◌≡◌};
 use crate::cluster::{Cluster, Handle, Setup, answered, followed, set_up};
 use crate::printing::{assert_reported, halves, printed, replaced};
 use crate::published::SNAPSHOT;
-use druid_broker::{fetch, fetch_entry, seed_turn, sync_turn};
+use druid_follow::{fetch, fetch_entry, seed_turn, sync_turn};
 use druid_inventory::{Inventory, Outcome};
 use druid_link::MemoryLink;
 use druid_published::{Opened, Publication, Publisher, open};

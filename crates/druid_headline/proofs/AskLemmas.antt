@@ -18,7 +18,7 @@ use Rattle.druid_wire.specs.Messages.{IsResponse}
 use Rattle.druid_wire.specs.Written as wire
 use Rattle.druid_node.specs.State.{State}
 use Rattle.druid_node.specs.Routes.{IsReplyTo, AnswersFound, AnswersAsk, Responds, RespondsInTurn}
-use Rattle.druid_broker.specs.Turns.{ask_request, IsAnswerTo}
+use Rattle.druid_follow.specs.Turns.{ask_request, IsAnswerTo}
 use Rattle.druid_changes.specs.Answer.{answer}
 use Rattle.druid_world.specs.World.{Life, IsLife, IsHonest, eras_of}
 use Rattle.druid_world.proofs.WorldLemmas.{HasFrozen, answer_true}

@@ -22,8 +22,8 @@ use Rattle.druid_inventory.specs.Entry.{Entry, ask_of}
 use Rattle.druid_link.specs.Links.{Came}
 use Rattle.druid_message.specs.Requests.{RequestValue}
 use Rattle.druid_wire.specs.Written.{request_text}
-use Rattle.druid_broker.specs.Turns.{Exchanges, pages_from, Completes, FollowsPages, IsAsked, IsFetched, IsFetchedFrom, IsReported, ask_request}
-use Rattle.druid_broker.specs.declared.fault.TurnFault.{TurnFault}
+use Rattle.druid_follow.specs.Turns.{Exchanges, pages_from, Completes, FollowsPages, IsAsked, IsFetched, IsFetchedFrom, IsReported, ask_request}
+use Rattle.druid_follow.specs.declared.fault.TurnFault.{TurnFault}
 use Rattle.druid_world.specs.World.{CameTo, Era, Life, IsHonest, IsLife, IsTruePage, changes_of, eras_of, set_at}
 use Rattle.druid_world.proofs.WorldLemmas.{came_to, from_one}
 use Rattle.druid_headline.specs.Headline.{AnswersHonestly, HasText, HasWords}

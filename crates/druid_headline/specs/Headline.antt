@@ -26,7 +26,7 @@ use Rattle.druid_node.specs.State.{State}
 use Rattle.druid_scatter.specs.Gathered.{Exchange, AreMade}
 use Rattle.druid_scatter.specs.Exact.{IsHonest, Sees, counted_visible}
 use Rattle.druid_broker.specs.Routes.{query, route_of}
-use Rattle.druid_broker.specs.Turns.{IsReported}
+use Rattle.druid_follow.specs.Turns.{IsReported}
 use Rattle.druid_world.specs.World.{Life, eras_of, set_at}
 use Rattle.druid_world.specs.World as replies
 

@@ -10,7 +10,7 @@ use Rattle.druid_message.specs.declared.fault.WireFault.{WireFault}
 use Rattle.druid_wire.specs.Written.{answer_text, request_text}
 use Rattle.druid_node.specs.State.{State}
 use Rattle.druid_node.specs.Routes.{RespondsInTurn}
-use Rattle.druid_broker.specs.Turns.{ask_request, IsAnswerTo}
+use Rattle.druid_follow.specs.Turns.{ask_request, IsAnswerTo}
 use Rattle.druid_world.specs.World.{Life, IsHonest, eras_of}
 use Rattle.druid_headline.specs.Headline.{AnswersHonestly, HasText, Leads}
 use Rattle.druid_headline_tests.specs.Exchanges.{IsAnswered, ExchangesWithNode}

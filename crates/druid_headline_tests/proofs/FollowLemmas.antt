@@ -4,7 +4,7 @@ use Rattle.druid_inventory.specs.Entry.{fresh}
 use Rattle.druid_inventory.specs.declared.fault.Outcome.{Outcome}
 use Rattle.druid_node.specs.State.{State}
 use Rattle.druid_published.specs.Fold.{PublisherValue}
-use Rattle.druid_broker.specs.Turns.{IsFetchedFrom, TakesTurn}
+use Rattle.druid_follow.specs.Turns.{IsFetchedFrom, TakesTurn}
 use Rattle.druid_headline_tests.specs.Exchanges.{ExchangesWithNode}
 use Rattle.druid_headline_tests.specs.Following.{AreFollowed}
 use Rattle.druid_headline_tests.specs.Nodes.{IsNode}

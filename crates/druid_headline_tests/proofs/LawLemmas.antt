@@ -15,7 +15,7 @@ use Rattle.druid_node.specs.Routes.{RespondsInTurn, IsReplyTo}
 use Rattle.druid_published.specs.Fold.{Published, fold_of}
 use Rattle.druid_scatter.specs.Gathered.{request_for}
 use Rattle.druid_scatter.specs.Exact as pieces
-use Rattle.druid_broker.specs.Turns.{ask_request, IsAnswerTo}
+use Rattle.druid_follow.specs.Turns.{ask_request, IsAnswerTo}
 use Rattle.druid_broker.specs.Views.{RespondsBy, AnswersUnread}
 use Rattle.druid_world.specs.World.{Life, IsLife, IsWorld, IsHonest, eras_of, marks_of}
 use Rattle.druid_world.specs.Run.{AreHonest}

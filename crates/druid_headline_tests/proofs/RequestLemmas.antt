@@ -22,7 +22,7 @@ use Rattle.druid_wire.specs.Limits.{max_body, max_head}
 use Rattle.druid_wire.proofs.BackLemmas.{request_back}
 use Rattle.druid_wire.proofs.DecimalLemmas.{decimal_digits, short_decimal}
 use Rattle.druid_wire.proofs.OnceLemmas.{one_request}
-use Rattle.druid_broker.specs.Turns.{ask_request, get_request}
+use Rattle.druid_follow.specs.Turns.{ask_request, get_request}
 use Rattle.druid_headline.specs.Headline.{HasText}
 
 abbrev is_low : ℕ → Bool

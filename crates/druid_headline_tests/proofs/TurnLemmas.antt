@@ -16,8 +16,8 @@ use Rattle.druid_message.specs.declared.fault.WireFault.{WireFault}
 use Rattle.druid_wire.specs.Written.{request_text}
 use Rattle.druid_node.specs.State.{State}
 use Rattle.druid_node.specs.Routes.{RespondsInTurn}
-use Rattle.druid_broker.specs.Turns.{ask_request, IsAnswerTo, Fetches, FollowsPages, IsFetched, IsFetchedFrom}
-use Rattle.druid_broker.specs.declared.fault.TurnFault.{TurnFault}
+use Rattle.druid_follow.specs.Turns.{ask_request, IsAnswerTo, Fetches, FollowsPages, IsFetched, IsFetchedFrom}
+use Rattle.druid_follow.specs.declared.fault.TurnFault.{TurnFault}
 use Rattle.druid_headline_tests.specs.Exchanges.{IsAnswered, ExchangesWithNode}
 use Rattle.druid_headline.proofs.AskLemmas.{answer_of_history}
 use Rattle.druid_headline.proofs.HonestLemmas.{same_ok}

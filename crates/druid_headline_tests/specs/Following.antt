@@ -6,7 +6,7 @@ use Rattle.druid_wire.specs.Written.{answer_text}
 use Rattle.druid_node.specs.State.{State}
 use Rattle.druid_node.specs.Routes.{RespondsInTurn}
 use Rattle.druid_published.specs.Fold.{Published}
-use Rattle.druid_broker.specs.Turns.{ask_request, IsAnswerTo}
+use Rattle.druid_follow.specs.Turns.{ask_request, IsAnswerTo}
 
 -- the node answered so to an ask for all, and a broker reads this reply of it
 pub record IsFirstReply (state : State) (reply : Body) : Type 0 where

@@ -5,7 +5,7 @@ ghost use Rattle.druid_headline_tests.specs.Following.{AreFollowed};
 ghost use Rattle.druid_headline_tests.specs.Nodes.{IsNode};
 
 use crate::node_link::NodeLink;
-use druid_broker::sync_turn;
+use druid_follow::sync_turn;
 use druid_published::{Publication, Publisher, Receipt};
 use druid_sync::asks_are_read_back;
 use std::alloc::Global;

@@ -6,7 +6,7 @@ ghost use Rattle.druid_query.specs.Query.{Query};
 ghost use Rattle.druid_message.specs.Requests.{RequestValue};
 ghost use Rattle.druid_node.specs.State.{State};
 ghost use Rattle.druid_published.specs.Fold.{Published};
-ghost use Rattle.druid_broker.specs.Turns.{IsFetchedFrom};
+ghost use Rattle.druid_follow.specs.Turns.{IsFetchedFrom};
 ghost use Rattle.druid_broker.specs.Views.{RespondsBy, AnswersUnread};
 ghost use Rattle.druid_world.specs.World.{Life, IsHonest, IsLife, eras_of};
 ghost use Rattle.druid_headline.specs.Headline.{HasText, HasWords, IsLastOf, IsPosted};

@@ -5,9 +5,8 @@ ghost use Rattle.druid_scatter.specs.Rounds.{AreLinked};
 use crate::marks::{assert_call, begin, end};
 use crate::replies::{inventory, is_at};
 use crate::values::segment;
-use druid_broker::{
-    Routes, TurnFault, fetch, fetch_entry, seed_turn, serve_one, shared_turn, sync_turn,
-};
+use druid_broker::{Routes, serve_one};
+use druid_follow::{TurnFault, fetch, fetch_entry, seed_turn, shared_turn, sync_turn};
 use druid_inventory::{Inventory, Outcome};
 use druid_link::{Link, MemoryLink};
 use druid_message::WireFault;

@@ -2,12 +2,13 @@
 ghost use Rattle.std.specs.Prelude.{◌≡◌, ◌<◌, ◌≤◌, ◌+◌, ◌-◌, ◌^◌, min, if◌then◌else◌, IfOk, OnOk, length, vec_len};
 ghost use Rattle.druid_config.specs.Limits.{max_workers};
 ghost use Rattle.druid_inventory.specs.Entry.{max_nodes};
-ghost use Rattle.druid_broker.specs.Turns.{MakesTurns};
+ghost use Rattle.druid_follow.specs.Turns.{MakesTurns};
 ghost use mathlib.Core.List.{IsPrefix};
 
 use crate::gate::Gate;
-use druid_broker::{Routes, follow, serve_one};
+use druid_broker::{Routes, serve_one};
 use druid_config::NodeConfig;
+use druid_follow::follow;
 use druid_inventory::Inventory;
 use druid_link::{Link, TcpLink};
 use druid_published::{Opened, Publication, Publisher, View, open};

@@ -1,5 +1,5 @@
 use Rattle.druid_shard.specs.declared.change.Ask.TheVariants.{Whole}
-use Rattle.druid_broker.specs.Turns.{entry_request}
+use Rattle.druid_follow.specs.Turns.{entry_request}
 use Rattle.druid_headline.proofs.FetchLemmas.{asked_true, fetched_from_true}
 use Rattle.druid_headline.proofs.laws.fetched_replies_are_honest.Goals as goal
 
