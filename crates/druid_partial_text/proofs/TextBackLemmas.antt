@@ -5,7 +5,6 @@ use Rattle.std.specs.Int.{w64}
 use Rattle.std.proofs.lemmas.Int.{ints}
 use Rattle.std.proofs.lemmas.List.Elements.{All-head, All-tail}
 use Rattle.json.specs.Lex.{tokens}
-use Rattle.json.specs.Json as json
 use Rattle.json.specs.Tree as tree
 use Rattle.serde_json.specs.Data.{Data, number, array, no_items, item}
 use Rattle.serde_json.specs.Find.{of_integer}
