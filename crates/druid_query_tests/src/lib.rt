@@ -1,7 +1,7 @@
 //! What no contract says of queries, of partials and of data nodes: worked examples over texts, files and messages, printed
 //! texts, that calls succeed with ample memory, and drawn queries beside a plain computation. `subquery` is of
-//! `druid_query_text`, `answers` of `druid_partial_text`, `node`, `queries` and `columns` of `druid_node`, and `drawn` of
-//! `druid_scan` over files by columns.
+//! `druid_query_text`, `partial` of `druid_scan` too, `answers` of `druid_partial_text`, `node`, `queries` and `columns` of
+//! `druid_node`, and `drawn` of `druid_scan` over files by columns.
 #![tactic(auto)]
 
 #[cfg(test)]
