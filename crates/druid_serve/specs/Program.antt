@@ -3,9 +3,9 @@ use Rattle.std.specs.Prelude.{◌≡◌, ℕ, List, [], ◌∷◌, ◌++◌, ⊤
 use Rattle.serde_json.specs.Data.{Data}
 use Rattle.druid_config.specs.Configs.{Reported, config_at}
 use Rattle.druid_base.specs.Json.{ReadsAs}
-use Rattle.druid_serve.specs.Faults.{status_of, fault_text}
-use Rattle.druid_serve.specs.declared.fault.ServeFault.{ServeFault}
-use Rattle.druid_serve.specs.declared.fault.ServeFault.TheVariants.{BadConfig, BadFolder, Device}
+use Rattle.druid_server.specs.Ends.{status_of, fault_text}
+use Rattle.druid_server.specs.declared.serve_fault.ServeFault.{ServeFault}
+use Rattle.druid_server.specs.declared.serve_fault.ServeFault.TheVariants.{BadConfig, BadFolder, Device}
 
 -- the bytes are a config
 abbrev pub IsConfig : List ℕ → Type 0

@@ -5,7 +5,6 @@ ghost use Rattle.druid_inventory.specs.Entry.{max_nodes};
 ghost use Rattle.druid_follow.specs.Turns.{MakesTurns};
 ghost use mathlib.Core.List.{IsPrefix};
 
-use crate::gate::Gate;
 use druid_broker::{Routes, serve_one};
 use druid_config::NodeConfig;
 use druid_follow::follow;
@@ -13,7 +12,7 @@ use druid_inventory::Inventory;
 use druid_link::{Link, TcpLink};
 use druid_published::{Opened, Publication, Publisher, View, open};
 use druid_scatter::Rotate;
-use druid_serve_node::{DeviceFailed, answer_each, limit};
+use druid_server::{DeviceFailed, Gate, answer_each, limit};
 use druid_shard::NodeNo;
 use std::alloc::{AllocError, Global};
 use std::io::{BufReader, BufWriter, Write};

@@ -1,15 +1,10 @@
 //! A cluster, served: data nodes over folders and brokers that follow them, over sockets and threads.
 #![tactic(auto)]
 
-mod asking;
 mod broker;
-mod fault;
-mod gate;
 mod program;
 mod serving;
-mod stop;
 
-pub use druid_serve_node::PEER_SECONDS;
-pub use fault::ServeFault;
+pub use druid_server::{PEER_SECONDS, ServeFault};
 pub use program::run;
 pub use serving::serve;

@@ -7,13 +7,12 @@ ghost use Rattle.druid_cluster.specs.Program.{Replays, usage_line, exit_status a
 ghost use Rattle.druid_cluster.specs.Status.{fault_text as replay_fault_text};
 ghost use Rattle.druid_cluster.specs.declared.fault.ReplayFault.{ReplayFault};
 ghost use Rattle.druid_serve.specs.Program.{exit_status, fault_line};
-ghost use Rattle.druid_serve.specs.declared.fault.ServeFault.{ServeFault};
+ghost use Rattle.druid_server.specs.declared.serve_fault.ServeFault.{ServeFault};
 
-use crate::ServeFault;
 use crate::serving::{report_end, serve};
-use crate::stop::Ended;
 use druid_cluster::run_program;
 use druid_command_line::{Ending, asks_for_serve};
+use druid_server::{Ended, ServeFault};
 use std::alloc::Global;
 use std::fs::File;
 use std::io::{BufRead, Read, Write};

@@ -1,7 +1,7 @@
 use Rattle.std.proofs.Common.{rules}
 use mathlib.Core.List.{IsPrefix}
 use Rattle.druid_published.proofs.Beginnings.{prefix_self, prefix_trans}
-use Rattle.druid_serve_node.proofs.FoldLemmas.{folds_keep}
+use Rattle.druid_server.proofs.FoldLemmas.{folds_keep}
 use Rattle.druid_serve.proofs.broker.work.Goals as goal
 
 pub returns : goal.returns

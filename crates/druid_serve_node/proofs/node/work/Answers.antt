@@ -1,7 +1,7 @@
 use Rattle.std.proofs.Common.{◌≢◌, rules}
 use Rattle.std.specs.declared.cmp.Ordering.TheVariants.{Greater}
 use Rattle.druid_shard.specs.Mark.{Point, mark_cmp}
-use Rattle.druid_serve_node.proofs.FoldLemmas.{folds_keep}
+use Rattle.druid_server.proofs.FoldLemmas.{folds_keep}
 use Rattle.druid_serve_node.proofs.node.work.Goals as goal
 
 pub returns : goal.returns

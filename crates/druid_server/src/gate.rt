@@ -12,14 +12,14 @@ struct Count {
 
 /// A count of answered connections, which threads share. It counts nothing before it is opened.
 #[derive(Drop)]
-pub(crate) struct Gate {
+pub struct Gate {
     count: Mutex<Count>,
     changed: Condvar,
 }
 
 impl Gate {
     /// A gate that is closed.
-    pub(crate) fn new() -> Gate {
+    pub fn new() -> Gate {
         Gate {
             count: Mutex::new(Count {
                 open: false,
@@ -30,19 +30,19 @@ impl Gate {
     }
 
     /// From now on connections count.
-    pub(crate) fn open<R: Wait>(&self, rt: &R) {
+    pub fn open<R: Wait>(&self, rt: &R) {
         let mut count = self.count.lock(rt);
         count.open = true;
     }
 
     /// Whether a connection counts that is accepted now.
-    pub(crate) fn is_open<R: Wait>(&self, rt: &R) -> bool {
+    pub fn is_open<R: Wait>(&self, rt: &R) -> bool {
         let count = self.count.lock(rt);
         count.open
     }
 
     /// One more was answered.
-    pub(crate) fn add<R: Wait>(&self, rt: &R) {
+    pub fn add<R: Wait>(&self, rt: &R) {
         let mut count = self.count.lock(rt);
         count.answered = count.answered.saturating_add(1);
         drop(count);
@@ -50,7 +50,7 @@ impl Gate {
     }
 
     /// Waits until so many were answered.
-    pub(crate) fn wait<R: Wait>(&self, rt: &R, wanted: u64) {
+    pub fn wait<R: Wait>(&self, rt: &R, wanted: u64) {
         let count = self.count.lock(rt);
         drop(
             self.changed

@@ -1,7 +1,7 @@
 use Rattle.std.proofs.Common.{List}
 use Rattle.std.specs.List.{FoldsTo}
 use Rattle.std.specs.declared.net.tcp.TcpStream.{TcpStream}
-use Rattle.druid_serve_node.proofs.outside.answer_each.Given as goal
+use Rattle.druid_server.proofs.outside.answer_each.Given as goal
 
 abbrev pub invariant-loop-stream : goal.invariant-loop-stream
 invariant-loop-stream g l =

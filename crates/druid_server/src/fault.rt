@@ -1,8 +1,8 @@
 //! Why a data node, or anything else of a cluster, does not start.
 ghost use Rattle.std.specs.Prelude.{◌≡◌, ⊤, Some, IfSome};
-ghost use Rattle.druid_serve_node.specs.Faults.{of_store, of_node, NamesFile};
-ghost use Rattle.druid_serve_node.specs.declared.fault.ClusterFault.TheVariants.{Device};
-ghost use Rattle.druid_serve_node.specs.declared.fault.Cause.TheVariants.{Tombstone};
+ghost use Rattle.druid_server.specs.Faults.{of_store, of_node, NamesFile};
+ghost use Rattle.druid_server.specs.declared.fault.ClusterFault.TheVariants.{Device};
+ghost use Rattle.druid_server.specs.declared.fault.Cause.TheVariants.{Tombstone};
 
 use druid_folder::StoreFault;
 use druid_node::NodeFault;
@@ -117,7 +117,7 @@ pub struct StartFault {
 
 impl StartFault {
     // The fault of a device.
-    pub(crate) fn device(cause: Cause) -> StartFault
+    pub fn device(cause: Cause) -> StartFault
         ensures fault { result.fault ≡ Device }
         ensures cause { result.cause ≡ Some cause }
     {
@@ -128,7 +128,7 @@ impl StartFault {
     }
 
     // The fault of a call on a folder.
-    pub(crate) fn of_store(fault: StoreFault, cause: Cause) -> StartFault
+    pub fn of_store(fault: StoreFault, cause: Cause) -> StartFault
         ensures fault { result.fault ≡ of_store fault }
         ensures cause { result.cause ≡ Some cause }
     {
@@ -139,7 +139,7 @@ impl StartFault {
     }
 
     // The fault of a segment file.
-    pub(crate) fn of_file(alloc: Global, name: &str, fault: &NodeFault) -> StartFault
+    pub fn of_file(alloc: Global, name: &str, fault: &NodeFault) -> StartFault
         ensures fault { result.fault ≡ of_node fault.now }
         ensures cause { IfSome result.cause (NamesFile name.now fault.now) }
     {
@@ -150,7 +150,7 @@ impl StartFault {
     }
 
     // The fault of the tombstone at a place of its list.
-    pub(crate) fn of_tombstone(place: usize, fault: &NodeFault) -> StartFault
+    pub fn of_tombstone(place: usize, fault: &NodeFault) -> StartFault
         ensures fault { result.fault ≡ of_node fault.now }
         ensures cause { result.cause ≡ Some (Tombstone place fault.now) }
     {

@@ -1,6 +1,6 @@
 use Rattle.std.proofs.Common.{[], ◌∷◌, ◌++◌, refl}
 use Rattle.std.proofs.lemmas.Fn.{FoldsTo-push}
-use Rattle.druid_serve_node.proofs.outside.answer_each.Goals as goal
+use Rattle.druid_server.proofs.outside.answer_each.Goals as goal
 
 pub loop-stream-init : goal.loop-stream-init
 loop-stream-init g c = ([], refl)

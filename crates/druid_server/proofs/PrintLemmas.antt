@@ -4,7 +4,7 @@ use Rattle.std.specs.Io.KnownBytes.{Appends}
 use Rattle.druid_message.specs.declared.fault.WireFault.{WireFault}
 use Rattle.druid_link.specs.Links.{Came}
 use Rattle.druid_wire.specs.Messages.{HasFault, ResponseSays}
-use Rattle.druid_serve.specs.Printed.{fault_lines, IsPrinted}
+use Rattle.druid_server.specs.Printed.{fault_lines, IsPrinted}
 
 pub fault_printed : {A E : Type 0} (r : Result A E) (old new : Option (List ℕ)) (came : Came) (bytes : List ℕ) (fault : WireFault) → came ≡ Ok bytes → HasFault ResponseSays bytes fault
     → OnOk r (Appends old new (fault_lines fault)) → OnOk r ((text : List ℕ) × IsPrinted came text × Appends old new text)

@@ -1,9 +1,9 @@
 ghost use Rattle.std.specs.Prelude.{◌≡◌, Some};
-ghost use Rattle.druid_serve.specs.Faults.{of_cluster, of_config, status_of, fault_text};
+ghost use Rattle.druid_server.specs.Ends.{of_cluster, of_config, status_of, fault_text};
 
+use crate::ClusterFault;
 use druid_command_line::Exit;
 use druid_config::ConfigFault;
-use druid_serve_node::ClusterFault;
 use std::error::Error;
 use std::fmt;
 

@@ -2,10 +2,10 @@
 use Rattle.std.specs.Prelude.{ℕ, List, codes}
 use Rattle.druid_config.specs.declared.fault.ConfigFault.{ConfigFault}
 use Rattle.druid_config.specs.declared.fault.ConfigFault.TheVariants as config
-use Rattle.druid_serve_node.specs.declared.fault.ClusterFault.{ClusterFault}
-use Rattle.druid_serve_node.specs.declared.fault.ClusterFault.TheVariants.{BadFolder, Device}
-use Rattle.druid_serve.specs.declared.fault.ServeFault.{ServeFault}
-use Rattle.druid_serve.specs.declared.fault.ServeFault.TheVariants as served
+use Rattle.druid_server.specs.declared.fault.ClusterFault.{ClusterFault}
+use Rattle.druid_server.specs.declared.fault.ClusterFault.TheVariants.{BadFolder, Device}
+use Rattle.druid_server.specs.declared.serve_fault.ServeFault.{ServeFault}
+use Rattle.druid_server.specs.declared.serve_fault.ServeFault.TheVariants as served
 
 -- a config that is none, or out of memory
 abbrev pub of_config : ConfigFault → ServeFault

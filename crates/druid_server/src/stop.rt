@@ -1,23 +1,22 @@
 //! Why a cluster is not served, and what kept it.
 ghost use Rattle.std.specs.Prelude.{◌≡◌};
-ghost use Rattle.druid_serve.specs.Faults.{of_cluster, of_config};
-ghost use Rattle.druid_serve_node.specs.declared.fault.ClusterFault.TheVariants.{Device};
+ghost use Rattle.druid_server.specs.Ends.{of_cluster, of_config};
+ghost use Rattle.druid_server.specs.declared.fault.ClusterFault.TheVariants.{Device};
 
-use crate::ServeFault;
+use crate::{Cause, ClusterFault, DeviceFailed, ServeFault, StartFault};
 use druid_command_line::reason_text;
 use druid_config::{BrokerConfig, ConfigFault, NodeConfig, bad_field_in};
-use druid_serve_node::{Cause, ClusterFault, DeviceFailed, StartFault};
 use std::alloc::{AllocError, AllocFailed, Global};
 use std::io;
 use std::io::ErrorKind;
 
 /// Why a cluster whose config was read is not served: its fault, and the text of what kept it, where memory was there for it.
 #[derive(Drop)]
-pub(crate) struct Stop {
+pub struct Stop {
     /// The fault.
-    pub(crate) fault: ClusterFault,
+    pub fault: ClusterFault,
     /// What kept the cluster.
-    pub(crate) reason: Option<String>,
+    pub reason: Option<String>,
 }
 
 impl Stop {
@@ -32,7 +31,7 @@ impl Stop {
     }
 
     /// The node at a place does not start.
-    pub(crate) fn at_node(alloc: Global, place: usize, node: &NodeConfig, start: StartFault) -> Stop
+    pub fn at_node(alloc: Global, place: usize, node: &NodeConfig, start: StartFault) -> Stop
         ensures { result.fault ≡ start.fault }
     {
         Stop {
@@ -45,7 +44,7 @@ impl Stop {
     }
 
     /// The broker at a place does not listen.
-    pub(crate) fn at_broker(alloc: Global, place: usize, broker: &BrokerConfig) -> Stop
+    pub fn at_broker(alloc: Global, place: usize, broker: &BrokerConfig) -> Stop
         ensures { result.fault ≡ Device }
     {
         let address = broker.address();
@@ -53,7 +52,7 @@ impl Stop {
     }
 
     /// The output was not written or flushed.
-    pub(crate) fn at_output(alloc: Global, error: &io::Error) -> Stop
+    pub fn at_output(alloc: Global, error: &io::Error) -> Stop
         ensures { result.fault ≡ Device }
     {
         let text = if error.kind() == ErrorKind::OutOfMemory {
@@ -111,16 +110,16 @@ impl From<DeviceFailed> for Stop {
 
 /// Why a config is not served: its fault, and the text of what kept it, where memory was there for it.
 #[derive(Drop)]
-pub(crate) struct Ended {
+pub struct Ended {
     /// The fault.
-    pub(crate) fault: ServeFault,
+    pub fault: ServeFault,
     /// What kept the cluster.
-    pub(crate) reason: Option<String>,
+    pub reason: Option<String>,
 }
 
 impl Ended {
     /// Of a fault, and a text that says why.
-    pub(crate) fn new(alloc: Global, fault: ServeFault, text: &str) -> Ended
+    pub fn new(alloc: Global, fault: ServeFault, text: &str) -> Ended
         ensures { result.fault ≡ fault }
     {
         Ended {
@@ -130,7 +129,7 @@ impl Ended {
     }
 
     /// Of bytes that were not read as a config.
-    pub(crate) fn at_config(alloc: Global, bytes: &[u8], fault: ConfigFault) -> Ended
+    pub fn at_config(alloc: Global, bytes: &[u8], fault: ConfigFault) -> Ended
         ensures { result.fault ≡ of_config fault }
     {
         let reason = match fault {

@@ -2,7 +2,7 @@
 ghost use Rattle.std.specs.Prelude.{◌≡◌, ℕ, List, OnOk};
 ghost use Rattle.std.specs.Io.KnownBytes.{Appends};
 ghost use Rattle.druid_link.specs.Links.{Came, came_of};
-ghost use Rattle.druid_serve.specs.Printed.{number_of, answer_lines, fault_lines, IsPrinted};
+ghost use Rattle.druid_server.specs.Printed.{number_of, answer_lines, fault_lines, IsPrinted};
 
 use druid_link::{Link, TcpLink};
 use druid_message::{Request, WireFault};
@@ -75,7 +75,7 @@ fn print<W: Write>(answer: &Result<Vec<u8>, WireFault>, out: &mut W) -> io::Resu
 
 /// Posts a query to the broker at an address, and prints the answer: its status and its body, or the number of its fault and
 /// an empty line. An error where it cannot be printed, or memory runs out for the address.
-pub(crate) fn ask<R: Net + Clock + Copy, W: Write>(
+pub fn ask<R: Net + Clock + Copy, W: Write>(
     rt: &R,
     alloc: Global,
     query: &str,

@@ -1,7 +1,7 @@
 use Rattle.std.proofs.Common.{Ok, sym, ap, ◌∙◌}
 use Rattle.druid_link.specs.Links.{came_of}
-use Rattle.druid_serve.proofs.PrintLemmas.{fault_printed}
-use Rattle.druid_serve.proofs.asking.print.Goals as goal
+use Rattle.druid_server.proofs.PrintLemmas.{fault_printed}
+use Rattle.druid_server.proofs.asking.print.Goals as goal
 
 pub returns-in-Err-response_of : goal.returns-in-Err-response_of
 returns-in-Err-response_of g c =

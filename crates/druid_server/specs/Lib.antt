@@ -1,0 +1,4 @@
+-- what public contracts rest on
+pub mod Faults
+pub mod Ends
+pub mod Printed

@@ -1,0 +1,16 @@
+//! What the servers of a cluster share: sockets and those who connect to them, why a start failed, and the queries of a config.
+#![tactic(auto)]
+
+mod asking;
+mod fault;
+mod gate;
+mod outside;
+mod serve_fault;
+mod stop;
+
+pub use asking::ask;
+pub use fault::{Cause, ClusterFault, DeviceFailed, StartFault};
+pub use gate::Gate;
+pub use outside::{PEER_SECONDS, answer_each, limit, listen};
+pub use serve_fault::ServeFault;
+pub use stop::{Ended, Stop};
