@@ -7,9 +7,9 @@ use crate::cluster::{
     Cluster, Handle, Server, Setup, followed, made_by_two, message_of, set, set_up, try_message,
 };
 use crate::drawn::Draws;
+use crate::follow::whole_reply;
 use crate::hostile_turns::{Turn, state, take_turn, whole_line};
 use crate::printing::assert_holds;
-use crate::turns::whole_reply;
 use druid_link::MemoryLink;
 use druid_message::WireFault;
 use druid_published::Publication;

@@ -3,9 +3,9 @@ ghost use Rattle.std.specs.Prelude.{◌≡◌};
 
 use crate::broker::query;
 use crate::cluster::{Cluster, Handle, Server, Setup, followed, link_at, posted, set, set_up};
+use crate::follow::whole_reply;
 use crate::printing::{all_replaced, assert_reported, halves};
 use crate::scatter::{PIECE, gather_text};
-use crate::turns::whole_reply;
 use druid_link::MemoryLink;
 use druid_published::Publication;
 use std::alloc::Global;

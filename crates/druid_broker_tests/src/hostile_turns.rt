@@ -3,8 +3,8 @@ ghost use Rattle.std.specs.Prelude.{◌≡◌};
 
 use crate::broker::answer_of;
 use crate::cluster::inventory;
+use crate::follow::{mark_text, outcome_of, reply};
 use crate::printing::{all_replaced, assert_reported, halves, printed, replaced};
-use crate::turns::{mark_text, outcome_of, reply};
 use druid_follow::{TurnFault, seed_turn, sync_turn};
 use druid_inventory::{Inventory, Outcome};
 use druid_link::MemoryLink;

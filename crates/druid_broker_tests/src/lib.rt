@@ -11,6 +11,8 @@ mod cluster;
 #[cfg(test)]
 mod drawn;
 #[cfg(test)]
+mod follow;
+#[cfg(test)]
 mod gate;
 #[cfg(test)]
 mod hostile_drawn;
@@ -34,7 +36,5 @@ mod reading;
 mod scatter;
 #[cfg(test)]
 mod sockets;
-#[cfg(test)]
-mod turns;
 #[cfg(test)]
 mod unread;

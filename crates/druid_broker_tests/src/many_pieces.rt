@@ -1,7 +1,7 @@
 //! Plans of many pieces, and what is gathered of them.
 use crate::cluster::{Handle, inventory};
+use crate::follow::link;
 use crate::scatter::{count, gathered, piece_text};
-use crate::turns::link;
 use druid_inventory::Inventory;
 use druid_scatter::{Answer, plan};
 use druid_segid::{Name, SegmentId, Version};

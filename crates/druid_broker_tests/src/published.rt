@@ -1,8 +1,8 @@
 //! What views read of what is published.
 ghost use Rattle.std.specs.Prelude.{◌≡◌, ◌≤◌};
 
+use crate::follow::{link, mark_text, one_node};
 use crate::printing::{assert_reported, printed};
-use crate::turns::{link, mark_text, one_node};
 use druid_follow::fetch;
 use druid_inventory::Inventory;
 use druid_published::{Opened, Publication, Publisher, View, open};

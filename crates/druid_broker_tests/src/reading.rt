@@ -1,8 +1,8 @@
 //! Views that read while two threads publish.
 ghost use Rattle.std.specs.Prelude.{◌≡◌};
 
+use crate::follow::one_node;
 use crate::printing::assert_holds;
-use crate::turns::one_node;
 use druid_inventory::Inventory;
 use druid_published::{Opened, Publication, Publisher, Receipt, View, open};
 use druid_shard::{Mark, Reply};

@@ -7,9 +7,9 @@ use crate::cluster::{
     Cluster, Failure, Handle, Server, Setup, followed, inventory, made_by_all, made_by_two, set,
     set_up,
 };
+use crate::follow::link;
 use crate::printing::{assert_reported, halves};
 use crate::published::SNAPSHOT;
-use crate::turns::link;
 use druid_follow::fetch_entry;
 use druid_inventory::Inventory;
 use druid_link::{Link, MemoryLink};

@@ -2,8 +2,8 @@
 ghost use Rattle.std.specs.Prelude.{◌≡◌};
 
 use crate::cluster::{Cluster, Handle, Setup, followed, is_linked, set_up};
+use crate::follow::one_node;
 use crate::printing::printed;
-use crate::turns::one_node;
 use druid_broker::{Routes, serve_one};
 use druid_follow::seed_turn;
 use druid_inventory::Inventory;

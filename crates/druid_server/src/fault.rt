@@ -116,7 +116,7 @@ pub struct StartFault {
 }
 
 impl StartFault {
-    // The fault of a device.
+    /// The fault of a device.
     pub fn device(cause: Cause) -> StartFault
         ensures fault { result.fault ≡ Device }
         ensures cause { result.cause ≡ Some cause }
@@ -127,7 +127,7 @@ impl StartFault {
         }
     }
 
-    // The fault of a call on a folder.
+    /// The fault of a call on a folder.
     pub fn of_store(fault: StoreFault, cause: Cause) -> StartFault
         ensures fault { result.fault ≡ of_store fault }
         ensures cause { result.cause ≡ Some cause }
@@ -138,7 +138,7 @@ impl StartFault {
         }
     }
 
-    // The fault of a segment file.
+    /// The fault of a segment file.
     pub fn of_file(alloc: Global, name: &str, fault: &NodeFault) -> StartFault
         ensures fault { result.fault ≡ of_node fault.now }
         ensures cause { IfSome result.cause (NamesFile name.now fault.now) }
@@ -149,7 +149,7 @@ impl StartFault {
         }
     }
 
-    // The fault of the tombstone at a place of its list.
+    /// The fault of the tombstone at a place of its list.
     pub fn of_tombstone(place: usize, fault: &NodeFault) -> StartFault
         ensures fault { result.fault ≡ of_node fault.now }
         ensures cause { result.cause ≡ Some (Tombstone place fault.now) }

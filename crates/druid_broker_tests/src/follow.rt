@@ -174,7 +174,7 @@ fn assert_turns<R: Wait + Abort + Drop + Copy>(rt: &R, alloc: Global) {
 }
 
 #[test]
-fn turns(rt: HostRuntime) {
+fn ample_memory(rt: HostRuntime) {
     assert_turns(&rt, rt.alloc());
 }
 
