@@ -1,4 +1,4 @@
-use Rattle.druid_broker_tests.proofs.turns.seeds_of.Given as goal
+use Rattle.druid_broker_tests.proofs.follow.seeds_of.Given as goal
 
 abbrev pub ghosts-is_seeded-J-Publication : goal.ghosts-is_seeded-J-Publication
 ghosts-is_seeded-J-Publication g a = record { opening = a.setup.inventory; book = a.setup.list }
