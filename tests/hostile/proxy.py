@@ -34,8 +34,8 @@ HERE = os.path.dirname(os.path.abspath(__file__))
 sys.path[:0] = [os.path.join(os.path.dirname(HERE), 'differential')]
 import drawn  # noqa: E402
 import rules  # noqa: E402
+from served import free_ports, need, need_program, parser_of  # noqa: E402
 
-BY = 1_000  # The proxy's port of each node is so much above the node's.
 CLIENTS = 4
 OTHER_ANSWERS = [b'HTTP/1.1 200 OK\r\nContent-Length: 4\r\n\r\ntrue', b'HTTP/1.1 500 Internal Server Error\r\nContent-Length: 18\r\n\r\n{"error":"Memory"}',
                  b'HTTP/1.1 200 OK\r\nContent-Length: 27\r\n\r\n{"missing":[],"rows":[[0]]}', b'HTTP/1.1 200 OK\r\nContent-Length: 2\r\n\r\n[]', b'', b'\r\n\r\n']
@@ -61,9 +61,9 @@ def whole_request(stream):
 class Proxy:
     """Stands in front of one node."""
 
-    def __init__(self, port, seed, did):
+    def __init__(self, port, door, seed, did):
         self.port, self.draw, self.did, self.passed = port, random.Random(seed), did, threading.Event()
-        self.kind, self.listener = 'spoil', socket.create_server(('127.0.0.1', port + BY), backlog=128)
+        self.listener = socket.create_server(('127.0.0.1', door), backlog=128)
         threading.Thread(target=self.accept, daemon=True).start()
 
     def accept(self):
@@ -160,7 +160,7 @@ def ask_all(cluster, judge, queries, count, wrong):
     for body in iter(lambda: queries.pop() if queries else None, None):
         if wrong:
             return
-        status, answer = drawn.exchange(cluster.port, 'POST', '/druid/v2', body)
+        status, answer = cluster.ask(cluster.port, 'POST', '/druid/v2', body)
         fault = judge.fault_of(rules.read_query(body), status, answer)
         if fault:
             wrong.append(f'{body.decode()}\nis answered {status} {answer}\n{fault}')
@@ -170,7 +170,7 @@ def ask_all(cluster, judge, queries, count, wrong):
 def follows(cluster):
     """Waits until the broker has heard of every node."""
     for _ in range(600):
-        if drawn.exchange(cluster.port, 'GET', '/druid/broker/v1/loadstatus', b'')[1] == '{"inventoryInitialized":true}':
+        if cluster.ask(cluster.port, 'GET', '/druid/broker/v1/loadstatus', b'')[1] == '{"inventoryInitialized":true}':
             return
         time.sleep(.1)
     raise SystemExit('the broker does not hear of its nodes')
@@ -178,11 +178,13 @@ def follows(cluster):
 
 def run(number, many, beside, library):
     folder, did, proxies = tempfile.mkdtemp(prefix='druid_cluster_hostile_'), collections.Counter(), []
-    port = 21_000 + number * 10
+    ports = free_ports(7)
+    nodes, doors = ports[1:4], ports[4:]
     try:
-        proxies = [Proxy(port + 1 + node, f'{number} {node}', did) for node in range(3)]
+        proxies = [Proxy(port, door, f'{number} {node}', did) for node, (port, door) in enumerate(zip(nodes, doors))]
+        redirect = {'LD_PRELOAD': library, 'REDIRECT': ''.join(f'{port}:{door} ' for port, door in zip(nodes, doors))}
         # Many turns: some of them fail, and the last that comes through makes the broker know all that the node serves.
-        cluster = drawn.Cluster(random.Random(number), number, folder, {'LD_PRELOAD': library, 'REDIRECT_BY': str(BY)}, turns=60, beside=beside)
+        cluster = drawn.Cluster(random.Random(number), folder, redirect, turns=60, beside=beside, ports=ports[:4])
         try:
             follows(cluster)
             judge, count, wrong = Rules(cluster), collections.Counter(), []
@@ -200,8 +202,7 @@ def run(number, many, beside, library):
             print(f'cluster {number}: {asked} queries,', ', '.join(f'{count[it]} answered {it}' for it in sorted(count)) + ';',
                   'exchanges', ', '.join(f'{did[it]} {it}' for it in sorted(did)))
         finally:
-            cluster.program.kill()
-            cluster.program.wait()
+            cluster.ends()
     finally:
         for it in proxies:
             it.ends()
@@ -217,12 +218,19 @@ def is_lawful(body):
         return False
 
 
-def main(words):
-    many, clusters, beside = ([int(word) for word in words] + [10_000, 2, 0][len(words):])[:3]
+def main():
+    parser = parser_of(__doc__)
+    parser.add_argument('queries', nargs='?', type=int, default=10_000)
+    parser.add_argument('clusters', nargs='?', type=int, default=2)
+    parser.add_argument('beside', nargs='?', type=int, default=0)
+    asked = parser.parse_args()
+    need_program()
+    need('cc')
     with tempfile.TemporaryDirectory() as room:
         library = f'{room}/redirect.so'
         subprocess.run(['cc', '-shared', '-fPIC', '-O1', '-o', library, f'{HERE}/redirect.c', '-ldl'], check=True)
-        return max(run(number, many, beside, library) for number in range(clusters))
+        return max((run(number, asked.queries, asked.beside, library) for number in range(asked.clusters)), default=0)
 
 
-sys.exit(main(sys.argv[1:]))
+if __name__ == '__main__':
+    sys.exit(main())
