@@ -15,7 +15,7 @@ that was asked is a premise of what is promised.
 Each 200 has to be the exact answer of tests/differential/rules.py, over all that is visible. Each 503 has to list pieces of
 visible segments as missing, none twice, and its partial rows have to be the exact answer over what these pieces do not cover. The
 broker follows its nodes through the same proxy. It needs a C compiler (`cc`). The draws are the same each time, the order of
-threads is not. It ends with 1 where an answer is wrong, and shows it.
+threads is not. It ends with 1 where an answer is wrong, and shows it, where one does not come, and where the program ended.
 """
 import collections
 import contextlib
@@ -156,15 +156,32 @@ class Rules:
         return None if rules.text(value['partial']) == wanted else f'the rules answer {wanted} over what is not missing'
 
 
+def ask_one(cluster, judge, body, count, wrong):
+    status, answer = cluster.ask(cluster.port, 'POST', '/druid/v2', body)
+    fault = judge.fault_of(rules.read_query(body), status, answer)
+    if fault:
+        wrong.append(f'{body.decode()}\nis answered {status} {answer}\n{fault}')
+    count.append(status)
+
+
 def ask_all(cluster, judge, queries, count, wrong):
-    for body in iter(lambda: queries.pop() if queries else None, None):
-        if wrong:
-            return
-        status, answer = cluster.ask(cluster.port, 'POST', '/druid/v2', body)
-        fault = judge.fault_of(rules.read_query(body), status, answer)
-        if fault:
-            wrong.append(f'{body.decode()}\nis answered {status} {answer}\n{fault}')
-        count[status] += 1
+    """Asks what the threads have left of the queries, until one is wrong. An exception would end this thread alone: it is wrong too."""
+    try:
+        for body in queries:
+            if wrong:
+                return
+            ask_one(cluster, judge, body, count, wrong)
+    except BaseException as fault:
+        wrong.append(f'a thread of queries ended: {fault!r}')
+
+
+def fault_of_run(cluster, asked, count, wrong):
+    """What is wrong once all threads have ended; None where each query was answered and the program runs."""
+    if cluster.program.poll() is not None:
+        return f'the program ended with {cluster.program.returncode}'
+    if wrong:
+        return wrong[0]
+    return None if len(count) == asked else f'{asked} queries were to be asked, and {len(count)} are answered'
 
 
 def follows(cluster):
@@ -187,20 +204,21 @@ def run(number, many, beside, library):
         cluster = drawn.Cluster(random.Random(number), folder, redirect, turns=60, beside=beside, ports=ports[:4])
         try:
             follows(cluster)
-            judge, count, wrong = Rules(cluster), collections.Counter(), []
+            judge, count, wrong = Rules(cluster), [], []
             queries = [json.dumps(cluster.a_query()).encode() for _ in range(many)]
             queries = [it for it in queries if is_lawful(it)]
-            asked = len(queries)
-            threads = [threading.Thread(target=ask_all, args=(cluster, judge, queries, count, wrong)) for _ in range(CLIENTS)]
+            left = iter(queries)
+            threads = [threading.Thread(target=ask_all, args=(cluster, judge, left, count, wrong)) for _ in range(CLIENTS)]
             for it in threads:
                 it.start()
             for it in threads:
                 it.join()
-            if wrong:
-                print(wrong[0])
-                return 1
-            print(f'cluster {number}: {asked} queries,', ', '.join(f'{count[it]} answered {it}' for it in sorted(count)) + ';',
+            fault = fault_of_run(cluster, len(queries), count, wrong)
+            print(f'cluster {number}: {len(count)} queries answered,', ', '.join(f'{count.count(it)} {it}' for it in sorted(set(count))) + ';',
                   'exchanges', ', '.join(f'{did[it]} {it}' for it in sorted(did)))
+            if fault:
+                print(fault)
+                return 1
         finally:
             cluster.ends()
     finally:
