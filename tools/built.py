@@ -29,3 +29,9 @@ def need(*commands):
     if missing:
         sys.exit('\n'.join(f'{it} is not there: ' + ("the toolchain's (README, 'Get it running')" if it == 'rt' else
                                                      f'apt-get install {PACKAGES.get(it, it)}') for it in missing))
+
+
+def has_checks(path=PROGRAM):
+    """Whether a program was compiled with checks of memory, as `./druid_cluster preview` is: they hold memory back, and end it where some is refused."""
+    with open(path, 'rb') as file:
+        return b'__asan_init' in file.read()

@@ -12,8 +12,8 @@ else (a health, a sync reply), or one of another status. So answers arrive in an
 fail. What it never does is to change bytes into another whole answer to the same query: that a whole answer comes from the node
 that was asked is a premise of what is promised.
 
-Each 200 has to be the exact answer of tests/differential/rules.py, over all that is visible. Each 503 has to list pieces of
-visible segments as missing, none twice, and its partial rows have to be the exact answer over what these pieces do not cover. The
+Each 200 has to be the exact answer of tests/differential/rules.py, over all that is visible. Each 503 has to list slices of
+visible segments as missing, in order and none twice, and its partial rows have to be the exact answer over the rest. The
 broker follows its nodes through the same proxy. It needs a C compiler (`cc`). The draws are the same each time, the order of
 threads is not. It ends with 1 where an answer is wrong, and shows it, where one does not come, and where the program ended.
 """
@@ -109,68 +109,21 @@ class Proxy:
         self.listener.close()
 
 
-def covered(rows, missing, members):
-    """The rows less those that the missing pieces cover."""
-    pieces = collections.defaultdict(list)
-    for it in missing:
-        start, end = rules.interval(it['itvl'])
-        pieces[rules.interval(it['chunk']), it['ver'], it['part']].append((start, end))
-    return [row for row, key in rows if not any(start <= row[0] < end for start, end in pieces.get(key, ()))]
-
-
-class Rules:
-    """What is visible over the segments that nodes hold."""
-
-    def __init__(self, cluster):
-        self.served = list({rules.identifier(it): it for held in cluster.held for it in held}.values())
-
-    def rows_of(self, query):
-        chunks = collections.defaultdict(list)
-        for it in self.served:
-            if it['source'] == query['source']:
-                chunks[it['version'], it['start'], it['end']].append(it)
-        complete = {key: members for key, members in chunks.items()
-                    if set(range(max(it['core'] for it in members))) <= {it['part'] for it in members}}
-
-        def visible(at):
-            return max((key for key in complete if key[1] <= at < key[2]), default=None)
-        return [(row, ((it['start'], it['end']), it['version'], it['part'])) for key, members in complete.items() for it in members
-                for row in it['rows'] if visible(row[0]) == key and any(start <= row[0] < end for start, end in query['intervals'])]
-
-    def fault_of(self, query, status, body):
-        """What is wrong with an answer; None where nothing is."""
-        if status == 200:
-            wanted = rules.answer(query, self.served)
-            return None if body == wanted else f'the rules answer {wanted}'
-        if status != 503:
-            return 'a query that reads is answered 200 or 503'
-        value = json.loads(body)
-        named = [(it['chunk'], it['itvl'], it['part'], it['ver']) for it in value['missing']]
-        if not named or len(set(named)) < len(named):
-            return 'nothing is missing, or twice'
-        rows = self.rows_of(query)
-        held = {((it['start'], it['end']), it['version'], it['part']) for it in self.served if it['source'] == query['source']}
-        if any((rules.interval(chunk), version, part) not in held for chunk, _, part, version in named):
-            return 'a piece is missing that nobody serves'
-        wanted = rules.result(query, rules.passing(query, covered(rows, value['missing'], self.served)))
-        return None if rules.text(value['partial']) == wanted else f'the rules answer {wanted} over what is not missing'
-
-
-def ask_one(cluster, judge, body, count, wrong):
+def ask_one(cluster, segments, body, count, wrong):
     status, answer = cluster.ask(cluster.port, 'POST', '/druid/v2', body)
-    fault = judge.fault_of(rules.read_query(body), status, answer)
+    fault = rules.fault_of(rules.read_query(body), segments, status, answer)
     if fault:
         wrong.append(f'{body.decode()}\nis answered {status} {answer}\n{fault}')
     count.append(status)
 
 
-def ask_all(cluster, judge, queries, count, wrong):
+def ask_all(cluster, segments, queries, count, wrong):
     """Asks what the threads have left of the queries, until one is wrong. An exception would end this thread alone: it is wrong too."""
     try:
         for body in queries:
             if wrong:
                 return
-            ask_one(cluster, judge, body, count, wrong)
+            ask_one(cluster, segments, body, count, wrong)
     except BaseException as fault:
         wrong.append(f'a thread of queries ended: {fault!r}')
 
@@ -204,11 +157,11 @@ def run(number, many, beside, library):
         cluster = drawn.Cluster(random.Random(number), folder, redirect, turns=60, beside=beside, ports=ports[:4])
         try:
             follows(cluster)
-            judge, count, wrong = Rules(cluster), [], []
+            segments, count, wrong = list({rules.identifier(it): it for held in cluster.held for it in held}.values()), [], []
             queries = [json.dumps(cluster.a_query()).encode() for _ in range(many)]
             queries = [it for it in queries if is_lawful(it)]
             left = iter(queries)
-            threads = [threading.Thread(target=ask_all, args=(cluster, judge, left, count, wrong)) for _ in range(CLIENTS)]
+            threads = [threading.Thread(target=ask_all, args=(cluster, segments, left, count, wrong)) for _ in range(CLIENTS)]
             for it in threads:
                 it.start()
             for it in threads:
