@@ -6,8 +6,8 @@
 By the proved program of `bench/pages`, built over copies of the crates (the first time proves them, which takes minutes), at 50,000
 and at 200,000 segments: the loads of a history, all pages of it answered, written, read, assembled and applied, deltas, and lookups
 of four chunks; and how each grows, with the peak of memory beside the bytes of the pages. With `--serve` nothing is proved, but the
-built program of `druid_cluster` measured: how long `serve` takes from its start to the first answer of a broker, over a node of 50,000 small segment files in
-one folder, and how long it takes to read these files alone.
+built program of `druid_cluster` measured: how long `serve` takes from its start to the first answer of a broker, over a node of
+50,000 small segment files in one folder, and how long it takes to read these files alone.
 """
 import json, os, subprocess, sys, tempfile, time
 

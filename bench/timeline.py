@@ -3,7 +3,8 @@
 
 timeline.py [--inventory]
 
-By `druid_cluster replay` of the built program, which the first line names (DRUID_CLUSTER has the path of another), in processor time of the whole program, the least of three runs: a snapshot of one-hour chunks
+By `druid_cluster replay` of the built program, which the first line names (DRUID_CLUSTER has the path of another), in processor
+time of the whole program, the least of three runs: a snapshot of one-hour chunks
 alone (which is mostly the reading of its JSON); the same and then 2,000 deltas of 5 changes each, with a lookup of a changed
 day after each; days, weeks and months in three versions over each other, with 20 lookups, beside as many chunks of one
 version. With `--inventory` by the proved program of `bench/inventory` too, which is built over copies of the crates (the first

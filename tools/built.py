@@ -32,6 +32,6 @@ def need(*commands):
 
 
 def has_checks(path=PROGRAM):
-    """Whether a program was compiled with checks of memory, as `./druid_cluster preview` is: they hold memory back, and end it where some is refused."""
+    """Whether a program has checks of memory, as `./druid_cluster preview`: they hold memory back, and end it where some is refused."""
     with open(path, 'rb') as file:
         return b'__asan_init' in file.read()
