@@ -6,7 +6,7 @@ each part, and how long plans over 5,000, 10,000 and 20,000 visible pieces take.
 It is built in the folder for temporary files, over copies of the crates; the first time that proves them, which takes some
 minutes.
 """
-from lib import build, run
+from lib import build, parser_of, run
 
 
 def times_of(lines):
@@ -15,6 +15,7 @@ def times_of(lines):
 
 
 def main():
+    parser_of(__doc__).parse_args()
     program, _ = build('broker', ['druid_broker', 'druid_follow', 'druid_node', 'anyhow'], words=['plan'], proofs={
         'AnswerLemmas.antt': 'AnswerLemmas.antt.in', 'LinkLemmas.antt': 'LinkLemmas.antt.in',
         'all/Invariants.antt': 'Invariants.antt.in', 'node/Invariants.antt': 'Node.antt.in',
@@ -35,4 +36,5 @@ def main():
     print(f'{peak:.0f} MiB of memory')
 
 
-main()
+if __name__ == '__main__':
+    main()

@@ -11,7 +11,7 @@ import os, shutil, sys, tempfile
 TOP = os.path.dirname(os.path.dirname(os.path.abspath(__file__)))
 sys.path.insert(0, os.path.join(TOP, 'tests', 'console'))
 from browser import Browser  # noqa: E402
-from served import CHROMIUM, console_of, write_config, write_segments  # noqa: E402
+from served import CHROMIUM, console_of, need, need_program, parser_of, write_config, write_segments  # noqa: E402
 from make_segments import Segment  # noqa: E402
 
 HOUR = 3_600_000
@@ -67,7 +67,11 @@ def stands(page, url):
 
 
 def main():
-    count = int(sys.argv[1]) if len(sys.argv) > 1 else 20_000
+    parser = parser_of(__doc__)
+    parser.add_argument('chunks', nargs='?', type=int, default=20_000)
+    count = parser.parse_args().chunks
+    need_program()
+    need(CHROMIUM)
     folder = tempfile.mkdtemp()
     try:
         write_segments(os.path.join(folder, 'n0'), chunks(count))

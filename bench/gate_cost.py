@@ -8,7 +8,9 @@ programs by their name. Processor minutes hold on a busy machine better than min
 the clock since the start. What an edit took stands apart, in processor seconds: `begins` is the proof that the edits of a crate
 begin with and the last look at it, which a crate with two edits or more pays once. It reads /proc once a second.
 """
-import collections, glob, os, re, subprocess, sys, time
+import argparse, collections, glob, os, re, shutil, subprocess, sys, time
+
+from lib import parser_of
 
 HZ = os.sysconf('SC_CLK_TCK')
 Work = collections.namedtuple('Work', 'crate phase edit')
@@ -99,13 +101,16 @@ def tell(total, spans, minutes):
             print(f'{work.crate:<24}{work.edit:<44}{ticks / HZ:12.0f}')
 
 
-def main(words):
-    if not words or words[0] in ('-h', '--help'):
-        print(__doc__)
-        return 2
+def main():
+    parser = parser_of(__doc__)
+    parser.add_argument('command', nargs=argparse.REMAINDER, help='with its words')
+    words = parser.parse_args().command or parser.error('no command')
+    if not shutil.which(words[0]):
+        sys.exit(f'{words[0]} is not there')
     child = subprocess.Popen(words)
     tell(*watch(child))
     return child.returncode
 
 
-sys.exit(main(sys.argv[1:]))
+if __name__ == '__main__':
+    sys.exit(main())

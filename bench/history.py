@@ -4,14 +4,16 @@
 It is built in the folder for temporary files, over copies of the crates; the first time that proves them, which takes some
 minutes.
 """
-from lib import build, run
+from lib import build, parser_of, run
 
 
 def main():
+    parser_of(__doc__).parse_args()
     program, _ = build('history', ['druid_changes', 'anyhow'])
     lines, peak = run(program)
     print('\n'.join(lines))
     print(f'{peak:.1f} MiB')
 
 
-main()
+if __name__ == '__main__':
+    main()

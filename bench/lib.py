@@ -1,7 +1,16 @@
 """What the programs of this folder share: they build a proved program of their own over copies of the crates, and run it."""
-import os, re, shutil, subprocess, tempfile
+import hashlib, os, re, shutil, subprocess, sys, tempfile
 
 TOP = os.path.dirname(os.path.dirname(os.path.abspath(__file__)))
+sys.path.insert(0, os.path.join(TOP, 'tools'))
+from built import PROGRAM, need, need_program, parser_of  # noqa: E402,F401
+
+
+def room(name):
+    """A folder for temporary files that is kept, of this checkout alone: two of them do not write into one another's."""
+    path = os.path.join(tempfile.gettempdir(), f'druid_cluster_{hashlib.sha256(TOP.encode()).hexdigest()[:12]}', name)
+    os.makedirs(path, exist_ok=True)
+    return path
 
 
 def crates():
@@ -26,22 +35,28 @@ def below(names):
     return found
 
 
-def build(name, uses, proofs={}, words=(), place=None):
-    """Builds bench/NAME/main.rt.in over the crates that it uses, runs it on the words, and gives the program's path and its folder.
+def empty(folder):
+    """Removes what a folder holds, but for `out`, where the toolchain keeps what was proved."""
+    os.makedirs(folder, exist_ok=True)
+    for it in os.scandir(folder):
+        if it.name != 'out':
+            shutil.rmtree(it.path) if it.is_dir(follow_symlinks=False) else os.remove(it.path)
 
-    The first time proves the crates, which takes minutes. `uses` are the libraries that the program names; `proofs` are the files of
-    bench/NAME that go into the crate's proofs, by their place there.
-    """
-    place = place or os.path.join(tempfile.gettempdir(), f'druid_cluster_bench_{name}')
-    crate, every = os.path.join(place, 'crates', name), crates()
-    ours = below(uses)
-    os.makedirs(os.path.join(crate, 'src'), exist_ok=True)
-    with open(os.path.join(place, 'crates.txt'), 'w') as file:
-        file.writelines(f"{it}: {' '.join(every[it])}\n" for it in ours)
-        file.write(f"{name}: {' '.join([*reversed(ours), *(it for it in uses if it not in every)])}\n")
-    for it in ours:
+
+def copy_crates(names, program, place):
+    """These crates as they are now, beside the program's: no file that a crate has lost stays, and no crate that is used no more."""
+    empty(os.path.join(place, 'crates', program))
+    for it in set(os.listdir(os.path.join(place, 'crates'))) - {*names, program}:
+        shutil.rmtree(os.path.join(place, 'crates', it))
+    for it in names:
+        empty(os.path.join(place, 'crates', it))
         shutil.copytree(os.path.join(TOP, 'crates', it), os.path.join(place, 'crates', it), dirs_exist_ok=True,
                         ignore=shutil.ignore_patterns('out', 'must-fail'))
+
+
+def write_program(name, proofs, crate):
+    """The program's own crate: bench/NAME/main.rt.in, and the files of bench/NAME that go into its proofs, by their place there."""
+    os.makedirs(os.path.join(crate, 'src'))
     shutil.copy(os.path.join(TOP, 'bench', name, 'main.rt.in'), os.path.join(crate, 'src', 'main.rt'))
     for to, source in proofs.items():
         os.makedirs(os.path.dirname(os.path.join(crate, 'proofs', to)), exist_ok=True)
@@ -50,7 +65,25 @@ def build(name, uses, proofs={}, words=(), place=None):
     if lemmas:
         with open(os.path.join(crate, 'proofs', 'Lib.antt'), 'w') as file:
             file.writelines(f'pub mod {it}\n' for it in lemmas)
-    subprocess.run(['rt', 'run', '--', *words], cwd=crate, check=True, stdout=subprocess.DEVNULL)
+
+
+def build(name, uses, proofs=None, words=(), place=None):
+    """Builds bench/NAME/main.rt.in over the crates that it uses, runs it on the words, and gives the program's path and its folder.
+
+    The first time proves the crates, which takes minutes. `uses` are the libraries that the program names; `proofs` are the files of
+    bench/NAME that go into the crate's proofs, by their place there; `place` is another folder than this checkout's own.
+    """
+    need('rt')
+    place = place or room(name)
+    crate, every, ours = os.path.join(place, 'crates', name), crates(), below(uses)
+    copy_crates(ours, name, place)
+    with open(os.path.join(place, 'crates.txt'), 'w') as file:
+        file.writelines(f"{it}: {' '.join(every[it])}\n" for it in ours)
+        file.write(f"{name}: {' '.join([*reversed(ours), *(it for it in uses if it not in every)])}\n")
+    write_program(name, proofs or {}, crate)
+    built = subprocess.run(['rt', 'run', '--', *words], cwd=crate, stdout=subprocess.DEVNULL, check=False)
+    if built.returncode:
+        sys.exit(f'{crate}: `rt run` ended with {built.returncode}')
     return os.path.join(crate, 'out', name), place
 
 
@@ -59,5 +92,6 @@ def run(program, *words):
     child = subprocess.Popen([program, *words], stdout=subprocess.PIPE, text=True)
     lines = child.stdout.read().splitlines()
     _, status, used = os.wait4(child.pid, 0)
-    assert os.waitstatus_to_exitcode(status) == 0, status
+    if status:
+        sys.exit(f'{" ".join([program, *words])}: ended with {os.waitstatus_to_exitcode(status)}')
     return lines, used.ru_maxrss / 1024

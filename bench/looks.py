@@ -6,9 +6,9 @@ crates of timelines: valgrind counts how often it is executed, in two runs that 
 that start near the edited one are compared with it: the script counts them by the rule of the search. Needs Debian's
 packages valgrind and binutils.
 """
-import re, shutil, subprocess, sys, tempfile
+import re, subprocess, tempfile
 
-from lib import build
+from lib import build, need, parser_of
 
 SIZES = (5_000, 10_000, 20_000)
 EDITS = (100, 300)
@@ -63,9 +63,8 @@ def near(hour, chunks):
 
 
 def main():
-    missing = [it for it in ('valgrind', 'objdump') if not shutil.which(it)]
-    if missing:
-        sys.exit(f'not installed: {", ".join(missing)}')
+    parser_of(__doc__).parse_args()
+    need('valgrind', 'objdump')
     program, _ = build('looks', ['druid_timeline', 'anyhow'], words=['100', '2'])
     places = class_places(program)
     few, many = EDITS

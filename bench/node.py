@@ -5,13 +5,14 @@ from a folder, its memory, and how many requests a second it answers over reader
 It is built in the folder for temporary files, over copies of the crates; the first time that proves them, which takes some
 minutes.
 """
-import os, tempfile
-from lib import build, run
+import os
+from lib import build, empty, parser_of, room, run
 
 
 def main():
-    folder = os.path.join(tempfile.gettempdir(), 'druid_cluster_bench_node_files')
-    os.makedirs(folder, exist_ok=True)
+    parser_of(__doc__).parse_args()
+    folder = room('node_files')
+    empty(folder)
     program, _ = build('node', ['druid_node', 'druid_store', 'anyhow'], words=['write', folder])
     size = sum(os.path.getsize(os.path.join(folder, name)) for name in os.listdir(folder)) / 2**20
     lines, peak = run(program, 'serve', folder)
@@ -28,4 +29,5 @@ def main():
     print(f'{size:.0f} MiB of files, {peak:.0f} MiB of memory')
 
 
-main()
+if __name__ == '__main__':
+    main()

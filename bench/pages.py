@@ -1,20 +1,18 @@
 #!/usr/bin/env python3
 """Measures nodes of up to 200,000 segments, which brokers follow in pages.
 
-    python3 bench/pages.py [--program PATH]
+    python3 bench/pages.py [--serve [--program PATH]]
 
 By the proved program of `bench/pages`, built over copies of the crates (the first time proves them, which takes minutes), at 50,000
 and at 200,000 segments: the loads of a history, all pages of it answered, written, read, assembled and applied, deltas, and lookups
-of four chunks; and how each grows, with the peak of memory beside the bytes of the pages. With `--program`, the built program of
-`druid_cluster`: how long `serve` takes from its start to the first answer of a broker, over a node of 50,000 small segment files in
-one folder, and how long it takes to read these files alone.
+of four chunks; and how each grows, with the peak of memory beside the bytes of the pages. With `--serve` nothing is proved, but the
+built program of `druid_cluster` measured: how long `serve` takes from its start to the first answer of a broker, over a node of
+50,000 small segment files in one folder, and how long it takes to read these files alone.
 """
-import argparse, json, os, sys, tempfile, time
+import json, os, subprocess, sys, tempfile, time
 
-from lib import TOP, build, run
+from lib import PROGRAM, build, need_program, parser_of, run
 from serve import ask, free_ports, running
-
-sys.path.insert(0, os.path.join(TOP, 'tools'))
 from make_segments import DAY, Segment, file_of
 
 SIZES = (50_000, 200_000)
@@ -77,7 +75,7 @@ def show_serve(program):
         with open(path, 'w') as file:
             json.dump(config, file)
         start = time.monotonic()
-        with running([program, 'serve', path], stdout=open(os.devnull, 'w')) as child:
+        with running([program, 'serve', path], stdout=subprocess.DEVNULL) as child:
             status, body = 0, b''
             while status != 200 or json.loads(body) == [] or json.loads(body)[0]['result']['n'] != FILES:
                 if child.poll() is not None or time.monotonic() - start > WITHIN:
@@ -89,13 +87,16 @@ def show_serve(program):
 
 
 def main():
-    parser = argparse.ArgumentParser(description=__doc__.splitlines()[0])
-    parser.add_argument('--program')
-    options = parser.parse_args()
-    if options.program:
-        show_serve(options.program)
+    parser = parser_of(__doc__)
+    parser.add_argument('--serve', action='store_true', help='measure the built program of druid_cluster')
+    parser.add_argument('--program', default=PROGRAM, help='its path, where it is another than that of this repository')
+    asked = parser.parse_args()
+    if asked.serve:
+        need_program(asked.program)
+        show_serve(asked.program)
     else:
         show_pages()
 
 
-main()
+if __name__ == '__main__':
+    main()

@@ -6,10 +6,10 @@ MiB: how long each is read until it is taken or refused.
 It is built in the folder for temporary files, over copies of the crates; the first time that proves them, which takes some
 minutes.
 """
-import json, os, sqlite3, tempfile, time
-from lib import build, run
+import json, os, sqlite3, sys, time
+from lib import build, parser_of, room, run
 
-PLACE = os.path.join(tempfile.gettempdir(), 'druid_cluster_bench_partials_files')
+FILES = 'partials_files'  # The folder that has them.
 ROWS = 100_000
 RUNS = 5
 
@@ -117,7 +117,7 @@ HOSTILE = [
 
 def hostile(program):
     print(f'{"hostile text":42}{"4":>10} {"8":>10} {"16 MiB":>10}')
-    texts = {kind: os.path.join(PLACE, f'{kind}.json') for kind in ('subquery', 'answer')}
+    texts = {kind: os.path.join(room(FILES), f'{kind}.json') for kind in ('subquery', 'answer')}
     for name, kind, made in HOSTILE:
         with open(texts['subquery'], 'w') as f:
             json.dump(SUBQUERY, f)
@@ -132,8 +132,8 @@ def hostile(program):
 
 
 def main():
-    path, answer = os.path.join(PLACE, 'query.json'), os.path.join(PLACE, 'result.json')
-    os.makedirs(PLACE, exist_ok=True)
+    parser_of(__doc__).parse_args()
+    path, answer = os.path.join(room(FILES), 'query.json'), os.path.join(room(FILES), 'result.json')
     with open(path, 'w') as f:
         json.dump(QUERIES[0][1], f)
     program, _ = build('partials', ['druid_partial_text', 'druid_scan', 'druid_query_text', 'serde_json', 'anyhow'], words=[path, answer])
@@ -147,7 +147,8 @@ def main():
         spent = min(reported['groups'][1] for reported, _ in runs)
         rows, best = asked_of_sqlite(db, text)
         with open(answer) as f:
-            assert same(asked, json.load(f), rows), name
+            if not same(asked, json.load(f), rows):
+                sys.exit(f'{name}: the answers differ: {answer}')
         print(f'{name:42}{ROWS / spent * 1e6:14,.0f} {ROWS / best:14,.0f}  {groups} groups, {runs[0][1]:.0f} MiB', flush=True)
     with open(path, 'w') as f:
         json.dump(QUERIES[3][1], f)
@@ -158,4 +159,5 @@ def main():
     hostile(program)
 
 
-main()
+if __name__ == '__main__':
+    main()

@@ -8,11 +8,11 @@ one, how many times as much ours takes, the same of the peak memory; and after t
 DRUID_CLUSTER names another program than the one that ./druid_cluster built.
 """
 import filecmp, json, math, os, random, subprocess, sys, tempfile
+
+from lib import PROGRAM, TOP, need, need_program, parser_of, room
 from run import change, deltas, hour, many_brokers, opening, reply
 
-TOP = os.path.dirname(os.path.dirname(os.path.abspath(__file__)))
-PROGRAM = os.environ.get('DRUID_CLUSTER') or os.path.join(TOP, 'crates', 'druid_cluster_program', 'out', 'druid_cluster_program')
-TARGET = os.path.join(tempfile.gettempdir(), 'druid_cluster_plain')
+REGISTRY = '/usr/share/cargo/registry'
 HOURS = 8_784  # of the year 2000
 
 
@@ -82,25 +82,28 @@ WORKLOADS = {
 
 
 def build():
-    folder = os.path.join(TOP, 'bench', 'plain')
-    debian = ['source.crates-io.replace-with="debian"', 'source.debian.directory="/usr/share/cargo/registry"']
+    """Builds the plain program and the one that measures, and gives their folder."""
+    folder, target = os.path.join(TOP, 'bench', 'plain'), room('plain')
+    debian = ['source.crates-io.replace-with="debian"', f'source.debian.directory="{REGISTRY}"']
     words = [it for config in debian for it in ('--config', config)]
-    subprocess.run(['cargo', 'build', '--quiet', '--release', '--offline', *words, '--target-dir', TARGET], cwd=folder, check=True)
+    if subprocess.run(['cargo', 'build', '--quiet', '--release', '--offline', *words, '--target-dir', target], cwd=folder, check=False).returncode:
+        sys.exit(f'{folder} is not built, as the lines above say: apt-get install librust-serde-json-dev')
+    return os.path.join(target, 'release')
 
 
-def measured(words, given, output):
+def measured(built, words, given, output):
     """Processor seconds and peak MiB of a program."""
     with open(given, 'rb') as source, open(output, 'wb') as to:
-        done = subprocess.run([f'{TARGET}/release/measure', *words], stdin=source, stdout=to, stderr=subprocess.PIPE, text=True, check=True)
+        done = subprocess.run([f'{built}/measure', *words], stdin=source, stdout=to, stderr=subprocess.PIPE, text=True, check=True)
     return map(float, done.stderr.split()[-2:])
 
 
-def compare(name, lines, size, folder):
+def compare(built, name, lines, size, folder):
     given, ours, plain = (os.path.join(folder, it) for it in ('given', 'ours', 'plain'))
     with open(given, 'w') as file:
         file.writelines(json.dumps(it) + '\n' for it in lines(size))
-    seconds, peak = measured([PROGRAM, 'replay'], given, ours)
-    plain_seconds, plain_peak = measured([f'{TARGET}/release/plain'], given, plain)
+    seconds, peak = measured(built, [PROGRAM, 'replay'], given, ours)
+    plain_seconds, plain_peak = measured(built, [f'{built}/plain'], given, plain)
     print(f'{name:44} {size:6} {seconds:8.2f} s {plain_seconds:6.2f} s {seconds / plain_seconds:7.1f} times'
           f' {peak:7.1f} MiB {plain_peak:6.1f} MiB {peak / plain_peak:5.1f} times', flush=True)
     if not filecmp.cmp(ours, plain, shallow=False):
@@ -108,14 +111,19 @@ def compare(name, lines, size, folder):
     return seconds
 
 
-def main(sizes):
-    build()
+def main():
+    parser = parser_of(__doc__)
+    parser.add_argument('sizes', nargs='*', type=int, default=[5_000, 10_000, 20_000])
+    sizes = parser.parse_args().sizes
+    need_program()
+    need('cargo')
+    built = build()
     with tempfile.TemporaryDirectory() as folder:
         for name, lines in WORKLOADS.items():
-            took = [compare(name, lines, size, folder) for size in sizes]
+            took = [compare(built, name, lines, size, folder) for size in sizes]
             if len(sizes) > 1:
                 print(f'{"":44} grows with exponent {math.log(took[-1] / took[0]) / math.log(sizes[-1] / sizes[0]):.2f}')
 
 
 if __name__ == '__main__':
-    main([int(it) for it in sys.argv[1:]] or [5_000, 10_000, 20_000])
+    main()

@@ -10,14 +10,18 @@ costs shows at the callee that is checked after it. Seconds by the clock, so onl
 """
 import collections, os, re, sys
 
+from lib import TOP, parser_of
 
-def main(words):
-    if not words or words[0] in ('-h', '--help'):
-        print(__doc__)
-        return 2
-    crate, most = words[0], int(words[1]) if len(words) > 1 else 20
-    top = os.path.join(os.path.dirname(os.path.abspath(__file__)), '..', 'crates', crate, 'out', 'incremental')
-    files = []
+
+def main():
+    parser = parser_of(__doc__)
+    parser.add_argument('crate')
+    parser.add_argument('most', nargs='?', type=int, default=20)
+    asked = parser.parse_args()
+    crate, most, files = asked.crate, asked.most, []
+    top = os.path.join(TOP, 'crates', crate, 'out', 'incremental')
+    if not os.path.isdir(top):
+        sys.exit(f'{top} is not there: `rt check` in crates/{crate} leaves it')
     for folder, _, names in os.walk(top):
         if 'records' not in folder:
             files += [(os.stat(os.path.join(folder, name)).st_mtime, name) for name in names]
@@ -34,4 +38,5 @@ def main(words):
     return 0
 
 
-sys.exit(main(sys.argv[1:]))
+if __name__ == '__main__':
+    sys.exit(main())

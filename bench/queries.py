@@ -10,10 +10,9 @@ a multiple and a share of ClickHouse's; and how long the node took to stand. Not
 
 It needs `clickhouse-server`: apt-get install clickhouse-server.
 """
-import argparse, contextlib, http.client, json, os, shutil, statistics, subprocess, sys, tempfile, threading, time, urllib.parse
+import contextlib, http.client, json, os, statistics, subprocess, sys, tempfile, threading, time, urllib.parse
 
-TOP = os.path.dirname(os.path.dirname(os.path.abspath(__file__)))
-sys.path.insert(0, os.path.join(TOP, 'tools'))
+from lib import PROGRAM, need, need_program, parser_of
 from make_segments import DAY, Segment, file_of
 from serve import ask, free_ports, running, wait_for
 
@@ -197,14 +196,12 @@ def compare(name, asked, text, answers):
 
 
 def main():
-    parser = argparse.ArgumentParser(description='Asks druid_cluster serve and ClickHouse the same queries.')
-    parser.add_argument('--program', default=os.path.join(TOP, 'druid_cluster'), help='druid_cluster of this repository')
+    parser = parser_of(__doc__)
+    parser.add_argument('--program', default=PROGRAM, help='the built program, that of this repository unless said otherwise')
     parser.add_argument('--seconds', type=int, default=5, help='how long four clients ask')
     given = parser.parse_args()
-    if not shutil.which('clickhouse-server'):
-        sys.exit('clickhouse-server is not there: apt-get install clickhouse-server')
-    # Where the program is not built yet, this builds it.
-    subprocess.run([given.program, 'replay'], stdin=subprocess.DEVNULL, check=True)
+    need_program(given.program)
+    need('clickhouse-server')
     with tempfile.TemporaryDirectory() as folder, ours(given.program, os.path.join(folder, 'ours')) as broker, \
             theirs(os.path.join(folder, 'theirs')) as house:
         for name, asked, text in QUERIES:

@@ -6,7 +6,7 @@ which it does.
 It is built in the folder for temporary files, over copies of the crates; the first time that proves them, which takes some
 minutes.
 """
-from lib import build, run
+from lib import build, parser_of, run
 
 SECONDS, DELTAS, KEPT = 2, 2_000, 10_000_000
 
@@ -38,10 +38,12 @@ def beside(lines, peak):
 
 
 def main():
+    parser_of(__doc__).parse_args()
     program, _ = build('reads', ['druid_published', 'anyhow'], words=['alone', '1'], proofs={
         'alone_on/Invariants.antt': 'AloneOn.antt.in', 'beside/Invariants.antt': 'Beside.antt.in'})
     alone(run(program, 'alone', str(SECONDS * 1000))[0])
     beside(*run(program, 'beside', str(DELTAS), str(KEPT)))
 
 
-main()
+if __name__ == '__main__':
+    main()

@@ -1,5 +1,5 @@
 #!/usr/bin/env python3
-"""Makes inputs for `druid_cluster replay`, runs the built program on them, and prints a table.
+"""Makes inputs for `druid_cluster replay`, runs the built program on them, and prints a table. It begins no proof.
 
 It measures three shapes of a snapshot, each followed by 20 lookups, at 5,000, 10,000 and 20,000 segments: one chunk
 with core 0, one chunk with a core partition for each segment, and one-hour chunks. Then a line of 16 MiB and a stream
@@ -8,14 +8,13 @@ alternating hours, for which the peak is at most 40 MiB. Last, a snapshot of one
 changes each with a lookup of a changed day after each: at most 20 s and 250 MB at 20,000 segments. And 64 brokers over 8
 nodes of 2,500 segments each, every segment on two nodes: one broker is given the snapshots, the others join it, and then
 there are 4 rounds of a delta of each node to each broker, with a lookup each: at most 20 s and 1 GB. Nothing else is
-checked but that the program ends with status 0.
+checked but that the program ends with status 0. It is the one that ./druid_cluster proved and built, which the first line names, or
+DRUID_CLUSTER has the path of another.
 """
 import json, os, subprocess, sys, tempfile, time
 from datetime import datetime, timedelta
 
-TOP = os.path.dirname(os.path.dirname(os.path.abspath(__file__)))
-PROGRAM = os.path.join(TOP, 'druid_cluster')
-
+from lib import PROGRAM, need_program, parser_of
 
 # The most memory, in MiB, for the lookup with a long answer.
 LONG_ANSWER_PEAK = 40
@@ -141,7 +140,9 @@ def measure(name, texts, most=None, longest=None):
 
 
 def main():
-    subprocess.run([PROGRAM, 'replay'], stdin=subprocess.DEVNULL, check=True)
+    parser_of(__doc__).parse_args()
+    need_program()
+    print(PROGRAM, flush=True)
     bad = 0
     for shape in ('one chunk, core 0', 'one chunk, all core', 'one-hour chunks'):
         for count in (5_000, 10_000, 20_000):

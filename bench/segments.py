@@ -4,10 +4,8 @@
 Segments of 10,000 and 100,000 rows, with three dimensions of 10, 1,000 and 50,000 values and two metrics, in both layouts. It is
 built in the folder for temporary files, over copies of the crates; the first time that proves them, which takes some minutes.
 """
-import os, random, subprocess, sys
-from lib import TOP, build, run
-
-sys.path.insert(0, os.path.join(TOP, 'tools'))
+import os, random, subprocess
+from lib import build, parser_of, room, run
 from make_segments import DAY, Segment, file_of
 
 HELD = 10
@@ -37,8 +35,8 @@ def held_bytes(program, path):
 
 
 def main():
-    place = os.path.join(os.environ.get('TMPDIR', '/tmp'), 'druid_cluster_segments')
-    os.makedirs(place, exist_ok=True)
+    parser_of(__doc__).parse_args()
+    place = room('segments_files')
     paths = []
     for count in (10_000, 100_000):
         made = segment(count)
@@ -54,4 +52,5 @@ def main():
         print(f'{name}: {size / 1e6:.2f} MB; {best}; {written}; held {held_bytes(program, path) / size:.2f} of the file', flush=True)
 
 
-main()
+if __name__ == '__main__':
+    main()

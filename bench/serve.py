@@ -12,10 +12,9 @@ that the program answers before the first and after the last of them.
 It needs `ab`, which asks for 10 seconds or 50,000 times, and `nginx`: apt-get install apache2-utils nginx-light. It takes some
 minutes, since a query that waits for a node waits until the limit of an exchange.
 """
-import argparse, contextlib, csv, http.client, json, os, re, shutil, socket, subprocess, sys, tempfile, threading, time
+import contextlib, csv, http.client, json, os, re, socket, subprocess, sys, tempfile, threading, time
 
-TOP = os.path.dirname(os.path.dirname(os.path.abspath(__file__)))
-sys.path.insert(0, os.path.join(TOP, 'tools'))
+from lib import PROGRAM, need, need_program, parser_of
 from make_segments import DAY, Segment, file_of
 
 # Clients at a time and the seconds that they ask, where requests a second are measured.
@@ -308,14 +307,11 @@ def slow_clients(ports, quick):
 
 
 def main():
-    parser = argparse.ArgumentParser(description='Measures druid_cluster serve.')
-    parser.add_argument('--program', default=os.path.join(TOP, 'druid_cluster'), help='druid_cluster of this repository')
+    parser = parser_of(__doc__)
+    parser.add_argument('--program', default=PROGRAM, help='the built program, that of this repository unless said otherwise')
     program = os.path.abspath(parser.parse_args().program)
-    for needed in ('ab', 'nginx'):
-        if not shutil.which(needed):
-            sys.exit(f'{needed} is not there: apt-get install apache2-utils nginx-light')
-    # Where the program is not built yet, this builds it.
-    subprocess.run([program, 'replay'], stdin=subprocess.DEVNULL, check=True)
+    need_program(program)
+    need('ab', 'nginx')
     with tempfile.TemporaryDirectory() as folder:
         write_segments(folder)
         ports = free_ports(1 + len(NODES))

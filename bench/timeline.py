@@ -1,18 +1,22 @@
 #!/usr/bin/env python3
 """Measures what a change costs a broker that holds much, as multiples of work beside it in the same run.
 
-By `druid_cluster replay`, in processor time of the whole program, the least of three runs: a snapshot of one-hour chunks
+timeline.py [--inventory]
+
+By `druid_cluster replay` of the built program, which the first line names (DRUID_CLUSTER has the path of another), in processor
+time of the whole program, the least of three runs: a snapshot of one-hour chunks
 alone (which is mostly the reading of its JSON); the same and then 2,000 deltas of 5 changes each, with a lookup of a changed
 day after each; days, weeks and months in three versions over each other, with 20 lookups, beside as many chunks of one
-version. By the proved program of `bench/inventory`: a delta of 5 changes applied to an inventory that shares what stays,
-beside a copy of all its descriptors, and in place, alone and under 20 chunks of a year each. Each at 10,000 and at 20,000
+version. With `--inventory` by the proved program of `bench/inventory` too, which is built over copies of the crates (the first
+time proves them, which takes minutes; without it nothing is proved): a delta of 5 changes applied to an inventory that shares what
+stays, beside a copy of all its descriptors, and in place, alone and under 20 chunks of a year each. Each at 10,000 and at 20,000
 segments.
 """
 import json, os, subprocess, sys, tempfile
 from datetime import datetime, timedelta
 
-from lib import TOP, build, run as run_program
-from run import PROGRAM, change, deltas, opening, snapshot
+from lib import PROGRAM, build, need, need_program, parser_of, run as run_program
+from run import change, deltas, opening, snapshot
 
 SIZES = (10_000, 20_000)
 
@@ -50,7 +54,8 @@ def seconds(lines):
             with open(file.name, 'rb') as given:
                 child = subprocess.Popen([PROGRAM, 'replay'], stdin=given, stdout=subprocess.DEVNULL)
                 _, status, used = os.wait4(child.pid, 0)
-            assert os.waitstatus_to_exitcode(status) == 0, status
+            if status:
+                sys.exit(f'{PROGRAM} replay: ended with {os.waitstatus_to_exitcode(status)}')
             found.append(used.ru_utime + used.ru_stime)
     return min(found)
 
@@ -76,8 +81,13 @@ def applied(count):
 
 
 def main():
-    subprocess.run([PROGRAM, 'replay'], stdin=subprocess.DEVNULL, check=True)
-    parts = [replayed] if '--replay' in sys.argv else [replayed, applied]
+    parser = parser_of(__doc__)
+    parser.add_argument('--inventory', action='store_true', help='the proved program of bench/inventory too')
+    parts = [replayed, applied] if parser.parse_args().inventory else [replayed]
+    need_program()
+    if applied in parts:
+        need('rt')
+    print(PROGRAM, flush=True)
     for part in parts:
         for (name, small), (_, large) in zip(*(part(count) for count in SIZES)):
             print(f'{name:54} {small:10.3f} {large:10.3f}   {large / small:6.2f} times', flush=True)

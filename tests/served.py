@@ -10,9 +10,9 @@ import time
 TOP = os.path.dirname(os.path.dirname(os.path.abspath(__file__)))
 sys.dont_write_bytecode = True
 sys.path.insert(0, os.path.join(TOP, 'tools'))
+from built import PROGRAM, has_checks, need, need_program, parser_of  # noqa: E402,F401
 from make_segments import DAY, Segment, encoded, file_of  # noqa: E402,F401
 
-PROGRAM = os.environ.get('DRUID_CLUSTER') or os.path.join(TOP, 'crates', 'druid_cluster_program', 'out', 'druid_cluster_program')
 ASK = '/druid-internal/v1/segments'
 QUERY = '/druid/v2/'
 

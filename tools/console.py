@@ -6,16 +6,17 @@
 
 and then a browser at the address that it prints. It stands outside of what is proved, and takes Python's standard library alone.
 What is visible it does not compute: it asks a broker what it knows of each node and hands that to `druid_cluster replay`, whose
-lookups are proved. A look at the brokers takes a connection for each broker and node, and these count to the config's `connections`.
+lookups are proved. A look at the brokers takes a connection for each broker and node, and one for each further page of a node of more
+than 20,000 segments; these count to the config's `connections`.
 """
-import argparse, concurrent.futures, hashlib, http.client, http.server, json, os, re, stat, subprocess, sys, threading, time, urllib.parse
+import argparse, concurrent.futures, hashlib, http.client, http.server, itertools, json, os, re, stat, subprocess, sys, threading, time, urllib.parse
 
 TOP = os.path.dirname(os.path.dirname(os.path.abspath(__file__)))
 sys.dont_write_bytecode = True
 sys.path.insert(0, os.path.join(TOP, 'tools'))
+from built import PROGRAM, need_program  # noqa: E402
 from make_segments import MAX_FILE, Refused, decoded, printed_time  # noqa: E402
 
-PROGRAM = os.environ.get('DRUID_CLUSTER') or os.path.join(TOP, 'crates', 'druid_cluster_program', 'out', 'druid_cluster_program')
 PAGE = os.path.join(TOP, 'tools', 'console')
 EXAMPLES = os.path.join(TOP, 'examples', 'queries')
 ADDRESS = re.compile(r'127\.0\.0\.1:([1-9][0-9]{0,4})')
@@ -28,6 +29,10 @@ MAX_CONFIG, MAX_QUERY, MAX_ANSWER = 16_777_216, 1_048_576, 16_777_216 + 65_536
 # of the nodes may be, so that several pages are no more load than one.
 SHORT, EXCHANGE, REPLAYING, FRESH = 3, 31, 120, 1
 ROWS_SHOWN = 500
+
+# Bytes of the changes in a line of `replay`, and changes of a delta; and how often a snapshot in pages is begun: a broker that moves on
+# between two of them gives no more of that mark.
+MAX_LINE, DELTA, BEGINNINGS = 16_700_000, 1_000, 3
 
 TYPES = {'.html': 'text/html; charset=utf-8', '.css': 'text/css; charset=utf-8', '.js': 'text/javascript; charset=utf-8'}
 FIELDS = {
@@ -164,27 +169,77 @@ class Nodes:
 
 # Brokers: what each knows of each node, as snapshots
 
-def snapshot(address, node):
-    """What a broker knows of a node, as text and as JSON, None where it was never synced."""
-    status, body = exchange(address, 'GET', f'/druid-internal/v1/inventory/{node}', seconds=EXCHANGE)
-    if status == 404 and b'V3' in body:
-        return None
-    if status != 200:
-        raise OSError(f'status {status}')
-    return body.replace(b'\n', b' '), json.loads(body)
+class Known:
+    """What a broker knows of a node: one reply, or pages of one mark, of which some at the end may be lost."""
+
+    def __init__(self, texts, replies):
+        self.text, self.counter, self.pages, self.of = b' '.join(texts), replies[0]['counter'], len(replies), replies[0].get('pages', 1)
+        self.loads = [it for reply in replies for it in reply['requests']]
+
+    def replies(self, node):
+        """Replies that give `replay` the same: what the broker answered, where that is one."""
+        return [(node, self.text)] if self.of == 1 else replies_of(node, self.loads)
 
 
-def look_at_broker(broker, nodes):
-    """The snapshots of a broker, or why there are none. It stops at the first exchange that fails."""
-    try:
-        return {'snapshots': [snapshot(broker['address'], node) for node in range(nodes)]}
-    except NO_ANSWER as fault:
-        return {'fault': str(fault) or type(fault).__name__}
+def replies_of(node, loads):
+    """A snapshot of as many of these loads as a line of `replay` holds, and deltas with the others."""
+    texts = [compact(it) for it in loads]
+    first = sum(size < MAX_LINE for size in itertools.accumulate(len(it) + 1 for it in texts))
+    ends = [0, first, *range(first + DELTA, len(texts), DELTA), len(texts)] if first < len(texts) else [0, first]
+    mark = b'{"counter":%d,"hash":1}'
+    form = b'{"counter":%s,"from":%s,"requests":[%s],"resetCause":null,"resetCounter":false}'
+    return [(node, form % (mark % end, mark % start if start else b'null', b','.join(texts[start:end]))) for start, end in zip(ends, ends[1:])]
+
+
+class BrokerWatch:
+    """One look at a broker: what it knows of each node, and how many connections it took."""
+
+    def __init__(self, address):
+        self.address, self.connections = address, 0
+
+    def get(self, node, asked=''):
+        """An answer as text and as JSON; None where the node was never synced."""
+        self.connections += 1
+        status, body = exchange(self.address, 'GET', f'/druid-internal/v1/inventory/{node}{asked}', seconds=EXCHANGE)
+        if status == 404 and b'V3' in body:
+            return None
+        if status != 200:
+            raise OSError(f'status {status}')
+        return body.replace(b'\n', b' '), json.loads(body)
+
+    def pages(self, node):
+        """The first answer and, where that is a page, those of the others that the broker still gives at its mark."""
+        found = [self.get(node)]
+        if found[0] is None:
+            return None
+        counter = found[0][1]['counter']
+        for page in range(1, found[0][1].get('pages', 1)):
+            it = self.get(node, '?counter=%d&hash=%d&page=%d' % (counter['counter'], counter['hash'], page))
+            if it is None or it[1]['resetCounter']:
+                break
+            needs(it[1]['counter'] == counter and it[1]['page'] == page, 'another page than was asked for')
+            found.append(it)
+        return Known(*zip(*found))
+
+    def snapshot(self, node):
+        """What the broker knows of a node, None where it was never synced. All of it, unless the broker moves on each time."""
+        for _ in range(BEGINNINGS):
+            known = self.pages(node)
+            if known is None or known.pages == known.of:
+                break
+        return known
+
+    def look(self, nodes):
+        """The snapshots, or why there are none. It stops at the first exchange that fails."""
+        try:
+            return {'snapshots': [self.snapshot(node) for node in range(nodes)]}
+        except NO_ANSWER as fault:
+            return {'fault': str(fault) or type(fault).__name__}
 
 
 def marks_of(look):
     """The mark of each node at a broker; None where it was never synced, and for all nodes where the broker does not answer."""
-    return look.get('snapshots') and [it and mark_of(it[1]['counter']) for it in look['snapshots']]
+    return look.get('snapshots') and [it and mark_of(it.counter) for it in look['snapshots']]
 
 
 # Timelines: what `druid_cluster replay` says of a broker's snapshots
@@ -238,7 +293,7 @@ def chunks_of(snapshots):
     """The chunks of each source, in the order of their starts."""
     sources = {}
     for node, known in enumerate(snapshots):
-        for load in known[1]['requests'] if known else []:
+        for load in known.loads if known else []:
             key = load['interval'], load['version']
             chunks = sources.setdefault(load['dataSource'], {})
             if key not in chunks:
@@ -261,8 +316,7 @@ def decide_complete(program, names, chunks, took):
         for held in chunk.members.values():
             for node, load in held:
                 loads.setdefault(node, []).append({**load, 'dataSource': f'chunk-{place}'})
-    reply = {'counter': {'counter': 1, 'hash': 1}, 'from': None, 'resetCause': None, 'resetCounter': False}
-    replies = [(node, compact({**reply, 'requests': it})) for node, it in loads.items()]
+    replies = [reply for node, it in loads.items() for reply in replies_of(node, it)]
     lookups = [(f'chunk-{place}', chunk.interval) for place, chunk in enumerate(chunks)]
     for chunk, pieces in zip(chunks, answers_of_lookups(program, names, replies, lookups, took)):
         chunk.state = 'overshadowed' if pieces else 'incomplete'
@@ -283,7 +337,7 @@ def timelines_of(program, names, snapshots):
     """The timelines of what a broker knows, and the seconds that `replay` took."""
     took = []
     sources = chunks_of(snapshots)
-    replies = [(node, it[0]) for node, it in enumerate(snapshots) if it]
+    replies = [reply for node, it in enumerate(snapshots) if it for reply in it.replies(node)]
     lookups = [(source, whole_of(chunks)) for source, chunks in sources.items()]
     found = answers_of_lookups(program, names, replies, lookups, took)
     pieces = {source: timeline_of(chunks, it) for (source, chunks), it in zip(sources.items(), found)}
@@ -309,14 +363,16 @@ class Brokers:
         """What all brokers know of the nodes, and the timelines of one, but where the page knows these by their digest."""
         with self.lock:
             began = time.monotonic()
-            looks = in_parallel(lambda it: look_at_broker(it, len(self.names)), self.config['brokers'])
+            watches = [BrokerWatch(it['address']) for it in self.config['brokers']]
+            looks = in_parallel(lambda it: it.look(len(self.names)), watches)
             took = time.monotonic() - began
-            answer = {'brokers': [{'address': broker['address'], 'marks': marks_of(look), 'fault': look.get('fault')}
-                                  for broker, look in zip(self.config['brokers'], looks)]}
+            answer = {'brokers': [{'address': watch.address, 'marks': marks_of(look), 'fault': look.get('fault')} for watch, look in zip(watches, looks)],
+                      'connections': sum(it.connections for it in watches)}
             snapshots = looks[chosen].get('snapshots')
             if not snapshots:
                 return answer
-            digest = hashlib.sha256(b'\n'.join(it[0] if it else b'' for it in snapshots)).hexdigest()
+            answer['parts'] = [{'node': name, 'pages': it.pages, 'of': it.of} for name, it in zip(self.names, snapshots) if it and it.pages < it.of]
+            digest = hashlib.sha256(b'\n'.join(it.text if it else b'' for it in snapshots)).hexdigest()
             if digest != known:
                 if self.kept.get('digest') != digest:
                     self.kept = {'digest': digest, **timelines_of(self.program, self.names, snapshots)}
@@ -533,8 +589,7 @@ def main():
     parser.add_argument('--program', default=PROGRAM, help='the built program, whose `replay` says what is visible')
     asked = parser.parse_args()
     config = read_config(asked.config)
-    if not os.access(asked.program, os.X_OK):
-        sys.exit(f'{asked.program}: no program; `./druid_cluster serve {asked.config}` builds it')
+    need_program(asked.program)
     try:
         console = Console(asked.port, config, asked.program)
     except OSError as fault:

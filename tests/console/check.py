@@ -8,7 +8,7 @@ What is visible is worked out here once more, plainly, from the broker's snapsho
 import glob, json, os, shutil, sys, tempfile, traceback
 
 from browser import Browser
-from served import CHROMIUM, TOP, console_of, exchange, silent, write_config, write_segments
+from served import CHROMIUM, TOP, console_of, exchange, need, need_program, parser_of, silent, write_config, write_segments
 from make_segments import DAY, Segment
 
 HOUR = 3_600_000
@@ -228,6 +228,9 @@ def requests_of(page, *_):
 
 
 def main():
+    parser_of(__doc__).parse_args()
+    need_program()
+    need(CHROMIUM)
     folder = tempfile.mkdtemp()
     failed = 0
     try:

@@ -5,10 +5,10 @@
 
 It serves a copy of examples/cluster on the ports of console.json; so nothing else may serve that meanwhile.
 """
-import json, os, shutil, sys, tempfile
+import json, os, shutil, tempfile
 
 from browser import Browser
-from served import CHROMIUM, TOP, console_of, silent
+from served import CHROMIUM, TOP, console_of, need, need_program, parser_of, silent
 
 CLUSTER = os.path.join(TOP, 'examples', 'cluster')
 HOURS = {'queryType': 'timeseries', 'dataSource': 'orders', 'granularity': 'hour', 'intervals': '2024-05-02T06:00/2024-05-02T20:00',
@@ -69,9 +69,14 @@ def make_pictures(folder, to):
 
 
 def main():
+    parser = parser_of(__doc__)
+    parser.add_argument('folder', nargs='?', default=os.path.join(TOP, 'docs', 'images'))
+    folder = parser.parse_args().folder
+    need_program()
+    need(CHROMIUM)
     to = tempfile.mkdtemp()
     try:
-        make_pictures(sys.argv[1] if len(sys.argv) > 1 else os.path.join(TOP, 'docs', 'images'), to)
+        make_pictures(folder, to)
     finally:
         shutil.rmtree(to, ignore_errors=True)
 

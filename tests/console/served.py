@@ -4,9 +4,9 @@ import contextlib, http.client, json, os, socket, subprocess, sys, time
 TOP = os.path.dirname(os.path.dirname(os.path.dirname(os.path.abspath(__file__))))
 sys.dont_write_bytecode = True
 sys.path.insert(0, os.path.join(TOP, 'tools'))
+from built import PROGRAM, need, need_program, parser_of  # noqa: E402,F401
 from make_segments import file_of  # noqa: E402
 
-PROGRAM = os.environ.get('DRUID_CLUSTER') or os.path.join(TOP, 'crates', 'druid_cluster_program', 'out', 'druid_cluster_program')
 CHROMIUM = os.environ.get('CHROMIUM', 'chromium')
 LONGEST = '900'  # Seconds after which `timeout` ends what a killed test leaves.
 

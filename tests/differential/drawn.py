@@ -4,27 +4,29 @@
 drawn.py [CLUSTERS] [REQUESTS]     3 clusters of three nodes, and 2,000 requests to each, unless said otherwise
 
 Segments of several versions, with partitions, replicas, nulls and numbers at the ends of their range, are written as files, half of
-them by columns, and some are tombstones, which the config names; the built program serves them on loopback ports from 21000 on. Half of the requests are queries, subqueries and asks as users write
-them, and half are spoiled: a key left out, a value in place of another, bytes cut off. Each status and each body is compared.
-The draws are the same each time. It ends with 1 where an answer differs, and shows the first of them. It stands apart from the
-gate, and checks what no proof can: that the definitions say what their readers mean.
+them by columns, and some are tombstones, which the config names; the built program serves them on free loopback ports. Half of the
+requests are queries, subqueries and asks as users write them, and half are spoiled: a key left out, a value in place of another,
+bytes cut off. Each status and each body is compared. The draws are the same each time. It ends with 1 where an answer differs, and
+shows the first of them, or where the program that it started ended or gave none. It stands apart from the gate, and checks what no
+proof can: that the definitions say what their readers mean.
 """
 import copy
 import json
 import os
 import random
+import select
 import shutil
-import socket
 import subprocess
 import sys
 import tempfile
 
-TOP = os.path.dirname(os.path.dirname(os.path.dirname(os.path.abspath(__file__))))
+HERE = os.path.dirname(os.path.abspath(__file__))
 sys.dont_write_bytecode = True
-sys.path.insert(0, os.path.dirname(os.path.abspath(__file__)))
+sys.path[:0] = [HERE, os.path.dirname(HERE)]
 import rules  # noqa: E402
+import served  # noqa: E402
 
-PROGRAM = os.environ.get('DRUID_CLUSTER') or os.path.join(TOP, 'crates', 'druid_cluster_program', 'out', 'druid_cluster_program')
+STANDING = 600  # Seconds until a cluster stands: tens of thousands of files take minutes.
 DAY, HOUR, MINUTE = rules.DAY, 3_600_000, 60_000
 START = rules.instant('2024-01-01')
 KEPT = 10
@@ -75,11 +77,12 @@ PARAMETERS = ['counter', 'hash', 'timeout=60000', '', 'Counter=1', 'counter=-1',
 
 
 class Cluster:
-    """Three nodes over folders, and a broker that follows them."""
+    """Three nodes over folders, and a broker that follows them. The ports are the broker's and then the nodes'."""
 
-    def __init__(self, draw, number, folder, environment=None, turns=3, beside=0):
+    def __init__(self, draw, folder, environment=None, turns=3, beside=0, ports=None):
         """`beside` are more segments of node 0, of a source that no query asks for."""
-        self.draw, self.port = draw, 21_000 + number * 10
+        self.draw = draw
+        self.port, *self.nodes = ports or served.free_ports(4)
         self.segments = self.draw_segments()
         self.held = [[it for it in self.segments if draw.random() < .6] for _ in range(3)]
         for node, held in enumerate(self.held):
@@ -95,14 +98,36 @@ class Cluster:
             it = {'source': 'beside', 'start': START, 'end': START + HOUR, 'version': 'v1', 'part': part, 'core': 0, 'dims': [], 'mets': [], 'rows': []}
             with open(f'{folder}/0/{rules.identifier(it)}.seg', 'wb') as file:
                 file.write(rules.segment_file(it, False))
-        nodes = [{'address': f'127.0.0.1:{self.port + 1 + i}', 'folder': f'{folder}/{i}', 'loads': [], 'name': f'n{i}', 'workers': 2,
+        nodes = [{'address': f'127.0.0.1:{self.nodes[i]}', 'folder': f'{folder}/{i}', 'loads': [], 'name': f'n{i}', 'workers': 2,
                   'tombstones': [rules.chunk_of(it) for it in self.held[i] if 'tombstone' in it]} for i in range(3)]
         query = {'queryType': 'timeseries', 'dataSource': 'w', 'granularity': 'all', 'intervals': '2024-01-01/2024-01-02'}
         with open(f'{folder}/config.json', 'w') as file:
             json.dump({'brokers': [{'address': f'127.0.0.1:{self.port}', 'workers': 4}], 'connections': 1_000_000, 'kept': KEPT, 'nodes': nodes,
                        'queries': [{'broker': 0, 'query': query}], 'turns': turns}, file)
-        self.program = subprocess.Popen([PROGRAM, 'serve', f'{folder}/config.json'], stdout=subprocess.PIPE, env={**os.environ, **(environment or {})})
-        self.program.stdout.readline()  # the query of the config is answered, so the broker knows all nodes
+        self.program = subprocess.Popen([served.PROGRAM, 'serve', f'{folder}/config.json'], stdout=subprocess.PIPE,
+                                        env={**os.environ, **(environment or {})})
+        self.stands()
+
+    def stands(self):
+        """Waits until this program, which alone writes to the pipe, has answered the config's query: so its broker knows all nodes."""
+        ready, _, _ = select.select([self.program.stdout], [], [], STANDING)
+        if not ready or not self.program.stdout.readline():
+            self.ends()
+            raise SystemExit(f'the cluster does not stand: the program ended with {self.program.returncode}')
+
+    def ends(self):
+        self.program.kill()
+        self.program.wait()
+
+    def ask(self, port, method, target, body):
+        """The status and the body of an answer. It raises where there is none, or where the program ended: then another may listen there."""
+        try:
+            status, answer = served.exchange(port, method, target, body)
+        except (OSError, IndexError, ValueError) as fault:
+            raise SystemExit(f'{method} {target} {body[:300]}: no answer, {fault!r}; the status of the program is {self.program.poll()}') from None
+        if self.program.poll() is not None:
+            raise SystemExit(f'the program ended with {self.program.returncode}')
+        return status, answer.decode()
 
     def draw_segments(self):
         draw, found = self.draw, {}
@@ -217,15 +242,15 @@ class Cluster:
         if kind < .2:
             some = '&'.join(draw.choice([f'counter={draw.randint(0, 25)}', *PARAMETERS]) for _ in range(draw.choice([0, 1, 2, 2, 2, 3])))
             ask = f'/druid-internal/v1/segments?{some}' if some else '/druid-internal/v1/segments'
-            return (self.port + 1 + node, 'GET', ask, b''), rules.reply(rules.read_ask(some), self.held[node], KEPT)
+            return (self.nodes[node], 'GET', ask, b''), rules.reply(rules.read_ask(some), self.held[node], KEPT)
         body = self.body_of(self.a_query() if kind < .6 else self.a_subquery())
         try:
             if kind < .6:
                 served = {rules.identifier(it): it for held in self.held for it in held}
                 return (self.port, 'POST', target, body), (200, rules.answer(rules.read_query(body), served.values()))
-            return (self.port + 1 + node, 'POST', target, body), (200, rules.node_answer(rules.read_subquery(body), self.held[node]))
+            return (self.nodes[node], 'POST', target, body), (200, rules.node_answer(rules.read_subquery(body), self.held[node]))
         except rules.Refused as refused:
-            return (self.port if kind < .6 else self.port + 1 + node, 'POST', target, body), (400, refused.text())
+            return (self.port if kind < .6 else self.nodes[node], 'POST', target, body), (400, refused.text())
 
 
 def paths(it, path=()):
@@ -234,40 +259,33 @@ def paths(it, path=()):
         yield from paths(it[step], (*path, step))
 
 
-def exchange(port, method, target, body):
-    with socket.create_connection(('127.0.0.1', port), timeout=40) as stream:
-        stream.sendall(f'{method} {target} HTTP/1.1\r\nHost: x\r\nContent-Length: {len(body)}\r\n\r\n'.encode() + body)
-        answer = b''.join(iter(lambda: stream.recv(65_536), b''))
-    head, _, body = answer.partition(b'\r\n\r\n')
-    return int(head.split()[1]), body.decode()
-
-
-def main(words):
-    if words and not all(word.isdigit() for word in words):
-        print(__doc__)
-        return 2
-    clusters, requests = ([int(word) for word in words] + [3, 2_000][len(words):])[:2]
-    for number in range(clusters):
-        folder, reported = tempfile.mkdtemp(prefix='druid_cluster_drawn_'), {}
-        cluster = Cluster(random.Random(number), number, folder)
+def main():
+    parser = served.parser_of(__doc__)
+    parser.add_argument('clusters', nargs='?', type=int, default=3)
+    parser.add_argument('requests', nargs='?', type=int, default=2_000)
+    asked = parser.parse_args()
+    served.need_program()
+    for number in range(asked.clusters):
+        folder, reported, cluster = tempfile.mkdtemp(prefix='druid_cluster_drawn_'), {}, None
         try:
-            for _ in range(requests):
+            cluster = Cluster(random.Random(number), folder)
+            for _ in range(asked.requests):
                 request, wanted = cluster.request()
                 while len(request[3]) > MAX_BODY:
                     request, wanted = cluster.request()
-                got = exchange(*request)
+                got = cluster.ask(*request)
                 if got != wanted:
                     print(f'{request}\nthe rules answer {wanted}\nthe program answers {got}')
                     return 1
                 kind = '200' if got[0] == 200 else got[1][10:12]
                 reported[kind] = reported.get(kind, 0) + 1
         finally:
-            cluster.program.kill()
-            cluster.program.wait()
+            if cluster:
+                cluster.ends()
             shutil.rmtree(folder)
-        print(f'cluster {number}: {requests} requests answered as the rules answer them:', *(f'{key} {reported[key]}' for key in sorted(reported)))
+        print(f'cluster {number}: {asked.requests} requests answered as the rules answer them:', *(f'{key} {reported[key]}' for key in sorted(reported)))
     return 0
 
 
 if __name__ == '__main__':
-    sys.exit(main(sys.argv[1:]))
+    sys.exit(main())

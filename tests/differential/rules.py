@@ -326,20 +326,49 @@ def passing(query, rows):
     return [row for row in rows if query['passes'] is None or query['passes'](row)]
 
 
-def answer(query, segments):
-    """What a broker answers over these segments, one of each identifier: at each instant the complete chunk of the highest version."""
+def chunks_shown(query, segments):
+    """The complete chunks of the query's source, their segments by (version, start, end), and which of them is visible at an instant."""
     chunks = {}
     for it in segments:
         if it['source'] == query['source']:
             chunks.setdefault((it['version'], it['start'], it['end']), []).append(it)
     complete = {key: members for key, members in chunks.items()
                 if set(range(max(it['core'] for it in members))) <= {it['part'] for it in members}}
+    return complete, lambda time: max((key for key in complete if key[1] <= time < key[2]), default=None)
 
-    def visible(time):
-        return max((key for key in complete if key[1] <= time < key[2]), default=None)
-    rows = [row for key, members in complete.items() for it in members for row in it['rows']
+
+def visible_rows(query, segments):
+    """The rows that a query is over, each with its segment's version, start, end and partition."""
+    complete, visible = chunks_shown(query, segments)
+    return [(row, (*key, it['part'])) for key, members in complete.items() for it in members for row in it['rows']
             if visible(row[0]) == key and any(start <= row[0] < end for start, end in query['intervals'])]
-    return result(query, passing(query, rows))
+
+
+def answer(query, segments):
+    """What a broker answers over these segments, one of each identifier: at each instant the complete chunk of the highest version."""
+    return result(query, passing(query, [row for row, _ in visible_rows(query, segments)]))
+
+
+def fault_of(query, segments, status, body):
+    """What is wrong with an answer of a broker over these segments, whose nodes may fail; None where nothing is.
+
+    It is 200 and exact, or 503 with slices of visible segments as missing, in order and none twice, and the exact answer over the rest.
+    """
+    if status == 200:
+        wanted = answer(query, segments)
+        return None if body == wanted else f'the rules answer {wanted}'
+    if status != 503:
+        return 'a query that reads is answered 200 or 503'
+    missing, (complete, visible) = json.loads(body)['missing'], chunks_shown(query, segments)
+    slices = [((it['ver'], *interval(it['chunk']), it['part']), *interval(it['itvl'])) for it in missing]
+    if not slices or slices != sorted(set(slices), key=lambda it: (it[1], it[0][3])):
+        return 'nothing is missing, or twice, or in another order'
+    for (*chunk, part), start, end in slices:
+        if not visible(start) == visible(end - 1) == tuple(chunk) or part not in {it['part'] for it in complete[tuple(chunk)]}:
+            return 'a slice is missing that is not visible'
+    rows = [row for row, key in visible_rows(query, segments) if not any(key == it and start <= row[0] < end for it, start, end in slices)]
+    wanted = text({'error': 'SegmentsMissing', 'missing': missing, 'partial': json.loads(result(query, passing(query, rows)))})
+    return None if body == wanted else f'the rules answer {wanted}, with that missing'
 
 
 def node_answer(query, segments):

@@ -8,19 +8,18 @@ made to count which branches are taken, and links it with libFuzzer. What it loo
 input that takes longer than ten seconds, more than 2 GiB. It begins with inputs made of the examples and with those that earlier
 runs kept, and at its end keeps, in tests/fuzz/corpus.tar.gz, those without which some branch would not be taken. It needs Debian's
 `clang` and `libclang-rt-14-dev`. Crates whose libraries do not stand are proved first. It ends with 1 where an input was found,
-and leaves it beside this file.
+whose path libFuzzer's words name, which are shown then.
 """
 import os
 import shutil
 import subprocess
 import sys
 import tarfile
-import tempfile
 
 HERE = os.path.dirname(os.path.abspath(__file__))
 TOP = os.path.dirname(os.path.dirname(HERE))
 sys.path.insert(0, os.path.join(TOP, 'bench'))
-from lib import below, crates  # noqa: E402
+from lib import below, crates, need, parser_of, room  # noqa: E402
 
 KIT = os.path.dirname(os.path.dirname(os.path.realpath(shutil.which('rt') or '/opt/rattle/bin/rt')))
 CORPUS = os.path.join(HERE, 'corpus.tar.gz')
@@ -118,10 +117,15 @@ def keep(place):
         pack.add(kept, '.', filter=plain)
 
 
-def main(words):
-    seconds, chosen = int(words[0]) if words else 3_600, words[1:] or TARGETS
-    place = os.path.join(tempfile.gettempdir(), 'druid_cluster_fuzz')
-    os.makedirs(place, exist_ok=True)
+def main():
+    parser = parser_of(__doc__)
+    parser.add_argument('seconds', nargs='?', type=int, default=3_600)
+    parser.add_argument('targets', nargs='*', metavar='TARGET', help=', '.join(TARGETS))
+    asked = parser.parse_args()
+    if not set(asked.targets) <= set(TARGETS):
+        parser.error(f'targets are {", ".join(TARGETS)}')
+    seconds, chosen, place = asked.seconds, asked.targets or TARGETS, room('fuzz')
+    need('rt', 'clang')
     archive = library(place)
     seeds(place)
     shutil.rmtree(os.path.join(place, 'corpus'), ignore_errors=True)
@@ -140,7 +144,7 @@ def main(words):
         with open(os.path.join(place, f'{target}.log'), 'w') as log:
             running.append((target, subprocess.Popen(
                 [program, f'-max_total_time={seconds}', '-timeout=10', '-rss_limit_mb=2048', '-max_len=65536', '-print_final_stats=1',
-                 f'-artifact_prefix={HERE}/found-{target}-', corpus, os.path.join(place, 'seeds', target)], stderr=log)))
+                 f'-artifact_prefix={place}/found-{target}-', corpus, os.path.join(place, 'seeds', target)], stderr=log)))
     status = 0
     for target, process in running:
         process.wait()
@@ -148,9 +152,12 @@ def main(words):
             lines = log.read().splitlines()
         last = next((line for line in reversed(lines) if 'cov:' in line), '')
         print(f'{target}: ended with {process.returncode}; {last}; ' + '; '.join(line for line in lines if 'number_of_executed_units' in line))
-        status = status or (1 if process.returncode else 0)
+        if process.returncode:
+            print('\n'.join(lines[-20:]))
+            status = 1
     keep(place)
     return status
 
 
-sys.exit(main(sys.argv[1:]))
+if __name__ == '__main__':
+    sys.exit(main())

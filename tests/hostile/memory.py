@@ -5,9 +5,11 @@ memory.py [ROUNDS]     20 rounds unless said otherwise
 
 A cluster of two data nodes and a broker is served. While clients ask it queries, the address space that its process may have
 (`prlimit --as`) is lowered step by step to what it uses, and below what any of its calls would take, and is then raised again. So
-allocations are refused at whatever moment comes. Each answer has to be the exact one, 500 with `{"error":"Memory"}`, 503 with
-what is missing (a node that had no memory), or none at all; once memory is there again, each has to be exact. The program has to
-go on. It ends with 1 where that fails.
+allocations are refused at whatever moment comes. Each answer has to be the exact one of tests/differential/rules.py; or 500 with
+`{"error":"Memory"}`; or 503 with what is missing (of a node that had no memory) and the exact answer over the rest; or none at all.
+Once memory is there again, each has to be exact. The program has to go on. It ends with 1 where that fails, and where no answer was
+`Memory` or none exact: then the run shows nothing. A program with checks of memory (`./druid_cluster preview`) ends where some is
+refused, so it is not taken.
 """
 import collections
 import json
@@ -20,10 +22,14 @@ import tempfile
 import threading
 import time
 
-sys.path.insert(0, os.path.dirname(os.path.dirname(os.path.abspath(__file__))))
-from served import DAY, QUERY, Cluster, Segment, exchange  # noqa: E402
+TESTS = os.path.dirname(os.path.dirname(os.path.abspath(__file__)))
+sys.path[:0] = [TESTS, os.path.join(TESTS, 'differential')]
+import rules  # noqa: E402
+from served import DAY, QUERY, Cluster, Segment, exchange, has_checks, need_program, parser_of  # noqa: E402
 
 CLIENTS, NO_LIMIT = 3, resource.RLIM_INFINITY
+ROOMS = [1 << 20, 256 << 10, 64 << 10, 16 << 10, 0, -1 << 20]  # Bytes above what the program uses.
+MEMORY = 500, '{"error":"Memory"}'
 
 # The C library's allocator gives back what is let go, so that each query has to ask the system for memory again.
 GIVES_BACK = {'MALLOC_ARENA_MAX': '1', 'MALLOC_TRIM_THRESHOLD_': '4096', 'MALLOC_TOP_PAD_': '0', 'MALLOC_MMAP_THRESHOLD_': '16384'}
@@ -43,28 +49,56 @@ def queries():
         {**front, 'queryType': 'timeseries', 'granularity': 'all'})]
 
 
+def as_rules(it):
+    """A segment as tests/differential/rules.py has it."""
+    rows_of = [(time, dict(zip(it.dimensions, texts)), dict(zip(it.metrics, numbers))) for time, texts, numbers in it.rows]
+    return {'source': it.source, 'start': it.start, 'end': it.end, 'version': it.version, 'part': it.partition, 'core': it.core,
+            'dims': it.dimensions, 'mets': it.metrics, 'rows': rows_of}
+
+
+class Answers:
+    """What may be answered over these segments; what it has compared once it knows."""
+
+    def __init__(self, segments):
+        self.segments, self.known = segments, {}
+
+    def fault_of(self, body, status, answer):
+        """What is wrong with an answer; None where nothing is."""
+        if (status, answer) == MEMORY:
+            return None
+        key = body, status, answer
+        if key not in self.known:
+            self.known[key] = rules.fault_of(rules.read_query(body), self.segments, status, answer)
+        return self.known[key]
+
+
 class Clients:
     """Ask the same queries again and again, and look at each answer."""
 
-    def __init__(self, port, wanted):
-        self.port, self.wanted, self.is_over, self.wrong, self.count = port, wanted, False, [], collections.Counter()
-        self.threads = [threading.Thread(target=self.ask, args=(number,)) for number in range(CLIENTS)]
+    def __init__(self, port, answers):
+        self.port, self.answers, self.is_over, self.wrong, self.count = port, answers, False, [], collections.Counter()
+        self.threads = [threading.Thread(target=self.ask_all, args=(number,)) for number in range(CLIENTS)]
         for it in self.threads:
             it.start()
 
-    def ask(self, number):
-        draw = random.Random(number)
-        while not self.is_over:
-            body = draw.choice(list(self.wanted))
-            try:
-                status, answer = exchange(self.port, 'POST', QUERY, body)
-            except (OSError, IndexError, ValueError):
-                self.count['no answer'] += 1
-                continue
-            self.count[str(status)] += 1
-            lawful = answer == self.wanted[body] if status == 200 else status == 503 or (status, answer) == (500, b'{"error":"Memory"}')
-            if not lawful:
-                self.wrong.append((body, status, answer[:300]))
+    def ask_all(self, number):
+        draw, bodies = random.Random(number), queries()
+        try:
+            while not self.is_over and not self.wrong:
+                self.ask(draw.choice(bodies))
+        except BaseException as fault:
+            self.wrong.append(f'a thread of queries ended: {fault!r}')
+
+    def ask(self, body):
+        try:
+            status, answer = exchange(self.port, 'POST', QUERY, body)
+        except (OSError, IndexError, ValueError):
+            self.count['no answer'] += 1
+            return
+        fault = self.answers.fault_of(body, status, answer.decode())
+        self.count['Memory' if (status, answer.decode()) == MEMORY else str(status)] += 1
+        if fault:
+            self.wrong.append(f'{body} is answered {status} {answer[:300]}: {fault[:300]}')
 
     def ends(self):
         self.is_over = True
@@ -77,36 +111,71 @@ def used(process):
         return int(file.read().split()[0]) * resource.getpagesize()
 
 
-def main(words):
-    rounds = int(words[0]) if words else 20
-    folder, clients = tempfile.mkdtemp(prefix='druid_cluster_memory_'), None
+def starve(process):
+    """Takes memory away, step by step, and gives it back."""
+    for room in ROOMS:
+        resource.prlimit(process.pid, resource.RLIMIT_AS, (used(process) + room, NO_LIMIT))
+        time.sleep(.15)
+    resource.prlimit(process.pid, resource.RLIMIT_AS, (NO_LIMIT, NO_LIMIT))
+    time.sleep(.3)
+
+
+def asked_once(cluster, answers):
+    """What is wrong with the answers while memory is there; None where each is exact."""
+    for body in queries():
+        status, answer = exchange(cluster.broker, 'POST', QUERY, body)
+        fault = answers.fault_of(body, status, answer.decode()) if status == 200 else 'memory is there'
+        if fault:
+            return f'{body} is answered {status} {answer[:300]}: {fault[:300]}'
+    return None
+
+
+def fault_of_run(cluster, answers, rounds):
+    """What is wrong with a run; None where nothing is."""
+    fault = asked_once(cluster, answers)
+    if fault:
+        return f'before memory was taken away: {fault}'
+    clients = Clients(cluster.broker, answers)
+    try:
+        for _ in range(rounds):
+            if clients.wrong or cluster.process.poll() is not None:
+                break
+            starve(cluster.process)
+    except OSError:
+        pass  # The program is gone, which is looked at below.
+    finally:
+        clients.ends()
+    print('answers while memory was taken away and given back:', ', '.join(f'{clients.count[it]:,} {it}' for it in sorted(clients.count)))
+    if cluster.process.poll() is not None:
+        return f'the program ended with {cluster.process.returncode}'
+    if clients.wrong:
+        return clients.wrong[0]
+    if not clients.count['Memory'] or not clients.count['200']:
+        return 'no answer was `Memory`, or none was exact: this run shows nothing'
+    fault = asked_once(cluster, answers)
+    return fault and f'once memory is there again: {fault}'
+
+
+def main():
+    parser = parser_of(__doc__)
+    parser.add_argument('rounds', nargs='?', type=int, default=20)
+    rounds = parser.parse_args().rounds
+    need_program()
+    if has_checks():
+        sys.exit('a program with checks of memory ends where some is refused: this test needs the proved one')
+    folder = tempfile.mkdtemp(prefix='druid_cluster_memory_')
     held = [[Segment('w', 0, DAY, 'v', it, 2, 0, ['d'], ['m'], rows(it, 5_000))] for it in range(2)]
     cluster = Cluster(folder, held, environment=GIVES_BACK)
     try:
         cluster.start().stands()
-        wanted = {body: exchange(cluster.broker, 'POST', QUERY, body)[1] for body in queries()}
-        clients = Clients(cluster.broker, wanted)
-        for _ in range(rounds):
-            for room in (1 << 20, 256 << 10, 64 << 10, 16 << 10, 0, -1 << 20):
-                resource.prlimit(cluster.process.pid, resource.RLIMIT_AS, (used(cluster.process) + room, NO_LIMIT))
-                time.sleep(.15)
-            resource.prlimit(cluster.process.pid, resource.RLIMIT_AS, (NO_LIMIT, NO_LIMIT))
-            time.sleep(.3)
-        clients.ends()
-        print('answers while memory was taken away and given back:', ', '.join(f'{clients.count[it]:,} {it}' for it in sorted(clients.count)))
-        if clients.wrong or cluster.process.poll() is not None:
-            print('wrong:', clients.wrong[:1] or f'the program ended with {cluster.process.returncode}')
-            return 1
-        again = {body: exchange(cluster.broker, 'POST', QUERY, body) for body in wanted}
-        if any(again[body] != (200, wanted[body]) for body in wanted):
-            print('wrong once memory is there again:', again)
-            return 1
-        return 0
+        fault = fault_of_run(cluster, Answers([as_rules(it) for of_node in held for it in of_node]), rounds)
+        if fault:
+            print(f'wrong: {fault}')
+        return 1 if fault else 0
     finally:
-        if clients and not clients.is_over:
-            clients.ends()
         cluster.ends()
         shutil.rmtree(folder, ignore_errors=True)
 
 
-sys.exit(main(sys.argv[1:]))
+if __name__ == '__main__':
+    sys.exit(main())

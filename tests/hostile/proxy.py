@@ -12,10 +12,10 @@ else (a health, a sync reply), or one of another status. So answers arrive in an
 fail. What it never does is to change bytes into another whole answer to the same query: that a whole answer comes from the node
 that was asked is a premise of what is promised.
 
-Each 200 has to be the exact answer of tests/differential/rules.py, over all that is visible. Each 503 has to list pieces of
-visible segments as missing, none twice, and its partial rows have to be the exact answer over what these pieces do not cover. The
+Each 200 has to be the exact answer of tests/differential/rules.py, over all that is visible. Each 503 has to list slices of
+visible segments as missing, in order and none twice, and its partial rows have to be the exact answer over the rest. The
 broker follows its nodes through the same proxy. It needs a C compiler (`cc`). The draws are the same each time, the order of
-threads is not. It ends with 1 where an answer is wrong, and shows it.
+threads is not. It ends with 1 where an answer is wrong, and shows it, where one does not come, and where the program ended.
 """
 import collections
 import contextlib
@@ -34,8 +34,8 @@ HERE = os.path.dirname(os.path.abspath(__file__))
 sys.path[:0] = [os.path.join(os.path.dirname(HERE), 'differential')]
 import drawn  # noqa: E402
 import rules  # noqa: E402
+from served import free_ports, need, need_program, parser_of  # noqa: E402
 
-BY = 1_000  # The proxy's port of each node is so much above the node's.
 CLIENTS = 4
 OTHER_ANSWERS = [b'HTTP/1.1 200 OK\r\nContent-Length: 4\r\n\r\ntrue', b'HTTP/1.1 500 Internal Server Error\r\nContent-Length: 18\r\n\r\n{"error":"Memory"}',
                  b'HTTP/1.1 200 OK\r\nContent-Length: 27\r\n\r\n{"missing":[],"rows":[[0]]}', b'HTTP/1.1 200 OK\r\nContent-Length: 2\r\n\r\n[]', b'', b'\r\n\r\n']
@@ -61,9 +61,9 @@ def whole_request(stream):
 class Proxy:
     """Stands in front of one node."""
 
-    def __init__(self, port, seed, did):
+    def __init__(self, port, door, seed, did):
         self.port, self.draw, self.did, self.passed = port, random.Random(seed), did, threading.Event()
-        self.kind, self.listener = 'spoil', socket.create_server(('127.0.0.1', port + BY), backlog=128)
+        self.listener = socket.create_server(('127.0.0.1', door), backlog=128)
         threading.Thread(target=self.accept, daemon=True).start()
 
     def accept(self):
@@ -109,68 +109,38 @@ class Proxy:
         self.listener.close()
 
 
-def covered(rows, missing, members):
-    """The rows less those that the missing pieces cover."""
-    pieces = collections.defaultdict(list)
-    for it in missing:
-        start, end = rules.interval(it['itvl'])
-        pieces[rules.interval(it['chunk']), it['ver'], it['part']].append((start, end))
-    return [row for row, key in rows if not any(start <= row[0] < end for start, end in pieces.get(key, ()))]
+def ask_one(cluster, segments, body, count, wrong):
+    status, answer = cluster.ask(cluster.port, 'POST', '/druid/v2', body)
+    fault = rules.fault_of(rules.read_query(body), segments, status, answer)
+    if fault:
+        wrong.append(f'{body.decode()}\nis answered {status} {answer}\n{fault}')
+    count.append(status)
 
 
-class Rules:
-    """What is visible over the segments that nodes hold."""
-
-    def __init__(self, cluster):
-        self.served = list({rules.identifier(it): it for held in cluster.held for it in held}.values())
-
-    def rows_of(self, query):
-        chunks = collections.defaultdict(list)
-        for it in self.served:
-            if it['source'] == query['source']:
-                chunks[it['version'], it['start'], it['end']].append(it)
-        complete = {key: members for key, members in chunks.items()
-                    if set(range(max(it['core'] for it in members))) <= {it['part'] for it in members}}
-
-        def visible(at):
-            return max((key for key in complete if key[1] <= at < key[2]), default=None)
-        return [(row, ((it['start'], it['end']), it['version'], it['part'])) for key, members in complete.items() for it in members
-                for row in it['rows'] if visible(row[0]) == key and any(start <= row[0] < end for start, end in query['intervals'])]
-
-    def fault_of(self, query, status, body):
-        """What is wrong with an answer; None where nothing is."""
-        if status == 200:
-            wanted = rules.answer(query, self.served)
-            return None if body == wanted else f'the rules answer {wanted}'
-        if status != 503:
-            return 'a query that reads is answered 200 or 503'
-        value = json.loads(body)
-        named = [(it['chunk'], it['itvl'], it['part'], it['ver']) for it in value['missing']]
-        if not named or len(set(named)) < len(named):
-            return 'nothing is missing, or twice'
-        rows = self.rows_of(query)
-        held = {((it['start'], it['end']), it['version'], it['part']) for it in self.served if it['source'] == query['source']}
-        if any((rules.interval(chunk), version, part) not in held for chunk, _, part, version in named):
-            return 'a piece is missing that nobody serves'
-        wanted = rules.result(query, rules.passing(query, covered(rows, value['missing'], self.served)))
-        return None if rules.text(value['partial']) == wanted else f'the rules answer {wanted} over what is not missing'
+def ask_all(cluster, segments, queries, count, wrong):
+    """Asks what the threads have left of the queries, until one is wrong. An exception would end this thread alone: it is wrong too."""
+    try:
+        for body in queries:
+            if wrong:
+                return
+            ask_one(cluster, segments, body, count, wrong)
+    except BaseException as fault:
+        wrong.append(f'a thread of queries ended: {fault!r}')
 
 
-def ask_all(cluster, judge, queries, count, wrong):
-    for body in iter(lambda: queries.pop() if queries else None, None):
-        if wrong:
-            return
-        status, answer = drawn.exchange(cluster.port, 'POST', '/druid/v2', body)
-        fault = judge.fault_of(rules.read_query(body), status, answer)
-        if fault:
-            wrong.append(f'{body.decode()}\nis answered {status} {answer}\n{fault}')
-        count[status] += 1
+def fault_of_run(cluster, asked, count, wrong):
+    """What is wrong once all threads have ended; None where each query was answered and the program runs."""
+    if cluster.program.poll() is not None:
+        return f'the program ended with {cluster.program.returncode}'
+    if wrong:
+        return wrong[0]
+    return None if len(count) == asked else f'{asked} queries were to be asked, and {len(count)} are answered'
 
 
 def follows(cluster):
     """Waits until the broker has heard of every node."""
     for _ in range(600):
-        if drawn.exchange(cluster.port, 'GET', '/druid/broker/v1/loadstatus', b'')[1] == '{"inventoryInitialized":true}':
+        if cluster.ask(cluster.port, 'GET', '/druid/broker/v1/loadstatus', b'')[1] == '{"inventoryInitialized":true}':
             return
         time.sleep(.1)
     raise SystemExit('the broker does not hear of its nodes')
@@ -178,30 +148,32 @@ def follows(cluster):
 
 def run(number, many, beside, library):
     folder, did, proxies = tempfile.mkdtemp(prefix='druid_cluster_hostile_'), collections.Counter(), []
-    port = 21_000 + number * 10
+    ports = free_ports(7)
+    nodes, doors = ports[1:4], ports[4:]
     try:
-        proxies = [Proxy(port + 1 + node, f'{number} {node}', did) for node in range(3)]
+        proxies = [Proxy(port, door, f'{number} {node}', did) for node, (port, door) in enumerate(zip(nodes, doors))]
+        redirect = {'LD_PRELOAD': library, 'REDIRECT': ''.join(f'{port}:{door} ' for port, door in zip(nodes, doors))}
         # Many turns: some of them fail, and the last that comes through makes the broker know all that the node serves.
-        cluster = drawn.Cluster(random.Random(number), number, folder, {'LD_PRELOAD': library, 'REDIRECT_BY': str(BY)}, turns=60, beside=beside)
+        cluster = drawn.Cluster(random.Random(number), folder, redirect, turns=60, beside=beside, ports=ports[:4])
         try:
             follows(cluster)
-            judge, count, wrong = Rules(cluster), collections.Counter(), []
+            segments, count, wrong = list({rules.identifier(it): it for held in cluster.held for it in held}.values()), [], []
             queries = [json.dumps(cluster.a_query()).encode() for _ in range(many)]
             queries = [it for it in queries if is_lawful(it)]
-            asked = len(queries)
-            threads = [threading.Thread(target=ask_all, args=(cluster, judge, queries, count, wrong)) for _ in range(CLIENTS)]
+            left = iter(queries)
+            threads = [threading.Thread(target=ask_all, args=(cluster, segments, left, count, wrong)) for _ in range(CLIENTS)]
             for it in threads:
                 it.start()
             for it in threads:
                 it.join()
-            if wrong:
-                print(wrong[0])
-                return 1
-            print(f'cluster {number}: {asked} queries,', ', '.join(f'{count[it]} answered {it}' for it in sorted(count)) + ';',
+            fault = fault_of_run(cluster, len(queries), count, wrong)
+            print(f'cluster {number}: {len(count)} queries answered,', ', '.join(f'{count.count(it)} {it}' for it in sorted(set(count))) + ';',
                   'exchanges', ', '.join(f'{did[it]} {it}' for it in sorted(did)))
+            if fault:
+                print(fault)
+                return 1
         finally:
-            cluster.program.kill()
-            cluster.program.wait()
+            cluster.ends()
     finally:
         for it in proxies:
             it.ends()
@@ -217,12 +189,19 @@ def is_lawful(body):
         return False
 
 
-def main(words):
-    many, clusters, beside = ([int(word) for word in words] + [10_000, 2, 0][len(words):])[:3]
+def main():
+    parser = parser_of(__doc__)
+    parser.add_argument('queries', nargs='?', type=int, default=10_000)
+    parser.add_argument('clusters', nargs='?', type=int, default=2)
+    parser.add_argument('beside', nargs='?', type=int, default=0)
+    asked = parser.parse_args()
+    need_program()
+    need('cc')
     with tempfile.TemporaryDirectory() as room:
         library = f'{room}/redirect.so'
         subprocess.run(['cc', '-shared', '-fPIC', '-O1', '-o', library, f'{HERE}/redirect.c', '-ldl'], check=True)
-        return max(run(number, many, beside, library) for number in range(clusters))
+        return max((run(number, asked.queries, asked.beside, library) for number in range(asked.clusters)), default=0)
 
 
-sys.exit(main(sys.argv[1:]))
+if __name__ == '__main__':
+    sys.exit(main())

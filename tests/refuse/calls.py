@@ -10,7 +10,8 @@ import os
 import re
 import sys
 
-TOP = os.path.dirname(os.path.dirname(os.path.dirname(os.path.abspath(__file__))))
+sys.path.insert(0, os.path.dirname(os.path.dirname(os.path.abspath(__file__))))
+from served import TOP, parser_of  # noqa: E402
 
 NO_ALLOCATOR = 'takes no allocator and owns none'
 BY_CALLER = 'its condition holds only within the call that makes it: '
@@ -115,6 +116,7 @@ def is_made(call, names):
 
 
 def main():
+    parser_of(__doc__).parse_args()
     texts = list(sources())
     all_calls, names = sorted(set(calls(texts))), set(made())
     left = [call for call in all_calls if call in LEFT_OUT]

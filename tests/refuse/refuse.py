@@ -16,8 +16,10 @@ import sys
 import tempfile
 from concurrent.futures import ThreadPoolExecutor
 
-TOP = os.path.dirname(os.path.dirname(os.path.dirname(os.path.abspath(__file__))))
 HERE = os.path.dirname(os.path.abspath(__file__))
+sys.path.insert(0, os.path.dirname(HERE))
+from served import TOP, need, parser_of  # noqa: E402
+
 CRATE = os.path.join(TOP, 'crates', 'druid_refusal_tests')
 PROGRAM = os.environ.get('REFUSAL_TESTS') or os.path.join(CRATE, 'out', 'druid_refusal_tests_tests')
 JOBS = int(os.environ.get('JOBS', '2'))
@@ -56,7 +58,12 @@ def try_call(shared, folder, test, call):
 
 
 def main():
-    tests = sys.argv[1:] or list(tests_of_crate())
+    parser = parser_of(__doc__)
+    parser.add_argument('tests', nargs='*', metavar='TEST')
+    tests = parser.parse_args().tests or list(tests_of_crate())
+    if not os.access(PROGRAM, os.X_OK):
+        sys.exit(f'{PROGRAM} is not there: `rt test` in crates/druid_refusal_tests proves and builds it, or REFUSAL_TESTS has the path of another')
+    need('cc')
     faults, calls, refusals = [], 0, 0
     with tempfile.TemporaryDirectory() as folder:
         shared = os.path.join(folder, 'refuse.so')

@@ -9,7 +9,9 @@ compares: the launcher ends within 5 seconds, no process of it is left, and the 
 """
 import os, pty, random, shutil, signal, subprocess, sys, tempfile, time
 
-TOP = os.path.dirname(os.path.dirname(os.path.dirname(os.path.abspath(__file__))))
+sys.path.insert(0, os.path.dirname(os.path.dirname(os.path.abspath(__file__))))
+from served import TOP, need, parser_of  # noqa: E402
+
 KINDS = {'compiles': (['preview', 'serve'], 60), 'serves': (['preview', 'serve'], 2), 'proves': (['serve'], 60)}
 
 
@@ -57,7 +59,12 @@ def interrupt(copy, words, seconds):
     return left
 
 
-def main(runs=8, seed=1):
+def main():
+    parser = parser_of(__doc__)
+    parser.add_argument('runs', nargs='?', type=int, default=8)
+    parser.add_argument('seed', nargs='?', type=int, default=1)
+    runs, seed = vars(parser.parse_args()).values()
+    need('rt')
     draw, failed = random.Random(seed), 0
     with tempfile.TemporaryDirectory() as folder:
         copy = f'{folder}/copy'
@@ -75,4 +82,4 @@ def main(runs=8, seed=1):
 
 
 if __name__ == '__main__':
-    sys.exit(main(*map(int, sys.argv[1:])))
+    sys.exit(main())

@@ -2,7 +2,7 @@
 
 import { lanesOf } from './lanes.js';
 import { showNodes } from './nodes.js';
-import { byId, element, request } from './page.js';
+import { byId, counted, element, request } from './page.js';
 import { startQuery } from './query.js';
 import { showNodeFile, startRows } from './rows.js';
 import { Timeline } from './timeline.js';
@@ -40,14 +40,22 @@ class Page {
 
   async lookAtBrokers() {
     this.brokersDue = performance.now() + BROKERS;
-    this.countConnections(this.cluster.brokers.length * this.cluster.nodes.length);
     const answer = await request(`/api/brokers?broker=${this.broker}&known=${this.digest}`);
+    this.countConnections(answer.connections);
     this.lookedAt = performance.now();
     this.brokers = answer.brokers;
     this.marks = answer.brokers[this.broker].marks;
     showNodes(this.nodes, this.brokers);
     if (!answer.digest) throw new Error(`broker ${this.cluster.brokers[this.broker]}: ${answer.brokers[this.broker].fault}`);
     if (answer.sources) this.showTimelines(answer);
+    this.showParts(answer.parts);
+  }
+
+  /** Says of which nodes a part alone is known, since the broker moved on while its pages were read. */
+  showParts(parts) {
+    const words = parts.map((it) => `Of node ${it.node} the timelines show ${it.pages} of ${counted(it.of, 'page')}: the broker moved on meanwhile. `
+      + 'What is on the others is not shown, and chunks with partitions there are shown as not complete.').join(' ');
+    if (byId('parts').textContent !== words) byId('parts').textContent = words;
   }
 
   /** Shows new timelines; of a source that was there before, with the view that it had. */
@@ -116,7 +124,7 @@ class Page {
       this.showState();
     });
     byId('look').addEventListener('click', () => this.look(true));
-    byId('look-cost').textContent = `${this.cluster.brokers.length * this.cluster.nodes.length} connections (one for each broker and node)`;
+    byId('look-cost').textContent = `${this.cluster.brokers.length * this.cluster.nodes.length} connections (one for each broker and node; more where a node has more than 20,000 segments)`;
     const measure = () => [...this.timelines.values()].forEach((it) => it.measure());
     window.addEventListener('resize', measure);
     window.matchMedia('(prefers-color-scheme: dark)').addEventListener('change', measure);
