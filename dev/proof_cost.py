@@ -10,7 +10,9 @@ costs shows at the callee that is checked after it. Seconds by the clock, so onl
 """
 import collections, os, re, sys
 
-from lib import TOP, parser_of
+sys.dont_write_bytecode = True
+sys.path.insert(0, os.path.join(os.path.dirname(os.path.dirname(os.path.abspath(__file__))), 'tools'))
+from built import TOP, parser_of  # noqa: E402
 
 
 def main():

@@ -1,7 +1,7 @@
 #!/usr/bin/env python3
 """Runs a command of the toolchain and says where its processor time went, by crate and phase, and what each must-fail edit took.
 
-gate_cost.py COMMAND..     as `bench/gate_cost.py .ci/run` at the top of the repository
+gate_cost.py COMMAND..     as `dev/gate_cost.py .ci/run` at the top of the repository
 
 Phases: proof (the crate), tests (a crate of tests), edits (its must-fail edits, with the proof that they begin with), and other
 programs by their name. Processor minutes hold on a busy machine better than minutes by the clock; `from` and `to` are minutes by
@@ -10,7 +10,9 @@ begin with and the last look at it, which a crate with two edits or more pays on
 """
 import argparse, collections, glob, os, re, shutil, subprocess, sys, time
 
-from lib import parser_of
+sys.dont_write_bytecode = True
+sys.path.insert(0, os.path.join(os.path.dirname(os.path.dirname(os.path.abspath(__file__))), 'tools'))
+from built import parser_of  # noqa: E402
 
 HZ = os.sysconf('SC_CLK_TCK')
 Work = collections.namedtuple('Work', 'crate phase edit')
