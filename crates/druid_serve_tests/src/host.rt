@@ -36,12 +36,23 @@ impl<
         + 'static,
 > Host for R {}
 
+/// A listener at an address of this machine where nobody listened.
+pub(crate) fn listener<R: Net<Listener = TcpListener, Stream = TcpStream> + Abort>(
+    rt: &R,
+) -> TcpListener {
+    TcpListener::bind(rt, "127.0.0.1:0").expect(rt, "a listener")
+}
+
+/// Where a listener is.
+pub(crate) fn address_of(rt: &impl Abort, alloc: Global, listener: &TcpListener) -> String {
+    let address = listener.local_addr().expect(rt, "an address");
+    format!(in alloc; "{address}").expect(rt, "memory")
+}
+
 /// An address of this machine where nobody listens.
 pub(crate) fn free_address<R: Net<Listener = TcpListener, Stream = TcpStream> + Abort>(
     rt: &R,
     alloc: Global,
 ) -> String {
-    let listener = TcpListener::bind(rt, "127.0.0.1:0").expect(rt, "a listener");
-    let address = listener.local_addr().expect(rt, "an address");
-    format!(in alloc; "{address}").expect(rt, "memory")
+    address_of(rt, alloc, &listener(rt))
 }

@@ -2,7 +2,7 @@
 use crate::folders::{
     LATER_FILE, NEWER_FILE, OLDER_FILE, fewer_bytes, file_bytes, fresh_folder, put,
 };
-use crate::host::{Host, free_address};
+use crate::host::{Host, address_of, listener};
 use druid_link::{Link, TcpLink};
 use druid_serve::{run, serve};
 use std::alloc::Global;
@@ -54,11 +54,14 @@ pub(crate) fn place_of<R: Host + Net<Listener = TcpListener, Stream = TcpStream>
     let older = folder_with(rt, alloc, test, OLDER_FILE);
     let newer = folder_with(rt, alloc, test, NEWER_FILE);
     put(rt, alloc, newer.as_str(), "other", b"no segment");
+    // (all four listen at once: the port of one that is dropped could be given to the next)
+    let (first, second) = (listener(rt), listener(rt));
+    let (broker, other) = (listener(rt), listener(rt));
     Place {
-        first: free_address(rt, alloc),
-        second: free_address(rt, alloc),
-        broker: free_address(rt, alloc),
-        other: free_address(rt, alloc),
+        first: address_of(rt, alloc, &first),
+        second: address_of(rt, alloc, &second),
+        broker: address_of(rt, alloc, &broker),
+        other: address_of(rt, alloc, &other),
         older,
         newer,
     }
