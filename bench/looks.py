@@ -1,10 +1,11 @@
 #!/usr/bin/env python3
-"""Counts the chunks that an edit of a timeline looks at: of hour chunks, under 20 chunks of a year each.
+"""Counts the chunks that an edit of a timeline looks at, over hour chunks under 20 chunks of a year each: `hours` come and go,
+partitions of a year that stays complete (`level`), and chunks of two hours that complete and are shown nowhere (`weaker`).
 
 A search looks at a chunk by computing the length class of its interval, which is the one use of the instruction `bsr` in the
-crates of timelines: valgrind counts how often it is executed, in two runs that differ by 200 edits. Beside these, the chunks
-that start near the edited one are compared with it: the script counts them by the rule of the search. Needs Debian's
-packages valgrind and binutils.
+crates of timelines: valgrind counts how often it is executed, in two runs that differ by 200 edits. Where a chunk that was
+visible goes, the chunks that start near it are compared with it: the script counts them by the rule of the search; the other
+kinds look only for their own chunk. Needs Debian's packages valgrind and binutils.
 """
 import re, subprocess, tempfile
 
@@ -12,6 +13,7 @@ from lib import build, need, parser_of
 
 SIZES = (5_000, 10_000, 20_000)
 EDITS = (100, 300)
+KINDS = ('hours', 'level', 'weaker')
 CRATES = ('druid_chunks', 'druid_timeline')
 
 
@@ -48,10 +50,10 @@ def executions(report, program, places):
     return total
 
 
-def classes(program, places, chunks, edits):
+def classes(program, places, chunks, edits, kind):
     with tempfile.NamedTemporaryFile('r', suffix='.callgrind') as report:
         subprocess.run(['valgrind', '--tool=callgrind', '--dump-instr=yes', f'--callgrind-out-file={report.name}', program,
-                        str(chunks), str(edits)], check=True, capture_output=True)
+                        str(chunks), str(edits), kind], check=True, capture_output=True)
         return executions(report, program, places)
 
 
@@ -65,13 +67,14 @@ def near(hour, chunks):
 def main():
     parser_of(__doc__).parse_args()
     need('valgrind', 'objdump')
-    program, _ = build('looks', ['druid_timeline', 'anyhow'], words=['100', '2'])
+    program, _ = build('looks', ['druid_timeline', 'anyhow'], words=['100', '2', 'hours'])
     places = class_places(program)
     few, many = EDITS
     for chunks in SIZES:
-        spent = classes(program, places, chunks, many) - classes(program, places, chunks, few)
-        most = max(near(31 * edit, chunks) for edit in range(many // 2))
-        print(f'{chunks:6} hour chunks: an edit looks at {spent / (many - few):5.0f} by halving, and at most {most} near it', flush=True)
+        for kind in KINDS:
+            spent = classes(program, places, chunks, many, kind) - classes(program, places, chunks, few, kind)
+            most = max(near(31 * edit, chunks) for edit in range(many // 2)) if kind == 'hours' else 0
+            print(f'{chunks:6} hour chunks, {kind}: an edit looks at {spent / (many - few):5.0f} by halving, and at most {most} near it', flush=True)
 
 
 if __name__ == '__main__':

@@ -23,10 +23,14 @@ fn date(days: i64) -> (i64, i64, i64) {
     (year + era * 400 + i64::from(month <= 2), month, day)
 }
 
+fn number(digits: &[u8]) -> i64 {
+    digits.iter().fold(0, |number, digit| number * 10 + i64::from(digit - b'0'))
+}
+
 /// Reads `YYYY-MM-DD`, and what stands of `THH:MM:SS.mmm` and `Z` after it.
 fn parse(text: &str) -> i64 {
-    let text = text.strip_suffix('Z').unwrap_or(text);
-    let part = |from: usize, to: usize| text.get(from..to).map_or(0, |it| it.parse().unwrap());
+    let text = text.strip_suffix('Z').unwrap_or(text).as_bytes();
+    let part = |from: usize, to: usize| text.get(from..to).map_or(0, number);
     let clock = ((part(11, 13) * 60 + part(14, 16)) * 60 + part(17, 19)) * 1_000 + part(20, 23);
     days(part(0, 4), part(5, 7), part(8, 10)) * DAY + clock
 }
@@ -36,13 +40,26 @@ pub fn parse_interval(text: &str) -> (i64, i64) {
     (parse(start), parse(end))
 }
 
-fn text(instant: i64) -> String {
+/// Writes an instant into 24 bytes.
+fn write_instant(text: &mut [u8], instant: i64) {
     let ((year, month, day), clock) = (date(instant.div_euclid(DAY)), instant.rem_euclid(DAY));
     let (seconds, millis) = (clock / 1_000, clock % 1_000);
     let (hour, minute, second) = (seconds / 3_600, seconds / 60 % 60, seconds % 60);
-    format!("{year:04}-{month:02}-{day:02}T{hour:02}:{minute:02}:{second:02}.{millis:03}Z")
+    let parts = [(year, 4, b'-'), (month, 2, b'-'), (day, 2, b'T'), (hour, 2, b':'), (minute, 2, b':'), (second, 2, b'.'), (millis, 3, b'Z')];
+    let mut from = 0;
+    for (mut number, width, after) in parts {
+        for digit in text[from..from + width].iter_mut().rev() {
+            *digit = b'0' + (number % 10) as u8;
+            number /= 10;
+        }
+        text[from + width] = after;
+        from += width + 1;
+    }
 }
 
-pub fn interval_text(start: i64, end: i64) -> String {
-    format!("{}/{}", text(start), text(end))
+pub fn interval_text(start: i64, end: i64) -> [u8; 49] {
+    let mut text = [b'/'; 49];
+    write_instant(&mut text[..24], start);
+    write_instant(&mut text[25..], end);
+    text
 }

@@ -1,12 +1,13 @@
 //! The chunks of a data source, and what is visible of them.
-use std::cmp::Reverse;
-use std::collections::{BTreeMap, BTreeSet, BinaryHeap};
+use std::collections::{BTreeMap, BinaryHeap};
+use std::mem::take;
+use std::rc::Rc;
 
 #[derive(Clone, PartialEq, Eq, PartialOrd, Ord)]
 pub struct Chunk {
     pub start: i64,
     pub end: i64,
-    pub version: String,
+    pub version: Rc<str>,
 }
 
 impl Chunk {
@@ -17,70 +18,127 @@ impl Chunk {
 }
 
 #[derive(Clone, Default)]
-struct Members {
-    held: BTreeSet<(u16, usize)>,
+pub struct Members {
+    /// Partitions and the nodes that hold them, in order.
+    held: Vec<(u16, u16)>,
     core: u16,
 }
 
 impl Members {
-    fn partitions(&self) -> Vec<u16> {
-        let mut found: Vec<u16> = self.held.iter().map(|it| it.0).collect();
-        found.dedup();
-        found
+    /// The partitions, in order.
+    pub fn partitions(&self) -> impl Iterator<Item = u16> + '_ {
+        let mut last = None;
+        self.held.iter().map(|it| it.0).filter(move |it| last.replace(*it) != Some(*it))
     }
 
     fn is_complete(&self) -> bool {
-        let partitions = self.partitions();
-        !partitions.is_empty() && partitions.iter().filter(|&&it| it < self.core).count() == usize::from(self.core)
+        self.partitions().take(usize::from(self.core)).eq(0..self.core)
+    }
+}
+
+/// From one instant to another this chunk is visible.
+#[derive(Clone)]
+struct Run {
+    start: i64,
+    end: i64,
+    chunk: Chunk,
+}
+
+/// Appends a run, or makes the last one longer by it.
+fn push_run(runs: &mut Vec<Run>, start: i64, end: i64, chunk: &Chunk) {
+    match runs.last_mut() {
+        Some(last) if last.end == start && last.chunk == *chunk => last.end = end,
+        _ => runs.push(Run { start, end, chunk: chunk.clone() }),
     }
 }
 
 #[derive(Clone, Default)]
 pub struct Timeline {
     chunks: BTreeMap<Chunk, Members>,
+    /// The length of the longest chunk that was ever there.
+    longest: i64,
+    /// What was visible, in order, when `stale` was empty.
+    runs: Vec<Run>,
+    /// The intervals of the chunks that were changed since.
+    stale: Vec<(i64, i64)>,
 }
 
 impl Timeline {
-    pub fn add(&mut self, chunk: &Chunk, partition: u16, core: u16, node: usize) {
-        let members = match self.chunks.get_mut(chunk) {
-            Some(it) => it,
-            None => self.chunks.entry(chunk.clone()).or_default(),
-        };
+    pub fn add(&mut self, chunk: &Chunk, partition: u16, core: u16, node: u16) {
+        let members = self.chunks.entry(chunk.clone()).or_default();
         members.core = core;
-        members.held.insert((partition, node));
+        if let Err(place) = members.held.binary_search(&(partition, node)) {
+            members.held.insert(place, (partition, node));
+        }
+        self.longest = self.longest.max(chunk.end - chunk.start);
+        self.stale.push((chunk.start, chunk.end));
     }
 
-    pub fn remove(&mut self, chunk: &Chunk, partition: u16, node: usize) {
+    pub fn remove(&mut self, chunk: &Chunk, partition: u16, node: u16) {
         let members = self.chunks.get_mut(chunk).unwrap();
-        members.held.remove(&(partition, node));
+        members.held.retain(|it| *it != (partition, node));
         if members.held.is_empty() {
             self.chunks.remove(chunk);
         }
+        self.stale.push((chunk.start, chunk.end));
     }
 
-    /// What is visible from one instant to another, by one sweep over the complete chunks there.
-    pub fn lookup(&self, start: i64, end: i64) -> Vec<(i64, i64, &Chunk, Vec<u16>)> {
-        let there = self.chunks.iter().filter(|(it, members)| it.start < end && start < it.end && members.is_complete());
-        let chunks: Vec<&Chunk> = there.map(|it| it.0).collect();
+    pub fn is_stale(&self) -> bool {
+        !self.stale.is_empty()
+    }
+
+    /// Sweeps over what was changed.
+    pub fn refresh(&mut self) {
+        let mut stale = take(&mut self.stale);
+        stale.sort_unstable();
+        stale.dedup_by(|later, earlier| {
+            let touches = later.0 <= earlier.1;
+            if touches {
+                earlier.1 = earlier.1.max(later.1);
+            }
+            touches
+        });
+        for (start, end) in stale {
+            let (first, last) = (self.runs.partition_point(|it| it.end < start), self.runs.partition_point(|it| it.start <= end));
+            let mut shown = Vec::new();
+            for run in self.runs[first..last].iter().filter(|it| it.start < start) {
+                push_run(&mut shown, run.start, run.end.min(start), &run.chunk);
+            }
+            self.sweep(start, end, &mut shown);
+            for run in self.runs[first..last].iter().filter(|it| end < it.end) {
+                push_run(&mut shown, run.start.max(end), run.end, &run.chunk);
+            }
+            self.runs.splice(first..last, shown);
+        }
+    }
+
+    /// Appends what is visible from one instant to another, by one sweep over the complete chunks there.
+    fn sweep(&self, start: i64, end: i64, shown: &mut Vec<Run>) {
+        let first = Chunk { start: start - self.longest, end: i64::MIN, version: "".into() };
+        let there = self.chunks.range(first..).take_while(|it| it.0.start < end);
+        let chunks: Vec<&Chunk> = there.filter(|(it, members)| start < it.end && members.is_complete()).map(|it| it.0).collect();
         let mut bounds: Vec<i64> = chunks.iter().flat_map(|it| [it.start.max(start), it.end.min(end)]).collect();
         bounds.sort_unstable();
         bounds.dedup();
-        let (mut found, mut active, mut next): (Vec<(i64, i64, &Chunk)>, BinaryHeap<((&str, i64, i64), Reverse<usize>)>, usize) =
-            (Vec::new(), BinaryHeap::new(), 0);
+        let (mut active, mut next) = (BinaryHeap::new(), 0);
         for pair in bounds.windows(2) {
             while next < chunks.len() && chunks[next].start <= pair[0] {
-                active.push((chunks[next].rank(), Reverse(next)));
+                active.push((chunks[next].rank(), next));
                 next += 1;
             }
-            while active.peek().is_some_and(|(_, Reverse(it))| chunks[*it].end <= pair[0]) {
+            while active.peek().is_some_and(|it| chunks[it.1].end <= pair[0]) {
                 active.pop();
             }
-            let Some((_, Reverse(best))) = active.peek() else { continue };
-            match found.last_mut() {
-                Some(last) if last.1 == pair[0] && last.2 == chunks[*best] => last.1 = pair[1],
-                _ => found.push((pair[0], pair[1], chunks[*best])),
+            if let Some((_, best)) = active.peek() {
+                push_run(shown, pair[0], pair[1], chunks[*best]);
             }
         }
-        found.into_iter().map(|(from, to, chunk)| (from, to, chunk, self.chunks[chunk].partitions())).collect()
+    }
+
+    /// What is visible from one instant to another, where nothing is stale.
+    pub fn lookup(&self, start: i64, end: i64) -> impl Iterator<Item = (i64, i64, &Chunk, &Members)> + '_ {
+        let first = self.runs.partition_point(|it| it.end <= start);
+        let runs = self.runs[first..].iter().take_while(move |it| it.start < end);
+        runs.map(move |it| (it.start.max(start), it.end.min(end), &it.chunk, &self.chunks[&it.chunk]))
     }
 }

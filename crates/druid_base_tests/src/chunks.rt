@@ -44,7 +44,8 @@ fn overlaps(rt: &impl Abort, alloc: Global, case: &str) -> String {
     let chunks = served(rt, alloc, rows);
     let other = descriptor(rt, alloc, row);
     let mut reported = String::new(alloc);
-    for key in &chunks.overlapping(other.id()).expect(rt, "memory") {
+    let part = other.id().interval();
+    for key in &chunks.overlapping(other.id(), part).expect(rt, "memory") {
         push_version(rt, alloc, &mut reported, key);
         write!(reported, " {};", key.interval()).expect(rt, "memory");
     }

@@ -1,6 +1,7 @@
-//! Drawn edits of a timeline, beside a plain computation over all that is held: at each hour the complete chunk of the
-//! greatest version, start and end is visible. A chunk is written as a number of the digits VSSEE, version, first hour and
-//! end, so that the greater number is the one that is shown.
+//! Drawn edits of a timeline, beside a plain computation over all that is held: at each instant the complete chunk of the
+//! greatest version, start and end is visible. Chunks start and end at ticks, which lie a millisecond or hours apart. A
+//! chunk is written as a number of the digits VSSEE, version, first tick and end, so that the greater number is the one
+//! that is shown.
 ghost use Rattle.std.specs.Prelude.{◌<◌};
 
 use crate::drawn::Draws;
@@ -12,20 +13,27 @@ use druid_timeline::{Timeline, TimelineFault};
 use std::alloc::Global;
 use std::process::Abort;
 
-const EDITS: u64 = 10_000;
+// Of each of the tables that are drawn.
+const EDITS: u64 = 2_500;
 
-const HOURS: u64 = 24;
+const TABLES: u64 = 4;
+
+const TICKS: u64 = 24;
+
+// In the order of their bytes, so that the later one is the one that is shown.
+const VERSIONS: &[&str] = &["v1", "v10", "v2", "v9"];
 
 // More is held never, so that the plain computation stays quick.
 const MOST_HELD: usize = 40;
 
-// A partition of a chunk that a node serves, and how many core partitions it names.
+// A partition of a chunk that a node serves, and how many core partitions it names; or a tombstone.
 #[derive(Clone, Copy, PartialEq, Eq, Drop)]
 struct Served {
     chunk: u64,
     partition: u16,
     core: u16,
     node: NodeNo,
+    is_tombstone: bool,
 }
 
 fn start_of(chunk: u64) -> u64 {
@@ -36,48 +44,49 @@ fn end_of(chunk: u64) -> u64 {
     chunk % 100
 }
 
-fn has(chunk: u64, hour: u64) -> bool {
-    start_of(chunk) <= hour && hour < end_of(chunk)
+fn has(chunk: u64, tick: u64) -> bool {
+    start_of(chunk) <= tick && tick < end_of(chunk)
 }
 
-// The hours from 1970 on, as instants; how many milliseconds an hour has; and the versions, by their number.
+// Instants that rise, and versions, by their number.
 #[derive(Drop)]
-struct Day {
-    hours: Vec<Instant>,
-    length: i64,
+struct Table {
+    ticks: Vec<Instant>,
     versions: Vec<Version>,
 }
 
-impl Day {
-    fn new(rt: &impl Abort, alloc: Global, length: i64) -> Day {
+impl Table {
+    fn new(rt: &impl Abort, alloc: Global, draws: &mut Draws) -> Table {
         let mut ms = 0_i64;
-        let mut hours = Vec::new(alloc);
-        for _hour in 0..=HOURS {
-            let instant = Instant::new(ms).expect(rt, "an instant");
-            hours.push(instant).expect(rt, "memory");
-            ms = ms.wrapping_add(length);
+        let mut ticks = Vec::new(alloc);
+        for _tick in 0..=TICKS {
+            ticks
+                .push(Instant::new(ms).expect(rt, "an instant"))
+                .expect(rt, "memory");
+            let gap = if draws.below(3) == 0 {
+                0
+            } else {
+                draws.below(7_200_000) as i64
+            };
+            ms = ms.wrapping_add(gap).wrapping_add(1);
         }
         let mut versions = Vec::new(alloc);
-        for text in ["v0", "v1", "v2"] {
+        for text in VERSIONS {
             let version = Version::new(alloc, text).expect(rt, "a version");
             versions.push(version).expect(rt, "memory");
         }
-        Day {
-            hours,
-            length,
-            versions,
-        }
+        Table { ticks, versions }
     }
 
     fn interval(&self, rt: &impl Abort, start: u64, end: u64) -> Interval {
-        let start = self.hours.get(start as usize).expect(rt, "an hour");
-        let end = self.hours.get(end as usize).expect(rt, "an hour");
+        let start = self.ticks.get(start as usize).expect(rt, "a tick");
+        let end = self.ticks.get(end as usize).expect(rt, "a tick");
         Interval::new(*start, *end).expect(rt, "an interval")
     }
 
-    fn hour_of(&self, instant: Instant) -> u64 {
-        let hour = instant.ms().checked_div(self.length).unwrap_or(0);
-        hour.unsigned_abs()
+    fn tick_of(&self, instant: Instant) -> u64 {
+        let ticks = self.ticks.iter();
+        ticks.take_while(|it| **it < instant).count() as u64
     }
 
     // The number of a chunk.
@@ -85,32 +94,53 @@ impl Day {
         let versions = self.versions.iter();
         let version = versions.take_while(|it| *it != key.version()).count() as u64;
         let interval = key.interval();
-        let start = self.hour_of(interval.start()).wrapping_mul(100);
+        let start = self.tick_of(interval.start()).wrapping_mul(100);
         version
             .wrapping_mul(10_000)
             .wrapping_add(start)
-            .wrapping_add(self.hour_of(interval.end()))
+            .wrapping_add(self.tick_of(interval.end()))
     }
 
     fn stretch_of(&self, interval: Interval, key: &GroupKey) -> u64 {
-        let start = self.hour_of(interval.start());
-        let end = self.hour_of(interval.end());
+        let start = self.tick_of(interval.start());
+        let end = self.tick_of(interval.end());
         stretch(start, end, self.number_of(key))
+    }
+
+    fn id(
+        &self,
+        rt: &impl Abort,
+        alloc: Global,
+        source: &str,
+        chunk: u64,
+        partition: u16,
+    ) -> SegmentId {
+        let interval = self.interval(rt, start_of(chunk), end_of(chunk));
+        let version = self
+            .versions
+            .get((chunk / 10_000) as usize)
+            .expect(rt, "a version");
+        let version = version.clone().expect(rt, "memory");
+        SegmentId::new(name(rt, alloc, source), interval, version, partition)
+    }
+
+    fn descriptor(
+        &self,
+        rt: &impl Abort,
+        alloc: Global,
+        source: &str,
+        served: Served,
+    ) -> Descriptor {
+        let id = self.id(rt, alloc, source, served.chunk, served.partition);
+        if served.is_tombstone {
+            Descriptor::tombstone(id).expect(rt, "a tombstone")
+        } else {
+            Descriptor::new(id, served.core, 1).expect(rt, "a descriptor")
+        }
     }
 }
 
-fn segment(rt: &impl Abort, alloc: Global, day: &Day, served: Served) -> Descriptor {
-    let chunk = day.interval(rt, start_of(served.chunk), end_of(served.chunk));
-    let version = day
-        .versions
-        .get((served.chunk / 10_000) as usize)
-        .expect(rt, "a version");
-    let version = version.clone().expect(rt, "memory");
-    let id = SegmentId::new(name(rt, alloc, "wiki"), chunk, version, served.partition);
-    Descriptor::new(id, served.core, 1).expect(rt, "a descriptor")
-}
-
-// A stretch of hours in which a chunk is visible, as one number.
+// A stretch of ticks in which a chunk is visible, as one number.
 fn stretch(start: u64, end: u64, chunk: u64) -> u64 {
     start
         .wrapping_mul(100)
@@ -149,17 +179,17 @@ fn complete_chunks(rt: &impl Abort, alloc: Global, held: &[Served]) -> Vec<u64> 
     chunks
 }
 
-// The chunk that is visible at each hour.
+// The chunk that is visible at each tick.
 fn visible(rt: &impl Abort, alloc: Global, chunks: &[u64]) -> Vec<Option<u64>> {
     let mut visible = Vec::new(alloc);
-    for hour in 0..HOURS {
-        let best = chunks.iter().copied().filter(|it| has(*it, hour)).max();
+    for tick in 0..TICKS {
+        let best = chunks.iter().copied().filter(|it| has(*it, tick)).max();
         visible.push(best).expect(rt, "memory");
     }
     visible
 }
 
-// The stretches in which one chunk is visible, within some hours.
+// The stretches in which one chunk is visible, within some ticks.
 fn stretches(
     rt: &impl Abort,
     alloc: Global,
@@ -169,9 +199,9 @@ fn stretches(
 ) -> Vec<u64> {
     let mut found: Vec<u64> = Vec::new(alloc);
     let mut open: Option<(u64, u64)> = None;
-    for hour in first..=end {
-        let here = if hour < end {
-            visible.get(hour as usize).copied().flatten()
+    for tick in first..=end {
+        let here = if tick < end {
+            visible.get(tick as usize).copied().flatten()
         } else {
             None
         };
@@ -179,9 +209,9 @@ fn stretches(
             if here == Some(chunk) {
                 continue;
             }
-            found.push(stretch(start, hour, chunk)).expect(rt, "memory");
+            found.push(stretch(start, tick, chunk)).expect(rt, "memory");
         }
-        open = here.map(|chunk| (hour, chunk));
+        open = here.map(|chunk| (tick, chunk));
     }
     found
 }
@@ -205,58 +235,108 @@ fn hidden(rt: &impl Abort, alloc: Global, chunks: &[u64], visible: &[Option<u64>
     hidden
 }
 
-// Asserts that the timeline says of what is held what the plain computation says, and the pieces within some hours.
+// The partitions of a chunk that are held, rising, each once.
+fn partitions(rt: &impl Abort, alloc: Global, held: &[Served], chunk: u64) -> Vec<u16> {
+    let mut found: Vec<u16> = Vec::new(alloc);
+    for served in held {
+        if served.chunk == chunk && !found.contains(&served.partition) {
+            found.push(served.partition).expect(rt, "memory");
+        }
+    }
+    found.sort_unstable();
+    found
+}
+
+// The nodes that hold a segment, rising; those that have its rows alone, or all.
+fn nodes(
+    rt: &impl Abort,
+    alloc: Global,
+    held: &[Served],
+    place: &Served,
+    with_rows: bool,
+) -> Vec<NodeNo> {
+    let mut found = Vec::new(alloc);
+    for served in held {
+        let is_one = served.chunk == place.chunk && served.partition == place.partition;
+        if is_one && !(with_rows && served.is_tombstone) {
+            found.push(served.node).expect(rt, "memory");
+        }
+    }
+    found.sort_unstable();
+    found
+}
+
+// Asserts that the timeline says of what is held what the plain computation says, and the pieces within some ticks.
 fn assert_same(
     rt: &impl Abort,
     alloc: Global,
     timeline: &Timeline,
     held: &[Served],
-    day: &Day,
+    table: &Table,
     window: (u64, u64),
 ) {
     let chunks = complete_chunks(rt, alloc, held);
     let visible = visible(rt, alloc, &chunks);
     let mut runs = Vec::new(alloc);
     for (interval, key) in timeline.runs() {
-        runs.push(day.stretch_of(*interval, key))
+        runs.push(table.stretch_of(*interval, key))
             .expect(rt, "memory");
     }
-    assert!(rt; runs == stretches(rt, alloc, &visible, 0, HOURS));
-    for (hour, best) in day.hours.iter().zip(&visible) {
-        let key = timeline.at(*hour).map(|key| day.number_of(key));
+    assert!(rt; runs == stretches(rt, alloc, &visible, 0, TICKS));
+    for (tick, best) in table.ticks.iter().zip(&visible) {
+        let key = timeline.at(*tick).map(|key| table.number_of(key));
         assert!(rt; key == *best);
     }
-    assert_pieces(rt, alloc, timeline, day, window, &visible);
+    assert_pieces(rt, alloc, timeline, held, table, window, &visible);
     let mut meter = Meter::new();
     let mut found = Vec::new(alloc);
     for key in &timeline.overshadowed(&mut meter).expect(rt, "memory") {
-        found.push(day.number_of(key)).expect(rt, "memory");
+        found.push(table.number_of(key)).expect(rt, "memory");
     }
     assert!(rt; found == hidden(rt, alloc, &chunks, &visible));
 }
 
-// Asserts the pieces within some hours.
+// Asserts the pieces within some ticks, and their partitions.
 fn assert_pieces(
     rt: &impl Abort,
     alloc: Global,
     timeline: &Timeline,
-    day: &Day,
+    held: &[Served],
+    table: &Table,
     window: (u64, u64),
     visible: &[Option<u64>],
 ) {
-    let part = day.interval(rt, window.0, window.1);
+    let part = table.interval(rt, window.0, window.1);
     let set = IntervalSet::of(alloc, &[part]).expect(rt, "memory");
     let mut pieces = Vec::new(alloc);
     for piece in &timeline.lookup(&set).expect(rt, "memory") {
+        let expected = partitions(rt, alloc, held, table.number_of(piece.key()));
+        assert!(rt; piece.parts() == expected.as_slice());
         pieces
-            .push(day.stretch_of(piece.interval(), piece.key()))
+            .push(table.stretch_of(piece.interval(), piece.key()))
             .expect(rt, "memory");
     }
     assert!(rt; pieces == stretches(rt, alloc, visible, window.0, window.1));
 }
 
-// Hours from one to a later one.
-fn draw_hours(draws: &mut Draws) -> (u64, u64) {
+// Asserts who holds the segment of a place, and who has its rows.
+fn assert_nodes(
+    rt: &impl Abort,
+    alloc: Global,
+    timeline: &Timeline,
+    held: &[Served],
+    table: &Table,
+    place: &Served,
+) {
+    let id = table.id(rt, alloc, "wiki", place.chunk, place.partition);
+    let replicas = timeline.replicas(&id).expect(rt, "memory");
+    assert!(rt; replicas == nodes(rt, alloc, held, place, false));
+    let served = timeline.served(&id).expect(rt, "memory");
+    assert!(rt; served == nodes(rt, alloc, held, place, true));
+}
+
+// Ticks from one to a later one.
+fn draw_ticks(draws: &mut Draws) -> (u64, u64) {
     let start = draws.below(23);
     let length = if draws.below(3) == 0 {
         draws.below(24)
@@ -267,16 +347,29 @@ fn draw_hours(draws: &mut Draws) -> (u64, u64) {
 }
 
 fn draw_served(draws: &mut Draws) -> Served {
-    let (start, end) = draw_hours(draws);
-    let version = draws.below(3);
+    let (start, end) = draw_ticks(draws);
+    let version = draws.below(4);
+    let chunk = version
+        .wrapping_mul(10_000)
+        .wrapping_add(start.wrapping_mul(100))
+        .wrapping_add(end);
+    let is_tombstone = draws.below(8) == 0;
+    let node = draws.below(2) as NodeNo;
+    if is_tombstone {
+        return Served {
+            chunk,
+            partition: 0,
+            core: 1,
+            node,
+            is_tombstone,
+        };
+    }
     Served {
-        chunk: version
-            .wrapping_mul(10_000)
-            .wrapping_add(start.wrapping_mul(100))
-            .wrapping_add(end),
+        chunk,
         partition: draws.below(3) as u16,
         core: draws.below(3) as u16,
-        node: draws.below(2) as NodeNo,
+        node,
+        is_tombstone,
     }
 }
 
@@ -297,45 +390,59 @@ fn draw_near(draws: &mut Draws, held: &[Served]) -> Served {
     }
 }
 
-// Adds a drawn segment, where no more than so much is held; L1 where the node serves it.
+// The source of the timeline, or in one of 16 edits another.
+fn draw_source(draws: &mut Draws) -> &'static str {
+    if draws.below(16) == 0 {
+        "other"
+    } else {
+        "wiki"
+    }
+}
+
+// Adds a drawn segment, where no more than so much is held; L2 of another source, and L1 where the node serves it.
 fn add(
     rt: &impl Abort,
     alloc: Global,
     draws: &mut Draws,
     timeline: &mut Timeline,
     held: &mut Vec<Served>,
-    day: &Day,
+    table: &Table,
 ) {
     let served = draw_near(draws, held);
+    let source = draw_source(draws);
     if held.len() >= MOST_HELD {
         return;
     }
     let is_there = held.iter().any(|it| is_one_place(it, &served));
-    let descriptor = segment(rt, alloc, day, served);
+    let descriptor = table.descriptor(rt, alloc, source, served);
     let mut meter = Meter::new();
     let added = timeline.add(&descriptor, served.node, &mut meter);
-    if is_there {
+    if source != "wiki" {
+        assert!(rt; added == Err(TimelineFault::OtherSource));
+    } else if is_there {
         assert!(rt; added == Err(TimelineFault::AlreadyThere));
     } else {
         assert!(rt; added == Ok(()));
         held.push(served).expect(rt, "memory");
     }
+    assert_nodes(rt, alloc, timeline, held, table, &served);
 }
 
-// Removes a drawn segment, most often one that is held; L3 where the node does not serve it.
+// Removes a drawn segment, most often one that is held; L3 of another source, and where the node does not serve it.
 fn remove(
     rt: &impl Abort,
     alloc: Global,
     draws: &mut Draws,
     timeline: &mut Timeline,
     held: &mut Vec<Served>,
-    day: &Day,
+    table: &Table,
 ) {
     let drawn = draw_served(draws);
+    let source = draw_source(draws);
     let place = draws.below(40) as usize;
     let served = held.get(place).copied().unwrap_or(drawn);
-    let is_there = held.iter().any(|it| is_one_place(it, &served));
-    let descriptor = segment(rt, alloc, day, served);
+    let is_there = source == "wiki" && held.iter().any(|it| is_one_place(it, &served));
+    let descriptor = table.descriptor(rt, alloc, source, served);
     let mut meter = Meter::new();
     let removed = timeline.remove(descriptor.id(), served.node, &mut meter);
     if is_there {
@@ -344,26 +451,29 @@ fn remove(
     } else {
         assert!(rt; removed == Err(TimelineFault::NotThere));
     }
+    assert_nodes(rt, alloc, timeline, held, table, &served);
 }
 
 // Makes drawn edits, and compares after each.
-fn edit(rt: &impl Abort, alloc: Global, seed: u64, length: i64) {
-    let day = Day::new(rt, alloc, length);
+fn edit(rt: &impl Abort, alloc: Global, seed: u64) {
     let mut draws = Draws::new(seed);
+    let table = Table::new(rt, alloc, &mut draws);
     let mut timeline = Timeline::new(alloc, name(rt, alloc, "wiki"));
     let mut held = Vec::new(alloc);
     for _edit in 0..EDITS {
         if draws.below(2) == 0 {
-            add(rt, alloc, &mut draws, &mut timeline, &mut held, &day);
+            add(rt, alloc, &mut draws, &mut timeline, &mut held, &table);
         } else {
-            remove(rt, alloc, &mut draws, &mut timeline, &mut held, &day);
+            remove(rt, alloc, &mut draws, &mut timeline, &mut held, &table);
         }
-        let window = draw_hours(&mut draws);
-        assert_same(rt, alloc, &timeline, &held, &day, window);
+        let window = draw_ticks(&mut draws);
+        assert_same(rt, alloc, &timeline, &held, &table, window);
     }
 }
 
 #[test]
 fn drawn_edits(rt: HostRuntime) {
-    edit(&rt, rt.alloc(), 7, 3_600_000);
+    for seed in 0..TABLES {
+        edit(&rt, rt.alloc(), seed);
+    }
 }

@@ -33,8 +33,8 @@ take_at (y ∷ xs) (suc j) x zero below within here = (0, omega arith, here)
 take_at (y ∷ xs) (suc j) x (suc k) below within here =
     Contains-later y (take j xs) x (take_at xs j x k (omega arith) (omega arith) here)
 
-of_more : (cs : List Chunk) (i j : ℕ) (g other : Group) → i ≤ j → IsOverlapOf (take i cs) g other → IsOverlapOf (take j cs) g other
-of_more cs i j g other le o =
+of_more : (cs : List Chunk) (i j : ℕ) (g : Group) (part : Extent) (other : Group) → i ≤ j → IsOverlapOf (take i cs) g part other → IsOverlapOf (take j cs) g part other
+of_more cs i j g part other le o =
     let found = at_take cs i (other, o.complete.0) o.complete.1 in
     record {
       complete = (o.complete.0, take_at cs j (other, o.complete.0) found.0 (omega (arith, found.1)) found.2 found.3, o.complete.2);
@@ -44,19 +44,19 @@ of_more cs i j g other le o =
 
 -- ---- none of some chunks overlaps
 
-pub passed_by : (cs : List Chunk) (i j : ℕ) (g : Group) (keys : List Group) → i ≤ j → AllWithin (λ c. Overlaps g c → ⊥) cs i j → AreOverlapsOf (take i cs) g keys → AreOverlapsOf (take j cs) g keys
-passed_by cs i j g keys le none found = record {
-  all = λ other. (λ there. of_more cs i j g other le ((found.all other).0 there), λ o. (found.all other).1 (back other o));
+pub passed_by : (cs : List Chunk) (i j : ℕ) (g : Group) (part : Extent) (keys : List Group) → i ≤ j → AllWithin (λ c. Overlaps g part c → ⊥) cs i j → AreOverlapsOf (take i cs) g part keys → AreOverlapsOf (take j cs) g part keys
+passed_by cs i j g part keys le none found = record {
+  all = λ other. (λ there. of_more cs i j g part other le ((found.all other).0 there), λ o. (found.all other).1 (back other o));
   once = found.once;
 } where
-  back : (other : Group) → IsOverlapOf (take j cs) g other → IsOverlapOf (take i cs) g other
+  back : (other : Group) → IsOverlapOf (take j cs) g part other → IsOverlapOf (take i cs) g part other
   back other o =
       let ms = o.complete.0 in
       let at = at_take cs j (other, ms) o.complete.1 in
       elim (cases_order at.0 i) [
         | inr (inl below) ↦ record { complete = (ms, take_at cs i (other, ms) at.0 below at.2 at.3, o.complete.2); different = o.different; share = o.share }
-        | inl level ↦ absurd (none at.0 (other, ms) (omega arith) at.1 (subst (Overlaps g) (sym at.3) (o.complete.2, o.different, o.share)))
-        | inr (inr above) ↦ absurd (none at.0 (other, ms) (omega arith) at.1 (subst (Overlaps g) (sym at.3) (o.complete.2, o.different, o.share)))
+        | inl level ↦ absurd (none at.0 (other, ms) (omega arith) at.1 (subst (Overlaps g part) (sym at.3) (o.complete.2, o.different, o.share)))
+        | inr (inr above) ↦ absurd (none at.0 (other, ms) (omega arith) at.1 (subst (Overlaps g part) (sym at.3) (o.complete.2, o.different, o.share)))
       ]
 
 -- ---- one that overlaps
@@ -76,8 +76,8 @@ two_keys cs k i a b are below within at_k at_i same =
     let f : get_or (keys_of cs) i a.0 ≡ b.0 = get_or-map (λ (c : Chunk). c.0) cs i b a.0 within ∙ ap (λ (c : Chunk). c.0) at_i in
     false≢true (sym apart ∙ same_group-same (get_or (keys_of cs) k a.0) (get_or (keys_of cs) i a.0) (e ∙ same ∙ sym f))
 
-pub added : (cs : List Chunk) (i : ℕ) (c : Chunk) (g : Group) (keys : List Group) → AreChunks cs → i < length cs → get_or cs i c ≡ c → Overlaps g c → AreOverlapsOf (take i cs) g keys → AreOverlapsOf (take (i + 1) cs) g (keys ++ c.0 ∷ [])
-added cs i c g keys are within here over found = record {
+pub added : (cs : List Chunk) (i : ℕ) (c : Chunk) (g : Group) (part : Extent) (keys : List Group) → AreChunks cs → i < length cs → get_or cs i c ≡ c → Overlaps g part c → AreOverlapsOf (take i cs) g part keys → AreOverlapsOf (take (i + 1) cs) g part (keys ++ c.0 ∷ [])
+added cs i c g part keys are within here over found = record {
   all = λ other. (λ there. forth other (Contains-push_cases keys c.0 other there), back other);
   once = IsDistinct-push same_group-equiv keys c.0 found.once (none_passes keys (same_group c.0) (λ k there e. again k there (same_group-exact c.0 k e)));
 } where
@@ -87,18 +87,18 @@ added cs i c g keys are within here over found = record {
       let at = at_take cs i (k, o.complete.0) o.complete.1 in
       two_keys cs at.0 i (k, o.complete.0) c are at.1 within at.3 here (sym same)
 
-  own : IsOverlapOf (take (i + 1) cs) g c.0
+  own : IsOverlapOf (take (i + 1) cs) g part c.0
   own = record {
     complete = (c.1, take_at cs (i + 1) c i (omega arith) within here, over.0);
     different = over.1;
     share = over.2;
   }
 
-  forth : (other : Group) → Contains keys other ⊎ (c.0 ≡ other) → IsOverlapOf (take (i + 1) cs) g other
-  forth other (inl there) = of_more cs i (i + 1) g other (omega arith) ((found.all other).0 there)
-  forth other (inr same) = subst (IsOverlapOf (take (i + 1) cs) g) same own
+  forth : (other : Group) → Contains keys other ⊎ (c.0 ≡ other) → IsOverlapOf (take (i + 1) cs) g part other
+  forth other (inl there) = of_more cs i (i + 1) g part other (omega arith) ((found.all other).0 there)
+  forth other (inr same) = subst (IsOverlapOf (take (i + 1) cs) g part) same own
 
-  back : (other : Group) → IsOverlapOf (take (i + 1) cs) g other → Contains (keys ++ c.0 ∷ []) other
+  back : (other : Group) → IsOverlapOf (take (i + 1) cs) g part other → Contains (keys ++ c.0 ∷ []) other
   back other o =
       let ms = o.complete.0 in
       let at = at_take cs (i + 1) (other, ms) o.complete.1 in
@@ -111,15 +111,15 @@ added cs i c g keys are within here over found = record {
         | inr (inr above) ↦ absurd (omega (arith, at.1))
       ]
 
-pub one_passed_by : (cs : List Chunk) (i : ℕ) (c : Chunk) (g : Group) (keys : List Group) → i < length cs → get_or cs i c ≡ c → (Overlaps g c → ⊥) → AreOverlapsOf (take i cs) g keys → AreOverlapsOf (take (i + 1) cs) g keys
-one_passed_by cs i c g keys within here not found =
-    passed_by cs i (i + 1) g keys (omega arith) (λ k d low high over. not (subst (Overlaps g) (here_at k d (omega arith)) over)) found where
+pub one_passed_by : (cs : List Chunk) (i : ℕ) (c : Chunk) (g : Group) (part : Extent) (keys : List Group) → i < length cs → get_or cs i c ≡ c → (Overlaps g part c → ⊥) → AreOverlapsOf (take i cs) g part keys → AreOverlapsOf (take (i + 1) cs) g part keys
+one_passed_by cs i c g part keys within here not found =
+    passed_by cs i (i + 1) g part keys (omega arith) (λ k d low high over. not (subst (Overlaps g part) (here_at k d (omega arith)) over)) found where
       here_at : (k : ℕ) (d : Chunk) → k ≡ i → get_or cs k d ≡ c
       here_at k d e = ap (λ (n : ℕ). get_or cs n d) e ∙ get_or_default cs i d c within ∙ here
 
-pub none_found : (cs : List Chunk) (g : Group) (keys : List Group) → keys ≡ [] → AreOverlapsOf (take 0 cs) g keys
+pub none_found : (cs : List Chunk) (g : Group) (part : Extent) (keys : List Group) → keys ≡ [] → AreOverlapsOf (take 0 cs) g part keys
 unfolding IsDistinct
-none_found cs g keys e = subst (AreOverlapsOf [] g) (sym e) (record {
+none_found cs g part keys e = subst (AreOverlapsOf [] g part) (sym e) (record {
   all = λ other. (λ there. absurd (Contains-nil other there), λ o. absurd (Contains-nil (other, o.complete.0) o.complete.1));
   once = tt;
 })

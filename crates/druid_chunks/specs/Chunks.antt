@@ -2,7 +2,7 @@
 use Rattle.std.specs.Prelude.{◌≡◌, ◌↔◌, List, [], ◌∷◌, All, Contains, if◌then◌else◌}
 use Rattle.std.specs.List.{IsDistinct}
 use Rattle.std.specs.Map.{keys_of}
-use Rattle.druid_time.specs.Extent.{Share}
+use Rattle.druid_time.specs.Extent.{Extent, Share}
 use Rattle.druid_segid.specs.Group.{Group, same_group}
 use Rattle.druid_members.specs.Members.{Member, IsComplete, HasMember}
 
@@ -28,17 +28,17 @@ HasNoChunk chunks g = (chunk : Chunk) → Contains chunks chunk → chunk.0 ≡ 
 abbrev pub IsCompleteOf : List Chunk → Group → Type 0
 IsCompleteOf chunks g = (ms : List Member) × Contains chunks (g, ms) × IsComplete ms
 
--- the chunk is complete, is not that of g, and shares an instant with g
-abbrev pub Overlaps : Group → Chunk → Type 0
-Overlaps g chunk = IsComplete chunk.1 × (chunk.0 ≡ g → ⊥) × Share g.interval chunk.0.interval
+-- the chunk is complete, is not that of g, and shares an instant with the part
+abbrev pub Overlaps : Group → Extent → Chunk → Type 0
+Overlaps g part chunk = IsComplete chunk.1 × (chunk.0 ≡ g → ⊥) × Share part chunk.0.interval
 
--- one of the chunks is other, is complete, is not g, and shares an instant with g
-pub record IsOverlapOf (chunks : List Chunk) (g other : Group) : Type 0 where
+-- one of the chunks is other, is complete, is not g, and shares an instant with the part
+pub record IsOverlapOf (chunks : List Chunk) (g : Group) (part : Extent) (other : Group) : Type 0 where
   pub complete : IsCompleteOf chunks other
   pub different : other ≡ g → ⊥
-  pub share : Share g.interval other.interval
+  pub share : Share part other.interval
 
--- the keys are those of the chunks that overlap g, each once
-pub record AreOverlapsOf (chunks : List Chunk) (g : Group) (keys : List Group) : Type 0 where
-  pub all : (other : Group) → Contains keys other ↔ IsOverlapOf chunks g other
+-- the keys are those of the chunks other than g that overlap the part, each once
+pub record AreOverlapsOf (chunks : List Chunk) (g : Group) (part : Extent) (keys : List Group) : Type 0 where
+  pub all : (other : Group) → Contains keys other ↔ IsOverlapOf chunks g part other
   pub once : IsDistinct same_group keys

@@ -1,16 +1,18 @@
-ghost use Rattle.std.specs.Prelude.{◌≡◌, ◌↔◌, ◌≤◌, ℕ, [], length, map, vec_capacity, Contains, IsTrue, IsOk, IfOk, OnOk, OnErr, MatchOption};
+ghost use Rattle.std.specs.Prelude.{◌≡◌, ◌↔◌, ◌≤◌, ℕ, List, [], length, map, vec_capacity, Contains, IsTrue, IsOk, IfOk, OnOk, OnErr, MatchOption};
 ghost use Rattle.std.specs.List.{IsDistinct};
 ghost use Rattle.std.specs.List.Sorted.{IsStrictlyIncreasing};
 ghost use Rattle.druid_segid.specs.Group.{Group, group_of, same_group};
-ghost use Rattle.druid_members.specs.Members.{member_of, HoldsPlace, ServesPlace, IsComplete, Adds, RemovesPlace, RemovesOne, AllAt, SameMembers};
+ghost use Rattle.druid_members.specs.Members.{Member, member_of, HoldsPlace, ServesPlace, IsComplete, Adds, RemovesPlace, RemovesOne, AllAt, SameMembers};
 ghost use Rattle.druid_chunks.specs.Chunks.{AreChunks, members_at, HasNoChunk, IsOverlapOf};
 ghost use Rattle.druid_chunks.specs.Places.{AreInOrder};
 
 use crate::Chunk;
 use crate::order::{find_in, seek};
 use crate::overlap::overlaps_in;
+use druid_members::Members;
 use druid_segid::{GroupKey, SegmentId};
 use druid_shard::{Descriptor, NodeNo};
+use druid_time::Interval;
 use std::alloc::{AllocError, Global};
 use std::marker::Model;
 
@@ -134,6 +136,32 @@ impl Chunks {
         }
     }
 
+    /// Whether the chunk of a segment would be complete with one member more, of this descriptor. It does not allocate.
+    pub fn is_complete_with(&self, descriptor: &Descriptor) -> bool
+        ensures complete { (new : List Member) (node : ℕ)
+            → Adds (members_at self.now (group_of descriptor.now.id)) new (member_of node descriptor.now)
+            → IsTrue result ↔ IsComplete new }
+        ensures chunks { AreChunks self.now }
+    {
+        match self.chunk_of(descriptor.id()) {
+            Some(chunk) => chunk.members().is_complete_with(descriptor),
+            None => Members::new(self.alloc).is_complete_with(descriptor),
+        }
+    }
+
+    /// Whether the chunk of a segment would be complete without this partition of this node. It does not allocate.
+    pub fn is_complete_without(&self, id: &SegmentId, node: NodeNo) -> bool
+        ensures complete { (new : List Member)
+            → RemovesPlace (members_at self.now (group_of id.now)) new id.now.partition node
+            → IsTrue result ↔ IsComplete new }
+        ensures chunks { AreChunks self.now }
+    {
+        match self.chunk_of(id) {
+            Some(chunk) => chunk.members().is_complete_without(id.partition(), node),
+            None => false,
+        }
+    }
+
     /// The nodes that hold a segment, rising. It does not allocate.
     pub fn replicas(&self, id: &SegmentId) -> &[NodeNo]
         ensures rising { IsStrictlyIncreasing result.now }
@@ -160,14 +188,14 @@ impl Chunks {
         }
     }
 
-    /// The complete chunks other than that of a segment which share an instant with it, each once.
-    pub fn overlapping(&self, id: &SegmentId) -> Result<Vec<&GroupKey>, AllocError>
+    /// The complete chunks other than that of a segment which share an instant with a part, each once.
+    pub fn overlapping(&self, id: &SegmentId, part: Interval) -> Result<Vec<&GroupKey>, AllocError>
         ensures all { IfOk result (λ found. (g : Group) → Contains (map (λ key. key.now) found.items) g
-            ↔ IsOverlapOf self.now (group_of id.now) g) }
+            ↔ IsOverlapOf self.now (group_of id.now) part g) }
         ensures once { IfOk result (λ found. IsDistinct same_group (map (λ key. key.now) found.items)) }
         ensures chunks { AreChunks self.now }
     {
-        overlaps_in(self.alloc, self.ordered(), id)
+        overlaps_in(self.alloc, self.ordered(), id, part)
     }
 
     /// Adds a segment, held by a node that does not hold it yet. A refusal changes nothing.

@@ -1,4 +1,4 @@
-//! The chunks that share an instant with an interval: of each length class that occurs, only those that start near it
+//! The chunks that share an instant with a part of time: of each length class that occurs, only those that start near it
 //! are looked at.
 ghost use Rattle.std.specs.Prelude.{◌≡◌, ◌≤◌, ◌<◌, ◌+◌, ◌-◌, ◌^◌, ◌↔◌, IsTrue, IfOk, length, map, take};
 ghost use Rattle.std.specs.List.{AllWithin};
@@ -48,13 +48,13 @@ fn near(items: &[Chunk], from: usize, own: Interval) -> (usize, usize, usize)
     (low, high, high.max(next))
 }
 
-// Whether a chunk is complete, is not that of a segment, and shares an instant with it.
-fn is_overlap(chunk: &Chunk, id: &SegmentId) -> bool
-    ensures { IsTrue result ↔ Overlaps (group_of id.now) chunk.now }
+// Whether a chunk is complete, is not that of a segment, and shares an instant with a part.
+fn is_overlap(chunk: &Chunk, id: &SegmentId, part: Interval) -> bool
+    ensures { IsTrue result ↔ Overlaps (group_of id.now) part chunk.now }
 {
     let key = chunk.key();
     let interval = key.interval();
-    if !id.interval().overlaps(&interval) {
+    if !part.overlaps(&interval) {
         return false;
     }
     if interval == id.interval() && key.version() == id.version() {
@@ -63,10 +63,11 @@ fn is_overlap(chunk: &Chunk, id: &SegmentId) -> bool
     chunk.members().is_complete()
 }
 
-// Adds the keys of those between two indices that overlap a segment's chunk.
+// Adds the keys of those between two indices that are not a segment's chunk and overlap a part.
 fn add_overlaps<'a>(
     items: &'a [Chunk],
     id: &SegmentId,
+    part: Interval,
     low: usize,
     high: usize,
     mut found: Vec<&'a GroupKey>,
@@ -74,13 +75,13 @@ fn add_overlaps<'a>(
     requires ordered { AreInOrder items.now }
     requires order { low ≤ high }
     requires end { high ≤ length items.now }
-    requires found { AreOverlapsOf (take low items.now) (group_of id.now) (map (λ key. key.now) found.items) }
+    requires found { AreOverlapsOf (take low items.now) (group_of id.now) part (map (λ key. key.now) found.items) }
     ensures { IfOk result (λ all.
-        AreOverlapsOf (take high items.now) (group_of id.now) (map (λ key. key.now) all.items)) }
+        AreOverlapsOf (take high items.now) (group_of id.now) part (map (λ key. key.now) all.items)) }
 {
     for i in low..high {
         let chunk = &items[i];
-        if !is_overlap(chunk, id) {
+        if !is_overlap(chunk, id, part) {
             continue;
         }
         found.push(chunk.key())?;
@@ -88,20 +89,21 @@ fn add_overlaps<'a>(
     Ok(found)
 }
 
-// The keys of the chunks that overlap a segment's chunk.
+// The keys of the chunks other than a segment's that overlap a part.
 pub(crate) fn overlaps_in<'a>(
     alloc: Global,
     items: &'a [Chunk],
     id: &SegmentId,
+    part: Interval,
 ) -> Result<Vec<&'a GroupKey>, AllocError>
     requires { AreInOrder items.now }
-    ensures { IfOk result (λ found. AreOverlapsOf items.now (group_of id.now) (map (λ key. key.now) found.items)) }
+    ensures { IfOk result (λ found. AreOverlapsOf items.now (group_of id.now) part (map (λ key. key.now) found.items)) }
 {
     let mut found = Vec::new(alloc);
     let mut from = 0;
     while from < items.len() {
-        let (low, high, next) = near(items, from, id.interval());
-        found = add_overlaps(items, id, low, high, found)?;
+        let (low, high, next) = near(items, from, part);
+        found = add_overlaps(items, id, part, low, high, found)?;
         from = next;
     }
     Ok(found)

@@ -16,7 +16,6 @@ use Rattle.druid_time.specs.declared.fault.TimeFault.TheVariants as times
 use Rattle.druid_segid.specs.Names.{IsName, max_name, is_name_byte}
 use Rattle.druid_shard.specs.declared.reply.Body.{Body}
 use Rattle.druid_shard.specs.declared.reply.Body.TheVariants.{Delta, Snapshot, Page, Reset}
-use Rattle.druid_base.specs.Options.{◌>>=◌}
 use Rattle.druid_inventory.specs.Entry.{Entry, fresh}
 use Rattle.druid_base.specs.Distinct.{AreDistinct}
 use Rattle.druid_inventory.specs.Step.{Steps, Refuses}

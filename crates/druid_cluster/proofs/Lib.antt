@@ -4,6 +4,7 @@ pub mod JsonLemmas
 pub mod LineLemmas
 pub mod PieceLemmas
 pub mod RunLemmas
+pub mod TokenLemmas
 pub mod LookLemmas
 pub mod MarkLemmas
 pub mod NameLemmas

@@ -1,9 +1,11 @@
 -- What contracts of private functions see of commands and of values that are borrowed. Only proofs use these words.
-use Rattle.std.specs.Prelude.{ℕ, ◌<◌, List, [], map, unwrap_or}
+use Rattle.std.specs.Prelude.{ℕ, ◌<◌, ⊤, List, [], map, unwrap_or}
 use Rattle.serde_json.specs.Find.{as_str}
 use Rattle.serde_json.specs.declared.value.Value.{Value}
 use Rattle.serde_json.specs.View.{view}
 use Rattle.druid_cluster.specs.Commands as spec
+use Rattle.druid_cluster.specs.declared.answer.CommandAnswer.{CommandAnswer}
+use Rattle.druid_cluster.specs.declared.answer.CommandAnswer.TheVariants.{Found}
 use Rattle.druid_cluster.specs.declared.command.Command.{Command}
 use Rattle.druid_cluster.specs.declared.command.Command.TheVariants.{Reply, Lookup, Marks, Join, Equal}
 use Rattle.druid_cluster.specs.declared.command.Opening.{Opening}
@@ -35,3 +37,8 @@ AreAmong count (spec.equal left right) = (left < count) × (right < count)
 -- what an opening that was read asks for
 abbrev pub opening_seen : Opening → spec.Opening
 opening_seen o = record { count = o.count; names = texts_in o.nodes.now }
+
+-- an answer is not of visible pieces
+abbrev pub HasNoPieces : CommandAnswer → Type 0
+HasNoPieces (Found pieces) = ⊥
+HasNoPieces answer = ⊤

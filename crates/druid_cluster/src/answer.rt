@@ -2,7 +2,8 @@
 ghost use Rattle.std.specs.Prelude.{◌≡◌, IfOk, string_bytes, false};
 ghost use Rattle.serde_json.specs.View.{view};
 ghost use Rattle.serde_json.specs.Written.{has_float};
-ghost use Rattle.druid_cluster.specs.Answers.{code_of, outcome_text, parts_data, piece_data, pieces_data, marks_data, answer_data, line_text};
+ghost use Rattle.druid_cluster.specs.Answers.{code_of, outcome_text, marks_data, answer_data, line_text};
+ghost use Rattle.druid_cluster.specs.Seen.{HasNoPieces};
 
 use druid_inventory::Outcome;
 use druid_shard::Mark;
@@ -181,45 +182,6 @@ fn outcome_text(outcome: Outcome) -> &'static str
     }
 }
 
-#[tactic(auto, using(crate::proofs::JsonLemmas::json_lists), unfolding(crate::specs::Answers::parts_data))]
-fn parts_value(alloc: Global, parts: &[u16]) -> Result<Value, AllocError>
-    ensures { IfOk result (λ v. view v ≡ parts_data parts.now) }
-{
-    let mut values = Vec::with_capacity(alloc, parts.len())?;
-    for part in parts {
-        values.push(Value::from(*part))?;
-    }
-    Ok(Value::Array(values))
-}
-
-/// The JSON of a piece.
-#[tactic(auto, unfolding(crate::specs::Answers::piece_data))]
-pub fn piece_value(alloc: Global, piece: &Piece) -> Result<Value, AllocError>
-    ensures { IfOk result (λ v. view v ≡ piece_data piece.now) }
-{
-    let chunk = piece.key().interval().text(alloc)?;
-    let interval = piece.interval().text(alloc)?;
-    let parts = parts_value(alloc, piece.parts())?;
-    let version = piece.key().version().text(alloc)?;
-    json!(in alloc; {
-        "chunk": chunk.as_str(),
-        "interval": interval.as_str(),
-        "parts": parts,
-        "version": version.as_str(),
-    })
-}
-
-#[tactic(auto, using(crate::proofs::JsonLemmas::json_lists), unfolding(crate::specs::Answers::pieces_data))]
-fn pieces_value(alloc: Global, pieces: &[Piece]) -> Result<Value, AllocError>
-    ensures { IfOk result (λ v. view v ≡ pieces_data pieces.now) }
-{
-    let mut values = Vec::with_capacity(alloc, pieces.len())?;
-    for piece in pieces {
-        values.push(piece_value(alloc, piece)?)?;
-    }
-    Ok(Value::Array(values))
-}
-
 #[tactic(auto, using(crate::proofs::JsonLemmas::json_lists), unfolding(crate::specs::Answers::marks_data))]
 fn marks_value(alloc: Global, marks: &[Mark]) -> Result<Value, AllocError>
     ensures { IfOk result (λ v. view v ≡ marks_data marks.now) }
@@ -231,8 +193,10 @@ fn marks_value(alloc: Global, marks: &[Mark]) -> Result<Value, AllocError>
     Ok(Value::Array(values))
 }
 
+// The JSON of an answer that has no pieces: these are written one by one.
 #[tactic(auto, unfolding(crate::specs::Answers::answer_data))]
 fn answer_value(alloc: Global, answer: &CommandAnswer) -> Result<Value, AllocError>
+    requires { HasNoPieces answer.now }
     ensures { IfOk result (λ v. view v ≡ answer_data answer.now) }
 {
     match answer {
@@ -246,10 +210,7 @@ fn answer_value(alloc: Global, answer: &CommandAnswer) -> Result<Value, AllocErr
             let outcome = outcome_text(*outcome);
             json!(in alloc; {"mark": mark, "outcome": outcome})
         }
-        CommandAnswer::Found(pieces) => {
-            let pieces = pieces_value(alloc, pieces.as_slice())?;
-            json!(in alloc; {"pieces": pieces})
-        }
+        CommandAnswer::Found(_pieces) => unreachable!(),
         CommandAnswer::Marked(marks) => {
             let marks = marks_value(alloc, marks.as_slice())?;
             json!(in alloc; {"marks": marks})
@@ -259,9 +220,10 @@ fn answer_value(alloc: Global, answer: &CommandAnswer) -> Result<Value, AllocErr
     }
 }
 
-/// The line of an answer: its JSON, compact, with the keys in order, and a line feed.
+/// The line of an answer that has no pieces: its JSON, compact, with the keys in order, and a line feed.
 #[tactic(auto, using(crate::proofs::PlainLemmas::answer_plain))]
 pub fn answer_line(alloc: Global, answer: &CommandAnswer) -> Result<String, AllocError>
+    requires { HasNoPieces answer.now }
     ensures { IfOk result (λ text. string_bytes text ≡ line_text answer.now) }
 {
     let mut text = answer_value(alloc, answer)?.to_string(alloc)?;

@@ -6,6 +6,7 @@ mod brokers;
 mod command;
 mod fault;
 mod laws;
+mod pieces;
 mod program;
 mod reason;
 mod run;

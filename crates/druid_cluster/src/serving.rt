@@ -1,5 +1,5 @@
 //! Commands, carried out.
-ghost use Rattle.std.specs.Prelude.{◌≡◌, ◌↔◌, ◌≤◌, ◌<◌, ℕ, All, Some, None, length, map, IsTrue, IsUtf8, IfErr, IfOk, OnErr};
+ghost use Rattle.std.specs.Prelude.{◌≡◌, ◌↔◌, ◌≤◌, ◌<◌, ℕ, All, Some, None, length, map, IsTrue, IsUtf8, IfErr, IfNone, IfOk, IfSome, OnErr};
 ghost use Rattle.druid_segid.specs.Names.{IsName};
 ghost use Rattle.druid_inventory.specs.Entry.{max_nodes};
 ghost use Rattle.serde_json.specs.View.{view};
@@ -13,7 +13,7 @@ use crate::command::{Command, command_of, opening_of, text_of};
 use crate::reason::BadLine;
 use druid_base::{JsonFault, TextList, are_distinct, parse_json};
 use druid_inventory::{ApplyFault, Inventory, InventoryFault, JoinFault};
-use druid_segid::Name;
+use druid_segid::{IdFault, Name};
 use druid_sync::{SyncFault, reply_of};
 use druid_time::{Interval, IntervalSet, TimeFault};
 use druid_timeline::Timeline;
@@ -51,23 +51,50 @@ impl TextList for NodeTexts<'_> {
     }
 }
 
-// The names of these texts.
-#[tactic(auto, using(crate::proofs::NameLemmas::names_more))]
-fn names_of(alloc: Global, nodes: &[Value]) -> Result<Vec<Name>, AllocError>
-    requires { All IsName (texts_in nodes.now) }
-    ensures { IfOk result (λ names. names.items ≡ texts_in nodes.now) }
+// The names that texts are; None where one is none.
+fn names_of(alloc: Global, nodes: &[Value]) -> Result<Option<Vec<Name>>, AllocError>
+    ensures read { IfOk result (λ read. IfSome read (λ names. names.items ≡ texts_in nodes.now)) }
+    ensures names { IfOk result (λ read. IfSome read (λ _. All IsName (texts_in nodes.now))) }
+    ensures none { IfOk result (λ read. IfNone read (All IsName (texts_in nodes.now) → ⊥)) }
 {
     let mut names = Vec::with_capacity(alloc, nodes.len())?;
     for node in nodes {
-        let Ok(name) = Name::new(alloc, text_of(node)) else {
-            return Err(AllocError);
+        let name = match Name::new(alloc, text_of(node)) {
+            Ok(name) => name,
+            Err(IdFault::BadName) => return Ok(None),
+            Err(_) => return Err(AllocError),
         };
         names.push(name)?;
     }
-    Ok(names)
+    Ok(Some(names))
 }
 
 // Brokers over nodes: what they are answered, and the brokers where they were taken.
+fn open_brokers(
+    alloc: Global,
+    count: u64,
+    nodes: &[Value],
+) -> Result<(CommandAnswer, Option<Brokers>), AllocError>
+    requires some { 1 ≤ length nodes.now }
+    requires few { length nodes.now ≤ max_nodes }
+    ensures { IfOk result (λ r.
+        TakesBrokers (record { count = count; names = texts_in nodes.now }) r.0 r.1) }
+{
+    let Some(names) = names_of(alloc, nodes)? else {
+        return Ok((CommandAnswer::Refused(Refusal::BadName), None));
+    };
+    let inventory = match Inventory::new(alloc, names) {
+        Ok(inventory) => inventory,
+        Err(InventoryFault::DoubledNode) => {
+            return Ok((CommandAnswer::Refused(Refusal::DoubledNode), None));
+        }
+        Err(_) => return Err(AllocError),
+    };
+    let brokers = Brokers::new(alloc, &inventory, count)?;
+    Ok((CommandAnswer::Taken(count), Some(brokers)))
+}
+
+// The same, where out of memory comes after the refusals: where it came sooner, all names are looked at without allocating.
 fn take_brokers(
     alloc: Global,
     count: u64,
@@ -79,17 +106,16 @@ fn take_brokers(
         TakesBrokers (record { count = count; names = texts_in nodes.now }) r.0 r.1) }
     ensures memory { OnErr result (AreNodes (texts_in nodes.now)) }
 {
+    if let Ok(taken) = open_brokers(alloc, count, nodes) {
+        return Ok(taken);
+    }
     if !are_names(nodes) {
         return Ok((CommandAnswer::Refused(Refusal::BadName), None));
     }
     if !are_distinct(&NodeTexts { nodes }) {
         return Ok((CommandAnswer::Refused(Refusal::DoubledNode), None));
     }
-    let Ok(inventory) = Inventory::new(alloc, names_of(alloc, nodes)?) else {
-        return Err(AllocError);
-    };
-    let brokers = Brokers::new(alloc, &inventory, count)?;
-    Ok((CommandAnswer::Taken(count), Some(brokers)))
+    Err(AllocError)
 }
 
 // What tells that a reply was not read; out of memory is not reported.

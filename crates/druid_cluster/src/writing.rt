@@ -1,32 +1,18 @@
 //! Answers, written as they are made.
-ghost use Rattle.std.specs.Prelude.{◌≡◌, ◌++◌, IfOk, OnOk, OnErr, string_bytes};
+ghost use Rattle.std.specs.Prelude.{◌++◌, OnOk, OnErr};
 ghost use Rattle.std.specs.Io.KnownBytes.{Appends};
 ghost use Rattle.serde_json.specs.Written.{compact_text, comma_if};
 ghost use Rattle.druid_stream.specs.Fronts.{AppendsFront};
 ghost use Rattle.druid_cluster.specs.Answers.{piece_data, line_text};
 ghost use Rattle.druid_cluster.specs.declared.answer.CommandAnswer.TheVariants.{Found};
 
-use crate::answer::{CommandAnswer, answer_line, piece_value};
+use crate::answer::{CommandAnswer, answer_line};
+use crate::pieces::piece_text;
 use druid_stream::write_text;
 use druid_timeline::Piece;
 use std::alloc::{AllocError, Global};
 use std::io;
 use std::io::Write;
-
-// The text of a piece, after a comma where another stands before it.
-#[tactic(auto, using(crate::proofs::PlainLemmas::piece_plain))]
-fn piece_text(alloc: Global, piece: &Piece, later: bool) -> Result<String, AllocError>
-    ensures { IfOk result (λ text.
-        string_bytes text ≡ comma_if later ++ compact_text (piece_data piece.now)) }
-{
-    let plain = piece_value(alloc, piece)?.to_string(alloc)?;
-    if !later {
-        return Ok(plain);
-    }
-    let mut text = String::from_str(alloc, ",")?;
-    text.push_str(plain.as_str())?;
-    Ok(text)
-}
 
 // Writes the text of a piece, after a comma where another stands before it.
 fn write_piece<W: Write>(
@@ -41,7 +27,7 @@ fn write_piece<W: Write>(
         (comma_if later ++ compact_text (piece_data piece.now))) }
 {
     let text = piece_text(alloc, piece, later)?;
-    write_text(writer, text.as_bytes())
+    write_text(writer, &text)
 }
 
 // Writes the line of the pieces that were found, with memory for one at a time.

@@ -1,5 +1,5 @@
 -- Lists of entries after pointers.
-use Rattle.std.proofs.Common.{◌≡◌, ℕ, List, [], ◌∷◌, set, Result, Ok, Err, subst, ◌∙◌}
+use Rattle.std.proofs.Common.{◌≡◌, List, set, Result, Ok, Err, subst}
 use Rattle.std.specs.Result.{IfOk, MatchResult, OnErr}
 use Rattle.std.proofs.lemmas.List.Sorted.{Contains-permutation, IsPermutation-sym}
 use Rattle.druid_shard.specs.Described.{Described}

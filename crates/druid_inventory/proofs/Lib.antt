@@ -2,7 +2,10 @@ pub mod ChangeLemmas
 pub mod EditLemmas
 pub mod EntryLemmas
 pub mod JoinLemmas
+pub mod LastLemmas
+pub mod MergeLemmas
 pub mod PageLemmas
+pub mod PlanLemmas
 pub mod ReplayedLemmas
 pub mod StepLemmas
 pub mod TimelineLemmas

@@ -10,9 +10,7 @@ use Rattle.std.proofs.lemmas.List.{get_or_default, get_or-drop, take-append-drop
 use Rattle.std.proofs.lemmas.List.Edits.{length-remove}
 use Rattle.std.proofs.lemmas.Option.{same_Some}
 use Rattle.druid_base.proofs.OptionLemmas.{chained}
-use Rattle.druid_segid.specs.Identifier.{Identifier, IsIdentifier, identifier_text, same_identifier}
-use Rattle.druid_segid.specs.IdentifierLaws.{same_identifier-equiv}
-use Rattle.druid_segid.proofs.IdentifierLemmas.{identifier_text_injective}
+use Rattle.druid_segid.specs.Identifier.{Identifier, identifier_text}
 use Rattle.druid_shard.specs.Described.{Described}
 use Rattle.druid_shard.specs.Reply.{AreSorted, max_segments}
 use Rattle.druid_shard.specs.Replay.{IsSegmentSet, IsChangedBy, StandsAt, BelongsAt, is_strict, has_room, after, changed, replay_from, without_segment}
@@ -142,18 +140,6 @@ pub holder-absent : (s t : List Described) (cs : List Change) (id : Identifier) 
 holder-absent s t cs id i h e none at x there same =
     belongs_absent s id i at x ((untouched s t cs id h e none x same).0 there) same
 
-pub NoneOfFrom-end : (cs : List Change) (id : Identifier) (n : ℕ) → n ≡ length cs → NoneOfFrom cs id n
-NoneOfFrom-end cs id n e k c m l = absurd (omega arith)
-
-pub NoneOfFrom-more : (cs : List Change) (id : Identifier) (n m : ℕ) (c : Change) → NoneOfFrom cs id n → n ≡ suc m → c ≡ get_or cs m c
-    → (identifier_text (segment_of c).id ≡ identifier_text id → ⊥) → NoneOfFrom cs id m
-NoneOfFrom-more cs id n m c none e is other k d at l = elim (cases_order k m) [
-  | inl level ↦
-      λ same. other (ap (λ (x : Change). identifier_text (segment_of x).id) (is ∙ get_or_default cs m c d (omega arith) ∙ ap (λ (i : ℕ). get_or cs i d) (sym level)) ∙ same)
-  | inr (inl before) ↦ absurd (omega arith)
-  | inr (inr beyond) ↦ none k d (omega arith) l
-]
-
 -- ---- which changes are strict
 
 false_of : (b : Bool) → (IsTrue b → ⊥) → b ≡ false
@@ -195,16 +181,6 @@ replay_from-more s t cs i c e l is strict room =
     ∙ ap (option_and_then (λ u. Some u)) (changed-made t c strict room)
 
 -- ---- a search for the last change of an identifier
-
--- from n on, none of the changes is of the identifier
-pub record SearchedTo (cs : List Change) (id : Identifier) (n : ℕ) : Type 0 where
-  pub within : n ≤ length cs
-  pub none : NoneOfFrom cs id n
-
-pub texts_apart : (a b : Identifier) → IsIdentifier a → IsIdentifier b → same_identifier a b ≡ false → identifier_text a ≡ identifier_text b → ⊥
-texts_apart a b va vb e same =
-    let one : a ≡ b = identifier_text_injective a b va vb same in
-    false≢true (sym e ∙ subst (λ (x : Identifier). same_identifier a x ≡ true) one (same_identifier-equiv.refl a))
 
 -- ---- judging one change after another
 
@@ -264,12 +240,3 @@ replayed-next s t u cs i c e before l is =
     let step = chained (λ v. replay_from v (drop (suc i) cs)) (changed parts.0 c) u parts.2 in
     let made = changed-is t step.0 c (ap (λ (x : List Described). changed x c) (sym same) ∙ step.1) in
     (made.0, made.1, replay_from-more s t cs i c before l is made.0 made.1)
-
--- the first change of a replayed list is strict, and leaves what the rest begins with
-pub replayed-first : (s t : List Described) (c : Change) (rest : List Change) → IsSegmentSet s → replay_from s (c ∷ rest) ≡ Some t
-    → (is_strict s c ≡ true) × IsSegmentSet (after s c) × (replay_from (after s c) rest ≡ Some t)
-replayed-first s t c rest h e =
-    let step = chained (λ v. replay_from v rest) (changed s c) t e in
-    let made = changed-is s step.0 c step.1 in
-    let same : step.0 ≡ after s c = same_Some step.0 (after s c) (sym step.1 ∙ changed-made s c made.0 made.1) in
-    (made.0, after-set s c h made.0 made.1, subst (λ (u : List Described). replay_from u rest ≡ Some t) same step.2)

@@ -356,25 +356,6 @@ Steps-mark e b o new h above = elim (Steps-left e b o new h) [
   | inr left ↦ left_so e new left above
 ]
 
--- where nothing moves, the entry is left
-pub Steps-known : (e : Entry) (b : Body) (new : Entry) → Steps e b AlreadyHave new → Steps e b AlreadyHave e × (new ≡ e)
-Steps-known e b new h = elim (Steps-left e b AlreadyHave new h) [
-  | inl moved ↦ absurd (cc)
-  | inr left ↦ (subst (λ (x : Entry). Steps e b AlreadyHave x) left h, left)
-]
-
-pub Steps-asked : (e : Entry) (b : Body) (new : Entry) → Steps e b AskWhole new → Steps e b AskWhole e × (new ≡ e)
-Steps-asked e b new h = elim (Steps-left e b AskWhole new h) [
-  | inl moved ↦ absurd (cc)
-  | inr left ↦ (subst (λ (x : Entry). Steps e b AskWhole x) left h, left)
-]
-
-pub Steps-paged : (e : Entry) (b : Body) (new : Entry) → Steps e b AskPages new → Steps e b AskPages e × (new ≡ e)
-Steps-paged e b new h = elim (Steps-left e b AskPages new h) [
-  | inl moved ↦ absurd (cc)
-  | inr left ↦ (subst (λ (x : Entry). Steps e b AskPages x) left h, left)
-]
-
 -- by the numbers that were read
 pub goes_on : (e : Entry) (from to held : Point) → held ≡ e.mark → to.incarnation ≡ held.incarnation → held.count < to.count → from.count ≤ held.count
     → GoesOn e from to

@@ -1,5 +1,5 @@
 -- What a broker knows of the data nodes.
-use Rattle.std.specs.Prelude.{◌≡◌, ◌≢◌, ◌==◌, ◌&&◌, ℕ, ◌<◌, Bool, List, [], length, nat_lt, nat_le, slice_get, Some, if◌then◌else◌}
+use Rattle.std.specs.Prelude.{◌≡◌, ◌≢◌, ◌==◌, ◌&&◌, ℕ, Bool, List, [], length, nat_lt, nat_le, slice_get, Some, if◌then◌else◌}
 use Rattle.druid_shard.specs.Described.{Described}
 use Rattle.druid_shard.specs.Mark.{Point, never, same_mark}
 use Rattle.druid_shard.specs.Reply.{max_page}

@@ -10,4 +10,6 @@ pub mod Timelines
 pub mod Judged
 pub mod Kept
 pub mod Transactions
+pub mod Merged
 pub mod Moves
+pub mod Plan

@@ -1,90 +1,45 @@
-//! A delta made of a set and of the timelines over it, in place: wholly, or not at all.
-ghost use Rattle.std.specs.Prelude.{◌≡◌, ◌+◌, ◌<◌, ◌≤◌, List, Some, IsTrue, IfOk, OnOk, OnErr, map, slice_get, vec_len, vec_capacity};
+//! The entry of a node moved to another mark, and the timelines with it.
+ghost use Rattle.std.specs.Prelude.{◌≡◌, ◌<◌, ◌≤◌, List, Some, OnOk, OnErr, length, map, slice_get, slice_set, vec_len};
 ghost use Rattle.std.specs.Arc.{arc_value};
 ghost use Rattle.druid_shard.specs.Described.{Described};
-ghost use Rattle.druid_shard.specs.Reply.{AreSorted};
-ghost use Rattle.druid_shard.specs.Replay.{IsSegmentSet, after, is_strict, replay_from};
-ghost use Rattle.druid_inventory.specs.Entry.{Entry};
+ghost use Rattle.druid_shard.specs.Reply.{max_changes};
+ghost use Rattle.druid_shard.specs.Replay.{replay_from};
+ghost use Rattle.druid_inventory.specs.Entry.{Entry, max_nodes};
 ghost use Rattle.druid_inventory.specs.Moves.{Moves, MovesAt};
 ghost use Rattle.druid_inventory.specs.Timelines.{AreTimelines, AreTimelinesOf, IsInventory, ServesWith};
 
 use crate::known::Known;
-use crate::timelines::Timelines;
-use crate::transactions::replay_timelines;
-use druid_shard::{Change, Descriptor, Mark, NodeNo, find_segment};
+use crate::timelines::{Timelines, change_set};
+use druid_shard::{Change, Mark, NodeNo};
 use std::alloc::{AllocError, Global};
 use std::sync::Arc;
 
-fn copy_of_changes(alloc: Global, changes: &[Change]) -> Result<Vec<Change>, AllocError>
-    ensures { IfOk result (λ copy. copy.items ≡ changes.now) }
+// The entry of a node.
+pub(crate) fn entry_of(entries: &[Arc<Known, Global>], node: usize) -> &Known
+    requires { node < length entries.now }
+    ensures { slice_get (map arc_value entries.now) node ≡ Some result.now }
 {
-    let mut copy = Vec::with_capacity(alloc, changes.len())?;
-    for change in changes {
-        copy.push(change.clone()?)?;
-    }
-    Ok(copy)
+    &entries[node]
 }
 
-// Makes a strict change of a set that has room for it. Nothing fails here.
-fn make_change(set: &mut Vec<Descriptor>, change: Change)
-    requires sorted { AreSorted set.old.items }
-    requires strict { IsTrue (is_strict set.old.items change) }
-    requires room { vec_len set.old < vec_capacity set.old }
-    ensures made { set.new.items ≡ after set.old.items change }
-    ensures len { vec_len set.new ≤ vec_len set.old + 1 }
-    ensures capacity { vec_capacity set.old ≤ vec_capacity set.new }
-{
-    match change {
-        Change::Load(descriptor) => {
-            let Err(place) = find_segment(set, descriptor.id()) else {
-                unreachable!()
-            };
-            match set.insert(place, descriptor) {
-                Ok(()) => (),
-                Err(_) => unreachable!(),
-            }
-        }
-        Change::Drop(descriptor) => {
-            let Ok(place) = find_segment(set, descriptor.id()) else {
-                unreachable!()
-            };
-            set.remove(place);
-        }
-    }
-}
-
-// Makes changes of a set that has room for them. Nothing fails here.
-fn make_changes(set: &mut Vec<Descriptor>, changes: Vec<Change>)
-    requires set { IsSegmentSet set.old.items }
-    requires made { (t : List Described) × (replay_from set.old.items changes.items ≡ Some t) }
-    requires room { vec_len set.old + vec_len changes ≤ vec_capacity set.old }
-    ensures { replay_from set.old.items changes.items ≡ Some set.new.items }
-{
-    for change in changes {
-        make_change(set, change);
-    }
-}
-
-// Makes changes of the set of a node and edits the timelines by them.
-pub(crate) fn advance_set(
-    set: &mut Vec<Descriptor>,
+// Puts an entry of a node in the place of the one that is there, and edits the timelines.
+pub(crate) fn put_entry(
+    entries: &mut Vec<Arc<Known, Global>>,
     timelines: &mut Timelines,
     alloc: Global,
     node: NodeNo,
-    changes: &[Change],
+    entry: Arc<Known, Global>,
 ) -> Result<(), AllocError>
-    requires set { IsSegmentSet set.old.items }
-    requires made { (t : List Described) × (replay_from set.old.items changes.now ≡ Some t) }
-    requires over { (entries : List Entry) × AreTimelines (ServesWith entries node set.old.items) timelines.old }
-    ensures made { OnOk result (replay_from set.old.items changes.now ≡ Some set.new.items) }
-    ensures err { OnErr result (set.new.items ≡ set.old.items) }
-    ensures over { (entries : List Entry) → AreTimelines (ServesWith entries node set.old.items) timelines.old
-        → AreTimelines (ServesWith entries node set.new.items) timelines.new }
+    requires node { node < vec_len entries.old }
+    requires over { AreTimelinesOf (map arc_value entries.old.items) timelines.old }
+    ensures entries { OnOk result (map arc_value entries.new.items
+        ≡ slice_set (map arc_value entries.old.items) node (arc_value entry)) }
+    ensures over { OnOk result (AreTimelinesOf (map arc_value entries.new.items) timelines.new) }
+    ensures long { OnOk result (vec_len entries.new ≡ vec_len entries.old) }
 {
-    let copy = copy_of_changes(alloc, changes)?;
-    set.reserve(copy.len())?;
-    replay_timelines(timelines, alloc, node, changes)?;
-    make_changes(set, copy);
+    let known = entry_of(entries, node as usize);
+    change_set(timelines, alloc, node, known.set(), entry.set())?;
+    entries[node as usize] = entry;
     Ok(())
 }
 
@@ -98,6 +53,7 @@ fn advance_known(
     changes: &[Change],
 ) -> Result<(), AllocError>
     requires incarnation { 1 ≤ to.incarnation }
+    requires few { length changes.now ≤ max_changes }
     requires made { (t : List Described) × (replay_from (arc_value entry.old).set changes.now ≡ Some t) }
     requires over { (entries : List Entry)
         × AreTimelines (ServesWith entries node (arc_value entry.old).set) timelines.old }
@@ -121,6 +77,7 @@ fn advance_entries(
     changes: &[Change],
 ) -> Result<(), AllocError>
     requires incarnation { 1 ≤ to.incarnation }
+    requires few { length changes.now ≤ max_changes }
     requires made { (e : Entry) × (slice_get (map arc_value entries.old.items) node ≡ Some e)
         × (t : List Described) × (replay_from e.set changes.now ≡ Some t) }
     requires over { AreTimelinesOf (map arc_value entries.old.items) timelines.old }
@@ -144,6 +101,7 @@ pub(crate) fn advance_shared(
     changes: &[Change],
 ) -> Result<(), AllocError>
     requires incarnation { 1 ≤ to.incarnation }
+    requires few { length changes.now ≤ max_changes }
     requires made { (e : Entry) × (slice_get (map arc_value (arc_value entries.old).items) node ≡ Some e)
         × (t : List Described) × (replay_from e.set changes.now ≡ Some t) }
     requires over { IsInventory (map arc_value (arc_value entries.old).items) (arc_value timelines.old) }

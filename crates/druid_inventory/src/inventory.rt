@@ -3,7 +3,7 @@ ghost use Rattle.std.specs.Arc.{arc_value};
 ghost use Rattle.std.specs.Ordering.{nat_cmp};
 ghost use Rattle.std.specs.Cmp.Lexicographic.{slice_cmp};
 ghost use Rattle.std.specs.List.Sorted.{IsStrictlySortedBy};
-ghost use Rattle.druid_shard.specs.Reply.{max_segments, AreSorted};
+ghost use Rattle.druid_shard.specs.Reply.{max_changes, max_segments, AreSorted, IsSnapshot};
 ghost use Rattle.druid_shard.specs.Described.{Described};
 ghost use Rattle.druid_shard.specs.Mark.{never};
 ghost use Rattle.druid_shard.specs.Replay.{replay_from};
@@ -12,19 +12,20 @@ ghost use Rattle.druid_inventory.specs.Entry.{Entry, max_nodes, fresh, ask_of, I
 ghost use Rattle.druid_base.specs.Distinct.{AreDistinct};
 ghost use Rattle.druid_inventory.specs.Equality.{same_entries, same_entries-per, same_entries-equiv};
 ghost use Rattle.druid_inventory.specs.Join.{names_of, later_each, ConflictAt, IsJoin, RefusesJoin, TellsJoin};
-ghost use Rattle.druid_inventory.specs.Step.{Steps, StepsAt, RefusedAt, Tells, moved_to};
+ghost use Rattle.druid_inventory.specs.Step.{StepsAt, RefusedAt, Tells, moved_to};
 ghost use Rattle.druid_inventory.specs.declared.fault.ApplyFault.{ApplyFault};
-ghost use Rattle.druid_inventory.specs.declared.fault.Outcome.TheVariants.{Moved};
 ghost use Rattle.druid_inventory.specs.Moves.{MovesAt};
+ghost use Rattle.druid_inventory.specs.Plan.{FitsAt, LeadsAt, IsPlanAt};
 ghost use Rattle.druid_inventory.specs.Sources.{HasSource, IsHoldingOf};
 ghost use Rattle.druid_inventory.specs.Timelines.{AreTimelinesOf};
 
-use crate::advance::{advance_set, advance_shared};
+use crate::advance::{advance_shared, entry_of, put_entry};
 use crate::answer::answer_of;
 use crate::join::{are_of_same_nodes, catch_up, first_conflict, has_later};
 use crate::judge::judge;
 use crate::known::{Known, copy_of};
-use crate::timelines::{Timelines, change_set, names_of};
+use crate::plan::Plan;
+use crate::timelines::{Timelines, names_of};
 use crate::{ApplyFault, InventoryFault, JoinFault, Outcome};
 use druid_base::{TextList, are_distinct};
 use druid_segid::Name;
@@ -137,33 +138,6 @@ impl Inventory {
         })
     }
 
-    // The inventory with another entry for a node. It shares the other entries with this one, and the timelines of the
-    // sources on which both sets of the node agree.
-    fn with_entry(&self, node: NodeNo, known: &Known, entry: Known) -> Result<Inventory, AllocError>
-        requires { slice_get self.now node ≡ Some known.now }
-        ensures { IfOk result (λ inventory. inventory ≡ slice_set self.now node entry) }
-    {
-        let mut timelines = self.copied_timelines()?;
-        change_set(&mut timelines, self.alloc, node, known.set(), entry.set())?;
-        let entries = self.entries_with(node, entry)?;
-        Inventory::of(self.alloc, entries, timelines)
-    }
-
-    // The entries with another one for a node, the others shared.
-    fn entries_with(
-        &self,
-        node: NodeNo,
-        entry: Known,
-    ) -> Result<Vec<Arc<Known, Global>>, AllocError>
-        requires { node < length self.now }
-        ensures entries { IfOk result (λ entries. map arc_value entries.items ≡ slice_set self.now node entry) }
-        ensures few { IfOk result (λ entries. vec_len entries ≤ max_nodes) }
-    {
-        let mut entries = self.copied_entries()?;
-        entries[node as usize] = Arc::new(self.alloc, entry)?;
-        Ok(entries)
-    }
-
     // The entries, shared.
     fn copied_entries(&self) -> Result<Vec<Arc<Known, Global>>, AllocError>
         ensures entries { IfOk result (λ entries. map arc_value entries.items ≡ self.now) }
@@ -247,23 +221,20 @@ impl Inventory {
     }
 
     // What a reply of a node makes of the inventory, and its outcome.
+    #[tactic(auto, using(crate::proofs::PlanLemmas::memory_told, crate::proofs::PlanLemmas::carried))]
     fn step_of(&self, node: NodeNo, body: &Body) -> Result<(Inventory, Outcome), ApplyFault>
         requires { IsReply body.now }
         ensures ok { IfOk result (λ r. (new : Entry) × StepsAt self.now node body.now r.1 new
             × (r.0 ≡ slice_set self.now node new)) }
         ensures reported { IfErr result (Tells self.now node body.now) }
     {
-        let outcome = match self.outcome_of(node, body) {
-            Ok(outcome) => outcome,
+        let plan = match self.plan_of(node, body) {
+            Ok(plan) => plan,
             Err(fault) => return Err(fault),
         };
-        let Some(known) = self.find(node) else {
-            unreachable!()
-        };
-        match self.after(node, known, body, outcome) {
-            Ok(inventory) => Ok((inventory, outcome)),
-            Err(_) => Err(ApplyFault::Memory),
-        }
+        let mut inventory = self.share()?;
+        inventory.carry_out(node, &plan)?;
+        Ok((inventory, plan.outcome()))
     }
 
     /// Applies a reply of a node in place. The answers are those of `apply`, and a refusal leaves the inventory as it was.
@@ -281,6 +252,7 @@ impl Inventory {
     }
 
     // Applies a reply of a node in place, and its outcome.
+    #[tactic(auto, using(crate::proofs::PlanLemmas::memory_told, crate::proofs::PlanLemmas::carried))]
     fn step_in_place(&mut self, node: NodeNo, body: &Body) -> Result<Outcome, ApplyFault>
         requires { IsReply body.now }
         ensures ok { IfOk result (λ outcome. (new : Entry) × StepsAt self.old node body.now outcome new
@@ -288,76 +260,48 @@ impl Inventory {
         ensures err { OnErr result (self.new ≡ self.old) }
         ensures reported { IfErr result (Tells self.old node body.now) }
     {
-        let outcome = match self.outcome_of(node, body) {
-            Ok(outcome) => outcome,
+        let plan = match self.plan_of(node, body) {
+            Ok(plan) => plan,
             Err(fault) => return Err(fault),
         };
-        match self.step(node, body, outcome) {
-            Ok(()) => Ok(outcome),
-            Err(_) => Err(ApplyFault::Memory),
-        }
+        self.carry_out(node, &plan)?;
+        Ok(plan.outcome())
     }
 
-    // The outcome of a reply of a node, or why it is refused.
-    fn outcome_of(&self, node: NodeNo, body: &Body) -> Result<Outcome, ApplyFault>
+    // What a reply of a node makes of its entry, or why it is refused.
+    #[tactic(auto, using(crate::proofs::PlanLemmas::refusal_told))]
+    fn plan_of<'a>(&self, node: NodeNo, body: &'a Body) -> Result<Plan<'a>, ApplyFault>
         requires { IsReply body.now }
-        ensures ok { IfOk result (λ outcome. (new : Entry) × StepsAt self.now node body.now outcome new) }
+        ensures ok { IfOk result (IsPlanAt self.now node body.now) }
         ensures reported { IfErr result (Tells self.now node body.now) }
     {
         let Some(known) = self.find(node) else {
             return Err(ApplyFault::UnknownNode);
         };
-        match judge(known, body) {
-            Ok(outcome) => Ok(outcome),
-            Err(fault) => Err(fault),
-        }
+        judge(known, body)
     }
 
-    // Makes of the inventory what a reply of a node with this outcome makes of it.
-    fn step(&mut self, node: NodeNo, body: &Body, outcome: Outcome) -> Result<(), AllocError>
-        requires valid { IsReply body.now }
-        requires steps { (new : Entry) × StepsAt self.old node body.now outcome new }
-        ensures ok { OnOk result ((new : Entry) × StepsAt self.old node body.now outcome new
-            × (self.new ≡ slice_set self.old node new)) }
+    // Carries out what is planned for the entry of a node: wholly, or not at all.
+    fn carry_out(&mut self, node: NodeNo, plan: &Plan<'_>) -> Result<(), AllocError>
+        requires { FitsAt plan.now self.old node }
+        ensures ok { OnOk result (LeadsAt plan.now self.old self.new node) }
         ensures err { OnErr result (self.new ≡ self.old) }
     {
-        match outcome {
-            Outcome::Moved => self.step_on(node, body),
-            Outcome::AlreadyHave => Ok(()),
-            Outcome::AskWhole => Ok(()),
-            Outcome::AskPages => Ok(()),
-        }
-    }
-
-    // Moves the entry of a node by a reply: by a delta in place, and by a snapshot to the inventory that it makes.
-    fn step_on(&mut self, node: NodeNo, body: &Body) -> Result<(), AllocError>
-        requires valid { IsReply body.now }
-        requires moves { (new : Entry) × StepsAt self.old node body.now Moved new }
-        ensures ok { OnOk result ((new : Entry) × StepsAt self.old node body.now Moved new
-            × (self.new ≡ slice_set self.old node new)) }
-        ensures err { OnErr result (self.new ≡ self.old) }
-    {
-        let Some(known) = self.find(node) else {
-            unreachable!()
-        };
-        match body {
-            Body::Delta { from, to, changes } => {
-                let skipped = (known.mark().count() - from.count()) as usize;
-                self.replay(node, *to, &changes.as_slice()[skipped..])
-            }
-            Body::Snapshot { .. } => {
-                let moved = self.with_reply(node, known, body)?;
-                *self = moved;
+        match plan {
+            Plan::Replay(to, changes) => self.replay(node, *to, changes),
+            Plan::Replace(at, segments) => {
+                let inventory = self.with_set(node, *at, segments)?;
+                *self = inventory;
                 Ok(())
             }
-            Body::Page { .. } => unreachable!(),
-            Body::Reset { .. } => unreachable!(),
+            Plan::Stay(_) => Ok(()),
         }
     }
 
     // Moves the entry of a node to another mark, by changes of its set, in place.
     fn replay(&mut self, node: NodeNo, to: Mark, changes: &[Change]) -> Result<(), AllocError>
         requires incarnation { 1 ≤ to.incarnation }
+        requires few { length changes.now ≤ max_changes }
         requires made { (e : Entry) × (slice_get self.old node ≡ Some e)
             × (t : List Described) × (replay_from e.set changes.now ≡ Some t) }
         ensures ok { OnOk result (MovesAt self.old self.new node to changes.now) }
@@ -380,69 +324,25 @@ impl Inventory {
         Some(known)
     }
 
-    // The inventory after a reply of a node that has this outcome.
-    fn after(
+    // The inventory with another mark and another set for a node. It shares the other entries with this one, and the
+    // timelines of the sources on which both sets of the node agree.
+    fn with_set(
         &self,
         node: NodeNo,
-        known: &Known,
-        body: &Body,
-        outcome: Outcome,
+        at: Mark,
+        segments: &[Descriptor],
     ) -> Result<Inventory, AllocError>
-        requires known { slice_get self.now node ≡ Some known.now }
-        requires valid { IsReply body.now }
-        requires steps { (new : Entry) × Steps known.now body.now outcome new }
-        ensures { IfOk result (λ inventory. (new : Entry) × Steps known.now body.now outcome new
-            × (inventory ≡ slice_set self.now node new)) }
+        requires node { node < length self.now }
+        requires set { IsSnapshot at segments.now }
+        ensures { IfOk result (λ inventory. (e : Entry) × (slice_get self.now node ≡ Some e)
+            × (inventory ≡ slice_set self.now node (moved_to e at segments.now))) }
     {
-        match outcome {
-            Outcome::Moved => self.with_reply(node, known, body),
-            Outcome::AlreadyHave => self.share(),
-            Outcome::AskWhole => self.share(),
-            Outcome::AskPages => self.share(),
-        }
-    }
-
-    // The inventory after a reply that moves the entry of a node.
-    fn with_reply(&self, node: NodeNo, known: &Known, body: &Body) -> Result<Inventory, AllocError>
-        requires known { slice_get self.now node ≡ Some known.now }
-        requires valid { IsReply body.now }
-        requires moves { (new : Entry) × Steps known.now body.now Moved new }
-        ensures { IfOk result (λ inventory. (new : Entry) × Steps known.now body.now Moved new
-            × (inventory ≡ slice_set self.now node new)) }
-    {
-        match body {
-            Body::Delta { from, to, changes } => {
-                let skipped = (known.mark().count() - from.count()) as usize;
-                self.with_changes(node, known, *to, &changes.as_slice()[skipped..])
-            }
-            Body::Snapshot { at, segments } => {
-                let set = copy_of(self.alloc, segments.as_slice())?;
-                self.with_entry(node, known, known.with_set(*at, set)?)
-            }
-            Body::Page { .. } => unreachable!(),
-            Body::Reset { .. } => unreachable!(),
-        }
-    }
-
-    // The inventory with an entry at another mark, after changes of its set. It shares the other entries with this one,
-    // and the timelines of the sources that no change is of.
-    fn with_changes(
-        &self,
-        node: NodeNo,
-        known: &Known,
-        to: Mark,
-        changes: &[Change],
-    ) -> Result<Inventory, AllocError>
-        requires known { slice_get self.now node ≡ Some known.now }
-        requires incarnation { 1 ≤ to.incarnation }
-        requires made { (t : List Described) × (replay_from known.now.set changes.now ≡ Some t) }
-        ensures { IfOk result (λ inventory. (t : List Described) × (replay_from known.now.set changes.now ≡ Some t)
-            × (inventory ≡ slice_set self.now node (moved_to known.now to t))) }
-    {
-        let mut set = copy_of(self.alloc, known.set())?;
+        let mut entries = self.copied_entries()?;
         let mut timelines = self.copied_timelines()?;
-        advance_set(&mut set, &mut timelines, self.alloc, node, changes)?;
-        let entries = self.entries_with(node, known.with_set(to, set)?)?;
+        let set = copy_of(self.alloc, segments)?;
+        let known = entry_of(&entries, node as usize).with_set(at, set)?;
+        let entry = Arc::new(self.alloc, known)?;
+        put_entry(&mut entries, &mut timelines, self.alloc, node, entry)?;
         Inventory::of(self.alloc, entries, timelines)
     }
 

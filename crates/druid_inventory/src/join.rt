@@ -8,18 +8,12 @@ ghost use Rattle.druid_inventory.specs.Join.{names_of, later, Conflict, Conflict
 ghost use Rattle.druid_inventory.specs.Judged.{NoneLater};
 ghost use Rattle.druid_inventory.specs.Timelines.{AreTimelinesOf};
 
+use crate::advance::{entry_of, put_entry};
 use crate::known::{Known, are_same};
-use crate::timelines::{Timelines, change_set};
+use crate::timelines::Timelines;
 use druid_shard::NodeNo;
 use std::alloc::{AllocError, Global};
 use std::sync::Arc;
-
-fn entry_of(entries: &[Arc<Known, Global>], node: usize) -> &Known
-    requires { node < length entries.now }
-    ensures { slice_get (map arc_value entries.now) node ≡ Some result.now }
-{
-    &entries[node]
-}
 
 // Whether the entries are of the same nodes, in one order.
 pub(crate) fn are_of_same_nodes(a: &[Arc<Known, Global>], b: &[Arc<Known, Global>]) -> bool
@@ -100,11 +94,9 @@ pub(crate) fn catch_up(
     ensures over { OnOk result (AreTimelinesOf (map arc_value entries.new.items) timelines.new) }
     ensures long { OnOk result (vec_len entries.new ≡ vec_len entries.old) }
 {
-    let known = entry_of(entries, node);
-    if !is_older(known, entry) {
+    if !is_older(entry_of(entries, node), entry) {
         return Ok(());
     }
-    change_set(timelines, alloc, node as NodeNo, known.set(), entry.set())?;
-    entries[node] = Arc::try_clone(entry)?;
-    Ok(())
+    let entry = Arc::try_clone(entry)?;
+    put_entry(entries, timelines, alloc, node as NodeNo, entry)
 }

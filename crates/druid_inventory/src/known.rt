@@ -1,7 +1,8 @@
 //! What is known of one node.
-ghost use Rattle.std.specs.Prelude.{◌≡◌, ◌≢◌, ◌↔◌, ◌≤◌, List, Some, IsTrue, IfOk, OnOk, OnErr};
+ghost use Rattle.std.specs.Prelude.{◌≡◌, ◌≢◌, ◌↔◌, ◌≤◌, length, List, Some, IsTrue, IfOk, OnOk, OnErr};
 ghost use Rattle.druid_shard.specs.Described.{Described};
 ghost use Rattle.druid_shard.specs.Mark.{never};
+ghost use Rattle.druid_shard.specs.Reply.{max_changes};
 ghost use Rattle.druid_shard.specs.Replay.{IsSegmentSet, replay_from};
 ghost use Rattle.druid_shard.specs.declared.reply.Body.TheVariants.{Snapshot};
 ghost use Rattle.druid_inventory.specs.Entry.{Entry, fresh};
@@ -10,7 +11,7 @@ ghost use Rattle.druid_inventory.specs.Moves.{Moves};
 ghost use Rattle.druid_inventory.specs.Step.{moved_to};
 ghost use Rattle.druid_inventory.specs.Timelines.{AreTimelines, ServesWith};
 
-use crate::advance::advance_set;
+use crate::changes::advance_set;
 use crate::replies::snapshot_of;
 use crate::timelines::Timelines;
 use druid_segid::Name;
@@ -72,6 +73,7 @@ impl Known {
         changes: &[Change],
     ) -> Result<(), AllocError>
         requires incarnation { 1 ≤ to.incarnation }
+        requires few { length changes.now ≤ max_changes }
         requires made { (t : List Described) × (replay_from self.old.set changes.now ≡ Some t) }
         requires over { (entries : List Entry) × AreTimelines (ServesWith entries node self.old.set) timelines.old }
         ensures ok { OnOk result (Moves self.old self.new to changes.now) }

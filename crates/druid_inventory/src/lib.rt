@@ -4,14 +4,18 @@
 mod advance;
 mod answer;
 mod assembly;
+mod changes;
 mod fault;
 mod inventory;
 mod join;
 mod judge;
 mod known;
 mod laws;
+mod merge;
+mod plan;
 mod replies;
 mod shared_timeline;
+mod strict;
 mod timelines;
 mod transactions;
 

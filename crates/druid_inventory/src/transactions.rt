@@ -10,8 +10,8 @@ ghost use Rattle.druid_inventory.specs.Judged.{segment_of};
 ghost use Rattle.druid_inventory.specs.Timelines.{kept, AreTimelines, ServesWith};
 ghost use Rattle.druid_inventory.specs.Transactions.{edited, AreAfter, AreBefore, KeepsAfter, KeepsBefore, Begins, HasPlace, TakesHeld, ChangesHeld, Goes, TakesEdit, GoesOn, Makes, Settles};
 
-use crate::judge::segment_of;
 use crate::shared_timeline::SharedTimeline;
+use crate::strict::segment_of;
 use crate::timelines::Timelines;
 use druid_segid::{Meter, Name, SegmentId};
 use druid_shard::{Change, Descriptor, NodeNo};

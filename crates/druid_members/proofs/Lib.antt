@@ -1,3 +1,4 @@
+mod CompleteLemmas
 pub mod CountLemmas
 mod OneLemmas
 mod PairLemmas

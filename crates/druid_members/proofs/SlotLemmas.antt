@@ -1,5 +1,5 @@
 -- Members kept by partition, as a set.
-use Rattle.std.proofs.Common.{◌≡◌, ◌≤◌, ◌⊎◌, ◌↔◌, ◌++◌, ℕ, Bool, max, List, [], ◌∷◌, length, map, Option, Some, None, IsSome, Result, Ok, Err, true, false, cond, unwrap_or, refl, sym, ap, ◌∙◌, subst, inl, inr, arith}
+use Rattle.std.proofs.Common.{◌≡◌, ◌≤◌, ◌⊎◌, ◌↔◌, ◌++◌, ℕ, Bool, max, List, [], ◌∷◌, length, map, Option, Some, None, IsSome, is_some, Result, Ok, Err, true, false, cond, unwrap_or, refl, sym, ap, ◌∙◌, subst, inl, inr, arith}
 use Rattle.std.specs.Bool.{IsTrue}
 use Rattle.std.specs.Ordering.{nat_cmp}
 use Rattle.std.specs.BTreeMap as tree
@@ -12,7 +12,7 @@ use Rattle.std.proofs.lemmas.List.Elements.{Contains-append_cases}
 use Rattle.std.proofs.lemmas.Map.Lookups.{exact_unsigned}
 use Rattle.std.proofs.lemmas.Map.Views.{btree_map_get_iff}
 use Rattle.druid_members.specs.Members.{Member, core_count, HasMember, HoldsPlace, ServesPlace, HasPartition, Adds, RemovesPlace, RemovesOne, IsAt, AllAt, SameMembers, ServedOnce}
-use Rattle.druid_members.specs.Slots.{Statement, Replica, member_at, members_in, NoneEmpty, Serves}
+use Rattle.druid_members.specs.Slots.{Statement, Replica, member_at, members_in, NoneEmpty, IsAlone, Serves}
 use Rattle.druid_base.proofs.MemberLemmas.{Contains-nil, Contains-cons, Contains-later, Contains-map, Contains-map_back, Contains-flat_map, Contains-flat_map_back}
 
 abbrev pub Slots : Type 0
@@ -194,6 +194,21 @@ kept-HasPartition m p om none = (forth (tree.get nat_cmp m p) refl, back) where
   back : HasPartition (members_in m.entries) p → IsSome (tree.get nat_cmp m p)
   back (x, there, at_p) =
       some_there (tree.get nat_cmp m p) (x.node, stated_by x) (subst (λ (q : ℕ). Contains (slot_of m q) (x.node, stated_by x)) at_p (in_slot m om x there))
+
+-- all nodes of a partition's slot are one where all members of the partition are that node's
+pub IsAlone-slot : (m : Slots) (p node : ℕ) (s : List Replica) → tree.IsOrdered nat_cmp m → NoneEmpty m → tree.get nat_cmp m p ≡ Some s → ((r : Replica) → Contains s r → r.0 ≡ node) ↔ IsAlone (members_in m.entries) p node
+IsAlone-slot m p node s om none e = (
+  λ all. (
+    (kept-HasPartition m p om none).0 (subst IsSome (sym e) refl),
+    λ x there at. all (x.node, stated_by x) (subst (λ (o : Option (List Replica)). Contains (unwrap_or o []) (x.node, stated_by x)) e
+        (subst (λ (q : ℕ). Contains (slot_of m q) (x.node, stated_by x)) at (in_slot m om x there))),
+  ),
+  λ alone r inside. alone.1 (member_at p r) (of_slot m om (member_at p r) (tree.get nat_cmp m p) refl (slot_from m p s r e inside)) refl,
+)
+
+pub IsAlone-none : (m : Slots) (p node : ℕ) → tree.IsOrdered nat_cmp m → NoneEmpty m → tree.get nat_cmp m p ≡ None → IsAlone (members_in m.entries) p node → ⊥
+IsAlone-none m p node om none e alone =
+    false≢true (sym (ap is_some e) ∙ (kept-HasPartition m p om none).1 alone.0)
 
 -- ---- a member taken out
 

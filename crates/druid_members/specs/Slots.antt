@@ -4,7 +4,7 @@ use Rattle.std.specs.Ordering.{nat_cmp}
 use Rattle.std.specs.BTreeMap.{BTreeMap, get}
 use Rattle.std.specs.List.{flat_map}
 use Rattle.druid_shard.specs.Described.{Described}
-use Rattle.druid_members.specs.Members.{Member}
+use Rattle.druid_members.specs.Members.{Member, HasPartition}
 
 -- what a node states of a partition that it holds
 pub record Statement : Type 0 where
@@ -34,6 +34,10 @@ EachOnce rs = (x y : Replica) → Contains rs x → Contains rs y → x.0 ≡ y.
 -- the members of each partition
 abbrev pub members_in : List (ℕ × List Replica) → List Member
 members_in slots = flat_map (λ e. map (member_at e.0) e.1) slots
+
+-- a member has the partition, and all that have it are the node's
+abbrev pub IsAlone : List Member → ℕ → ℕ → Type 0
+IsAlone ms p node = HasPartition ms p × ((x : Member) → Contains ms x → x.partition ≡ p → x.node ≡ node)
 
 -- no partition is kept without a node
 abbrev pub NoneEmpty : BTreeMap ℕ (List Replica) → Type 0

@@ -1,10 +1,10 @@
-ghost use Rattle.std.specs.Prelude.{◌≡◌, ℕ, ◌↔◌, ◌≤◌, ◌⊎◌, [], List, IsTrue, is_some, IfOk, IsOkAnd, OnErr, Contains, unwrap_or, map, Some};
+ghost use Rattle.std.specs.Prelude.{◌≡◌, ℕ, ◌↔◌, ◌≤◌, ◌<◌, ◌⊎◌, [], List, IsTrue, IsSome, is_some, IfOk, IsOkAnd, OnErr, Contains, unwrap_or, map, Some};
 ghost use Rattle.std.specs.Ordering.{nat_cmp};
 ghost use Rattle.std.specs.BTreeMap as tree;
 ghost use Rattle.std.specs.List.Sorted.{IsStrictlyIncreasing};
 ghost use Rattle.druid_members.specs.Slots as specs;
-ghost use Rattle.druid_members.specs.Slots.{Replica, Serves, NoneEmpty, SlotMap, members_in, kept_below};
-ghost use Rattle.druid_members.specs.Members.{Member, member_of, core_count, IsComplete, HasMember, HoldsPlace, ServesPlace, HasPartition, Adds, RemovesPlace, RemovesOne, AllAt, SameMembers, ServedOnce};
+ghost use Rattle.druid_members.specs.Slots.{Replica, Serves, NoneEmpty, SlotMap, IsAlone, member_at, members_in, kept_below};
+ghost use Rattle.druid_members.specs.Members.{Member, member_of, core_count, IsAt, IsComplete, HasMember, HoldsPlace, ServesPlace, HasPartition, Adds, RemovesPlace, RemovesOne, AllAt, SameMembers, ServedOnce};
 
 use crate::replicas::Statement;
 use crate::slot::Slot;
@@ -114,6 +114,35 @@ fn core_of(slots: &BTreeMap<u16, Slot>, bound: u16) -> u16
     core
 }
 
+// The greatest number of core partitions that a node names with a partition, but for one place.
+fn core_beside(slot: &Slot, partition: u16, at: u16, node: NodeNo) -> u16
+    ensures most { (r : Replica) → Contains slot.now r → (IsAt at node (member_at partition r) → ⊥) → r.1.core ≤ result }
+    ensures some { (result ≡ 0)
+        ⊎ ((r : Replica) × Contains slot.now r × (IsAt at node (member_at partition r) → ⊥) × (r.1.core ≡ result)) }
+{
+    if partition == at {
+        slot.core_without(node)
+    } else {
+        slot.core()
+    }
+}
+
+// The greatest number of core partitions that a member names, but for one place. It is at most `bound`, so nothing is
+// looked at after the first member that names as many.
+fn core_without(slots: &BTreeMap<u16, Slot>, at: u16, node: NodeNo, bound: u16) -> u16
+    requires { core_count (members_in slots.now.entries) ≤ bound }
+    ensures { (left : List Member) → RemovesPlace (members_in slots.now.entries) left at node → result ≡ core_count left }
+{
+    let mut core: u16 = 0;
+    for (partition, slot) in slots.iter() {
+        core = core.max(core_beside(slot, *partition, at, node));
+        if core == bound {
+            return core;
+        }
+    }
+    core
+}
+
 // How many of the partitions below a bound are there.
 fn count_below(slots: &BTreeMap<u16, Slot>, bound: u16) -> u16
     ensures { result ≡ kept_below slots.now bound }
@@ -156,6 +185,29 @@ fn within_after(
     } else {
         within.saturating_sub(1)
     }
+}
+
+// How many of the partitions below one bound are there, where as many as `within` are below another.
+fn count_within(slots: &BTreeMap<u16, Slot>, within: u16, before: u16, bound: u16) -> u16
+    requires { within ≡ kept_below slots.now before }
+    ensures { result ≡ kept_below slots.now bound }
+{
+    if bound == before {
+        return within;
+    }
+    count_below(slots, bound)
+}
+
+// Whether all partitions below a bound are there, or are this one, where as many as `within` are there.
+fn are_all_but(slots: &BTreeMap<u16, Slot>, partition: u16, within: u16, bound: u16) -> bool
+    requires { within ≡ kept_below slots.now bound }
+    ensures { IsTrue result
+        ↔ ((q : ℕ) → q < bound → (q ≡ partition) ⊎ IsSome (tree.get nat_cmp slots.now q)) }
+{
+    if partition < bound && !slots.contains_key(&partition) {
+        return within.saturating_add(1) == bound;
+    }
+    within == bound
 }
 
 // A copy of the slots.
@@ -302,6 +354,60 @@ impl Members {
             return false;
         }
         self.has_member
+    }
+}
+
+impl Members {
+    /// Whether the chunk would be complete with one member more, of this descriptor. It does not allocate.
+    pub fn is_complete_with(&self, descriptor: &Descriptor) -> bool
+        ensures { (new : List Member) (node : ℕ) → Adds self.now new (member_of node descriptor.now)
+            → IsTrue result ↔ IsComplete new }
+    {
+        let partition = descriptor.id().partition();
+        let core = self.core.max(descriptor.core());
+        // For the proof: reading it exposes the invariant of its type.
+        let _ = self.slots.len();
+        let within = count_within(&self.slots, self.within, self.core, core);
+        are_all_but(&self.slots, partition, within, core)
+    }
+
+    // Whether a partition is there, and is this node's alone.
+    fn is_alone(&self, partition: u16, node: NodeNo) -> bool
+        ensures { IsTrue result ↔ IsAlone self.now partition node }
+    {
+        // For the proof: reading it exposes the invariant of its type.
+        let _ = self.slots.len();
+        match self.slots.get(&partition) {
+            Some(slot) => slot.is_only(node),
+            None => false,
+        }
+    }
+
+    // Whether a partition lies below a bound, and is this node's alone.
+    fn is_alone_below(&self, partition: u16, node: NodeNo, bound: u16) -> bool
+        ensures { IsTrue result ↔ ((partition < bound) × IsAlone self.now partition node) }
+    {
+        if partition < bound {
+            self.is_alone(partition, node)
+        } else {
+            false
+        }
+    }
+
+    /// Whether the chunk would be complete without this partition of this node. It does not allocate.
+    pub fn is_complete_without(&self, partition: u16, node: NodeNo) -> bool
+        ensures { (left : List Member) → RemovesPlace self.now left partition node → IsTrue result ↔ IsComplete left }
+    {
+        if self.is_only(partition, node) {
+            return false;
+        }
+        // For the proof: reading it exposes the invariant of its type.
+        let _ = self.slots.len();
+        let core = core_without(&self.slots, partition, node, self.core);
+        if self.is_alone_below(partition, node, core) {
+            return false;
+        }
+        count_within(&self.slots, self.within, self.core, core) == core
     }
 }
 

@@ -78,6 +78,23 @@ pub(crate) fn place_of(nodes: &[NodeNo], node: NodeNo) -> Result<usize, usize>
     Err(nodes.len())
 }
 
+// The greatest number of core partitions that another of these nodes names.
+fn core_of_others(nodes: &[NodeNo], stated: &[Statement], node: NodeNo) -> u16
+    requires { length nodes.now ≡ length stated.now }
+    ensures most { (r : Replica) → Contains (zip nodes.now stated.now) r → (r.0 ≡ node → ⊥) → r.1.core ≤ result }
+    ensures some { (result ≡ 0)
+        ⊎ ((r : Replica) × Contains (zip nodes.now stated.now) r × (r.0 ≡ node → ⊥) × (r.1.core ≡ result)) }
+{
+    let mut core: u16 = 0;
+    for i in 0..nodes.len() {
+        if nodes[i] != node {
+            let own = stated[i];
+            core = core.max(own.core);
+        }
+    }
+    core
+}
+
 impl Replicas {
     // No node.
     pub(crate) fn new(alloc: Global) -> Replicas
@@ -165,6 +182,15 @@ impl Replicas {
             core = core.max(stated.core);
         }
         core
+    }
+
+    // The greatest number of core partitions that another node names.
+    pub(crate) fn core_without(&self, node: NodeNo) -> u16
+        ensures most { (r : Replica) → Contains self.now r → (r.0 ≡ node → ⊥) → r.1.core ≤ result }
+        ensures some { (result ≡ 0)
+            ⊎ ((r : Replica) × Contains self.now r × (r.0 ≡ node → ⊥) × (r.1.core ≡ result)) }
+    {
+        core_of_others(&self.nodes, &self.stated, node)
     }
 }
 

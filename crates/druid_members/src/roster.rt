@@ -1,4 +1,4 @@
-ghost use Rattle.std.specs.Prelude.{◌≡◌, ℕ, ◌↔◌, ◌⊎◌, [], IsTrue, IfOk, IsOkAnd, OnOk, OnErr, Contains, map};
+ghost use Rattle.std.specs.Prelude.{◌≡◌, ◌≤◌, ℕ, ◌↔◌, ◌⊎◌, [], IsTrue, IfOk, IsOkAnd, OnOk, OnErr, Contains, map};
 ghost use Rattle.std.specs.List.Sorted.{IsStrictlyIncreasing};
 ghost use Rattle.druid_members.specs.Members.{core_count};
 ghost use Rattle.druid_members.specs.Slots as specs;
@@ -136,6 +136,15 @@ impl Roster {
         ensures { (p : ℕ) → result ≡ core_count (map (member_at p) self.now) }
     {
         self.replicas.core()
+    }
+
+    // The greatest number of core partitions that another node names.
+    pub(crate) fn core_without(&self, node: NodeNo) -> u16
+        ensures most { (r : Replica) → Contains self.now r → (r.0 ≡ node → ⊥) → r.1.core ≤ result }
+        ensures some { (result ≡ 0)
+            ⊎ ((r : Replica) × Contains self.now r × (r.0 ≡ node → ⊥) × (r.1.core ≡ result)) }
+    {
+        self.replicas.core_without(node)
     }
 }
 

@@ -1,4 +1,4 @@
-ghost use Rattle.std.specs.Prelude.{◌≡◌, ℕ, ◌↔◌, ◌⊎◌, [], ◌∷◌, IsTrue, IfOk, IsOkAnd, OnErr, Contains, map};
+ghost use Rattle.std.specs.Prelude.{◌≡◌, ◌≤◌, ℕ, ◌↔◌, ◌⊎◌, [], ◌∷◌, IsTrue, IfOk, IsOkAnd, OnErr, Contains, map};
 ghost use Rattle.std.specs.List.Sorted.{IsStrictlyIncreasing};
 ghost use Rattle.druid_members.specs.Members.{core_count};
 ghost use Rattle.druid_members.specs.Slots as specs;
@@ -145,6 +145,18 @@ impl Slot {
         match &self.holders {
             Holders::One(_, stated) => stated.core,
             Holders::Several(roster) => roster.core(),
+        }
+    }
+
+    // The greatest number of core partitions that another node names.
+    pub(crate) fn core_without(&self, node: NodeNo) -> u16
+        ensures most { (r : Replica) → Contains self.now r → (r.0 ≡ node → ⊥) → r.1.core ≤ result }
+        ensures some { (result ≡ 0)
+            ⊎ ((r : Replica) × Contains self.now r × (r.0 ≡ node → ⊥) × (r.1.core ≡ result)) }
+    {
+        match &self.holders {
+            Holders::One(other, stated) => { if *other == node { 0 } else { stated.core } }
+            Holders::Several(roster) => roster.core_without(node),
         }
     }
 }

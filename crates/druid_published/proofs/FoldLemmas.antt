@@ -1,6 +1,9 @@
 -- What is made of an inventory, reply by reply.
-use Rattle.std.proofs.Common.{◌≡◌, ◌⊎◌, ◌<◌, ◌≤◌, ℕ, Bool, true, false, List, [], ◌∷◌, ◌++◌, set, Option, Some, None, if◌then◌else◌, nat_le, nat_lt, ◌==◌, ◌&&◌, inl, inr, refl, sym, ap, ◌∙◌, arith}
+use Rattle.std.proofs.Common.{◌≡◌, ◌⊎◌, ◌<◌, ◌≤◌, ℕ, Bool, true, false, List, [], ◌∷◌, ◌++◌, length, take, set, Option, Some, None, if◌then◌else◌, nat_le, nat_lt, ◌==◌, ◌&&◌, inl, inr, refl, sym, ap, ◌∙◌, arith}
+use Rattle.std.proofs.lemmas.Bool.{cases_order}
 use Rattle.std.proofs.lemmas.Bool.Decides.{nat_tests}
+use Rattle.std.proofs.lemmas.List.{take_all, take_at, take-append-le, length_push}
+use mathlib.Core.List.{IsPrefix}
 use Rattle.std.specs.List.{slice_get}
 use Rattle.std.specs.Ordering.{is_lt}
 use Rattle.std.specs.declared.cmp.Ordering.{Ordering}
@@ -16,7 +19,9 @@ use Rattle.druid_inventory.specs.Join.{names_of}
 use Rattle.druid_inventory.specs.Step.{Steps, StepsAt, moved_to, tail_of}
 use Rattle.druid_inventory.specs.declared.fault.Outcome.{Outcome}
 use Rattle.druid_inventory.specs.declared.fault.Outcome.TheVariants.{Moved, AlreadyHave, AskWhole, AskPages}
-use Rattle.druid_published.specs.Fold.{Published, goes_on, moved_if, stepped, stepped_if, step_by, fold_of}
+use Rattle.druid_published.specs.Fold.{IsStill, Published, goes_on, moved_if, stepped, stepped_if, step_by, fold_of}
+use Rattle.druid_inventory.proofs.StepLemmas.{Steps-left}
+use Rattle.druid_base.proofs.ListLemmas.{set-found}
 
 -- ---- one entry
 
@@ -131,3 +136,42 @@ fold_steps opening published node b o new steps =
 
 pub names_of_fold : (opening : List Entry) (published : Published) (inventory : List Entry) → inventory ≡ fold_of opening published → names_of inventory ≡ names_of opening
 names_of_fold opening published inventory folds = ap (λ (xs : List Entry). names_of xs) folds ∙ fold_names opening published
+
+-- ---- replies that change nothing
+
+-- a reply that does not move its entry leaves the inventory
+pub left_by : (inventory : List Entry) (node : ℕ) (b : Body) (o : Outcome) (new : Entry) → StepsAt inventory node b o new → (o ≡ Moved → ⊥) → step_by inventory (node, b) ≡ inventory
+left_by inventory node b o new (e, there, steps) still = elim (Steps-left e b o new steps) [
+  | inl moved ↦ absurd (still moved)
+  | inr left ↦ sym (steps_by inventory node b o new (e, there, steps)) ∙ ap (set inventory node) left ∙ set-found inventory node e there
+]
+
+pub left_made : (inventory made : List Entry) (node : ℕ) (b : Body) (o : Outcome) (new : Entry) → StepsAt inventory node b o new → made ≡ set inventory node new → (o ≡ Moved → ⊥)
+    → made ≡ inventory
+left_made inventory made node b o new steps is still = made_by inventory made node b o new steps is ∙ left_by inventory node b o new steps still
+
+-- nothing changed beyond the end
+pub still_all : (opening : List Entry) (published : Published) (count : ℕ) → count ≡ length published → IsStill opening published count
+still_all opening published count e = record { same = λ k l. ap (fold_of opening) (take_all k published (omega arith)) }
+
+-- one more that changes nothing
+pub still_more : (opening : List Entry) (published : Published) (pair : ℕ × Body) (count : ℕ) → IsStill opening published count
+    → step_by (fold_of opening published) pair ≡ fold_of opening published → IsStill opening (published ++ pair ∷ []) count
+still_more opening published pair count h still = record {
+  same = λ k l. elim (cases_order k (length published)) [
+    | inl level ↦ ap (λ (xs : Published). fold_of opening xs) (take-append-le k published (pair ∷ []) (omega arith)) ∙ h.same k l ∙ sym whole
+    | inr (inl before) ↦ ap (λ (xs : Published). fold_of opening xs) (take-append-le k published (pair ∷ []) (omega arith)) ∙ h.same k l ∙ sym whole
+    | inr (inr beyond) ↦
+        let long = length_push published pair in
+        ap (λ (xs : Published). fold_of opening xs) (take_all k (published ++ pair ∷ []) (omega arith))
+  ];
+} where
+  whole : fold_of opening (published ++ pair ∷ []) ≡ fold_of opening published
+  whole = fold_on opening published (pair ∷ []) ∙ still
+
+-- what is shown of a list is the fold of all of it, where nothing changed beyond
+pub fold_still : (opening : List Entry) (inventory : List Entry) (found longer : Published) (count : ℕ) → inventory ≡ fold_of opening found → IsPrefix found longer
+    → IsStill opening longer count → count ≤ length found → inventory ≡ fold_of opening longer
+fold_still opening inventory found longer count folds pre still l =
+    let front : take (length found) longer ≡ found = ap (take (length found)) (sym pre.1) ∙ take_at found pre.0 (length found) refl in
+    folds ∙ sym (ap (fold_of opening) front) ∙ still.same (length found) l

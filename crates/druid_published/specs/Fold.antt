@@ -1,5 +1,5 @@
 -- What published replies make of the inventory that a publisher began with.
-use Rattle.std.specs.Prelude.{ℕ, Bool, ◌==◌, ◌&&◌, List, [], ◌∷◌, Option, Some, None, slice_get, slice_set, nat_le, nat_lt, if◌then◌else◌}
+use Rattle.std.specs.Prelude.{◌≡◌, ◌≤◌, ℕ, Bool, ◌==◌, ◌&&◌, List, [], ◌∷◌, take, Option, Some, None, slice_get, slice_set, nat_le, nat_lt, if◌then◌else◌}
 use Rattle.std.specs.Ordering.{is_lt}
 use Rattle.druid_shard.specs.Described.{Described}
 use Rattle.druid_shard.specs.Mark.{Point, mark_cmp}
@@ -43,6 +43,10 @@ step_by inventory pair = stepped_if inventory pair (slice_get inventory pair.0)
 abbrev pub fold_of : List Entry → Published → List Entry
 fold_of inventory [] = inventory
 fold_of inventory (pair ∷ published) = fold_of (step_by inventory pair) published
+
+-- what was published after the first so many changed nothing
+pub record IsStill (opening : List Entry) (published : Published) (count : ℕ) : Type 0 where
+  pub same : (k : ℕ) → count ≤ k → fold_of opening (take k published) ≡ fold_of opening published
 
 -- what a contract sees of a publisher: what it published, and what it has
 pub record PublisherValue : Type 0 where

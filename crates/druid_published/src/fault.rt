@@ -11,7 +11,7 @@ pub enum PublishFault {
     /// B1: the reply is not applied.
     #[error("B1: {0}")]
     Apply(ApplyFault),
-    /// B3: there is nothing to read: the publisher is gone, or what is shown is shorter than what the view has seen.
+    /// B3: there is nothing to read: the publisher is gone, or what the view has seen changed something that is not shown.
     #[error("B3: no reading")]
     NoReading,
     /// B9: out of memory.

@@ -5,6 +5,7 @@ ghost use Rattle.left_right.specs.Sides.{view};
 ghost use Rattle.druid_inventory.specs.Entry.{Entry};
 ghost use Rattle.druid_inventory.specs.Step.{StepsAt, RefusedAt};
 ghost use Rattle.druid_inventory.specs.declared.fault.ApplyFault.{ApplyFault};
+ghost use Rattle.druid_inventory.specs.declared.fault.Outcome.TheVariants.{Moved};
 ghost use Rattle.druid_published.specs.Faults.{publish_fault, TellsPublish};
 ghost use Rattle.druid_published.specs.Places.{known};
 ghost use Rattle.druid_published.specs.Fold.{fold_of, step_by};
@@ -138,8 +139,9 @@ impl<J: Publication, R: Wait + Drop> Publisher<J, R> {
     /// one before. The receipt is for all that is published then. B1 where the reply is not applied, and B9 last, where
     /// memory runs out, or as much is published as can be counted; then all stays as it was.
     ///
-    /// It waits for those that still read what was shown before. Room for what is shown is made by `open`; should memory be
-    /// refused after the step all the same, the reply is published, and shown with the next one.
+    /// A reply that moves no entry is published, and what is shown stays. Else it waits for those that still read what was
+    /// shown before. Room for what is shown is made by `open`; should memory be refused after the step all the same, the
+    /// reply is published, and shown with the next one that moves an entry.
     pub fn publish(
         &mut self,
         node: NodeNo,
@@ -178,10 +180,60 @@ impl<J: Publication, R: Wait + Drop> Publisher<J, R> {
             Ok(made) => made,
             Err(fault) => return Err(fault_of(fault)),
         };
-        match self.add(node, reply, inventory) {
+        match self.add_made(node, reply, inventory, outcome) {
             Ok(receipt) => Ok((outcome, receipt)),
             Err(_) => Err(PublishFault::Memory),
         }
+    }
+
+    // Publishes a reply of a node that has this outcome and makes this of the inventory.
+    fn add_made(
+        &mut self,
+        node: NodeNo,
+        reply: &Reply,
+        inventory: Inventory,
+        outcome: Outcome,
+    ) -> Result<Receipt<J>, AllocError>
+        requires made { inventory ≡ step_by self.old.inventory (node, reply.now) }
+        requires left { outcome ≢ Moved → inventory ≡ self.old.inventory }
+        ensures inventory { OnOk result (self.new.inventory ≡ inventory) }
+        ensures published { OnOk result (self.new.published ≡ self.old.published ++ (node, reply.now) ∷ []) }
+        ensures receipt { IfOk result (λ receipt. receipt ≡ self.new.published) }
+        ensures fold { self.new.inventory ≡ fold_of J.opening self.new.published }
+        ensures stays { OnErr result (self.new ≡ self.old) }
+    {
+        match outcome {
+            Outcome::Moved => self.add(node, reply, inventory),
+            _ => self.add_still(node, reply),
+        }
+    }
+
+    // The list with a reply of a node that leaves the inventory, in one step.
+    #[tactic(auto, using(crate::proofs::FoldLemmas::fold_more))]
+    fn still_step(&self, node: NodeNo, reply: &Reply) -> Result<Receipt<J>, AllocError>
+        requires { step_by self.now.inventory (node, reply.now) ≡ self.now.inventory }
+        ensures published { IfOk result (λ seen. seen ≡ self.now.published ++ (node, reply.now) ∷ []) }
+        ensures fold { IfOk result (λ seen. self.now.inventory ≡ fold_of J.opening seen) }
+    {
+        let mut seen = self.seen.again();
+        if seen.len() >= MOST || !seen.add_still(&self.head, node, reply) {
+            return Err(AllocError);
+        }
+        Ok(seen)
+    }
+
+    // Publishes a reply of a node that leaves the inventory. What is shown stays.
+    fn add_still(&mut self, node: NodeNo, reply: &Reply) -> Result<Receipt<J>, AllocError>
+        requires { step_by self.old.inventory (node, reply.now) ≡ self.old.inventory }
+        ensures inventory { self.new.inventory ≡ self.old.inventory }
+        ensures published { OnOk result (self.new.published ≡ self.old.published ++ (node, reply.now) ∷ []) }
+        ensures receipt { IfOk result (λ receipt. receipt ≡ self.new.published) }
+        ensures fold { self.new.inventory ≡ fold_of J.opening self.new.published }
+        ensures stays { OnErr result (self.new ≡ self.old) }
+    {
+        let seen = self.still_step(node, reply)?;
+        self.seen = seen.again();
+        Ok(seen)
     }
 
     // Adds a reply of a node that makes this of the inventory, in one step, with what views are shown then.

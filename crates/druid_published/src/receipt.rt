@@ -2,6 +2,7 @@
 ghost use Rattle.std.specs.Prelude.{◌≡◌, ◌<◌, ◌^◌, ◌++◌, ◌∷◌, ◌⊎◌, [], length, MatchBool};
 ghost use Rattle.std.specs.Arc.{arc_value};
 ghost use mathlib.Core.List.{IsPrefix};
+ghost use Rattle.druid_published.specs.Fold.{IsStill, fold_of, step_by};
 
 use crate::book::{Add, Addition, Counted, Head, Nothing, Pair};
 use crate::publication::Publication;
@@ -17,19 +18,22 @@ use std::sync::Arc;
 #[derive(Drop)]
 pub struct Receipt<J: Publication> {
     count: u64,
+    // What was published after the first so many left the inventory as it was.
+    moved: u64,
     seen: Seen<Pair, u64, Counted>,
     of: PhantomData<J>,
 }
 
 impl<J: Publication> Model for Receipt<J> {
     ghost use Rattle.std.specs.Prelude.{◌≡◌, length};
-    ghost use Rattle.druid_published.specs.Fold.{Published};
+    ghost use Rattle.druid_published.specs.Fold.{IsStill, Published};
 
     ghost Value = { Published };
 
     ghost view = { λ a. a.seen.log };
 
-    ghost invariant = { λ a. (a.count ≡ length a.seen.log) × (a.seen.book ≡ J.book) };
+    ghost invariant = { λ a. (a.count ≡ length a.seen.log) × (a.seen.book ≡ J.book)
+        × IsStill J.opening a.seen.log a.moved };
 }
 
 impl<J: Publication> Receipt<J> {
@@ -40,6 +44,7 @@ impl<J: Publication> Receipt<J> {
     {
         Receipt {
             count,
+            moved: count,
             seen: seen.again(),
             of: PhantomData,
         }
@@ -52,11 +57,23 @@ impl<J: Publication> Receipt<J> {
         self.count
     }
 
+    // After how much of it nothing changed any more.
+    pub(crate) fn moved(&self) -> u64
+        ensures { IsStill J.opening self.now result }
+    {
+        self.moved
+    }
+
     // The same.
     pub(crate) fn again(&self) -> Receipt<J>
         ensures { result ≡ self.now }
     {
-        Receipt::of(self.count, &self.seen)
+        Receipt {
+            count: self.count,
+            moved: self.moved,
+            seen: self.seen.again(),
+            of: PhantomData,
+        }
     }
 
     // What views are shown of it, with its inventory.
@@ -108,6 +125,21 @@ impl<J: Publication> Receipt<J> {
                 &mut pen,
             );
         self.count = if found == count { count + 1 } else { found };
+        self.moved = self.count;
         found == count
+    }
+
+    // The same of a reply that changes nothing.
+    pub(crate) fn add_still(&mut self, head: &Head<J>, node: NodeNo, reply: &Reply) -> bool
+        requires few { length self.old < 2 ^ 62 }
+        requires still { step_by (fold_of J.opening self.old) (node, reply.now) ≡ fold_of J.opening self.old }
+        ensures { MatchBool result (self.new ≡ self.old ++ (node, reply.now) ∷ []) (IsPrefix self.old self.new) }
+    {
+        let moved = self.moved;
+        if !self.add(head, node, reply) {
+            return false;
+        }
+        self.moved = moved;
+        true
     }
 }

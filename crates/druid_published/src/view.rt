@@ -23,8 +23,8 @@ use std::sync::Arc;
 /// The place of a view.
 pub type ReaderPlace = Reader<Shown, Known, OneOpening>;
 
-// What is shown, and its list, unless that is shorter than what was seen.
-#[tactic(auto, using(crate::proofs::FoldLemmas::names_of_fold))]
+// What is shown, and its list, or a longer one that was seen, unless something changed beyond what is shown.
+#[tactic(auto, using(crate::proofs::FoldLemmas::names_of_fold, crate::proofs::FoldLemmas::fold_still))]
 fn load_shown<J: Publication>(
     shown: &Shown,
     seen: &Receipt<J>,
@@ -38,11 +38,11 @@ fn load_shown<J: Publication>(
 {
     let found = Receipt::of(shown.count, &shown.seen);
     let longer = seen.longer(&found);
-    if longer.len() != found.len() {
+    if found.len() < longer.moved() {
         return Err(PublishFault::NoReading);
     }
     match Arc::try_clone(&shown.inventory) {
-        Ok(inventory) => Ok((inventory, found)),
+        Ok(inventory) => Ok((inventory, longer)),
         Err(_) => Err(PublishFault::Memory),
     }
 }
@@ -99,9 +99,9 @@ impl<J: Publication> View<J> {
         View { place, seen }
     }
 
-    /// What is published, without waiting. B3 where the publisher is gone, or where what it shows is shorter than what
-    /// the view has seen, as it is for a view that learned of a publish which was not shown; B9 where the owners of the
-    /// inventory are too many to be counted.
+    /// What is published, without waiting. B3 where the publisher is gone, or where what the view has seen changed
+    /// something that is not shown, as it is for a view that learned of a publish which was not shown; B9 where the owners
+    /// of the inventory are too many to be counted.
     pub fn read(&mut self) -> Result<Arc<Inventory, Global>, PublishFault>
         ensures prefix { IfOk result (λ _. IsPrefix self.old self.new) }
         ensures fold { IfOk result (λ found. arc_value found ≡ fold_of J.opening self.new) }

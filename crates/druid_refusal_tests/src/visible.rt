@@ -93,8 +93,9 @@ fn chunk_reads(rt: &impl Abort, alloc: Global, chunks: &Chunks, descriptor: &Des
             },
         );
     }
+    let part = descriptor.id().interval();
     begin(rt, alloc);
-    let keys = end(rt, alloc, chunks.overlapping(descriptor.id()));
+    let keys = end(rt, alloc, chunks.overlapping(descriptor.id(), part));
     assert_call(
         rt,
         "Chunks::overlapping",

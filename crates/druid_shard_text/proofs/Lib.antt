@@ -1,2 +1,3 @@
 pub mod JsonLemmas
+pub mod TokenLemmas
 pub mod WrittenLemmas

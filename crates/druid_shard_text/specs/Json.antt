@@ -1,5 +1,5 @@
 -- The JSON of a descriptor, and of a mark.
-use Rattle.std.specs.Prelude.{◌≡◌, ◌==◌, ◌&&◌, ℕ, Bool, false, true, List, codes, Option, Some, None, Result, Ok, Err, IsOk, ⊤, option_and_then, if◌then◌else◌}
+use Rattle.std.specs.Prelude.{◌≡◌, ◌==◌, ◌&&◌, ℕ, Bool, false, true, List, codes, Option, Some, None, Result, Ok, Err, IsOk, option_and_then, if◌then◌else◌}
 use Rattle.std.specs.Str.{bytes_eq}
 use Rattle.std.specs.Result.{result_ok}
 use Rattle.serde_json.specs.Data.{Data, null, boolean, number, string, array, object, Members, member, no_members, unsigned}
@@ -136,8 +136,3 @@ Tells faults.Memory read = IsOk read
 abbrev pub Gives : {A : Type 0} → Result A ShardFault → Result A Refusal → Type 0
 Gives (Ok x) read = read ≡ Ok x
 Gives (Err e) read = Tells e read
-
--- the same of a function that only looks whether it reads
-abbrev pub Checks : {A : Type 0} → Result ⊤ ShardFault → Result A Refusal → Type 0
-Checks (Ok _) read = IsOk read
-Checks (Err e) read = Tells e read

@@ -1,8 +1,13 @@
--- The five fields of a reply, as the reader borrows them: only proofs use this.
+-- What the reader borrows of a reply: only proofs use this.
 use Rattle.serde_json.specs.View.{view, items_view}
+use Rattle.druid_shard.specs.declared.change.Change.{Change}
+use Rattle.druid_shard.specs.declared.change.Change.TheVariants.{Load, Drop}
 use Rattle.druid_sync.specs.Read.{Five}
 use Rattle.druid_sync.specs.declared.reading.Borrowed.{Borrowed}
+use Rattle.druid_sync.specs.declared.reading.ChangeRef.{ChangeRef}
+use Rattle.druid_sync.specs.declared.reading.ChangeRef.TheVariants as borrowed
 
+-- its five fields
 abbrev pub five_borrowed : Borrowed → Five
 five_borrowed a = record {
   at = a.at;
@@ -11,3 +16,8 @@ five_borrowed a = record {
   cause = view a.cause.now;
   reset = a.reset;
 }
+
+-- a change
+abbrev pub change_borrowed : ChangeRef → Change
+change_borrowed (borrowed.Load segment) = Load segment
+change_borrowed (borrowed.Drop segment) = Drop segment

@@ -1,3 +1,7 @@
+ghost use Rattle.std.specs.Prelude.{◌≡◌};
+ghost use Rattle.druid_sync.specs.Told.{of_reply};
+
+use druid_shard::ReplyFault;
 use thiserror::Error;
 
 /// Why bytes are no reply of a data node.
@@ -24,6 +28,20 @@ pub enum SyncFault {
     /// Y9: out of memory.
     #[error("Y9: out of memory")]
     Memory,
+}
+
+impl From<ReplyFault> for SyncFault {
+    ghost from_gives = { λ fault told. told ≡ of_reply fault };
+
+    fn from(fault: ReplyFault) -> SyncFault {
+        match fault {
+            ReplyFault::TooMany => SyncFault::TooMany,
+            ReplyFault::LengthOfDelta => SyncFault::LengthOfDelta,
+            ReplyFault::DoubledSegment => SyncFault::DoubledSegment,
+            ReplyFault::BadPage => SyncFault::BadPage,
+            ReplyFault::Memory => SyncFault::Memory,
+        }
+    }
 }
 
 /// Why a query string is no ask.

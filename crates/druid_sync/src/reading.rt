@@ -1,19 +1,21 @@
 //! Replies, read out of JSON.
-ghost use Rattle.std.specs.Prelude.{◌≡◌, ◌≤◌, ◌↔◌, IsTrue, Some, None, IsSome, is_some, IfOk, IfSome, option_map};
+ghost use Rattle.std.specs.Prelude.{◌≡◌, ◌≤◌, ◌↔◌, IsTrue, Some, is_some, IfErr, IfOk, IfSome, option_map};
 ghost use Rattle.std.specs.List.{list_all};
+ghost use Rattle.std.specs.Result.{result_ok};
 ghost use Rattle.serde_json.specs.View.{view, items_view};
 ghost use Rattle.druid_shard.specs.Reply.{IsAsFar};
 ghost use Rattle.druid_base.specs.Each.{each_of};
-ghost use Rattle.druid_sync.specs.Borrowed.{five_borrowed};
+ghost use Rattle.druid_shard_text.specs.Json.{descriptor_at};
+ghost use Rattle.druid_sync.specs.Borrowed.{change_borrowed, five_borrowed};
+ghost use Rattle.druid_sync.specs.Told.{shape_first};
 ghost use Rattle.druid_sync.specs.Read.{mark_at, change_at, load_at, cause_at, five_at, begun_again, none_in, reset_at, snapshot_at, delta_at, changes_at, page_at, paged_at, tells_page, unpaged_at, form_at, MayBePage, Answers, IsRead, IsReadOf};
 
 use crate::SyncFault;
 use druid_base::{JsonFault, limited_field, list_field, number_field, parse_json, text_field};
 use druid_shard::{
     Cause, Change, Descriptor, MAX_CHANGES, MAX_PAGE, MAX_PAGES, MAX_SEGMENTS, Mark, Reply,
-    ReplyFault,
 };
-use druid_shard_text::{check_descriptor, read_descriptor};
+use druid_shard_text::{DescriptorRef, SharedTexts};
 use serde_json::Value;
 use std::alloc::{AllocError, Global};
 
@@ -32,27 +34,70 @@ fn mark_of(value: &Value) -> Option<Mark>
     }
 }
 
-// Whether a value is a change. Does not allocate.
+// A change, with borrowed texts.
+#[derive(Drop)]
+enum ChangeRef<'a> {
+    Load(DescriptorRef<'a>),
+    Drop(DescriptorRef<'a>),
+}
+
+impl<'a> ChangeRef<'a> {
+    // A copy.
+    fn to_owned_in(&self, texts: &mut SharedTexts<'a>) -> Result<Change, AllocError>
+        ensures { IfOk result (λ copy. copy ≡ change_borrowed self.now) }
+    {
+        match self {
+            ChangeRef::Load(segment) => Ok(Change::Load(segment.to_owned_in(texts)?)),
+            ChangeRef::Drop(segment) => Ok(Change::Drop(segment.to_owned_in(texts)?)),
+        }
+    }
+}
+
+fn descriptor_in(value: &Value) -> Option<DescriptorRef<'_>>
+    ensures { result ≡ result_ok (descriptor_at (view value.now)) }
+{
+    match DescriptorRef::of(value) {
+        Ok(segment) => Some(segment),
+        Err(_) => None,
+    }
+}
+
+// The change that a value is. Does not allocate.
 #[tactic(auto, unfolding(crate::specs::Read::change_at))]
+fn change_in(value: &Value) -> Option<ChangeRef<'_>>
+    ensures { option_map change_borrowed result ≡ change_at (view value.now) }
+{
+    let action = text_field(value, "action")?;
+    let segment = descriptor_in(value)?;
+    if action == "load" {
+        return Some(ChangeRef::Load(segment));
+    }
+    if action == "drop" {
+        return Some(ChangeRef::Drop(segment));
+    }
+    None
+}
+
+// The segment that the change loads that a value is. Does not allocate.
+fn load_in(value: &Value) -> Option<DescriptorRef<'_>>
+    ensures { result ≡ load_at (view value.now) }
+{
+    match change_in(value)? {
+        ChangeRef::Load(segment) => Some(segment),
+        ChangeRef::Drop(_segment) => None,
+    }
+}
+
 fn is_change(value: &Value) -> bool
     ensures { result ≡ is_some (change_at (view value.now)) }
 {
-    let action = text_field(value, "action");
-    if action != Some("load") && action != Some("drop") {
-        return false;
-    }
-    check_descriptor(value).is_ok()
+    change_in(value).is_some()
 }
 
-// Whether a value is a change that loads a segment. Does not allocate.
-#[tactic(auto, unfolding(crate::specs::Read::change_at))]
 fn is_load(value: &Value) -> bool
     ensures { result ≡ is_some (load_at (view value.now)) }
 {
-    if text_field(value, "action") != Some("load") {
-        return false;
-    }
-    check_descriptor(value).is_ok()
+    load_in(value).is_some()
 }
 
 fn are_changes(values: &[Value]) -> bool
@@ -67,48 +112,86 @@ fn are_loads(values: &[Value]) -> bool
     values.iter().all(|value| is_load(value))
 }
 
-// The change that a value is.
-#[tactic(auto, unfolding(crate::specs::Read::change_at))]
-fn change_of(alloc: Global, value: &Value) -> Result<Change, AllocError>
-    requires { IsSome (change_at (view value.now)) }
-    ensures { IfOk result (λ change. change_at (view value.now) ≡ Some change) }
+// The fault of changes: that one is none comes before this one.
+#[tactic(auto, using(crate::proofs::FormLemmas::changes_read))]
+fn fault_of_changes(values: &[Value], fault: SyncFault) -> SyncFault
+    ensures { result ≡ shape_first (each_of change_at (items_view values.now)) fault }
 {
-    let Ok(segment) = read_descriptor(alloc, value) else {
-        return Err(AllocError);
-    };
-    if text_field(value, "action") == Some("load") {
-        Ok(Change::Load(segment))
+    if are_changes(values) {
+        fault
     } else {
-        Ok(Change::Drop(segment))
+        SyncFault::Shape
     }
 }
 
-// The segments that changes load, in order, where each loads one.
-#[tactic(auto, unfolding(crate::specs::Read::change_at))]
-fn loads_of(alloc: Global, values: &[Value]) -> Result<Vec<Descriptor>, AllocError>
-    requires { IsSome (each_of load_at (items_view values.now)) }
-    ensures { IfOk result (λ loads. each_of load_at (items_view values.now) ≡ Some loads.items) }
+// The fault of loads: that one is none comes before this one.
+#[tactic(auto, using(crate::proofs::FormLemmas::loads_read))]
+fn fault_of_loads(values: &[Value], fault: SyncFault) -> SyncFault
+    ensures { result ≡ shape_first (each_of load_at (items_view values.now)) fault }
 {
-    let mut loads = Vec::with_capacity(alloc, values.len())?;
-    for value in values {
-        let Ok(load) = read_descriptor(alloc, value) else {
-            return Err(AllocError);
-        };
-        loads.push(load)?;
+    if are_loads(values) {
+        fault
+    } else {
+        SyncFault::Shape
     }
-    Ok(loads)
 }
 
-// The changes, in order, where each value is one.
-fn changes_of(alloc: Global, values: &[Value]) -> Result<Vec<Change>, AllocError>
-    requires { IsSome (each_of change_at (items_view values.now)) }
-    ensures { IfOk result (λ changes. each_of change_at (items_view values.now) ≡ Some changes.items) }
+// The changes, in order; None where a value is none.
+fn read_changes(alloc: Global, values: &[Value]) -> Result<Option<Vec<Change>>, AllocError>
+    ensures { IfOk result (λ read.
+        option_map (λ changes. changes.items) read ≡ each_of change_at (items_view values.now)) }
 {
+    let mut texts = SharedTexts::with_capacity(alloc, values.len())?;
     let mut changes = Vec::with_capacity(alloc, values.len())?;
     for value in values {
-        changes.push(change_of(alloc, value)?)?;
+        let Some(change) = change_in(value) else {
+            return Ok(None);
+        };
+        changes.push(change.to_owned_in(&mut texts)?)?;
     }
-    Ok(changes)
+    Ok(Some(changes))
+}
+
+// The segments that changes load, in order; None where a value is no load.
+fn read_loads(alloc: Global, values: &[Value]) -> Result<Option<Vec<Descriptor>>, AllocError>
+    ensures { IfOk result (λ read.
+        option_map (λ loads. loads.items) read ≡ each_of load_at (items_view values.now)) }
+{
+    let mut texts = SharedTexts::with_capacity(alloc, values.len())?;
+    let mut loads = Vec::with_capacity(alloc, values.len())?;
+    for value in values {
+        let Some(load) = load_in(value) else {
+            return Ok(None);
+        };
+        loads.push(load.to_owned_in(&mut texts)?)?;
+    }
+    Ok(Some(loads))
+}
+
+// The changes, in order. Where memory runs out before all were looked at, the rest is judged too.
+fn changes_of(alloc: Global, values: &[Value]) -> Result<Vec<Change>, SyncFault>
+    ensures ok { IfOk result (λ changes. each_of change_at (items_view values.now) ≡ Some changes.items) }
+    ensures fault { IfErr result
+        (λ fault. fault ≡ shape_first (each_of change_at (items_view values.now)) SyncFault.Memory) }
+{
+    match read_changes(alloc, values) {
+        Ok(Some(changes)) => Ok(changes),
+        Ok(None) => Err(SyncFault::Shape),
+        Err(AllocError) => Err(fault_of_changes(values, SyncFault::Memory)),
+    }
+}
+
+// The segments that changes load, in order, as `changes_of`.
+fn loads_of(alloc: Global, values: &[Value]) -> Result<Vec<Descriptor>, SyncFault>
+    ensures ok { IfOk result (λ loads. each_of load_at (items_view values.now) ≡ Some loads.items) }
+    ensures fault { IfErr result
+        (λ fault. fault ≡ shape_first (each_of load_at (items_view values.now)) SyncFault.Memory) }
+{
+    match read_loads(alloc, values) {
+        Ok(Some(loads)) => Ok(loads),
+        Ok(None) => Err(SyncFault::Shape),
+        Err(AllocError) => Err(fault_of_loads(values, SyncFault::Memory)),
+    }
 }
 
 // The cause of a reset.
@@ -186,22 +269,16 @@ fn snapshot_of(alloc: Global, at: Mark, loads: &[Value]) -> Result<Reply, SyncFa
     requires { 1 ≤ at.incarnation }
     ensures { Answers (snapshot_at at (items_view loads.now)) result }
 {
-    if !are_loads(loads) {
-        return Err(SyncFault::Shape);
-    }
     if loads.len() > MAX_SEGMENTS {
-        return Err(SyncFault::TooMany);
+        return Err(fault_of_loads(loads, SyncFault::TooMany));
     }
-    let Ok(segments) = loads_of(alloc, loads) else {
-        return Err(SyncFault::Memory);
+    let segments = match loads_of(alloc, loads) {
+        Ok(segments) => segments,
+        Err(fault) => return Err(fault),
     };
     match Reply::snapshot(at, segments) {
         Ok(reply) => Ok(reply),
-        Err(ReplyFault::TooMany) => Err(SyncFault::TooMany),
-        Err(ReplyFault::LengthOfDelta) => Err(SyncFault::LengthOfDelta),
-        Err(ReplyFault::DoubledSegment) => Err(SyncFault::DoubledSegment),
-        Err(ReplyFault::BadPage) => Err(SyncFault::BadPage),
-        Err(ReplyFault::Memory) => Err(SyncFault::Memory),
+        Err(fault) => Err(SyncFault::from(fault)),
     }
 }
 
@@ -222,25 +299,19 @@ fn delta_of(alloc: Global, at: Mark, from: &Value, values: &[Value]) -> Result<R
     let Some(from) = mark_of(from) else {
         return Err(SyncFault::Shape);
     };
-    if !are_changes(values) {
-        return Err(SyncFault::Shape);
-    }
     if values.len() > MAX_CHANGES {
-        return Err(SyncFault::TooMany);
+        return Err(fault_of_changes(values, SyncFault::TooMany));
     }
     if !is_as_far(from, at, values.len()) {
-        return Err(SyncFault::LengthOfDelta);
+        return Err(fault_of_changes(values, SyncFault::LengthOfDelta));
     }
-    let Ok(changes) = changes_of(alloc, values) else {
-        return Err(SyncFault::Memory);
+    let changes = match changes_of(alloc, values) {
+        Ok(changes) => changes,
+        Err(fault) => return Err(fault),
     };
     match Reply::delta(from, at, changes) {
         Ok(reply) => Ok(reply),
-        Err(ReplyFault::TooMany) => Err(SyncFault::TooMany),
-        Err(ReplyFault::LengthOfDelta) => Err(SyncFault::LengthOfDelta),
-        Err(ReplyFault::DoubledSegment) => Err(SyncFault::DoubledSegment),
-        Err(ReplyFault::BadPage) => Err(SyncFault::BadPage),
-        Err(ReplyFault::Memory) => Err(SyncFault::Memory),
+        Err(fault) => Err(SyncFault::from(fault)),
     }
 }
 
@@ -276,25 +347,19 @@ fn page_of(alloc: Global, at: Mark, page: u16, of: u16, loads: &[Value]) -> Resu
     requires { 1 ≤ at.incarnation }
     ensures { Answers (page_at at page of (items_view loads.now)) result }
 {
-    if !are_loads(loads) {
-        return Err(SyncFault::Shape);
-    }
     if loads.len() > MAX_PAGE {
-        return Err(SyncFault::TooMany);
+        return Err(fault_of_loads(loads, SyncFault::TooMany));
     }
     if !may_be_page(page, of, loads.len()) {
-        return Err(SyncFault::BadPage);
+        return Err(fault_of_loads(loads, SyncFault::BadPage));
     }
-    let Ok(segments) = loads_of(alloc, loads) else {
-        return Err(SyncFault::Memory);
+    let segments = match loads_of(alloc, loads) {
+        Ok(segments) => segments,
+        Err(fault) => return Err(fault),
     };
     match Reply::page(at, page, of, segments) {
         Ok(reply) => Ok(reply),
-        Err(ReplyFault::TooMany) => Err(SyncFault::TooMany),
-        Err(ReplyFault::LengthOfDelta) => Err(SyncFault::LengthOfDelta),
-        Err(ReplyFault::DoubledSegment) => Err(SyncFault::DoubledSegment),
-        Err(ReplyFault::BadPage) => Err(SyncFault::BadPage),
-        Err(ReplyFault::Memory) => Err(SyncFault::Memory),
+        Err(fault) => Err(SyncFault::from(fault)),
     }
 }
 

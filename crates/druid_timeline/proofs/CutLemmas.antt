@@ -28,7 +28,7 @@ cut_cases part s = elim (cases_lt (max part.start s.interval.start) (min part.en
 
 -- ---- cut by one part
 
-Shows-cut : (part : Extent) (ps : List Shown) (t : ℕ) (g : Group) → Shows (filter_map (cut_piece part) ps) t g ↔ (Has part t × Shows ps t g)
+pub Shows-cut : (part : Extent) (ps : List Shown) (t : ℕ) (g : Group) → Shows (filter_map (cut_piece part) ps) t g ↔ (Has part t × Shows ps t g)
 Shows-cut part [] t g = (λ none. absurd none, λ h. h.1)
 Shows-cut part (s ∷ ps) t g = by_rest (Shows-cut part ps t g) (cut_cases part s) where
   by_rest : (Shows (filter_map (cut_piece part) ps) t g ↔ (Has part t × Shows ps t g))
@@ -63,7 +63,7 @@ Shows-cut part (s ∷ ps) t g = by_rest (Shows-cut part ps t g) (cut_cases part 
         absurd (omega arith)
     back (in_part, inr later) = rest.1 (in_part, later)
 
-AreRuns-cut : (part : Extent) (ps : List Shown) → AreRuns ps → AreRuns (filter_map (cut_piece part) ps)
+pub AreRuns-cut : (part : Extent) (ps : List Shown) → AreRuns ps → AreRuns (filter_map (cut_piece part) ps)
 AreRuns-cut part [] runs = tt
 AreRuns-cut part (s ∷ ps) runs = by_rest (AreRuns-cut part ps (AreRuns-rest s ps runs)) (cut_cases part s) where
   beyond : (t : ℕ) (g : Group) → Shows (filter_map (cut_piece part) ps) t g → min part.end s.interval.end ≤ t

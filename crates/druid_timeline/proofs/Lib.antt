@@ -1,13 +1,14 @@
 pub mod RunsLemmas
 pub mod ChunkLemmas
-pub mod BestLemmas
 pub mod SweepLemmas
-pub mod ActiveLemmas
+pub mod SkylineLemmas
+pub mod OverlayLemmas
 pub mod CutLemmas
 pub mod SpliceLemmas
 pub mod MoveLemmas
 pub mod HalvingLemmas
 pub mod TurnLemmas
+pub mod CountLemmas
 pub mod UndoLemmas
 pub mod VisibleLemmas
 pub mod LookupLemmas

@@ -1,7 +1,9 @@
 -- Lists of runs: what they show says which list it is.
-use Rattle.std.proofs.Common.{◌≡◌, ◌≢◌, ℕ, ◌<◌, ◌≤◌, List, [], ◌∷◌, refl, sym, ◌∙◌, inl, inr, arith}
+use Rattle.std.proofs.Common.{◌≡◌, ◌≢◌, ℕ, ◌<◌, ◌≤◌, List, [], ◌∷◌, refl, sym, ◌∙◌, subst, inl, inr, arith}
+use Rattle.std.specs.List.{Contains}
 use Rattle.std.proofs.lemmas.Bool.{cases_order}
 use Rattle.druid_segid.specs.Group.{Group}
+use Rattle.druid_base.proofs.MemberLemmas.{Contains-nil, Contains-cons}
 use Rattle.druid_timeline.specs.Pieces.{Shown, IsStretch, AreRuns, Shows, ArePiecesIn}
 use Rattle.druid_timeline.specs.Holding.{Held}
 
@@ -51,6 +53,14 @@ pub Shows-first : (a : Shown) (more : List Shown) → AreRuns (a ∷ more) → S
 Shows-first a more h =
     let stretch : a.interval.start < a.interval.end = AreRuns-first a more h in
     inl (refl, (omega arith, stretch))
+
+-- and each run at its own
+pub Shows-start : (ps : List Shown) (s : Shown) → AreRuns ps → Contains ps s → Shows ps s.interval.start s.group
+Shows-start [] s h there = absurd (Contains-nil s there)
+Shows-start (a ∷ more) s h there = elim (Contains-cons a more s there) [
+  | inl same ↦ subst (λ (x : Shown). Shows (a ∷ more) x.interval.start x.group) same (Shows-first a more h)
+  | inr later ↦ inr (Shows-start more s (AreRuns-rest a more h) later)
+]
 
 pub shown_same : (a b : Shown) → a.interval.start ≡ b.interval.start → a.interval.end ≡ b.interval.end → a.group ≡ b.group → a ≡ b
 shown_same a b start end group i = record { interval = record { start = start i; end = end i }; group = group i }

@@ -7,7 +7,6 @@ use Rattle.std.proofs.lemmas.List.Elements.{Contains-push}
 use Rattle.druid_time.specs.Extent.{Extent, Has}
 use Rattle.druid_segid.specs.Group.{Group}
 use Rattle.druid_base.proofs.MemberLemmas.{Contains-nil, Contains-cons, Contains-later}
-use Rattle.druid_timeline.specs.Candidates.{IsBestOf}
 use Rattle.druid_timeline.specs.Edited.{AreRunsEdited, spliced}
 use Rattle.druid_timeline.specs.Pieces.{Shown, shown_at, AreRuns, Shows}
 use Rattle.druid_timeline.proofs.CutLemmas.{AreRuns-cons}
@@ -71,19 +70,19 @@ AreRuns-join (a ∷ xs) ys hx hy order seam =
 
 -- ---- the middle replaced
 
--- what the rest shows before the part, the best of the chunks in it, and what the front shows after it
-abbrev pub InMiddle : Extent → List Group → List Shown → List Shown → ℕ → Group → Type 0
-InMiddle part chunks rest front t g =
-    ((Shows rest t g × (t < part.start)) ⊎ (Has part t × IsBestOf chunks t g)) ⊎ (Shows front t g × (part.end ≤ t))
+-- what the rest shows before the part, what is seen in it, and what the front shows after it
+abbrev pub InMiddle : Extent → (ℕ → Group → Type 0) → List Shown → List Shown → ℕ → Group → Type 0
+InMiddle part seen rest front t g =
+    ((Shows rest t g × (t < part.start)) ⊎ (Has part t × seen t g)) ⊎ (Shows front t g × (part.end ≤ t))
 
-abbrev pub MiddleShows : Extent → List Group → List Shown → List Shown → List Shown → Type 0
-MiddleShows part chunks rest front middle = (t : ℕ) (g : Group) → Shows middle t g ↔ InMiddle part chunks rest front t g
+abbrev pub MiddleShows : Extent → (ℕ → Group → Type 0) → List Shown → List Shown → List Shown → Type 0
+MiddleShows part seen rest front middle = (t : ℕ) (g : Group) → Shows middle t g ↔ InMiddle part seen rest front t g
 
-pub AreRunsEdited-middle : (part : Extent) (chunks : List Group) (old before rest front after middle : List Shown) → part.start < part.end
+pub AreRunsEdited-middle : (part : Extent) (seen : ℕ → Group → Type 0) (old before rest front after middle : List Shown) → part.start < part.end
     → before ++ rest ≡ old → front ++ after ≡ old → AreRuns old → AreRuns middle
     → ((t : ℕ) (g : Group) → Shows before t g → suc t < part.start) → ((t : ℕ) (g : Group) → Shows after t g → part.end < t)
-    → MiddleShows part chunks rest front middle → AreRunsEdited part chunks old (before ++ middle ++ after)
-AreRunsEdited-middle part chunks old before rest front after middle order split split' runs mid early late shows = record {
+    → MiddleShows part seen rest front middle → AreRunsEdited part seen old (before ++ middle ++ after)
+AreRunsEdited-middle part seen old before rest front after middle order split split' runs mid early late shows = record {
   runs = AreRuns-join (before ++ middle) after first_two (AreRuns-right front after halves) order_two seam_two;
   inside = λ t g has. (λ s. inside t g has (three t g s), λ best. Shows-left (before ++ middle) after t g (Shows-right before middle t g ((shows t g).1 (inl (inr (has, best))))));
   outside = λ t g not. (λ s. outside t g not (three t g s), back t g not);
@@ -94,12 +93,12 @@ AreRunsEdited-middle part chunks old before rest front after middle order split 
   halves : AreRuns (front ++ after)
   halves = subst AreRuns (sym split') runs
 
-  order_one : (t u : ℕ) (g k : Group) → Shows before t g → InMiddle part chunks rest front u k → t < u
+  order_one : (t u : ℕ) (g k : Group) → Shows before t g → InMiddle part seen rest front u k → t < u
   order_one t u g k s (inl (inl m)) = Shows-order before rest t u g k parts s m.0
   order_one t u g k s (inl (inr m)) = let e = early t g s in let l : part.start ≤ u = m.0.0 in omega arith
   order_one t u g k s (inr m) = let e = early t g s in let l = m.1 in let o = order in omega arith
 
-  seam_one : (t : ℕ) (g : Group) → Shows before t g → InMiddle part chunks rest front (suc t) g → ⊥
+  seam_one : (t : ℕ) (g : Group) → Shows before t g → InMiddle part seen rest front (suc t) g → ⊥
   seam_one t g s (inl (inl m)) = Shows-seam before rest t g parts s m.0
   seam_one t g s (inl (inr m)) = let e = early t g s in let l : part.start ≤ suc t = m.0.0 in omega arith
   seam_one t g s (inr m) = let e = early t g s in let l = m.1 in let o = order in omega arith
@@ -109,10 +108,10 @@ AreRunsEdited-middle part chunks old before rest front after middle order split 
       AreRuns-join before middle (AreRuns-left before rest parts) mid
       (λ t u g k s m. order_one t u g k s ((shows u k).0 m)) (λ t g s m. seam_one t g s ((shows (suc t) g).0 m))
 
-  two : (t : ℕ) (g : Group) → Shows (before ++ middle) t g → Shows before t g ⊎ InMiddle part chunks rest front t g
+  two : (t : ℕ) (g : Group) → Shows (before ++ middle) t g → Shows before t g ⊎ InMiddle part seen rest front t g
   two t g s = elim (Shows-cases before middle t g s) [ inl b ↦ inl b | inr m ↦ inr ((shows t g).0 m) ]
 
-  order_cases : (t u : ℕ) (g k : Group) → Shows before t g ⊎ InMiddle part chunks rest front t g → Shows after u k → t < u
+  order_cases : (t u : ℕ) (g k : Group) → Shows before t g ⊎ InMiddle part seen rest front t g → Shows after u k → t < u
   order_cases t u g k (inl s) a = let e = early t g s in let l = late u k a in let o = order in omega arith
   order_cases t u g k (inr (inl (inl m))) a = let e = m.1 in let l = late u k a in let o = order in omega arith
   order_cases t u g k (inr (inl (inr m))) a = let e : t < part.end = m.0.1 in let l = late u k a in omega arith
@@ -121,7 +120,7 @@ AreRunsEdited-middle part chunks old before rest front after middle order split 
   order_two : (t u : ℕ) (g k : Group) → Shows (before ++ middle) t g → Shows after u k → t < u
   order_two t u g k s a = order_cases t u g k (two t g s) a
 
-  seam_cases : (t : ℕ) (g : Group) → Shows before t g ⊎ InMiddle part chunks rest front t g → Shows after (suc t) g → ⊥
+  seam_cases : (t : ℕ) (g : Group) → Shows before t g ⊎ InMiddle part seen rest front t g → Shows after (suc t) g → ⊥
   seam_cases t g (inl s) a = let e = early t g s in let l = late (suc t) g a in let o = order in omega arith
   seam_cases t g (inr (inl (inl m))) a = let e = m.1 in let l = late (suc t) g a in let o = order in omega arith
   seam_cases t g (inr (inl (inr m))) a = let e : t < part.end = m.0.1 in let l = late (suc t) g a in omega arith
@@ -130,24 +129,24 @@ AreRunsEdited-middle part chunks old before rest front after middle order split 
   seam_two : (t : ℕ) (g : Group) → Shows (before ++ middle) t g → Shows after (suc t) g → ⊥
   seam_two t g s a = seam_cases t g (two t g s) a
 
-  three : (t : ℕ) (g : Group) → Shows (before ++ middle ++ after) t g → (Shows before t g ⊎ InMiddle part chunks rest front t g) ⊎ Shows after t g
+  three : (t : ℕ) (g : Group) → Shows (before ++ middle ++ after) t g → (Shows before t g ⊎ InMiddle part seen rest front t g) ⊎ Shows after t g
   three t g s = elim (Shows-cases (before ++ middle) after t g s) [ inl b ↦ inl (two t g b) | inr a ↦ inr a ]
 
-  inside : (t : ℕ) (g : Group) → Has part t → (Shows before t g ⊎ InMiddle part chunks rest front t g) ⊎ Shows after t g → IsBestOf chunks t g
+  inside : (t : ℕ) (g : Group) → Has part t → (Shows before t g ⊎ InMiddle part seen rest front t g) ⊎ Shows after t g → seen t g
   inside t g has (inl (inl s)) = let e = early t g s in let l : part.start ≤ t = has.0 in absurd (omega arith)
   inside t g has (inl (inr (inl (inl m)))) = let e = m.1 in let l : part.start ≤ t = has.0 in absurd (omega arith)
   inside t g has (inl (inr (inl (inr m)))) = m.1
   inside t g has (inl (inr (inr m))) = let e = m.1 in let l : t < part.end = has.1 in absurd (omega arith)
   inside t g has (inr a) = let e = late t g a in let l : t < part.end = has.1 in absurd (omega arith)
 
-  outside : (t : ℕ) (g : Group) → (Has part t → ⊥) → (Shows before t g ⊎ InMiddle part chunks rest front t g) ⊎ Shows after t g → Shows old t g
+  outside : (t : ℕ) (g : Group) → (Has part t → ⊥) → (Shows before t g ⊎ InMiddle part seen rest front t g) ⊎ Shows after t g → Shows old t g
   outside t g not (inl (inl s)) = subst (λ (xs : List Shown). Shows xs t g) split (Shows-left before rest t g s)
   outside t g not (inl (inr (inl (inl m)))) = subst (λ (xs : List Shown). Shows xs t g) split (Shows-right before rest t g m.0)
   outside t g not (inl (inr (inl (inr m)))) = absurd (not m.0)
   outside t g not (inl (inr (inr m))) = subst (λ (xs : List Shown). Shows xs t g) split' (Shows-left front after t g m.0)
   outside t g not (inr a) = subst (λ (xs : List Shown). Shows xs t g) split' (Shows-right front after t g a)
 
-  middle_shows : (t : ℕ) (g : Group) → InMiddle part chunks rest front t g → Shows (before ++ middle ++ after) t g
+  middle_shows : (t : ℕ) (g : Group) → InMiddle part seen rest front t g → Shows (before ++ middle ++ after) t g
   middle_shows t g m = Shows-left (before ++ middle) after t g (Shows-right before middle t g ((shows t g).1 m))
 
   back_early : (t : ℕ) (g : Group) → t < part.start → Shows before t g ⊎ Shows rest t g → Shows (before ++ middle ++ after) t g
@@ -197,13 +196,13 @@ spliced_shown rs middle from to =
     map-append shown_at (take from rs ++ middle) (drop to rs)
     ∙ ap (λ (xs : List Shown). xs ++ map shown_at (drop to rs)) (map-append shown_at (take from rs) middle)
 
-pub AreRunsEdited-spliced : (part : Extent) (chunks : List Group) (rs middle : List Run) (from to : ℕ) → part.start < part.end → AreRuns (map shown_at rs) → AreRuns (map shown_at middle)
+pub AreRunsEdited-spliced : (part : Extent) (seen : ℕ → Group → Type 0) (rs middle : List Run) (from to : ℕ) → part.start < part.end → AreRuns (map shown_at rs) → AreRuns (map shown_at middle)
     → ((r : Run) → Contains (take from rs) r → r.0.end < part.start) → ((r : Run) → Contains (drop to rs) r → part.end < r.0.start)
-    → MiddleShows part chunks (map shown_at (drop from rs)) (map shown_at (take to rs)) (map shown_at middle)
-    → AreRunsEdited part chunks (map shown_at rs) (map shown_at (spliced rs from to middle))
-AreRunsEdited-spliced part chunks rs middle from to order runs mid early late shows =
-    subst (AreRunsEdited part chunks (map shown_at rs)) (sym (spliced_shown rs middle from to))
-    (AreRunsEdited-middle part chunks (map shown_at rs) (map shown_at (take from rs)) (map shown_at (drop from rs)) (map shown_at (take to rs)) (map shown_at (drop to rs)) (map shown_at middle) order
+    → MiddleShows part seen (map shown_at (drop from rs)) (map shown_at (take to rs)) (map shown_at middle)
+    → AreRunsEdited part seen (map shown_at rs) (map shown_at (spliced rs from to middle))
+AreRunsEdited-spliced part seen rs middle from to order runs mid early late shows =
+    subst (AreRunsEdited part seen (map shown_at rs)) (sym (spliced_shown rs middle from to))
+    (AreRunsEdited-middle part seen (map shown_at rs) (map shown_at (take from rs)) (map shown_at (drop from rs)) (map shown_at (take to rs)) (map shown_at (drop to rs)) (map shown_at middle) order
     (split_at rs from) (split_at rs to) runs mid
     (λ t g s. let one = Shows-member (take from rs) t g s in let e = early one.0 one.1 in let l : t < one.0.0.end = one.3.1 in omega arith)
     (λ t g s. let one = Shows-member (drop to rs) t g s in let e = late one.0 one.1 in let l : one.0.0.start ≤ t = one.3.0 in omega arith)
@@ -345,21 +344,21 @@ front_none rs from u front past e t g =
     (λ none. absurd none, λ h. h.0))
 
 -- the middle, made in three steps
-pub middle_made : (part : Extent) (chunks : List Group) (rest front one two three : List Shown)
+pub middle_made : (part : Extent) (seen : ℕ → Group → Type 0) (rest front one two three : List Shown)
     → ((t : ℕ) (g : Group) → Shows one t g ↔ (Shows rest t g × (t < part.start)))
-    → ((t : ℕ) (g : Group) → Shows two t g ↔ (Shows one t g ⊎ (Has part t × IsBestOf chunks t g)))
+    → ((t : ℕ) (g : Group) → Shows two t g ↔ (Shows one t g ⊎ (Has part t × seen t g)))
     → ((t : ℕ) (g : Group) → Shows three t g ↔ (Shows two t g ⊎ (Shows front t g × (part.end ≤ t))))
-    → MiddleShows part chunks rest front three
-middle_made part chunks rest front one two three first second third t g = (λ s. forth ((third t g).0 s), back) where
-  forth_two : Shows one t g ⊎ (Has part t × IsBestOf chunks t g) → (Shows rest t g × (t < part.start)) ⊎ (Has part t × IsBestOf chunks t g)
+    → MiddleShows part seen rest front three
+middle_made part seen rest front one two three first second third t g = (λ s. forth ((third t g).0 s), back) where
+  forth_two : Shows one t g ⊎ (Has part t × seen t g) → (Shows rest t g × (t < part.start)) ⊎ (Has part t × seen t g)
   forth_two (inl s) = inl ((first t g).0 s)
   forth_two (inr h) = inr h
 
-  forth : Shows two t g ⊎ (Shows front t g × (part.end ≤ t)) → InMiddle part chunks rest front t g
+  forth : Shows two t g ⊎ (Shows front t g × (part.end ≤ t)) → InMiddle part seen rest front t g
   forth (inl s) = inl (forth_two ((second t g).0 s))
   forth (inr h) = inr h
 
-  back : InMiddle part chunks rest front t g → Shows three t g
+  back : InMiddle part seen rest front t g → Shows three t g
   back (inl (inl h)) = (third t g).1 (inl ((second t g).1 (inl ((first t g).1 h))))
   back (inl (inr h)) = (third t g).1 (inl ((second t g).1 (inr h)))
   back (inr h) = (third t g).1 (inr h)

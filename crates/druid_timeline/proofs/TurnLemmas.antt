@@ -1,25 +1,26 @@
 -- What is visible where the completeness of one chunk turns.
-use Rattle.std.proofs.Common.{◌≡◌, ◌+◌, ◌*◌, ◌<◌, ◌≤◌, ◌⊎◌, ◌↔◌, ℕ, Bool, true, false, List, length, refl, sym, ap, ◌∙◌, subst, inl, inr, arith}
+use Rattle.std.proofs.Common.{◌≡◌, ◌+◌, ◌*◌, ◌<◌, ◌≤◌, ◌⊎◌, ◌↔◌, ℕ, Bool, true, false, List, length, refl, sym, ◌∙◌, subst, inl, inr, arith}
 use mathlib.Core.Bool.{beq, not}
 use Rattle.std.specs.Bool.{IsTrue}
 use Rattle.std.specs.List.{Contains, IsDistinct}
 use Rattle.std.proofs.lemmas.Bool.{cases_lt, false≢true}
 use Rattle.std.proofs.lemmas.Map.Made.{length-le_from_is_member, is_member-Decides}
-use Rattle.druid_time.specs.Extent.{Extent, Has}
 use Rattle.std.proofs.lemmas.Nat.{mul-le}
-use Rattle.druid_segid.specs.Group.{Group, same_group}
+use Rattle.druid_time.specs.Extent.{Extent, Has}
+use Rattle.druid_segid.specs.Group.{Group, Outranks, same_group}
+use Rattle.druid_segid.proofs.GroupLemmas.{Outranks-cases, Outranks-onward, Outranks-one_way}
 use Rattle.druid_members.specs.Members.{IsComplete}
 use Rattle.druid_chunks.specs.Chunks.{Chunk, AreChunks, IsOverlapOf}
 use Rattle.druid_chunks.proofs.ChunkLemmas.{cases_group, same_group-equiv, same_group-exact, same_group-same}
-use Rattle.druid_timeline.specs.Candidates.{IsCandidateOf}
+use Rattle.druid_timeline.specs.Candidates.{IsCandidateOf, IsBestOf}
 use Rattle.druid_timeline.specs.Chunks.{held_in}
-use Rattle.druid_timeline.specs.Edited.{AreAlikeBut, AreRunsEdited, ArePiecesTurned, HasOthers, Turns}
+use Rattle.druid_timeline.specs.Edited.{AreAlikeBut, AreRunsEdited, ArePiecesThen, HasOthers, IsOverlaid, IsWithin}
 use Rattle.druid_timeline.specs.Holding.{Held, IsCompleteIn, SameHeld}
 use Rattle.druid_timeline.specs.Pieces.{Shown, ArePieces, Shows}
 use Rattle.druid_timeline.specs.Visible.{IsCandidate, IsVisible}
-use Rattle.druid_timeline.specs.Stretches.{IsBoundIf, HaveBounds}
 use Rattle.druid_timeline.proofs.ChunkLemmas.{KeepsChunks, IsCompleteIn-at, IsCompleteIn-chunk}
 use Rattle.druid_timeline.proofs.HoldingLemmas.{IsVisible-same, SameHeld-back}
+use Rattle.druid_timeline.proofs.VisibleLemmas.{visible_at}
 
 -- ---- the same candidates
 
@@ -64,102 +65,202 @@ pieces_unturned old new g ps alike own h = record {
       (λ s. (tt, same.0 ((h.shows t k).0 s).1), λ v. (h.shows t k).1 (tt, same.1 v.1));
 }
 
--- where the best inside the chunk's interval are the best of what is complete then, they are replaced
-pub pieces_edited : (old new : List Held) (g : Group) (chunks : List Group) (ps qs : List Shown) → ArePieces old ps → AreRunsEdited g.interval chunks ps qs → AreAlikeBut old new g
-    → ((t : ℕ) → Has g.interval t → (h : Group) → IsCandidateOf chunks t h ↔ IsCandidate new t h) → ArePieces new qs
-pieces_edited old new g chunks ps qs h edited alike found = record {
+cases_has : (e : Extent) (t : ℕ) → Has e t ⊎ (Has e t → ⊥)
+cases_has e t = elim (cases_lt t e.start) [
+  | inl early ↦ inr (λ has. let low : e.start ≤ t = has.0 in omega (arith, early, low))
+  | inr from ↦ elim (cases_lt t e.end) [
+    | inl to ↦ inl (from, to)
+    | inr late ↦ inr (λ has. let high : t < e.end = has.1 in omega (arith, late, high))
+  ]
+]
+
+-- where what is seen in a part is what is visible then, and elsewhere nothing changes, the runs are the pieces
+pieces_edited : (old new : List Held) (part : Extent) (seen : ℕ → Group → Type 0) (ps qs : List Shown) → ArePieces old ps → AreRunsEdited part seen ps qs
+    → ((t : ℕ) → Has part t → (k : Group) → seen t k ↔ IsVisible new t k) → ((t : ℕ) → (Has part t → ⊥) → (k : Group) → IsVisible old t k ↔ IsVisible new t k) → ArePieces new qs
+pieces_edited old new part seen ps qs h edited inside outside = record {
   runs = edited.runs;
-  shows = λ t k. by_place t k (cases_has t);
+  shows = λ t k. by_place t k (cases_has part t);
 } where
-  cases_has : (t : ℕ) → Has g.interval t ⊎ (Has g.interval t → ⊥)
-  cases_has t = elim (cases_lt t g.interval.start) [
-    | inl early ↦ inr (λ has. let low : g.interval.start ≤ t = has.0 in omega (arith, early, low))
-    | inr from ↦ elim (cases_lt t g.interval.end) [
-      | inl to ↦ inl (from, to)
-      | inr late ↦ inr (λ has. let high : t < g.interval.end = has.1 in omega (arith, late, high))
-    ]
-  ]
-
-  by_place : (t : ℕ) (k : Group) → Has g.interval t ⊎ (Has g.interval t → ⊥) → Shows qs t k ↔ (Unit {0} × IsVisible new t k)
-  by_place t k (inl has) = (
-    λ s. (
-      tt,
-      let best = (edited.inside t k has).0 s in record {
-        candidate = (found t has k).0 best.candidate;
-        greatest = λ other c. best.greatest other ((found t has other).1 c);
-      },
-    ),
-    λ v. (edited.inside t k has).1 (record {
-      candidate = (found t has k).1 v.1.candidate;
-      greatest = λ other c. v.1.greatest other ((found t has other).0 c);
-    }),
+  by_place : (t : ℕ) (k : Group) → Has part t ⊎ (Has part t → ⊥) → Shows qs t k ↔ (Unit {0} × IsVisible new t k)
+  by_place t k (inl has) = (λ s. (tt, (inside t has k).0 ((edited.inside t k has).0 s)), λ v. (edited.inside t k has).1 ((inside t has k).1 v.1))
+  by_place t k (inr not) = (
+    λ s. (tt, (outside t not k).0 ((h.shows t k).0 ((edited.outside t k not).0 s)).1),
+    λ v. (edited.outside t k not).1 ((h.shows t k).1 (tt, (outside t not k).1 v.1)),
   )
-  by_place t k (inr not) =
-      let same = visible_same old new t (candidates_outside old new g alike t not) k in (
-        λ s. (tt, same.0 ((h.shows t k).0 ((edited.outside t k not).0 s)).1),
-        λ v. (edited.outside t k not).1 ((h.shows t k).1 (tt, same.1 v.1)),
-      )
 
--- ---- the candidates of an edit
+-- where a chunk stays what it was, so do the pieces
+pub pieces_level : (old : List Held) (g : Group) (whole : Bool) (ps : List Shown) → ArePieces old ps → (IsTrue whole ↔ IsCompleteIn old g) → ArePiecesThen old g whole ps
+pieces_level old g whole ps h was new alike is = pieces_unturned old new g ps alike (λ c. is.0 (was.1 c), λ c. was.0 (is.1 c)) h
 
--- the list has the others that overlap g, and g itself where it is to become complete
-pub record AreCandidates (cs : List Chunk) (g : Group) (others found : List Group) (whole : Bool) : Type 0 where
-  pub overlap : (h : Group) → Contains others h ↔ IsOverlapOf cs g h
-  pub all : (h : Group) → Contains found h ↔ (Contains others h ⊎ ((h ≡ g) × (whole ≡ false)))
+-- ---- a chunk that becomes complete
 
-candidates_turned : (cs : List Chunk) (g : Group) (others found : List Group) (whole : Bool) → AreChunks cs → (IsTrue whole ↔ IsCompleteIn (held_in cs) g) → AreCandidates cs g others found whole
-    → (new : List Held) → Turns (held_in cs) new g → (t : ℕ) → Has g.interval t → (h : Group) → IsCandidateOf found t h ↔ IsCandidate new t h
-candidates_turned cs g others found whole are was c new turns t has h = (λ k. forth ((c.all h).0 k.0) k.1, back) where
-  forth : Contains others h ⊎ ((h ≡ g) × (whole ≡ false)) → Has h.interval t → IsCandidate new t h
-  forth (inl other) at =
-      let overlap = (c.overlap h).0 other in
-      record { complete = (turns.others h overlap.different).0 ((IsCompleteIn-chunk cs are h).1 overlap.complete); has = at }
-  forth (inr own) at = elim turns.own [
-    | inl before ↦ absurd (false≢true (sym own.1 ∙ was.1 before.0))
-    | inr after ↦ record { complete = subst (IsCompleteIn new) (sym own.0) after.1; has = at }
+-- where it comes over the pieces, that is what is visible
+overlaid_visible : (old new : List Held) (g : Group) (ps : List Shown) (t : ℕ) → ArePieces old ps → (IsCompleteIn old g → ⊥) → AreAlikeBut old new g → IsCompleteIn new g → Has g.interval t → (k : Group) → IsOverlaid ps g t k ↔ IsVisible new t k
+overlaid_visible old new g ps t h before alike whole has k = (forth, back) where
+  -- what is complete before is another chunk
+  other_of : (x : Group) → IsCompleteIn old x → x ≡ g → ⊥
+  other_of x complete same = before (subst (IsCompleteIn old) same complete)
+
+  kept : (x : Group) → IsCandidate old t x → IsCandidate new t x
+  kept x c = record { complete = (alike x (other_of x c.complete)).0 c.complete; has = c.has }
+
+  own : IsCandidate new t g
+  own = record { complete = whole; has = has }
+
+  -- a chunk that is a candidate then is the one, or was before
+  cases_then : (x : Group) → IsCandidate new t x → (x ≡ g) ⊎ IsCandidate old t x
+  cases_then x c = elim (cases_group x g) [
+    | inl same ↦ inl same
+    | inr other ↦ inr (record { complete = (alike x other).1 c.complete; has = c.has })
   ]
 
-  incomplete : (b : Bool) → whole ≡ b → (IsCompleteIn (held_in cs) g → ⊥) → whole ≡ false
-  incomplete true e not = absurd (not (was.0 e))
-  incomplete false e not = e
+  visible_old : (x : Group) → Shows ps t x → IsVisible old t x
+  visible_old x s = ((h.shows t x).0 s).1
 
-  back : IsCandidate new t h → IsCandidateOf found t h
-  back k = elim (cases_group h g) [
-    | inl same ↦ elim turns.own [
-      | inl before ↦ absurd (before.1 (subst (IsCompleteIn new) same k.complete))
-      | inr after ↦ ((c.all h).1 (inr (same, incomplete whole refl after.0)), k.has)
-    ]
-    | inr other ↦
-        let complete = (IsCompleteIn-chunk cs are h).0 ((turns.others h other).1 k.complete) in
-        ((c.all h).1 (inl ((c.overlap h).1 (record { complete = complete; different = other; share = (t, has, k.has) }))), k.has)
+  -- it outranks all others where it outranks what is shown
+  above_all : ((x : Group) → Shows ps t x → Outranks g x) → (x : Group) → IsCandidate old t x → Outranks g x
+  above_all above x c = elim (visible_at old t) [
+    | inl seen ↦
+        let over = above seen.0 ((h.shows t seen.0).1 (tt, seen.1)) in
+        elim (seen.1.greatest x c) [
+          | inl same ↦ subst (Outranks g) (sym same) over
+          | inr below ↦ Outranks-onward g seen.0 x over below
+        ]
+    | inr nothing ↦ absurd (nothing x c)
   ]
 
-pub pieces_turned : (cs : List Chunk) (g : Group) (others found : List Group) (whole : Bool) (ps qs : List Shown) → AreChunks cs → (IsTrue whole ↔ IsCompleteIn (held_in cs) g) → AreCandidates cs g others found whole
-    → ArePieces (held_in cs) ps → AreRunsEdited g.interval found ps qs → ArePiecesTurned (held_in cs) g qs
-pieces_turned cs g others found whole ps qs are was c h edited new turns =
-    pieces_edited (held_in cs) new g found ps qs h edited turns.others (candidates_turned cs g others found whole are was c new turns)
+  forth : IsOverlaid ps g t k → IsVisible new t k
+  forth (inl (same, above)) = subst (IsVisible new t) same (record {
+    candidate = own;
+    greatest = λ x c. elim (cases_then x c) [
+      | inl is ↦ inl is
+      | inr was ↦ inr (above_all above x was)
+    ];
+  })
+  forth (inr (shown, not)) =
+      let seen = visible_old k shown in record {
+        candidate = kept k seen.candidate;
+        greatest = λ x c. elim (cases_then x c) [
+          | inl is ↦ elim (Outranks-cases g k) [
+            | inl above ↦ absurd (not above)
+            | inr (inl same) ↦ inl (is ∙ same)
+            | inr (inr below) ↦ inr (subst (Outranks k) (sym is) below)
+          ]
+          | inr was ↦ seen.greatest x was
+        ];
+      }
 
--- ---- after an edit
+  back : IsVisible new t k → IsOverlaid ps g t k
+  back v = elim (cases_group k g) [
+    | inl same ↦ inl (
+      sym same,
+      λ x s.
+          let seen = visible_old x s in
+          elim (v.greatest x (kept x seen.candidate)) [
+            | inl is ↦ absurd (other_of x seen.candidate.complete (is ∙ same))
+            | inr below ↦ subst (λ (y : Group). Outranks y x) same below
+          ],
+    )
+    | inr other ↦ inr (
+      (h.shows t k).1 (
+        tt,
+        record {
+          candidate = record { complete = (alike k other).1 v.candidate.complete; has = v.candidate.has };
+          greatest = λ x c. v.greatest x (kept x c);
+        },
+      ),
+      λ above. elim (v.greatest g own) [
+        | inl same ↦ other (sym same)
+        | inr below ↦ Outranks-one_way g k above below
+      ],
+    )
+  ]
 
--- the pieces after an edit: replaced where the completeness has turned, and the old ones where it has not
-pub pieces_settled : (old new : List Held) (g : Group) (was is : Bool) (ps : List Shown) → AreAlikeBut old new g → (IsTrue was ↔ IsCompleteIn old g) → (IsTrue is ↔ IsCompleteIn new g) → was ≡ is → ArePieces old ps → ArePieces new ps
-pieces_settled old new g was is ps alike before after same h =
-    pieces_unturned old new g ps alike (
-      λ c. after.0 (sym same ∙ before.1 c),
-      λ c. before.0 (same ∙ after.1 c),
-    ) h
+pub pieces_overlaid : (old : List Held) (g : Group) (ps qs : List Shown) → ArePieces old ps → (IsCompleteIn old g → ⊥) → AreRunsEdited g.interval (IsOverlaid ps g) ps qs → ArePiecesThen old g true qs
+pieces_overlaid old g ps qs h before edited new alike is =
+    pieces_edited old new g.interval (IsOverlaid ps g) ps qs h edited
+    (λ t has. overlaid_visible old new g ps t h before alike (is.0 refl) has)
+    (λ t not. visible_same old new t (candidates_outside old new g alike t not))
 
-pub turns_from : (old new : List Held) (g : Group) (was is : Bool) → AreAlikeBut old new g → (IsTrue was ↔ IsCompleteIn old g) → (IsTrue is ↔ IsCompleteIn new g) → (was ≡ is → ⊥) → Turns old new g
-turns_from old new g true true alike before after other = absurd (other refl)
-turns_from old new g false false alike before after other = absurd (other refl)
-turns_from old new g true false alike before after other = record {
-  others = alike;
-  own = inl (before.0 refl, λ c. false≢true (after.1 c));
+-- ---- a chunk that is complete no more
+
+-- where it was not shown, nothing changes
+hidden_same : (old new : List Held) (g : Group) (ps : List Shown) (t : ℕ) → ArePieces old ps → AreAlikeBut old new g → (IsCompleteIn new g → ⊥) → (Shows ps t g → ⊥) → (k : Group) → IsVisible old t k ↔ IsVisible new t k
+hidden_same old new g ps t h alike gone hidden k = (forth, back) where
+  other_old : (x : Group) → IsVisible old t x → x ≡ g → ⊥
+  other_old x v same = hidden (subst (Shows ps t) same ((h.shows t x).1 (tt, v)))
+
+  was : (x : Group) → IsCandidate new t x → IsCandidate old t x
+  was x c = record { complete = (alike x (λ same. gone (subst (IsCompleteIn new) same c.complete))).1 c.complete; has = c.has }
+
+  forth : IsVisible old t k → IsVisible new t k
+  forth v = record {
+    candidate = record { complete = (alike k (other_old k v)).0 v.candidate.complete; has = v.candidate.has };
+    greatest = λ x c. v.greatest x (was x c);
+  }
+
+  below : IsVisible new t k → (x : Group) → IsCandidate old t x → (x ≡ g) → ((y : Group) × IsVisible old t y) → (x ≡ k) ⊎ Outranks k x
+  below v x c same (y, seen) =
+      let y_new : IsCandidate new t y = record { complete = (alike y (other_old y seen)).0 seen.candidate.complete; has = seen.candidate.has } in
+      elim (seen.greatest x c) [
+        | inl is ↦ absurd (other_old y seen (sym is ∙ same))
+        | inr under ↦ elim (v.greatest y y_new) [
+          | inl is ↦ inr (subst (λ (z : Group). Outranks z x) is under)
+          | inr above ↦ inr (Outranks-onward k y x above under)
+        ]
+      ]
+
+  back : IsVisible new t k → IsVisible old t k
+  back v = record {
+    candidate = was k v.candidate;
+    greatest = λ x c. elim (cases_group x g) [
+      | inl same ↦ elim (visible_at old t) [
+        | inl seen ↦ below v x c same seen
+        | inr nothing ↦ absurd (nothing x c)
+      ]
+      | inr other ↦ v.greatest x (record { complete = (alike x other).0 c.complete; has = c.has })
+    ];
+  }
+
+-- what is shown lies in the chunk's interval
+shown_inside : (old : List Held) (g : Group) (ps : List Shown) (t : ℕ) → ArePieces old ps → Shows ps t g → Has g.interval t
+shown_inside old g ps t h s = ((h.shows t g).0 s).1.candidate.has
+
+pub pieces_hidden : (old : List Held) (g : Group) (ps : List Shown) → ArePieces old ps → ((t : ℕ) → Has g.interval t → Shows ps t g → ⊥) → ArePiecesThen old g false ps
+pieces_hidden old g ps h hidden new alike is = record {
+  runs = h.runs;
+  shows = λ t k.
+      let same = hidden_same old new g ps t h alike (λ c. false≢true (is.1 c)) (λ s. hidden t (shown_inside old g ps t h s) s) k in
+      (λ s. (tt, same.0 ((h.shows t k).0 s).1), λ v. (h.shows t k).1 (tt, same.1 v.1));
 }
-turns_from old new g false true alike before after other = record {
-  others = alike;
-  own = inr (λ c. false≢true (before.1 c), after.0 refl);
-}
+
+-- inside a part the best of the others that overlap it is visible
+others_visible : (cs : List Chunk) (new : List Held) (g : Group) (part : Extent) (found : List Group) (t : ℕ) → AreChunks cs → AreAlikeBut (held_in cs) new g → (IsCompleteIn new g → ⊥)
+    → ((x : Group) → Contains found x ↔ IsOverlapOf cs g part x) → Has part t → (k : Group) → IsBestOf found t k ↔ IsVisible new t k
+others_visible cs new g part found t are alike gone overlap has k = (
+  λ best. record { candidate = (same k).0 best.candidate; greatest = λ x c. best.greatest x ((same x).1 c) },
+  λ v. record { candidate = (same k).1 v.candidate; greatest = λ x c. v.greatest x ((same x).0 c) },
+) where
+  same : (x : Group) → IsCandidateOf found t x ↔ IsCandidate new t x
+  same x = (
+    λ c.
+        let over = (overlap x).0 c.0 in
+        record { complete = (alike x over.different).0 ((IsCompleteIn-chunk cs are x).1 over.complete); has = c.1 },
+    λ c.
+        let other : (x ≡ g → ⊥) = λ is. gone (subst (IsCompleteIn new) is c.complete) in
+        let complete = (IsCompleteIn-chunk cs are x).0 ((alike x other).1 c.complete) in
+        ((overlap x).1 (record { complete = complete; different = other; share = (t, has, c.has) }), c.has),
+  )
+
+pub pieces_swept : (cs : List Chunk) (g : Group) (part : Extent) (found : List Group) (ps qs : List Shown) → AreChunks cs → ((x : Group) → Contains found x ↔ IsOverlapOf cs g part x)
+    → ((t : ℕ) → Has g.interval t → Shows ps t g → Has part t) → ArePieces (held_in cs) ps → AreRunsEdited part (IsBestOf found) ps qs → ArePiecesThen (held_in cs) g false qs
+pieces_swept cs g part found ps qs are overlap hull h edited new alike is =
+    let gone : (IsCompleteIn new g → ⊥) = λ c. false≢true (is.1 c) in
+    pieces_edited (held_in cs) new part (IsBestOf found) ps qs h edited
+    (λ t has. others_visible cs new g part found t are alike gone overlap has)
+    (λ t not. hidden_same (held_in cs) new g ps t h alike gone (λ s. not (hull t (shown_inside (held_in cs) g ps t h s) s)))
+
+-- ---- whether it turns
 
 pub turned_test : (is was : Bool) → IsTrue (not (beq is was)) ↔ (was ≡ is → ⊥)
 turned_test true true = (λ e. absurd (false≢true e), λ other. absurd (other refl))
@@ -173,42 +274,49 @@ level_unless false false not = refl
 level_unless true false not = absurd (not (λ same. false≢true (sym same)))
 level_unless false true not = absurd (not (λ same. false≢true same))
 
+-- two answers to one question
+pub told_alike : (was is : Bool) (P : Type 0) → (IsTrue was ↔ P) → (IsTrue is ↔ P) → was ≡ is
+told_alike true true P one other = refl
+told_alike false false P one other = refl
+told_alike true false P one other = absurd (false≢true (other.1 (one.0 refl)))
+told_alike false true P one other = absurd (false≢true (one.1 (other.0 refl)))
+
+-- what is complete before an edit and after it, by the flag
+pub level_told : (old new : Type 0) (is : Bool) → (IsTrue is ↔ new) → (old ↔ new) → IsTrue is ↔ old
+level_told old new is told level = (λ e. level.1 (told.0 e), λ c. told.1 (level.0 c))
+
+-- where the chunk was not complete and turns, it is complete then
+pub then_complete : (was is : Bool) (old : Type 0) → (IsTrue was ↔ old) → (old → ⊥) → (was ≡ is → ⊥) → IsTrue is
+then_complete true is old told not other = absurd (not (told.0 refl))
+then_complete false true old told not other = refl
+then_complete false false old told not other = absurd (other refl)
+
+pub not_complete : (was is : Bool) (old : Type 0) → (IsTrue was ↔ old) → (was ≡ is → ⊥) → IsTrue is → old → ⊥
+not_complete was true old told other e c = other (told.1 c)
+not_complete was false old told other e c = false≢true e
+
 -- ---- how many others there are
 
-pub few_others : (cs : List Chunk) (g : Group) (found others : List Group) → AreChunks cs → IsDistinct same_group found → ((h : Group) → Contains found h ↔ IsOverlapOf cs g h) → HasOthers (held_in cs) g others → length found ≤ length others
-few_others cs g found others are once overlap all =
+pub few_others : (cs : List Chunk) (g : Group) (part : Extent) (found others : List Group) → AreChunks cs → IsWithin part g.interval → IsDistinct same_group found → ((h : Group) → Contains found h ↔ IsOverlapOf cs g part h) → HasOthers (held_in cs) g others → length found ≤ length others
+few_others cs g part found others are inside once overlap all =
     length-le_from_is_member same_group-equiv found others once (λ h there.
     let decides = is_member-Decides (λ a b. (same_group-exact a b, same_group-same a b)) in
     let at = (overlap h).0 ((decides found h).0 there) in
-    (decides others h).1 (all h ((IsCompleteIn-chunk cs are h).1 at.complete) at.different (at.share.0, at.share.2, at.share.1)))
+    let low : part.start ≤ at.share.0 = at.share.1.0 in
+    let high : at.share.0 < part.end = at.share.1.1 in
+    let in_own : Has g.interval at.share.0 = (omega (arith, low, inside.0), omega (arith, high, inside.1)) in
+    (decides others h).1 (all h ((IsCompleteIn-chunk cs are h).1 at.complete) at.different (at.share.0, at.share.2, in_own)))
 
--- at most so many comparisons, where n others overlap
-pub bound_from : (old new bounds candidates n others : ℕ) → new ≤ old + bounds * candidates → bounds ≤ 2 * n + 1 → candidates ≤ n + 1 → n ≤ others → new ≤ old + (2 * others + 1) * (others + 1)
-bound_from old new bounds candidates n others le few some all =
-    let product = mul-le bounds candidates (2 * others + 1) (others + 1) (omega (arith, few, all)) (omega (arith, some, all)) in
+-- at most so many comparisons, where n of the others are compared with each other
+pub bound_swept : (old new n others : ℕ) → new ≤ old + n * n → n ≤ others → new ≤ old + (2 * others + 1) * (others + 1)
+bound_swept old new n others le few =
+    let product = mul-le n n (2 * others + 1) (others + 1) (omega (arith, few)) (omega (arith, few)) in
     omega (arith, le, product)
 
--- ---- the bounds of an edit
-
--- a chunk does not start or end inside its own interval
-pub bounds_own : (part : Extent) (others found : List Group) (own : Group) (whole : Bool) (bounds : List ℕ) → own.interval ≡ part → ((h : Group) → Contains found h ↔ (Contains others h ⊎ ((h ≡ own) × (whole ≡ false)))) → HaveBounds part others bounds → HaveBounds part found bounds
-bounds_own part others found own whole bounds same all have = record {
-  last = have.last;
-  within = have.within;
-  starts = λ h there. start h ((all h).0 there);
-  ends = λ h there. end h ((all h).0 there);
-} where
-  start : (h : Group) → Contains others h ⊎ ((h ≡ own) × (whole ≡ false)) → IsBoundIf part bounds h.interval.start
-  start h (inl other) = have.starts h other
-  start h (inr mine) = λ low high.
-      let e : h.interval.start ≡ part.start = ap (λ (g : Group). g.interval.start) mine.0 ∙ ap (λ (x : Extent). x.start) same in
-      absurd (omega (arith, e, low))
-
-  end : (h : Group) → Contains others h ⊎ ((h ≡ own) × (whole ≡ false)) → IsBoundIf part bounds h.interval.end
-  end h (inl other) = have.ends h other
-  end h (inr mine) = λ low high.
-      let e : h.interval.end ≡ part.end = ap (λ (g : Group). g.interval.end) mine.0 ∙ ap (λ (x : Extent). x.end) same in
-      absurd (omega (arith, e, high))
+pub bound_overlaid : (old new n others : ℕ) → new ≤ old + n → n ≤ 2 * others + 1 → new ≤ old + (2 * others + 1) * (others + 1)
+bound_overlaid old new n others le few =
+    let product = mul-le (2 * others + 1) 1 (2 * others + 1) (others + 1) (omega arith) (omega arith) in
+    omega (arith, le, few, product)
 
 -- ---- the same holding
 

@@ -1,5 +1,5 @@
 -- The best of some chunks at an instant: only proofs use this.
-use Rattle.std.specs.Prelude.{◌≡◌, ℕ, List, Option, MatchOption, ◌⊎◌, Contains}
+use Rattle.std.specs.Prelude.{◌≡◌, ℕ, List, ◌⊎◌, Contains}
 use Rattle.druid_time.specs.Extent.{Has}
 use Rattle.druid_segid.specs.Group.{Group, Outranks}
 
@@ -7,15 +7,7 @@ use Rattle.druid_segid.specs.Group.{Group, Outranks}
 abbrev pub IsCandidateOf : List Group → ℕ → Group → Type 0
 IsCandidateOf chunks t g = Contains chunks g × Has g.interval t
 
--- none of the chunks has the instant
-abbrev pub NoneOf : List Group → ℕ → Type 0
-NoneOf chunks t = (g : Group) → IsCandidateOf chunks t g → ⊥
-
 -- of the chunks that have the instant, the one that outranks each other
 pub record IsBestOf (chunks : List Group) (t : ℕ) (g : Group) : Type 0 where
   pub candidate : IsCandidateOf chunks t g
   pub greatest : (other : Group) → IsCandidateOf chunks t other → (other ≡ g) ⊎ Outranks g other
-
--- the best of the chunks, if there is one
-abbrev pub IsBest : List Group → ℕ → Option Group → Type 0
-IsBest chunks t best = MatchOption best (NoneOf chunks t) (IsBestOf chunks t)

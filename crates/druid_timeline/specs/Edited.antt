@@ -1,8 +1,7 @@
 -- One edit of a timeline.
-use Rattle.std.specs.Prelude.{◌≢◌, ℕ, List, take, drop, ◌+◌, ◌++◌, ◌⊎◌, ◌↔◌, Contains}
+use Rattle.std.specs.Prelude.{◌≡◌, ◌≢◌, ◌≤◌, ℕ, Bool, List, take, drop, ◌+◌, ◌++◌, ◌⊎◌, ◌↔◌, Contains, IsTrue}
 use Rattle.druid_time.specs.Extent.{Extent, Has, Share}
-use Rattle.druid_segid.specs.Group.{Group}
-use Rattle.druid_timeline.specs.Candidates.{IsBestOf}
+use Rattle.druid_segid.specs.Group.{Group, Outranks}
 use Rattle.druid_timeline.specs.Holding.{Held, IsCompleteIn}
 use Rattle.druid_timeline.specs.Pieces.{Shown, AreRuns, Shows, ArePieces}
 
@@ -15,14 +14,10 @@ HasOthers held g others =
 abbrev pub AreAlikeBut : List Held → List Held → Group → Type 0
 AreAlikeBut old new g = (h : Group) → h ≢ g → IsCompleteIn old h ↔ IsCompleteIn new h
 
--- the completeness of g turns, and that of no other chunk
-pub record Turns (old new : List Held) (g : Group) : Type 0 where
-  pub others : AreAlikeBut old new g
-  pub own : (IsCompleteIn old g × (IsCompleteIn new g → ⊥)) ⊎ ((IsCompleteIn old g → ⊥) × IsCompleteIn new g)
-
--- the pieces of each holding in which the completeness of g has turned
-abbrev pub ArePiecesTurned : List Held → Group → List Shown → Type 0
-ArePiecesTurned held g pieces = (new : List Held) → Turns held new g → ArePieces new pieces
+-- the pieces of each holding in which g is complete or not, as the flag says, and the other chunks are what they were
+abbrev pub ArePiecesThen : List Held → Group → Bool → List Shown → Type 0
+ArePiecesThen held g is_complete pieces =
+    (new : List Held) → AreAlikeBut held new g → (IsTrue is_complete ↔ IsCompleteIn new g) → ArePieces new pieces
 
 -- the list with those from one place to another replaced
 abbrev pub spliced : {A : Type 0} → List A → ℕ → ℕ → List A → List A
@@ -32,8 +27,17 @@ spliced xs from to middle = take from xs ++ middle ++ drop to xs
 abbrev pub turned : {A : Type 0} → List A → ℕ → ℕ → List A
 turned xs from count = take from xs ++ drop (from + count) xs ++ take count (drop from xs)
 
--- runs that show inside the part the best of the chunks, and outside it what the old ones show
-pub record AreRunsEdited (part : Extent) (chunks : List Group) (old new : List Shown) : Type 0 where
+-- the instants of the one are instants of the other
+abbrev pub IsWithin : Extent → Extent → Type 0
+IsWithin part whole = (whole.start ≤ part.start) × (part.end ≤ whole.end)
+
+-- where a chunk comes over runs, it is seen if it outranks what they show, or they show nothing; else what they show is
+abbrev pub IsOverlaid : List Shown → Group → ℕ → Group → Type 0
+IsOverlaid runs own t g =
+    ((own ≡ g) × ((k : Group) → Shows runs t k → Outranks own k)) ⊎ (Shows runs t g × (Outranks own g → ⊥))
+
+-- runs that show inside the part what is seen there, and outside it what the old ones show
+pub record AreRunsEdited (part : Extent) (seen : ℕ → Group → Type 0) (old new : List Shown) : Type 0 where
   pub runs : AreRuns new
-  pub inside : (t : ℕ) (g : Group) → Has part t → Shows new t g ↔ IsBestOf chunks t g
+  pub inside : (t : ℕ) (g : Group) → Has part t → Shows new t g ↔ seen t g
   pub outside : (t : ℕ) (g : Group) → (Has part t → ⊥) → Shows new t g ↔ Shows old t g

@@ -1,5 +1,5 @@
 -- Exchanges of runs for those of an edit: only proofs use this.
-use Rattle.std.specs.Prelude.{◌≡◌, ◌≤◌, ◌+◌, ◌-◌, ℕ, List, [], ◌∷◌, length, map, reverse, vec_capacity}
+use Rattle.std.specs.Prelude.{◌≡◌, ◌≤◌, ◌+◌, ◌-◌, ℕ, List, [], ◌∷◌, Option, None, Some, length, map, reverse, vec_capacity}
 use Rattle.druid_time.specs.Extent.{Extent}
 use Rattle.druid_segid.specs.Group.{Group}
 use Rattle.druid_chunks.specs.Chunks.{Chunk, AreChunks, members_at}
@@ -11,6 +11,11 @@ use Rattle.druid_timeline.specs.Pieces.{ArePieces, shown_at}
 -- the runs after an exchange for those of an edit
 abbrev pub exchanged : List (Extent × Group) → Edit → List (Extent × Group)
 exchanged runs edit = spliced runs edit.from edit.to edit.runs.items
+
+-- the runs after the exchange for an edit, if there is one
+abbrev pub settled : List (Extent × Group) → Option Edit → List (Extent × Group)
+settled runs None = runs
+settled runs (Some edit) = exchanged runs edit
 
 -- runs in a Vec of this capacity can be exchanged for those of an edit without allocating
 pub record CanExchange (runs : List (Extent × Group)) (capacity : ℕ) (edit : Edit) : Type 0 where

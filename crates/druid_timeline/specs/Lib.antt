@@ -10,5 +10,5 @@ pub mod Transactions
 pub mod Exchanges
 -- words of private contracts
 pub mod Stretches
-pub mod Active
+pub mod Skyline
 pub mod Known

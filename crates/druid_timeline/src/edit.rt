@@ -1,15 +1,16 @@
 //! What an edit replaces of the runs of a timeline, and by what.
-ghost use Rattle.std.specs.Prelude.{◌≡◌, ◌<◌, ◌≤◌, ◌+◌, ◌-◌, ◌*◌, ◌++◌, ◌↔◌, ◌⊎◌, ℕ, List, length, map, take, drop, reverse, vec_capacity, IfOk, OnOk, Contains};
-ghost use Rattle.std.specs.List.Sorted.{IsNonDecreasing};
+ghost use Rattle.std.specs.Prelude.{◌≡◌, ◌<◌, ◌≤◌, ◌+◌, ◌-◌, ◌*◌, ◌++◌, ◌↔◌, ◌⊎◌, ℕ, [], ◌∷◌, length, map, take, drop, reverse, vec_capacity, IfOk, OnOk, Contains};
 ghost use Rattle.druid_time.specs.Extent.{Extent, Has};
 ghost use Rattle.druid_segid.specs.Group.{Group};
-ghost use Rattle.druid_timeline.specs.Pieces.{AreRuns, Shows, shown_at};
-ghost use Rattle.druid_timeline.specs.Active.{StartInOrder};
-ghost use Rattle.druid_timeline.specs.Edited.{AreRunsEdited, spliced, turned};
-ghost use Rattle.druid_timeline.specs.Stretches.{EndBy, HaveBounds};
+ghost use Rattle.druid_timeline.specs.Candidates.{IsBestOf};
+ghost use Rattle.druid_timeline.specs.Pieces.{AreRuns, Shows, cut, shown_at};
+ghost use Rattle.druid_timeline.specs.Skyline.{StartInOrder};
+ghost use Rattle.druid_timeline.specs.Edited.{AreRunsEdited, IsOverlaid, spliced, turned};
+ghost use Rattle.druid_timeline.specs.Stretches.{EndBy};
 ghost use Rattle.druid_timeline.specs.Exchanges.{CanExchange, ExchangesBack, exchanged};
 
-use crate::sweep::{add_part, push_run};
+use crate::overlay::add_overlaid;
+use crate::sweep::{add_best, push_run};
 use druid_segid::{GroupKey, Meter};
 use druid_time::{Instant, Interval};
 use std::alloc::{AllocError, Global};
@@ -94,28 +95,52 @@ fn add_back(
 
 // What the runs become where inside a part the best of these candidates is visible, and outside it what was: the runs
 // that overlap the part or touch it are replaced, so that neighbours of one chunk are joined.
-pub(crate) fn edit_in(
+pub(crate) fn edit_swept(
     alloc: Global,
     runs: &[(Interval, GroupKey)],
     part: Interval,
-    candidates: &[&GroupKey],
-    bounds: &[Instant],
+    sorted: &[&GroupKey],
     meter: &mut Meter,
 ) -> Result<Edit, AllocError>
     requires runs { AreRuns (map shown_at runs.now) }
-    requires order { StartInOrder (map (λ c. c.now) candidates.now) }
-    requires bounds { HaveBounds part (map (λ c. c.now) candidates.now) bounds.now }
-    requires sorted { IsNonDecreasing bounds.now }
+    requires order { StartInOrder (map (λ c. c.now) sorted.now) }
     ensures inside { IfOk result (λ edit. (edit.from ≤ edit.to) × (edit.to ≤ length runs.now)) }
-    ensures edited { IfOk result (λ edit. AreRunsEdited part (map (λ c. c.now) candidates.now) (map shown_at runs.now)
+    ensures edited { IfOk result (λ edit. AreRunsEdited part (IsBestOf (map (λ c. c.now) sorted.now)) (map shown_at runs.now)
         (map shown_at (spliced runs.now edit.from edit.to edit.runs.items))) }
     ensures counted { (meter.old ≤ meter.new)
-        × (meter.new ≤ meter.old + length bounds.now * length candidates.now) }
+        × (meter.new ≤ meter.old + length sorted.now * length sorted.now) }
 {
     let from = first_to(runs, part.start());
     let to = first_after(runs, part.end());
     let mut middle = front_of(alloc, runs, from, part.start())?;
-    add_part(alloc, &mut middle, candidates, bounds, part, meter)?;
+    add_best(alloc, &mut middle, sorted, part, meter)?;
+    add_back(&mut middle, runs, to, part.end())?;
+    Ok(Edit {
+        from,
+        to,
+        runs: middle,
+    })
+}
+
+// The same where inside a chunk's interval the chunk comes over the runs.
+pub(crate) fn edit_overlaid(
+    alloc: Global,
+    runs: &[(Interval, GroupKey)],
+    own: &GroupKey,
+    meter: &mut Meter,
+) -> Result<Edit, AllocError>
+    requires { AreRuns (map shown_at runs.now) }
+    ensures inside { IfOk result (λ edit. (edit.from ≤ edit.to) × (edit.to ≤ length runs.now)) }
+    ensures edited { IfOk result (λ edit. AreRunsEdited own.now.interval (IsOverlaid (map shown_at runs.now) own.now)
+        (map shown_at runs.now) (map shown_at (spliced runs.now edit.from edit.to edit.runs.items))) }
+    ensures counted { (meter.old ≤ meter.new)
+        × (meter.new ≤ meter.old + length (cut (own.now.interval ∷ []) (map shown_at runs.now))) }
+{
+    let part = own.interval();
+    let from = first_to(runs, part.start());
+    let to = first_after(runs, part.end());
+    let mut middle = front_of(alloc, runs, from, part.start())?;
+    add_overlaid(&mut middle, runs, own, meter)?;
     add_back(&mut middle, runs, to, part.end())?;
     Ok(Edit {
         from,

@@ -1,13 +1,14 @@
 //! Which version of a data source is visible at each instant.
 #![tactic(auto)]
 
-mod active;
 mod edit;
 mod fault;
 mod laws;
 mod lookup;
+mod overlay;
 mod overshadowed;
 mod piece;
+mod skyline;
 mod sweep;
 mod timeline;
 mod transaction;

@@ -1,70 +1,16 @@
-//! What is visible in one part, by a sweep over the instants where a chunk starts or ends.
-ghost use Rattle.std.specs.Prelude.{◌≡◌, ◌<◌, ◌≤◌, ◌+◌, ◌*◌, ◌↔◌, ◌⊎◌, ℕ, List, length, map, IsTrue, IfOk, OnOk, Contains};
-ghost use Rattle.std.specs.List.Sorted.{IsNonDecreasing};
+//! What is visible in one part of some chunks, by a sweep over the instants where the best of them changes.
+ghost use Rattle.std.specs.Prelude.{◌≡◌, ◌<◌, ◌≤◌, ◌+◌, ◌*◌, ◌↔◌, ◌⊎◌, ℕ, List, min, drop, length, map, IsTrue, OnOk, MatchOption, option_copied, Contains};
 ghost use Rattle.druid_time.specs.Extent.{Has, IsExtent};
 ghost use Rattle.druid_segid.specs.Group.{Group};
 ghost use Rattle.druid_timeline.specs.Candidates.{IsBestOf};
 ghost use Rattle.druid_timeline.specs.Pieces.{AreRuns, Shows, shown_at};
-ghost use Rattle.druid_timeline.specs.Active.{StartInOrder};
-ghost use Rattle.druid_timeline.specs.Stretches.{EndBy, HaveBounds, NoBoundWithin};
+ghost use Rattle.druid_timeline.specs.Skyline.{StartInOrder, StartLater};
+ghost use Rattle.druid_timeline.specs.Stretches.{EndBy};
 
-use crate::active::{advance, best_at};
+use crate::skyline::{advance, best_of};
 use druid_segid::{GroupKey, Meter};
 use druid_time::{Instant, Interval};
 use std::alloc::{AllocError, Global};
-
-// Adds an instant that lies strictly inside the part.
-fn push_inside(
-    bounds: &mut Vec<Instant>,
-    part: Interval,
-    instant: Instant,
-) -> Result<(), AllocError>
-    ensures inside { OnOk result (part.start < instant → instant < part.end → Contains bounds.new.items instant) }
-    ensures kept { OnOk result ((b : ℕ) → Contains bounds.old.items b → Contains bounds.new.items b) }
-    ensures within { OnOk result ((b : ℕ) → Contains bounds.new.items b → Contains bounds.old.items b ⊎ (b ≤ part.end)) }
-    ensures few { OnOk result (length bounds.new.items ≤ length bounds.old.items + 1) }
-{
-    if part.start() < instant && instant < part.end() {
-        bounds.push(instant)?;
-    }
-    Ok(())
-}
-
-// The end of the part, and each instant strictly inside it where a candidate starts or ends, not in order.
-fn unsorted_bounds(
-    alloc: Global,
-    part: Interval,
-    candidates: &[&GroupKey],
-) -> Result<Vec<Instant>, AllocError>
-    ensures bounds { IfOk result (λ v. HaveBounds part (map (λ c. c.now) candidates.now) v.items) }
-    ensures few { IfOk result (λ v. length v.items ≤ 2 * length candidates.now + 1) }
-{
-    let mut bounds = Vec::new(alloc);
-    bounds.push(part.end())?;
-    for candidate in candidates {
-        let own = candidate.interval();
-        let first = own.start();
-        push_inside(&mut bounds, part, first)?;
-        let last = own.end();
-        push_inside(&mut bounds, part, last)?;
-    }
-    Ok(bounds)
-}
-
-// The same in order.
-pub(crate) fn bounds_in(
-    alloc: Global,
-    part: Interval,
-    candidates: &[&GroupKey],
-) -> Result<Vec<Instant>, AllocError>
-    ensures bounds { IfOk result (λ v. HaveBounds part (map (λ c. c.now) candidates.now) v.items) }
-    ensures sorted { IfOk result (λ v. IsNonDecreasing v.items) }
-    ensures few { IfOk result (λ v. length v.items ≤ 2 * length candidates.now + 1) }
-{
-    let mut bounds = unsorted_bounds(alloc, part, candidates)?;
-    bounds.sort_unstable();
-    Ok(bounds)
-}
 
 // Whether a stretch of a chunk goes on where the last run ends, which is of that chunk.
 fn goes_on(last: &(Interval, GroupKey), stretch: Interval, key: &GroupKey) -> bool
@@ -108,57 +54,102 @@ pub(crate) fn push_run(
     Ok(())
 }
 
-// Adds what is visible of some candidates from one instant to another, between which none of them starts or ends.
-fn add_stretch(
+// Adds what lies between two instants after the runs, if anything, as a stretch of a chunk.
+pub(crate) fn push_between(
     runs: &mut Vec<(Interval, GroupKey)>,
-    active: &[&GroupKey],
-    stretch: Interval,
-    meter: &mut Meter,
+    from: Instant,
+    to: Instant,
+    key: &GroupKey,
 ) -> Result<(), AllocError>
-    requires level { NoBoundWithin (map (λ c. c.now) active.now) stretch.start stretch.end }
     requires runs { AreRuns (map shown_at runs.old.items) }
-    requires ends { EndBy (map shown_at runs.old.items) stretch.start }
+    requires ends { EndBy (map shown_at runs.old.items) from }
     ensures runs { OnOk result (AreRuns (map shown_at runs.new.items)) }
     ensures shows { OnOk result ((t : ℕ) (g : Group) → Shows (map shown_at runs.new.items) t g
-        ↔ (Shows (map shown_at runs.old.items) t g ⊎ (Has stretch t × IsBestOf (map (λ c. c.now) active.now) t g))) }
-    ensures counted { (meter.old ≤ meter.new) × (meter.new ≤ meter.old + length active.now) }
+        ↔ (Shows (map shown_at runs.old.items) t g ⊎ ((key.now ≡ g) × ((from ≤ t) × (t < to))))) }
 {
-    match best_at(active, stretch.start(), meter) {
-        Some(best) => push_run(runs, stretch, best),
+    match Interval::new(from, to) {
+        Some(stretch) => push_run(runs, stretch, key),
         None => Ok(()),
     }
 }
 
-// Adds what is visible in a part, which lies after the runs. Between two bounds only the active candidates are looked
-// at, and they are few where few chunks overlap.
-pub(crate) fn add_part(
+// The same of a chunk, if there is one.
+fn push_best(
+    runs: &mut Vec<(Interval, GroupKey)>,
+    from: Instant,
+    to: Instant,
+    best: Option<&GroupKey>,
+) -> Result<(), AllocError>
+    requires runs { AreRuns (map shown_at runs.old.items) }
+    requires ends { EndBy (map shown_at runs.old.items) from }
+    ensures runs { OnOk result (AreRuns (map shown_at runs.new.items)) }
+    ensures shows { OnOk result ((t : ℕ) (g : Group) → Shows (map shown_at runs.new.items) t g
+        ↔ (Shows (map shown_at runs.old.items) t g
+        ⊎ (MatchOption (option_copied best.entry) ⊥ (λ b. b ≡ g) × ((from ≤ t) × (t < to))))) }
+{
+    match best {
+        Some(key) => push_between(runs, from, to, key),
+        None => Ok(()),
+    }
+}
+
+// The earlier of two instants.
+fn earlier(one: Instant, other: Instant) -> Instant
+    ensures { result ≡ min one other }
+{
+    one.min(other)
+}
+
+// Where the best chunk may change next, at an end at the latest: where it ends, or the next candidate starts.
+fn next_bound(best: Option<&GroupKey>, sorted: &[&GroupKey], place: usize, end: Instant) -> Instant
+    requires { StartInOrder (map (λ c. c.now) sorted.now) }
+    ensures high { result ≤ end }
+    ensures best { MatchOption (option_copied best.entry) (Unit {0}) (λ b. result ≤ b.interval.end) }
+    ensures next { (g : Group) → Contains (drop place (map (λ c. c.now) sorted.now)) g → result ≤ g.interval.start }
+    ensures onward { (from : ℕ) → from < end
+        → MatchOption (option_copied best.entry) (Unit {0}) (λ b. from < b.interval.end)
+        → StartLater (drop place (map (λ c. c.now) sorted.now)) from → from < result }
+{
+    let mut to = end;
+    if let Some(key) = best {
+        let ends = key.interval().end();
+        to = earlier(to, ends);
+    }
+    if place < sorted.len() {
+        let next = sorted[place].interval().start();
+        to = earlier(to, next);
+    }
+    to
+}
+
+// Adds what is visible in a part, which lies after the runs, of candidates in the order of their starts. Each of them is
+// compared with few others: with the best of those that end no sooner, and with those that it covers.
+pub(crate) fn add_best(
     alloc: Global,
     runs: &mut Vec<(Interval, GroupKey)>,
-    candidates: &[&GroupKey],
-    bounds: &[Instant],
+    sorted: &[&GroupKey],
     part: Interval,
     meter: &mut Meter,
 ) -> Result<(), AllocError>
-    requires order { StartInOrder (map (λ c. c.now) candidates.now) }
-    requires bounds { HaveBounds part (map (λ c. c.now) candidates.now) bounds.now }
-    requires sorted { IsNonDecreasing bounds.now }
+    requires order { StartInOrder (map (λ c. c.now) sorted.now) }
     requires runs { AreRuns (map shown_at runs.old.items) }
     requires ends { EndBy (map shown_at runs.old.items) part.start }
     ensures runs { OnOk result (AreRuns (map shown_at runs.new.items)) }
     ensures shows { OnOk result ((t : ℕ) (g : Group) → Shows (map shown_at runs.new.items) t g
-        ↔ (Shows (map shown_at runs.old.items) t g ⊎ (Has part t × IsBestOf (map (λ c. c.now) candidates.now) t g))) }
+        ↔ (Shows (map shown_at runs.old.items) t g ⊎ (Has part t × IsBestOf (map (λ c. c.now) sorted.now) t g))) }
     ensures counted { (meter.old ≤ meter.new)
-        × (meter.new ≤ meter.old + length bounds.now * length candidates.now) }
+        × (meter.new ≤ meter.old + length sorted.now * length sorted.now) }
 {
-    let mut active = Vec::new(alloc);
+    let mut sky = Vec::new(alloc);
     let mut place = 0;
     let mut from = part.start();
-    for bound in bounds {
-        if let Some(stretch) = Interval::new(from, *bound) {
-            place = advance(&mut active, candidates, place, from)?;
-            add_stretch(runs, &active, stretch, meter)?;
-            from = *bound;
-        }
+    let stop = part.end();
+    while from < stop {
+        place = advance(&mut sky, sorted, place, from, meter)?;
+        let best = best_of(&sky);
+        let to = next_bound(best, sorted, place, stop);
+        push_best(runs, from, to, best)?;
+        from = to;
     }
     Ok(())
 }

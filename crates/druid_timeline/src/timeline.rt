@@ -1,11 +1,11 @@
-ghost use Rattle.std.specs.Prelude.{◌≡◌, ◌≤◌, ◌+◌, ◌*◌, ◌↔◌, ◌⊎◌, ℕ, List, [], All, Contains, IsTrue, IfOk, IfErr, OnOk, OnErr, IsErrOf, length, map, MatchOption};
+ghost use Rattle.std.specs.Prelude.{◌≡◌, ◌≤◌, ◌+◌, ◌*◌, ◌↔◌, ◌⊎◌, ℕ, List, [], ◌∷◌, All, Contains, IsTrue, IfOk, IfErr, OnOk, OnErr, IsErrOf, length, map, MatchOption};
 ghost use Rattle.std.specs.List.Sorted.{IsStrictlyIncreasing, IsStrictlySortedBy};
 ghost use Rattle.druid_time.specs.Extent.{AnyHas};
 ghost use Rattle.druid_segid.specs.Group.{Group, group_of};
 ghost use Rattle.druid_timeline.specs.Edited.{HasOthers};
-ghost use Rattle.druid_timeline.specs.Holding.{held_of, members_of, HoldsNothing, IsHeld, IsServed, ServesRows, AddsHeld, RemovesHeld, RemovesOneHeld, SameHeld};
+ghost use Rattle.druid_timeline.specs.Holding.{held_of, members_of, HoldsNothing, IsCompleteIn, IsHeld, IsServed, ServesRows, AddsHeld, RemovesHeld, RemovesOneHeld, SameHeld};
 ghost use Rattle.druid_timeline.specs.Overshadowed.{IsOvershadowed, place_cmp};
-ghost use Rattle.druid_timeline.specs.Pieces.{ArePieces, ArePiecesIn, ArePartitions, shown_at, shown_of};
+ghost use Rattle.druid_timeline.specs.Pieces.{Shown, ArePieces, ArePiecesIn, ArePartitions, cut, shown_at, shown_of};
 ghost use Rattle.druid_timeline.specs.Visible.{IsVisible, NothingVisible};
 
 use crate::lookup::{chunk_at, pieces_in};
@@ -70,6 +70,13 @@ impl Timeline {
         id.source() == &self.source
     }
 
+    // Whether a node serves the segment of this identifier, of whichever source.
+    fn is_held(&self, id: &SegmentId, node: NodeNo) -> bool
+        ensures { IsTrue result ↔ IsHeld self.now.held node id.now }
+    {
+        self.chunks.holds(id, node)
+    }
+
     /// Whether no node serves a segment of the source.
     pub fn is_empty(&self) -> bool
         ensures { IsTrue result ↔ HoldsNothing self.now.held }
@@ -79,9 +86,44 @@ impl Timeline {
         self.chunks.is_empty()
     }
 
+    /// Adds a segment of this source that the node does not serve yet. A refusal changes nothing of what is held.
+    ///
+    /// It counts no comparison where the completeness of the segment's chunk does not turn. Where the chunk was not
+    /// complete, it counts at most one for each visible piece inside its interval, and where k other complete chunks
+    /// overlap it, at most (2 * k + 1) * (k + 1), whatever the answer.
+    pub fn add_absent(
+        &mut self,
+        descriptor: &Descriptor,
+        node: NodeNo,
+        meter: &mut Meter,
+    ) -> Result<(), AllocError>
+        requires source { descriptor.now.id.source ≡ self.old.source }
+        requires absent { IsHeld self.old.held node descriptor.now.id → ⊥ }
+        ensures added { OnOk result (AddsHeld self.old.held self.new.held (held_of node descriptor.now)) }
+        ensures err { OnErr result (SameHeld self.old.held self.new.held) }
+        ensures source { self.new.source ≡ self.old.source }
+        ensures counted { meter.old ≤ meter.new }
+        ensures bound { (others : List Group) → HasOthers self.old.held (group_of descriptor.now.id) others
+            → meter.new ≤ meter.old + (2 * length others + 1) * (length others + 1) }
+        ensures level { OnOk result ((IsCompleteIn self.old.held (group_of descriptor.now.id)
+            ↔ IsCompleteIn self.new.held (group_of descriptor.now.id)) → meter.new ≡ meter.old) }
+        ensures met { (IsCompleteIn self.old.held (group_of descriptor.now.id) → ⊥)
+            → (pieces : List Shown) → ArePieces self.old.held pieces
+            → meter.new ≤ meter.old + length (cut ((group_of descriptor.now.id).interval ∷ []) pieces) }
+    {
+        add_segment(
+            self.alloc,
+            &mut self.chunks,
+            &mut self.runs,
+            descriptor,
+            node,
+            meter,
+        )
+    }
+
     /// Adds a segment that a node serves. L2 where it is of another source, then L1 where the node serves that
-    /// identifier already, and L9 last; a refusal changes nothing of what is held. Where k other complete chunks overlap
-    /// its chunk, at most (2 * k + 1) * (k + 1) comparisons are counted, whatever the answer, and none at L2 and L1.
+    /// identifier already, and L9 last; a refusal changes nothing of what is held. It counts what `add_absent` counts, and
+    /// nothing at L2 and L1.
     pub fn add(
         &mut self,
         descriptor: &Descriptor,
@@ -100,29 +142,58 @@ impl Timeline {
         ensures uncounted { IfErr result (λ fault. (fault ≡ TimelineFault.Memory) ⊎ (meter.new ≡ meter.old)) }
         ensures bound { (others : List Group) → HasOthers self.old.held (group_of descriptor.now.id) others
             → meter.new ≤ meter.old + (2 * length others + 1) * (length others + 1) }
+        ensures level { OnOk result ((IsCompleteIn self.old.held (group_of descriptor.now.id)
+            ↔ IsCompleteIn self.new.held (group_of descriptor.now.id)) → meter.new ≡ meter.old) }
+        ensures met { (IsCompleteIn self.old.held (group_of descriptor.now.id) → ⊥)
+            → (pieces : List Shown) → ArePieces self.old.held pieces
+            → meter.new ≤ meter.old + length (cut ((group_of descriptor.now.id).interval ∷ []) pieces) }
     {
         let id = descriptor.id();
         let is_own = self.is_source_of(id);
         if !is_own {
             return Err(TimelineFault::OtherSource);
         }
-        if self.chunks.holds(id, node) {
+        if self.is_held(id, node) {
             return Err(TimelineFault::AlreadyThere);
         }
-        add_segment(
-            self.alloc,
-            &mut self.chunks,
-            &mut self.runs,
-            descriptor,
-            node,
-            meter,
-        )?;
+        self.add_absent(descriptor, node, meter)?;
         Ok(())
     }
 
+    /// Removes a segment of this source that the node serves. A refusal changes nothing of what is held. It counts as
+    /// `add_absent` does.
+    pub fn remove_present(
+        &mut self,
+        id: &SegmentId,
+        node: NodeNo,
+        meter: &mut Meter,
+    ) -> Result<(), AllocError>
+        requires { IsServed self.old node id.now }
+        ensures removed { OnOk result (RemovesHeld self.old.held self.new.held node id.now) }
+        ensures one { OnOk result (RemovesOneHeld self.old.held self.new.held node id.now) }
+        ensures err { OnErr result (SameHeld self.old.held self.new.held) }
+        ensures source { self.new.source ≡ self.old.source }
+        ensures counted { meter.old ≤ meter.new }
+        ensures bound { (others : List Group) → HasOthers self.old.held (group_of id.now) others
+            → meter.new ≤ meter.old + (2 * length others + 1) * (length others + 1) }
+        ensures level { OnOk result ((IsCompleteIn self.old.held (group_of id.now)
+            ↔ IsCompleteIn self.new.held (group_of id.now)) → meter.new ≡ meter.old) }
+        ensures met { (IsCompleteIn self.old.held (group_of id.now) → ⊥)
+            → (pieces : List Shown) → ArePieces self.old.held pieces
+            → meter.new ≤ meter.old + length (cut ((group_of id.now).interval ∷ []) pieces) }
+    {
+        remove_segment(
+            self.alloc,
+            &mut self.chunks,
+            &mut self.runs,
+            id,
+            node,
+            meter,
+        )
+    }
+
     /// Removes a segment that a node serves. L3 where the node does not serve it, and L9 last; a refusal changes nothing
-    /// of what is held. Where k other complete chunks overlap its chunk, at most (2 * k + 1) * (k + 1) comparisons are
-    /// counted, whatever the answer, and none at L3.
+    /// of what is held. It counts what `remove_present` counts, and nothing at L3.
     pub fn remove(
         &mut self,
         id: &SegmentId,
@@ -139,21 +210,19 @@ impl Timeline {
         ensures uncounted { IfErr result (λ fault. (fault ≡ TimelineFault.Memory) ⊎ (meter.new ≡ meter.old)) }
         ensures bound { (others : List Group) → HasOthers self.old.held (group_of id.now) others
             → meter.new ≤ meter.old + (2 * length others + 1) * (length others + 1) }
+        ensures level { OnOk result ((IsCompleteIn self.old.held (group_of id.now)
+            ↔ IsCompleteIn self.new.held (group_of id.now)) → meter.new ≡ meter.old) }
+        ensures met { (IsCompleteIn self.old.held (group_of id.now) → ⊥)
+            → (pieces : List Shown) → ArePieces self.old.held pieces
+            → meter.new ≤ meter.old + length (cut ((group_of id.now).interval ∷ []) pieces) }
     {
         if !self.is_source_of(id) {
             return Err(TimelineFault::NotThere);
         }
-        if !self.chunks.holds(id, node) {
+        if !self.is_held(id, node) {
             return Err(TimelineFault::NotThere);
         }
-        remove_segment(
-            self.alloc,
-            &mut self.chunks,
-            &mut self.runs,
-            id,
-            node,
-            meter,
-        )?;
+        self.remove_present(id, node, meter)?;
         Ok(())
     }
 

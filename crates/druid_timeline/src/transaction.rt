@@ -1,9 +1,10 @@
 //! Edits of a timeline that can be taken back all at once.
-ghost use Rattle.std.specs.Prelude.{◌≡◌, ◌≤◌, ◌+◌, ◌*◌, ◌↔◌, ◌⊎◌, List, IsTrue, length, IfErr, OnOk, OnErr, IsErrOf};
+ghost use Rattle.std.specs.Prelude.{◌≡◌, ◌≤◌, ◌+◌, ◌*◌, ◌↔◌, ◌⊎◌, List, [], ◌∷◌, IsTrue, length, IfErr, OnOk, OnErr, IsErrOf};
 ghost use Rattle.druid_segid.specs.Group.{Group, group_of};
 ghost use Rattle.druid_chunks.specs.Chunks.{members_at};
 ghost use Rattle.druid_timeline.specs.Edited.{HasOthers};
-ghost use Rattle.druid_timeline.specs.Holding.{held_of, members_of, IsHeld, IsServed, AddsHeld, RemovesHeld, RemovesOneHeld, SameHeld};
+ghost use Rattle.druid_timeline.specs.Holding.{held_of, members_of, IsCompleteIn, IsHeld, IsServed, AddsHeld, RemovesHeld, RemovesOneHeld, SameHeld};
+ghost use Rattle.druid_timeline.specs.Pieces.{Shown, ArePieces, cut};
 
 use crate::edit::Edit;
 use crate::undo::{add_logged, remove_logged, take_back};
@@ -11,7 +12,7 @@ use crate::{Timeline, TimelineFault};
 use druid_segid::{GroupKey, Meter, Name, SegmentId};
 use druid_shard::{Descriptor, NodeNo};
 use druid_time::Interval;
-use std::alloc::Global;
+use std::alloc::{AllocError, Global};
 use std::marker::Model;
 
 /// A timeline under edits, which are committed or rolled back together; a roll back does not allocate.
@@ -79,9 +80,46 @@ impl Transaction {
         self.chunks.chunks().holds(id, node)
     }
 
+    /// Adds a segment of this source that the node does not serve yet. A refusal changes nothing of what is held.
+    ///
+    /// It counts no comparison where the completeness of the segment's chunk does not turn. Where the chunk was not
+    /// complete, it counts at most one for each visible piece inside its interval, and where k other complete chunks
+    /// overlap it, at most (2 * k + 1) * (k + 1), whatever the answer.
+    pub fn add_absent(
+        &mut self,
+        descriptor: &Descriptor,
+        node: NodeNo,
+        meter: &mut Meter,
+    ) -> Result<(), AllocError>
+        requires source { descriptor.now.id.source ≡ self.old.now.source }
+        requires absent { IsHeld self.old.now.held node descriptor.now.id → ⊥ }
+        ensures added { OnOk result (AddsHeld self.old.now.held self.new.now.held (held_of node descriptor.now)) }
+        ensures err { OnErr result (SameHeld self.old.now.held self.new.now.held) }
+        ensures source { self.new.now.source ≡ self.old.now.source }
+        ensures before { (g : Group) → members_at self.new.before g ≡ members_at self.old.before g }
+        ensures counted { meter.old ≤ meter.new }
+        ensures bound { (others : List Group) → HasOthers self.old.now.held (group_of descriptor.now.id) others
+            → meter.new ≤ meter.old + (2 * length others + 1) * (length others + 1) }
+        ensures level { OnOk result ((IsCompleteIn self.old.now.held (group_of descriptor.now.id)
+            ↔ IsCompleteIn self.new.now.held (group_of descriptor.now.id)) → meter.new ≡ meter.old) }
+        ensures met { (IsCompleteIn self.old.now.held (group_of descriptor.now.id) → ⊥)
+            → (pieces : List Shown) → ArePieces self.old.now.held pieces
+            → meter.new ≤ meter.old + length (cut ((group_of descriptor.now.id).interval ∷ []) pieces) }
+    {
+        add_logged(
+            self.alloc,
+            &mut self.chunks,
+            &mut self.runs,
+            &mut self.log,
+            descriptor,
+            node,
+            meter,
+        )
+    }
+
     /// Adds a segment that a node serves. L2 where it is of another source, then L1 where the node serves that
-    /// identifier already, and L9 last; a refusal changes nothing of what is held. Where k other complete chunks overlap
-    /// its chunk, at most (2 * k + 1) * (k + 1) comparisons are counted, whatever the answer, and none at L2 and L1.
+    /// identifier already, and L9 last; a refusal changes nothing of what is held. It counts what `add_absent` counts, and
+    /// nothing at L2 and L1.
     pub fn add(
         &mut self,
         descriptor: &Descriptor,
@@ -101,6 +139,11 @@ impl Transaction {
         ensures uncounted { IfErr result (λ fault. (fault ≡ TimelineFault.Memory) ⊎ (meter.new ≡ meter.old)) }
         ensures bound { (others : List Group) → HasOthers self.old.now.held (group_of descriptor.now.id) others
             → meter.new ≤ meter.old + (2 * length others + 1) * (length others + 1) }
+        ensures level { OnOk result ((IsCompleteIn self.old.now.held (group_of descriptor.now.id)
+            ↔ IsCompleteIn self.new.now.held (group_of descriptor.now.id)) → meter.new ≡ meter.old) }
+        ensures met { (IsCompleteIn self.old.now.held (group_of descriptor.now.id) → ⊥)
+            → (pieces : List Shown) → ArePieces self.old.now.held pieces
+            → meter.new ≤ meter.old + length (cut ((group_of descriptor.now.id).interval ∷ []) pieces) }
     {
         let id = descriptor.id();
         if !self.is_source_of(id) {
@@ -109,21 +152,46 @@ impl Transaction {
         if self.is_held(id, node) {
             return Err(TimelineFault::AlreadyThere);
         }
-        add_logged(
+        self.add_absent(descriptor, node, meter)?;
+        Ok(())
+    }
+
+    /// Removes a segment of this source that the node serves. A refusal changes nothing of what is held. It counts as
+    /// `add_absent` does.
+    pub fn remove_present(
+        &mut self,
+        id: &SegmentId,
+        node: NodeNo,
+        meter: &mut Meter,
+    ) -> Result<(), AllocError>
+        requires { IsServed self.old.now node id.now }
+        ensures removed { OnOk result (RemovesHeld self.old.now.held self.new.now.held node id.now) }
+        ensures one { OnOk result (RemovesOneHeld self.old.now.held self.new.now.held node id.now) }
+        ensures err { OnErr result (SameHeld self.old.now.held self.new.now.held) }
+        ensures source { self.new.now.source ≡ self.old.now.source }
+        ensures before { (g : Group) → members_at self.new.before g ≡ members_at self.old.before g }
+        ensures counted { meter.old ≤ meter.new }
+        ensures bound { (others : List Group) → HasOthers self.old.now.held (group_of id.now) others
+            → meter.new ≤ meter.old + (2 * length others + 1) * (length others + 1) }
+        ensures level { OnOk result ((IsCompleteIn self.old.now.held (group_of id.now)
+            ↔ IsCompleteIn self.new.now.held (group_of id.now)) → meter.new ≡ meter.old) }
+        ensures met { (IsCompleteIn self.old.now.held (group_of id.now) → ⊥)
+            → (pieces : List Shown) → ArePieces self.old.now.held pieces
+            → meter.new ≤ meter.old + length (cut ((group_of id.now).interval ∷ []) pieces) }
+    {
+        remove_logged(
             self.alloc,
             &mut self.chunks,
             &mut self.runs,
             &mut self.log,
-            descriptor,
+            id,
             node,
             meter,
-        )?;
-        Ok(())
+        )
     }
 
     /// Removes a segment that a node serves. L3 where the node does not serve it, and L9 last; a refusal changes nothing
-    /// of what is held. Where k other complete chunks overlap its chunk, at most (2 * k + 1) * (k + 1) comparisons are
-    /// counted, whatever the answer, and none at L3.
+    /// of what is held. It counts what `remove_present` counts, and nothing at L3.
     pub fn remove(
         &mut self,
         id: &SegmentId,
@@ -141,6 +209,11 @@ impl Transaction {
         ensures uncounted { IfErr result (λ fault. (fault ≡ TimelineFault.Memory) ⊎ (meter.new ≡ meter.old)) }
         ensures bound { (others : List Group) → HasOthers self.old.now.held (group_of id.now) others
             → meter.new ≤ meter.old + (2 * length others + 1) * (length others + 1) }
+        ensures level { OnOk result ((IsCompleteIn self.old.now.held (group_of id.now)
+            ↔ IsCompleteIn self.new.now.held (group_of id.now)) → meter.new ≡ meter.old) }
+        ensures met { (IsCompleteIn self.old.now.held (group_of id.now) → ⊥)
+            → (pieces : List Shown) → ArePieces self.old.now.held pieces
+            → meter.new ≤ meter.old + length (cut ((group_of id.now).interval ∷ []) pieces) }
     {
         if !self.is_source_of(id) {
             return Err(TimelineFault::NotThere);
@@ -148,15 +221,7 @@ impl Transaction {
         if !self.is_held(id, node) {
             return Err(TimelineFault::NotThere);
         }
-        remove_logged(
-            self.alloc,
-            &mut self.chunks,
-            &mut self.runs,
-            &mut self.log,
-            id,
-            node,
-            meter,
-        )?;
+        self.remove_present(id, node, meter)?;
         Ok(())
     }
 

@@ -1,86 +1,93 @@
 //! What the runs become where the completeness of one chunk turns.
-ghost use Rattle.std.specs.Prelude.{◌≡◌, ◌<◌, ◌≤◌, ◌+◌, ◌*◌, ◌↔◌, ◌⊎◌, ℕ, List, false, length, map, vec_capacity, IsTrue, IfOk, OnOk, OnErr, MatchOption, Contains};
+ghost use Rattle.std.specs.Prelude.{◌≡◌, ◌<◌, ◌≤◌, ◌+◌, ◌*◌, ◌↔◌, ℕ, List, [], ◌∷◌, Option, false, length, map, vec_capacity, IsTrue, IfOk, IfSome, OnOk, OnErr, Contains};
 ghost use Rattle.druid_segid.specs.Group.{Group, group_of};
-ghost use Rattle.druid_members.specs.Members.{HoldsPlace};
-ghost use Rattle.druid_chunks.specs.Chunks.{members_at};
-ghost use Rattle.druid_timeline.specs.Active.{StartInOrder};
+ghost use Rattle.druid_chunks.specs.Chunks.{AreChunks, IsOverlapOf};
 ghost use Rattle.druid_timeline.specs.Chunks.{held_in};
-ghost use Rattle.druid_timeline.specs.Edited.{AreAlikeBut, ArePiecesTurned, AreRunsEdited, HasOthers, spliced};
-ghost use Rattle.druid_timeline.specs.Holding.{Held, IsCompleteIn, held_of, AddsHeld, RemovesHeld, RemovesOneHeld, SameHeld};
-ghost use Rattle.druid_timeline.specs.Pieces.{ArePieces, AreRuns, shown_at};
-ghost use Rattle.druid_timeline.specs.Exchanges.{CanExchange, ExchangesBack, exchanged};
+ghost use Rattle.druid_timeline.specs.Edited.{ArePiecesThen, HasOthers, IsWithin};
+ghost use Rattle.druid_timeline.specs.Exchanges.{CanExchange, settled};
+ghost use Rattle.druid_timeline.specs.Holding.{IsCompleteIn, IsHeld, held_of, AddsHeld, RemovesHeld, RemovesOneHeld, SameHeld};
+ghost use Rattle.druid_timeline.specs.Pieces.{Shown, ArePieces, cut, shown_at};
+ghost use Rattle.druid_timeline.specs.Skyline.{StartInOrder};
 
-use crate::edit::{Edit, edit_in, exchange};
-use crate::sweep::bounds_in;
+use crate::edit::{Edit, edit_overlaid, edit_swept, exchange};
+use crate::overlay::hull_of;
 use druid_chunks::Chunks;
 use druid_segid::{GroupKey, Meter, SegmentId};
 use druid_shard::{Descriptor, NodeNo};
 use druid_time::Interval;
 use std::alloc::{AllocError, Global};
 
-// The other chunks, and with them a chunk's own where it is to become complete, in the order of their starts.
-fn sorted_candidates<'a>(
-    alloc: Global,
-    others: &[&'a GroupKey],
-    own: &'a GroupKey,
-    is_complete: bool,
+// The other complete chunks that overlap a part of a segment's interval, in the order of their starts.
+fn sorted_others<'a>(
+    chunks: &'a Chunks,
+    id: &SegmentId,
+    part: Interval,
 ) -> Result<Vec<&'a GroupKey>, AllocError>
-    ensures candidates { IfOk result (λ found. (g : Group) → Contains (map (λ c. c.now) found.items) g
-        ↔ (Contains (map (λ c. c.now) others.now) g ⊎ ((g ≡ own.now) × (is_complete ≡ false)))) }
+    requires { IsWithin part (group_of id.now).interval }
+    ensures all { IfOk result (λ found. (g : Group) → Contains (map (λ c. c.now) found.items) g
+        ↔ IsOverlapOf chunks.now (group_of id.now) part g) }
     ensures sorted { IfOk result (λ found. StartInOrder (map (λ c. c.now) found.items)) }
-    ensures few { IfOk result (λ found. length found.items ≤ length others.now + 1) }
+    ensures few { IfOk result (λ found. (others : List Group) → HasOthers (held_in chunks.now) (group_of id.now) others
+        → length found.items ≤ length others) }
+    ensures chunks { AreChunks chunks.now }
 {
-    let mut found = Vec::from_slice(alloc, others)?;
-    if !is_complete {
-        found.push(own)?;
-    }
+    let mut found = chunks.overlapping(id, part)?;
     found.sort_unstable_by_key(|key| key.interval().start());
     Ok(found)
 }
 
-// What the runs become inside the interval of a chunk if its completeness turns, by the other chunks that overlap it.
-fn turn_among(
-    alloc: Global,
-    runs: &[(Interval, GroupKey)],
-    others: &[&GroupKey],
-    own: &GroupKey,
-    is_complete: bool,
-    meter: &mut Meter,
-) -> Result<Edit, AllocError>
-    requires { AreRuns (map shown_at runs.now) }
-    ensures inside { IfOk result (λ edit. (edit.from ≤ edit.to) × (edit.to ≤ length runs.now)) }
-    ensures edited { IfOk result (λ edit. (found : List Group)
-        × ((g : Group) → Contains found g ↔ (Contains (map (λ c. c.now) others.now) g ⊎ ((g ≡ own.now) × (is_complete ≡ false))))
-        × AreRunsEdited own.now.interval found (map shown_at runs.now)
-        (map shown_at (spliced runs.now edit.from edit.to edit.runs.items))) }
-    ensures counted { meter.old ≤ meter.new }
-    ensures bound { meter.new ≤ meter.old + (2 * length others.now + 1) * (length others.now + 1) }
-{
-    let part = own.interval();
-    let candidates = sorted_candidates(alloc, others, own, is_complete)?;
-    let bounds = bounds_in(alloc, part, others)?;
-    edit_in(alloc, runs, part, &candidates, &bounds, meter)
-}
-
-// What the runs become if the completeness of a segment's chunk turns. Only what lies in its interval is looked at.
-fn turn_of(
+// What the runs become where a segment's chunk is complete no more. None where they show it nowhere, and so stay; else
+// the other chunks are looked at from the first instant to the last at which they show it.
+fn edit_without(
     alloc: Global,
     chunks: &Chunks,
     runs: &[(Interval, GroupKey)],
     id: &SegmentId,
     meter: &mut Meter,
-) -> Result<Edit, AllocError>
+) -> Result<Option<Edit>, AllocError>
     requires { ArePieces (held_in chunks.now) (map shown_at runs.now) }
-    ensures inside { IfOk result (λ edit. (edit.from ≤ edit.to) × (edit.to ≤ length runs.now)) }
-    ensures turned { IfOk result (λ edit. ArePiecesTurned (held_in chunks.now) (group_of id.now)
-        (map shown_at (spliced runs.now edit.from edit.to edit.runs.items))) }
+    ensures inside { IfOk result (λ edit. IfSome edit (λ e. (e.from ≤ e.to) × (e.to ≤ length runs.now))) }
+    ensures pieces { IfOk result (λ edit. ArePiecesThen (held_in chunks.now) (group_of id.now) false
+        (map shown_at (settled runs.now edit))) }
     ensures counted { meter.old ≤ meter.new }
     ensures bound { (others : List Group) → HasOthers (held_in chunks.now) (group_of id.now) others
         → meter.new ≤ meter.old + (2 * length others + 1) * (length others + 1) }
 {
     let own = id.group()?;
-    let others = chunks.overlapping(id)?;
-    turn_among(alloc, runs, &others, &own, chunks.is_complete(id), meter)
+    let Some(hull) = hull_of(runs, &own) else {
+        return Ok(None);
+    };
+    let others = sorted_others(chunks, id, hull)?;
+    let edit = edit_swept(alloc, runs, hull, &others, meter)?;
+    Ok(Some(edit))
+}
+
+// What the runs become where the completeness of a segment's chunk turns. Only what lies in its interval is looked at.
+fn turn_of(
+    alloc: Global,
+    chunks: &Chunks,
+    runs: &[(Interval, GroupKey)],
+    id: &SegmentId,
+    is_complete: bool,
+    meter: &mut Meter,
+) -> Result<Option<Edit>, AllocError>
+    requires pieces { ArePieces (held_in chunks.now) (map shown_at runs.now) }
+    requires turned { IsTrue is_complete → IsCompleteIn (held_in chunks.now) (group_of id.now) → ⊥ }
+    ensures inside { IfOk result (λ edit. IfSome edit (λ e. (e.from ≤ e.to) × (e.to ≤ length runs.now))) }
+    ensures pieces { IfOk result (λ edit. ArePiecesThen (held_in chunks.now) (group_of id.now) is_complete
+        (map shown_at (settled runs.now edit))) }
+    ensures counted { meter.old ≤ meter.new }
+    ensures bound { (others : List Group) → HasOthers (held_in chunks.now) (group_of id.now) others
+        → meter.new ≤ meter.old + (2 * length others + 1) * (length others + 1) }
+    ensures met { IsTrue is_complete
+        → meter.new ≤ meter.old + length (cut ((group_of id.now).interval ∷ []) (map shown_at runs.now)) }
+{
+    if !is_complete {
+        return edit_without(alloc, chunks, runs, id, meter);
+    }
+    let own = id.group()?;
+    let edit = edit_overlaid(alloc, runs, &own, meter)?;
+    Ok(Some(edit))
 }
 
 // Room for so many runs in place of an edit's own.
@@ -91,60 +98,72 @@ fn reserve_place(runs: &mut Vec<(Interval, GroupKey)>, gone: usize) -> Result<()
     runs.reserve(gone.saturating_sub(runs.len()))
 }
 
-// The same, with room for what it adds and what it takes. Nothing else allocates where the chunk's completeness turns.
-pub(crate) fn prepare_edit(
-    alloc: Global,
-    chunks: &Chunks,
+// Room for what an edit adds and what it takes.
+fn make_room(
     runs: &mut Vec<(Interval, GroupKey)>,
-    id: &SegmentId,
-    meter: &mut Meter,
-) -> Result<Edit, AllocError>
-    requires { ArePieces (held_in chunks.now) (map shown_at runs.old.items) }
+    edit: Option<Edit>,
+) -> Result<Option<Edit>, AllocError>
+    requires { IfSome edit (λ e. (e.from ≤ e.to) × (e.to ≤ length runs.old.items)) }
     ensures same { runs.new.items ≡ runs.old.items }
-    ensures can { IfOk result (CanExchange runs.new.items (vec_capacity runs.new)) }
+    ensures can { IfOk result (λ ready. IfSome ready (CanExchange runs.new.items (vec_capacity runs.new))) }
     ensures capacity { vec_capacity runs.old ≤ vec_capacity runs.new }
-    ensures turned { IfOk result (λ edit. ArePiecesTurned (held_in chunks.now) (group_of id.now)
-        (map shown_at (exchanged runs.old.items edit))) }
-    ensures counted { meter.old ≤ meter.new }
-    ensures bound { (others : List Group) → HasOthers (held_in chunks.now) (group_of id.now) others
-        → meter.new ≤ meter.old + (2 * length others + 1) * (length others + 1) }
+    ensures edit { IfOk result (λ ready. settled runs.old.items ready ≡ settled runs.old.items edit) }
 {
-    let mut edit = turn_of(alloc, chunks, runs, id, meter)?;
+    let Some(mut edit) = edit else {
+        return Ok(None);
+    };
     runs.reserve(edit.runs.len())?;
     let gone = edit.to - edit.from;
     reserve_place(&mut edit.runs, gone)?;
-    Ok(edit)
+    Ok(Some(edit))
 }
 
-// Whether the completeness of a chunk has turned.
+// Whether the completeness of a chunk turns.
 fn has_turned(is_complete: bool, was_complete: bool) -> bool
     ensures { IsTrue result ↔ (was_complete ≡ is_complete → ⊥) }
 {
     is_complete != was_complete
 }
 
-// Exchanges the runs if the completeness of a segment's chunk has turned, and gives the edit that exchanges them back.
-pub(crate) fn settle(
+// What the runs become where a segment's chunk is complete or not, as the flag says, with room for that. None where that is
+// what it was: then nothing is looked at. Nothing else allocates for the runs.
+pub(crate) fn prepare_edit(
+    alloc: Global,
     chunks: &Chunks,
     runs: &mut Vec<(Interval, GroupKey)>,
     id: &SegmentId,
-    was_complete: bool,
-    edit: Edit,
-) -> Option<Edit>
-    requires { CanExchange runs.old.items (vec_capacity runs.old) edit }
-    ensures pieces { (old : List Held) → ArePieces old (map shown_at runs.old.items)
-        → ArePiecesTurned old (group_of id.now) (map shown_at (exchanged runs.old.items edit))
-        → (IsTrue was_complete ↔ IsCompleteIn old (group_of id.now))
-        → AreAlikeBut old (held_in chunks.now) (group_of id.now)
-        → ArePieces (held_in chunks.now) (map shown_at runs.new.items) }
-    ensures back { MatchOption result (runs.new.items ≡ runs.old.items)
-        (ExchangesBack runs.old.items runs.new.items (vec_capacity runs.new)) }
-    ensures capacity { vec_capacity runs.new ≡ vec_capacity runs.old }
+    is_complete: bool,
+    meter: &mut Meter,
+) -> Result<Option<Edit>, AllocError>
+    requires { ArePieces (held_in chunks.now) (map shown_at runs.old.items) }
+    ensures same { runs.new.items ≡ runs.old.items }
+    ensures can { IfOk result (λ edit. IfSome edit (CanExchange runs.new.items (vec_capacity runs.new))) }
+    ensures capacity { vec_capacity runs.old ≤ vec_capacity runs.new }
+    ensures pieces { IfOk result (λ edit. ArePiecesThen (held_in chunks.now) (group_of id.now) is_complete
+        (map shown_at (settled runs.old.items edit))) }
+    ensures counted { meter.old ≤ meter.new }
+    ensures bound { (others : List Group) → HasOthers (held_in chunks.now) (group_of id.now) others
+        → meter.new ≤ meter.old + (2 * length others + 1) * (length others + 1) }
+    ensures level { (IsTrue is_complete ↔ IsCompleteIn (held_in chunks.now) (group_of id.now)) → meter.new ≡ meter.old }
+    ensures met { (IsCompleteIn (held_in chunks.now) (group_of id.now) → ⊥)
+        → meter.new ≤ meter.old + length (cut ((group_of id.now).interval ∷ []) (map shown_at runs.old.items)) }
 {
-    if has_turned(chunks.is_complete(id), was_complete) {
-        return Some(exchange(runs, edit));
+    let was_complete = chunks.is_complete(id);
+    if !has_turned(is_complete, was_complete) {
+        return Ok(None);
     }
-    None
+    let edit = turn_of(alloc, chunks, runs, id, is_complete, meter)?;
+    make_room(runs, edit)
+}
+
+// Exchanges the runs for those of an edit, if there is one.
+fn settle(runs: &mut Vec<(Interval, GroupKey)>, edit: Option<Edit>)
+    requires { IfSome edit (CanExchange runs.old.items (vec_capacity runs.old)) }
+    ensures { runs.new.items ≡ settled runs.old.items edit }
+{
+    if let Some(edit) = edit {
+        exchange(runs, edit);
+    }
 }
 
 // Adds a segment that the node does not serve yet, and edits the runs. A refusal changes neither.
@@ -157,19 +176,23 @@ pub(crate) fn add_segment(
     meter: &mut Meter,
 ) -> Result<(), AllocError>
     requires pieces { ArePieces (held_in chunks.old) (map shown_at runs.old.items) }
-    requires new { HoldsPlace (members_at chunks.old (group_of descriptor.now.id)) descriptor.now.id.partition node → ⊥ }
+    requires new { IsHeld (held_in chunks.old) node descriptor.now.id → ⊥ }
     ensures pieces { ArePieces (held_in chunks.new) (map shown_at runs.new.items) }
     ensures added { OnOk result (AddsHeld (held_in chunks.old) (held_in chunks.new) (held_of node descriptor.now)) }
     ensures err { OnErr result (SameHeld (held_in chunks.old) (held_in chunks.new)) }
     ensures counted { meter.old ≤ meter.new }
     ensures bound { (others : List Group) → HasOthers (held_in chunks.old) (group_of descriptor.now.id) others
         → meter.new ≤ meter.old + (2 * length others + 1) * (length others + 1) }
+    ensures level { OnOk result ((IsCompleteIn (held_in chunks.old) (group_of descriptor.now.id)
+        ↔ IsCompleteIn (held_in chunks.new) (group_of descriptor.now.id)) → meter.new ≡ meter.old) }
+    ensures met { (IsCompleteIn (held_in chunks.old) (group_of descriptor.now.id) → ⊥)
+        → (pieces : List Shown) → ArePieces (held_in chunks.old) pieces
+        → meter.new ≤ meter.old + length (cut ((group_of descriptor.now.id).interval ∷ []) pieces) }
 {
-    let id = descriptor.id();
-    let was_complete = chunks.is_complete(id);
-    let edit = prepare_edit(alloc, chunks, runs, id, meter)?;
+    let is_complete = chunks.is_complete_with(descriptor);
+    let edit = prepare_edit(alloc, chunks, runs, descriptor.id(), is_complete, meter)?;
     chunks.add(descriptor, node)?;
-    settle(chunks, runs, id, was_complete, edit);
+    settle(runs, edit);
     Ok(())
 }
 
@@ -183,7 +206,7 @@ pub(crate) fn remove_segment(
     meter: &mut Meter,
 ) -> Result<(), AllocError>
     requires pieces { ArePieces (held_in chunks.old) (map shown_at runs.old.items) }
-    requires there { HoldsPlace (members_at chunks.old (group_of id.now)) id.now.partition node }
+    requires there { IsHeld (held_in chunks.old) node id.now }
     ensures pieces { ArePieces (held_in chunks.new) (map shown_at runs.new.items) }
     ensures removed { OnOk result (RemovesHeld (held_in chunks.old) (held_in chunks.new) node id.now) }
     ensures one { OnOk result (RemovesOneHeld (held_in chunks.old) (held_in chunks.new) node id.now) }
@@ -191,10 +214,15 @@ pub(crate) fn remove_segment(
     ensures counted { meter.old ≤ meter.new }
     ensures bound { (others : List Group) → HasOthers (held_in chunks.old) (group_of id.now) others
         → meter.new ≤ meter.old + (2 * length others + 1) * (length others + 1) }
+    ensures level { OnOk result ((IsCompleteIn (held_in chunks.old) (group_of id.now)
+        ↔ IsCompleteIn (held_in chunks.new) (group_of id.now)) → meter.new ≡ meter.old) }
+    ensures met { (IsCompleteIn (held_in chunks.old) (group_of id.now) → ⊥)
+        → (pieces : List Shown) → ArePieces (held_in chunks.old) pieces
+        → meter.new ≤ meter.old + length (cut ((group_of id.now).interval ∷ []) pieces) }
 {
-    let was_complete = chunks.is_complete(id);
-    let edit = prepare_edit(alloc, chunks, runs, id, meter)?;
+    let is_complete = chunks.is_complete_without(id, node);
+    let edit = prepare_edit(alloc, chunks, runs, id, is_complete, meter)?;
     chunks.remove(id, node)?;
-    settle(chunks, runs, id, was_complete, edit);
+    settle(runs, edit);
     Ok(())
 }

@@ -1,42 +1,42 @@
 //! Edits of the chunks and the runs of a timeline that are logged, so that they can be taken back.
-ghost use Rattle.std.specs.Prelude.{◌≡◌, ◌<◌, ◌≤◌, ◌+◌, ◌*◌, ◌↔◌, List, length, map, reverse, vec_len, vec_capacity, IsTrue, OnOk, OnErr};
+ghost use Rattle.std.specs.Prelude.{◌≡◌, ◌<◌, ◌≤◌, ◌+◌, ◌*◌, ◌↔◌, List, [], ◌∷◌, length, map, reverse, vec_len, vec_capacity, IfSome, OnOk, OnErr};
 ghost use Rattle.druid_segid.specs.Group.{Group, group_of};
 ghost use Rattle.druid_chunks.specs.Chunks.{Chunk};
 ghost use Rattle.druid_timeline.specs.Chunks.{held_in};
-ghost use Rattle.druid_timeline.specs.Edited.{AreAlikeBut, ArePiecesTurned, HasOthers};
-ghost use Rattle.druid_timeline.specs.Exchanges.{CanExchange, CanUndo, HaveMembersOf, TakesBack, exchanged, undone};
-ghost use Rattle.druid_timeline.specs.Holding.{Held, IsCompleteIn, IsHeld, held_of, AddsHeld, RemovesHeld, RemovesOneHeld, SameHeld};
-ghost use Rattle.druid_timeline.specs.Pieces.{ArePieces, shown_at};
+ghost use Rattle.druid_timeline.specs.Edited.{HasOthers};
+ghost use Rattle.druid_timeline.specs.Exchanges.{CanExchange, CanUndo, HaveMembersOf, TakesBack, settled, undone};
+ghost use Rattle.druid_timeline.specs.Holding.{IsCompleteIn, IsHeld, held_of, AddsHeld, RemovesHeld, RemovesOneHeld, SameHeld};
+ghost use Rattle.druid_timeline.specs.Pieces.{Shown, ArePieces, cut, shown_at};
 
 use crate::edit::{Edit, exchange};
-use crate::turn::{prepare_edit, settle};
-use druid_chunks::{Chunks, Transaction};
+use crate::turn::prepare_edit;
+use druid_chunks::Transaction;
 use druid_segid::{GroupKey, Meter, SegmentId};
 use druid_shard::{Descriptor, NodeNo};
 use druid_time::Interval;
 use std::alloc::{AllocError, Global};
 
-// Exchanges the runs if the completeness of a segment's chunk has turned, and logs it.
-fn settle_logged(
-    chunks: &Chunks,
-    runs: &mut Vec<(Interval, GroupKey)>,
-    log: &mut Vec<Edit>,
-    id: &SegmentId,
-    was_complete: bool,
-    edit: Edit,
-)
-    requires can { CanExchange runs.old.items (vec_capacity runs.old) edit }
-    requires room { vec_len log.old < vec_capacity log.old }
-    ensures pieces { (old : List Held) → ArePieces old (map shown_at runs.old.items)
-        → ArePiecesTurned old (group_of id.now) (map shown_at (exchanged runs.old.items edit))
-        → (IsTrue was_complete ↔ IsCompleteIn old (group_of id.now))
-        → AreAlikeBut old (held_in chunks.now) (group_of id.now)
-        → ArePieces (held_in chunks.now) (map shown_at runs.new.items) }
+// Room in a log for an edit, if there is one.
+fn reserve_for(log: &mut Vec<Edit>, edit: &Option<Edit>) -> Result<(), AllocError>
+    ensures same { log.new.items ≡ log.old.items }
+    ensures room { OnOk result (IfSome edit.now (λ _. vec_len log.new < vec_capacity log.new)) }
+{
+    if edit.is_some() {
+        log.reserve(1)?;
+    }
+    Ok(())
+}
+
+// Exchanges the runs for those of an edit, if there is one, and logs it.
+fn settle_logged(runs: &mut Vec<(Interval, GroupKey)>, log: &mut Vec<Edit>, edit: Option<Edit>)
+    requires can { IfSome edit (CanExchange runs.old.items (vec_capacity runs.old)) }
+    requires room { IfSome edit (λ _. vec_len log.old < vec_capacity log.old) }
+    ensures runs { runs.new.items ≡ settled runs.old.items edit }
     ensures back { (before : List Chunk) → TakesBack before runs.old.items (vec_capacity runs.old) log.old.items
         → TakesBack before runs.new.items (vec_capacity runs.new) log.new.items }
 {
-    if let Some(back) = settle(chunks, runs, id, was_complete, edit) {
-        log.push_reserved(back);
+    if let Some(edit) = edit {
+        log.push_reserved(exchange(runs, edit));
     }
 }
 
@@ -61,13 +61,24 @@ pub(crate) fn add_logged(
     ensures counted { meter.old ≤ meter.new }
     ensures bound { (others : List Group) → HasOthers (held_in chunks.old.now) (group_of descriptor.now.id) others
         → meter.new ≤ meter.old + (2 * length others + 1) * (length others + 1) }
+    ensures level { OnOk result ((IsCompleteIn (held_in chunks.old.now) (group_of descriptor.now.id)
+        ↔ IsCompleteIn (held_in chunks.new.now) (group_of descriptor.now.id)) → meter.new ≡ meter.old) }
+    ensures met { (IsCompleteIn (held_in chunks.old.now) (group_of descriptor.now.id) → ⊥)
+        → (pieces : List Shown) → ArePieces (held_in chunks.old.now) pieces
+        → meter.new ≤ meter.old + length (cut ((group_of descriptor.now.id).interval ∷ []) pieces) }
 {
-    let id = descriptor.id();
-    log.reserve(1)?;
-    let was_complete = chunks.chunks().is_complete(id);
-    let edit = prepare_edit(alloc, chunks.chunks(), runs, id, meter)?;
+    let is_complete = chunks.chunks().is_complete_with(descriptor);
+    let edit = prepare_edit(
+        alloc,
+        chunks.chunks(),
+        runs,
+        descriptor.id(),
+        is_complete,
+        meter,
+    )?;
+    reserve_for(log, &edit)?;
     chunks.add(descriptor, node)?;
-    settle_logged(chunks.chunks(), runs, log, id, was_complete, edit);
+    settle_logged(runs, log, edit);
     Ok(())
 }
 
@@ -93,12 +104,17 @@ pub(crate) fn remove_logged(
     ensures counted { meter.old ≤ meter.new }
     ensures bound { (others : List Group) → HasOthers (held_in chunks.old.now) (group_of id.now) others
         → meter.new ≤ meter.old + (2 * length others + 1) * (length others + 1) }
+    ensures level { OnOk result ((IsCompleteIn (held_in chunks.old.now) (group_of id.now)
+        ↔ IsCompleteIn (held_in chunks.new.now) (group_of id.now)) → meter.new ≡ meter.old) }
+    ensures met { (IsCompleteIn (held_in chunks.old.now) (group_of id.now) → ⊥)
+        → (pieces : List Shown) → ArePieces (held_in chunks.old.now) pieces
+        → meter.new ≤ meter.old + length (cut ((group_of id.now).interval ∷ []) pieces) }
 {
-    log.reserve(1)?;
-    let was_complete = chunks.chunks().is_complete(id);
-    let edit = prepare_edit(alloc, chunks.chunks(), runs, id, meter)?;
+    let is_complete = chunks.chunks().is_complete_without(id, node);
+    let edit = prepare_edit(alloc, chunks.chunks(), runs, id, is_complete, meter)?;
+    reserve_for(log, &edit)?;
     chunks.remove(id, node)?;
-    settle_logged(chunks.chunks(), runs, log, id, was_complete, edit);
+    settle_logged(runs, log, edit);
     Ok(())
 }
 

@@ -4,4 +4,4 @@ use Rattle.druid_chunks.specs.Chunks.{AreOverlapsOf}
 use Rattle.druid_chunks.proofs.overlap.add_overlaps.Given as goal
 
 abbrev pub invariant-loop-i : goal.invariant-loop-i
-invariant-loop-i l = AreOverlapsOf (take l.i l.items) (group_of l.id) (map (λ key. key.now) l.found.items)
+invariant-loop-i l = AreOverlapsOf (take l.i l.items) (group_of l.id) l.part (map (λ key. key.now) l.found.items)

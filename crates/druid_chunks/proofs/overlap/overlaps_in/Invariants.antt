@@ -6,7 +6,7 @@ use Rattle.druid_chunks.proofs.overlap.overlaps_in.Given as goal
 abbrev pub invariant-loop-from : goal.invariant-loop-from
 invariant-loop-from l = record {
   within : l.from ≤ length l.items;
-  found : AreOverlapsOf (take l.from l.items) (group_of l.id) (map (λ key. key.now) l.found.items);
+  found : AreOverlapsOf (take l.from l.items) (group_of l.id) l.part (map (λ key. key.now) l.found.items);
 }
 
 abbrev pub decreases-loop-from : goal.decreases-loop-from

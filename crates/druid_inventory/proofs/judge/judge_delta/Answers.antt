@@ -1,11 +1,15 @@
-use Rattle.std.proofs.Common.{◌≡◌, ◌<◌, ◌≤◌, arith, refl, sym, ap, ◌∙◌}
+use Rattle.std.proofs.Common.{◌≡◌, ◌-◌, ◌<◌, ◌≤◌, List, Some, length, take, drop, arith, refl, sym, ap, subst, ◌∙◌}
+use Rattle.std.proofs.lemmas.List.{length-take, length-drop}
+use Rattle.druid_shard.specs.Described.{Described}
 use Rattle.druid_shard.specs.Mark.{Point}
-use Rattle.druid_inventory.specs.Step.{moved_to}
+use Rattle.druid_shard.specs.Replay.{replay_from}
+use Rattle.druid_inventory.proofs.PlanLemmas.{replayed_delta}
 use Rattle.druid_inventory.proofs.StepLemmas.{goes_on, tail_made}
 use Rattle.druid_inventory.proofs.judge.judge_delta.Goals as goal
 
 pub returns-in-Ok-clause-ok : goal.returns-in-Ok-clause-ok
 returns-in-Ok-clause-ok c =
+    let e = c.args.known.now in
     let held = c.mark-held.result in
     let to_incarnation : c.incarnation.result ≡ c.args.to.incarnation = c.incarnation.ensures in
     let held_incarnation : c.incarnation-2.result ≡ held.incarnation = c.incarnation-2.ensures in
@@ -18,7 +22,9 @@ returns-in-Ok-clause-ok c =
     let near : c.count-3.result ≤ c.count-4.result = c.if-count-2.false in
     let mark : c.count-5.result ≡ c.args.known.now.mark.count = c.count-5.ensures ∙ ap (λ (p : Point). p.count) c.mark-held.ensures in
     let made = c.in-Ok.ensures.ok in
-    let on = goes_on c.args.known.now c.args.from c.args.to held c.mark-held.ensures (sym to_incarnation ∙ same ∙ held_incarnation) (omega arith) (omega arith) in (
-      moved_to c.args.known.now c.args.to made.0,
-      (on, made.0, tail_made c.args.known.now c.args.from c.args.changes.now c.set.result.now made.0 c.count-5.result c.count-6.result mark c.count-6.ensures c.set.ensures.value made.1, refl),
-    )
+    let on = goes_on e c.args.from c.args.to held c.mark-held.ensures (sym to_incarnation ∙ same ∙ held_incarnation) (omega arith) (omega arith) in
+    replayed_delta e c.args.from c.args.to c.args.changes.now _ made.0 on (omega (arith, c.requires.incarnation, c.requires.far.incarnation))
+    (omega (arith, c.requires.few, length-take (length c.args.changes.now - (c.count-5.result - c.count-6.result)) (drop (c.count-5.result - c.count-6.result) c.args.changes.now), length-drop (c.count-5.result - c.count-6.result) c.args.changes.now))
+    (subst (λ (s : List Described). replay_from s (take (length c.args.changes.now - (c.count-5.result - c.count-6.result)) (drop (c.count-5.result - c.count-6.result) c.args.changes.now)) ≡ Some made.0)
+    c.set.ensures.value made.1)
+    (λ u tail. tail_made e c.args.from c.args.changes.now e.set u c.count-5.result c.count-6.result mark c.count-6.ensures refl tail)

@@ -1,34 +1,33 @@
-use Rattle.std.proofs.Common.{◌≡◌, rules, arith, false, length, sym, subst, refl, Err}
-use Rattle.druid_sync.specs.Read.{load_at, Answers}
-use Rattle.druid_sync.specs.declared.fault.SyncFault.TheVariants.{Shape, TooMany, BadPage, Memory}
-use Rattle.druid_base.proofs.EachLemmas.{Reads, all_read, each_of_length}
-use Rattle.druid_sync.proofs.FormLemmas.{page_some, page_none, may_be_page, no_page, loads_read}
+use Rattle.std.proofs.Common.{rules, arith, length}
+use Rattle.serde_json.specs.View.{items_view}
+use Rattle.druid_base.specs.Each.{each_of}
+use Rattle.druid_base.proofs.EachLemmas.{each_of_length}
+use Rattle.druid_sync.specs.Read.{load_at, IsPageRead}
+use Rattle.druid_sync.specs.declared.fault.SyncFault.TheVariants.{TooMany, BadPage, Memory}
+use Rattle.druid_sync.proofs.FormLemmas.{page_answered, list_refused, may_be_page, no_page}
 use Rattle.druid_sync.proofs.reading.page_of.Goals as goal
-
-pub returns-then-not-are_loads : goal.returns-then-not-are_loads
-returns-then-not-are_loads c =
-    let not : Reads load_at c.args.loads.now ≡ false = search rules in
-    subst (λ f. Answers f (Err Shape)) (sym (page_none c.args.at c.args.page c.args.of c.args.loads.now not)) refl
 
 pub returns-then-loads-gt-MAX_PAGE : goal.returns-then-loads-gt-MAX_PAGE
 returns-then-loads-gt-MAX_PAGE c =
-    let read = all_read load_at c.args.loads.now (search rules) in
-    subst (λ f. Answers f (Err TooMany)) (sym (page_some c.args.at c.args.page c.args.of c.args.loads.now read.0 read.1))
-    (omega (arith, each_of_length load_at c.args.loads.now read.0 read.1))
-
-pub loads_of-requires : goal.loads_of-requires
-loads_of-requires c = loads_read c.args.loads.now (search rules)
+    let loads = c.args.loads.now in
+    page_answered c.args.at c.args.page c.args.of (items_view loads) _
+    (list_refused (IsPageRead c.args.at c.args.page c.args.of) (each_of load_at (items_view loads)) c.fault_of_loads.result TooMany c.fault_of_loads.ensures
+    (λ xs read. omega (arith, each_of_length load_at loads xs read)))
 
 pub returns-then-not-may_be_page : goal.returns-then-not-may_be_page
 returns-then-not-may_be_page c =
-    let read = all_read load_at c.args.loads.now (search rules) in
-    let many = each_of_length load_at c.args.loads.now read.0 read.1 in
-    subst (λ f. Answers f (Err BadPage)) (sym (page_some c.args.at c.args.page c.args.of c.args.loads.now read.0 read.1))
-    (omega (arith, many), no_page c.args.page c.args.of (length c.args.loads.now) read.0 many (search rules))
+    let loads = c.args.loads.now in
+    page_answered c.args.at c.args.page c.args.of (items_view loads) _
+    (list_refused (IsPageRead c.args.at c.args.page c.args.of) (each_of load_at (items_view loads)) c.fault_of_loads-then-not-may_be_page.result BadPage c.fault_of_loads-then-not-may_be_page.ensures
+    (λ xs read.
+    let many = each_of_length load_at loads xs read in
+    (omega (arith, many), no_page c.args.page c.args.of (length loads) xs many (search rules))))
 
-pub returns-in_default : goal.returns-in_default
-returns-in_default c =
-    let read = all_read load_at c.args.loads.now (search rules) in
-    let many = each_of_length load_at c.args.loads.now read.0 read.1 in
-    subst (λ f. Answers f (Err Memory)) (sym (page_some c.args.at c.args.page c.args.of c.args.loads.now read.0 read.1))
-    (omega (arith, many), may_be_page c.args.page c.args.of (length c.args.loads.now) read.0 many (search rules))
+pub returns-in-Err : goal.returns-in-Err
+returns-in-Err c =
+    let loads = c.args.loads.now in
+    page_answered c.args.at c.args.page c.args.of (items_view loads) _
+    (list_refused (IsPageRead c.args.at c.args.page c.args.of) (each_of load_at (items_view loads)) c.in-Err.fault Memory c.in-Err.ensures.fault
+    (λ xs read.
+    let many = each_of_length load_at loads xs read in
+    (omega (arith, many), may_be_page c.args.page c.args.of (length loads) xs many (search rules))))

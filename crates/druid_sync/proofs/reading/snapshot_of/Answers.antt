@@ -1,26 +1,22 @@
-use Rattle.std.proofs.Common.{◌≡◌, rules, arith, false, sym, subst, refl, Err}
-use Rattle.druid_sync.specs.Read.{load_at, Answers}
-use Rattle.druid_sync.specs.declared.fault.SyncFault.TheVariants.{Shape, TooMany, Memory}
-use Rattle.druid_base.proofs.EachLemmas.{Reads, all_read, each_of_length}
-use Rattle.druid_sync.proofs.FormLemmas.{snapshot_some, snapshot_none, loads_read}
+use Rattle.std.proofs.Common.{arith}
+use Rattle.serde_json.specs.View.{items_view}
+use Rattle.druid_base.specs.Each.{each_of}
+use Rattle.druid_base.proofs.EachLemmas.{each_of_length}
+use Rattle.druid_sync.specs.Read.{load_at, IsSnapshotRead}
+use Rattle.druid_sync.specs.declared.fault.SyncFault.TheVariants.{TooMany, Memory}
+use Rattle.druid_sync.proofs.FormLemmas.{snapshot_answered, list_refused}
 use Rattle.druid_sync.proofs.reading.snapshot_of.Goals as goal
-
-pub returns-then-not-are_loads : goal.returns-then-not-are_loads
-returns-then-not-are_loads c =
-    let not : Reads load_at c.args.loads.now ≡ false = search rules in
-    subst (λ f. Answers f (Err Shape)) (sym (snapshot_none c.args.at c.args.loads.now not)) refl
 
 pub returns-then-loads-gt-MAX_SEGMENTS : goal.returns-then-loads-gt-MAX_SEGMENTS
 returns-then-loads-gt-MAX_SEGMENTS c =
-    let read = all_read load_at c.args.loads.now (search rules) in
-    subst (λ f. Answers f (Err TooMany)) (sym (snapshot_some c.args.at c.args.loads.now read.0 read.1))
-    (omega (arith, each_of_length load_at c.args.loads.now read.0 read.1))
+    let loads = c.args.loads.now in
+    snapshot_answered c.args.at (items_view loads) _
+    (list_refused (IsSnapshotRead c.args.at) (each_of load_at (items_view loads)) c.fault_of_loads.result TooMany c.fault_of_loads.ensures
+    (λ xs read. omega (arith, each_of_length load_at loads xs read)))
 
-pub loads_of-requires : goal.loads_of-requires
-loads_of-requires c = loads_read c.args.loads.now (search rules)
-
-pub returns-in_default : goal.returns-in_default
-returns-in_default c =
-    let read = all_read load_at c.args.loads.now (search rules) in
-    subst (λ f. Answers f (Err Memory)) (sym (snapshot_some c.args.at c.args.loads.now read.0 read.1))
-    (omega (arith, each_of_length load_at c.args.loads.now read.0 read.1))
+pub returns-in-Err : goal.returns-in-Err
+returns-in-Err c =
+    let loads = c.args.loads.now in
+    snapshot_answered c.args.at (items_view loads) _
+    (list_refused (IsSnapshotRead c.args.at) (each_of load_at (items_view loads)) c.in-Err.fault Memory c.in-Err.ensures.fault
+    (λ xs read. omega (arith, each_of_length load_at loads xs read)))

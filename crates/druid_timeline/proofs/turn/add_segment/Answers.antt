@@ -1,17 +1,24 @@
-use Rattle.std.proofs.Common.{◌↔◌, ◌≤◌, ◌+◌, ◌*◌, List, length, map, sym, ap, subst}
+use Rattle.std.proofs.Common.{◌≡◌, ◌↔◌, ◌≤◌, ◌+◌, ◌*◌, ◌∙◌, List, [], ◌∷◌, length, map, refl, sym, ap, subst}
 use Rattle.std.specs.Bool.{IsTrue}
+use Rattle.std.specs.Vec.{vec_capacity}
 use Rattle.druid_segid.specs.Group.{Group, group_of}
-use Rattle.druid_members.specs.Members.{member_of}
+use Rattle.druid_members.specs.Members.{member_of, IsComplete}
+use Rattle.druid_chunks.specs.Chunks.{Chunk, AreChunks, members_at}
 use Rattle.druid_chunks.proofs.EditLemmas.{always_err}
 use Rattle.druid_timeline.specs.Chunks.{held_in}
-use Rattle.druid_timeline.specs.Edited.{AreAlikeBut, ArePiecesTurned, HasOthers}
+use Rattle.druid_timeline.specs.Edited.{AreAlikeBut, ArePiecesThen, HasOthers}
+use Rattle.druid_timeline.specs.Exchanges.{settled}
 use Rattle.druid_timeline.specs.Holding.{IsCompleteIn, SameHeld}
-use Rattle.druid_timeline.specs.Pieces.{ArePieces, shown_at}
-use Rattle.druid_timeline.specs.Exchanges.{exchanged}
-use Rattle.druid_timeline.proofs.ChunkLemmas.{IsCompleteIn-at, SameHeld-chunk, AddsHeld-chunk}
+use Rattle.druid_timeline.specs.Pieces.{ArePieces, cut, shown_at}
+use Rattle.druid_timeline.proofs.ChunkLemmas.{IsHeld-chunk, IsCompleteIn-at, SameHeld-chunk, AddsHeld-chunk, RemovesHeld-chunk, RemovesOneHeld-chunk}
+use Rattle.druid_timeline.proofs.CountLemmas.{met_of}
 use Rattle.druid_timeline.proofs.SweepLemmas.{Run}
-use Rattle.druid_timeline.proofs.TurnLemmas.{alike_chunks, pieces_same}
+use Rattle.druid_timeline.proofs.TurnLemmas.{alike_chunks, level_told, pieces_same}
+use Rattle.druid_timeline.proofs.UndoLemmas.{TakesBack-more}
 use Rattle.druid_timeline.proofs.turn.add_segment.Goals as goal
+
+pub add-requires : goal.add-requires
+add-requires c = λ place. c.requires.new ((IsHeld-chunk c.args.chunks.now c.is_complete_with-is_complete.ensures.chunks c.args.node c.args.descriptor.now.id).1 place)
 
 pub returns-in_err-add-clause-pieces : goal.returns-in_err-add-clause-pieces
 returns-in_err-add-clause-pieces c =
@@ -26,19 +33,41 @@ returns-in_err-add-clause-err c =
 
 pub returns-clause-pieces : goal.returns-clause-pieces
 returns-clause-pieces c =
-    let g = group_of c.id-id.result.now in
-    let at = IsCompleteIn-at c.args.chunks.now c.add.ensures.was g in
-    let was : IsTrue c.is_complete-was_complete.result ↔ IsCompleteIn (held_in c.args.chunks.now) g = (λ e. at.1 (c.is_complete-was_complete.ensures.complete.0 e), λ h. c.is_complete-was_complete.ensures.complete.1 (at.0 h)) in
-    c.settle.ensures.pieces (held_in c.args.chunks.now)
-    (subst (λ (items : List Run). ArePieces (held_in c.args.chunks.now) (map shown_at items)) (sym c.prepare_edit.ensures.same) c.requires.pieces)
-    (subst (λ (items : List Run). ArePiecesTurned (held_in c.args.chunks.now) g (map shown_at (exchanged items c.in_ok-edit.edit))) (sym c.prepare_edit.ensures.same) c.in_ok-edit.ensures.turned)
-    was
-    (subst (λ (k : Group). AreAlikeBut (held_in c.args.chunks.now) (held_in c.add.new.self) k) (sym (ap group_of c.id-id.ensures.value)) (alike_chunks c.args.chunks.now c.add.new.self (group_of c.args.descriptor.now.id) c.add.ensures.was c.add.ensures.chunks c.add.ensures.others))
+    let at = IsCompleteIn-at c.add.new.self c.add.ensures.chunks (group_of c.args.descriptor.now.id) in
+    let told = c.is_complete_with-is_complete.ensures.complete (members_at c.add.new.self (group_of c.args.descriptor.now.id)) c.args.node c.in_ok-add.ensures.added in
+    let is : IsTrue c.is_complete_with-is_complete.result ↔ IsCompleteIn (held_in c.add.new.self) (group_of c.args.descriptor.now.id) = (λ e. at.1 (told.0 e), λ h. told.1 (at.0 h)) in
+    let alike = alike_chunks c.args.chunks.now c.add.new.self (group_of c.args.descriptor.now.id) c.add.ensures.was c.add.ensures.chunks c.add.ensures.others in
+    let items = c.settle.ensures ∙ ap (λ (rs : List Run). settled rs c.in_ok-edit.edit) c.prepare_edit.ensures.same in
+    subst (λ (rs : List Run). ArePieces (held_in c.add.new.self) (map shown_at rs)) (sym items) ((subst (λ (g : Group). ArePiecesThen (held_in c.args.chunks.now) g c.is_complete_with-is_complete.result (map shown_at (settled c.args.runs.now.items c.in_ok-edit.edit))) (ap group_of c.id.ensures.value) c.in_ok-edit.ensures.pieces) (held_in c.add.new.self) alike is)
 
 pub returns-clause-added : goal.returns-clause-added
 returns-clause-added c =
     AddsHeld-chunk c.args.chunks.now c.add.new.self (group_of c.args.descriptor.now.id) (member_of c.args.node c.args.descriptor.now) c.add.ensures.was c.add.ensures.chunks c.add.ensures.others c.in_ok-add.ensures.added
 
+pub returns-in_err-edit-clause-bound : goal.returns-in_err-edit-clause-bound
+returns-in_err-edit-clause-bound c = (subst (λ (g : Group). (others : List Group) → HasOthers (held_in c.args.chunks.now) g others → c.prepare_edit.new.meter ≤ c.args.meter.now + (2 * length others + 1) * (length others + 1)) (ap group_of c.id.ensures.value) c.prepare_edit.ensures.bound)
+
+pub returns-in_err-edit-clause-met : goal.returns-in_err-edit-clause-met
+returns-in_err-edit-clause-met c not pieces are =
+    met_of (held_in c.args.chunks.now) (group_of c.args.descriptor.now.id) (map shown_at c.args.runs.now.items) pieces c.args.meter.now c.prepare_edit.new.meter c.requires.pieces are ((subst (λ (g : Group). (IsCompleteIn (held_in c.args.chunks.now) g → ⊥) → c.prepare_edit.new.meter ≤ c.args.meter.now + length (cut (g.interval ∷ []) (map shown_at c.args.runs.now.items))) (ap group_of c.id.ensures.value) c.prepare_edit.ensures.met) not)
+
+pub returns-in_err-add-clause-bound : goal.returns-in_err-add-clause-bound
+returns-in_err-add-clause-bound c = (subst (λ (g : Group). (others : List Group) → HasOthers (held_in c.args.chunks.now) g others → c.prepare_edit.new.meter ≤ c.args.meter.now + (2 * length others + 1) * (length others + 1)) (ap group_of c.id.ensures.value) c.prepare_edit.ensures.bound)
+
+pub returns-in_err-add-clause-met : goal.returns-in_err-add-clause-met
+returns-in_err-add-clause-met c not pieces are =
+    met_of (held_in c.args.chunks.now) (group_of c.args.descriptor.now.id) (map shown_at c.args.runs.now.items) pieces c.args.meter.now c.prepare_edit.new.meter c.requires.pieces are ((subst (λ (g : Group). (IsCompleteIn (held_in c.args.chunks.now) g → ⊥) → c.prepare_edit.new.meter ≤ c.args.meter.now + length (cut (g.interval ∷ []) (map shown_at c.args.runs.now.items))) (ap group_of c.id.ensures.value) c.prepare_edit.ensures.met) not)
+
 pub returns-clause-bound : goal.returns-clause-bound
-returns-clause-bound c =
-    subst (λ (g : Group). (others : List Group) → HasOthers (held_in c.args.chunks.now) g others → c.prepare_edit.new.meter ≤ c.args.meter.now + (2 * length others + 1) * (length others + 1)) (ap group_of c.id-id.ensures.value) c.prepare_edit.ensures.bound
+returns-clause-bound c = (subst (λ (g : Group). (others : List Group) → HasOthers (held_in c.args.chunks.now) g others → c.prepare_edit.new.meter ≤ c.args.meter.now + (2 * length others + 1) * (length others + 1)) (ap group_of c.id.ensures.value) c.prepare_edit.ensures.bound)
+
+pub returns-clause-met : goal.returns-clause-met
+returns-clause-met c not pieces are =
+    met_of (held_in c.args.chunks.now) (group_of c.args.descriptor.now.id) (map shown_at c.args.runs.now.items) pieces c.args.meter.now c.prepare_edit.new.meter c.requires.pieces are ((subst (λ (g : Group). (IsCompleteIn (held_in c.args.chunks.now) g → ⊥) → c.prepare_edit.new.meter ≤ c.args.meter.now + length (cut (g.interval ∷ []) (map shown_at c.args.runs.now.items))) (ap group_of c.id.ensures.value) c.prepare_edit.ensures.met) not)
+
+pub returns-clause-level : goal.returns-clause-level
+returns-clause-level c level =
+    let at = IsCompleteIn-at c.add.new.self c.add.ensures.chunks (group_of c.args.descriptor.now.id) in
+    let told = c.is_complete_with-is_complete.ensures.complete (members_at c.add.new.self (group_of c.args.descriptor.now.id)) c.args.node c.in_ok-add.ensures.added in
+    let is : IsTrue c.is_complete_with-is_complete.result ↔ IsCompleteIn (held_in c.add.new.self) (group_of c.args.descriptor.now.id) = (λ e. at.1 (told.0 e), λ h. told.1 (at.0 h)) in
+    (subst (λ (g : Group). (IsTrue c.is_complete_with-is_complete.result ↔ IsCompleteIn (held_in c.args.chunks.now) g) → c.prepare_edit.new.meter ≡ c.args.meter.now) (ap group_of c.id.ensures.value) c.prepare_edit.ensures.level) (level_told (IsCompleteIn (held_in c.args.chunks.now) (group_of c.args.descriptor.now.id)) (IsCompleteIn (held_in c.add.new.self) (group_of c.args.descriptor.now.id)) c.is_complete_with-is_complete.result is level)

@@ -1,16 +1,24 @@
-use Rattle.std.proofs.Common.{◌↔◌, List, map, sym, subst}
+use Rattle.std.proofs.Common.{◌≡◌, ◌↔◌, ◌≤◌, ◌+◌, ◌*◌, ◌∙◌, List, [], ◌∷◌, length, map, refl, sym, ap, subst}
 use Rattle.std.specs.Bool.{IsTrue}
-use Rattle.druid_segid.specs.Group.{group_of}
+use Rattle.std.specs.Vec.{vec_capacity}
+use Rattle.druid_segid.specs.Group.{Group, group_of}
+use Rattle.druid_members.specs.Members.{member_of, IsComplete}
+use Rattle.druid_chunks.specs.Chunks.{Chunk, AreChunks, members_at}
 use Rattle.druid_chunks.proofs.EditLemmas.{always_err}
 use Rattle.druid_timeline.specs.Chunks.{held_in}
-use Rattle.druid_timeline.specs.Edited.{ArePiecesTurned}
+use Rattle.druid_timeline.specs.Edited.{AreAlikeBut, ArePiecesThen, HasOthers}
+use Rattle.druid_timeline.specs.Exchanges.{settled}
 use Rattle.druid_timeline.specs.Holding.{IsCompleteIn, SameHeld}
-use Rattle.druid_timeline.specs.Pieces.{ArePieces, shown_at}
-use Rattle.druid_timeline.specs.Exchanges.{exchanged}
-use Rattle.druid_timeline.proofs.ChunkLemmas.{IsCompleteIn-at, SameHeld-chunk, RemovesHeld-chunk, RemovesOneHeld-chunk}
+use Rattle.druid_timeline.specs.Pieces.{ArePieces, cut, shown_at}
+use Rattle.druid_timeline.proofs.ChunkLemmas.{IsHeld-chunk, IsCompleteIn-at, SameHeld-chunk, AddsHeld-chunk, RemovesHeld-chunk, RemovesOneHeld-chunk}
+use Rattle.druid_timeline.proofs.CountLemmas.{met_of}
 use Rattle.druid_timeline.proofs.SweepLemmas.{Run}
-use Rattle.druid_timeline.proofs.TurnLemmas.{alike_chunks, pieces_same}
+use Rattle.druid_timeline.proofs.TurnLemmas.{alike_chunks, level_told, pieces_same}
+use Rattle.druid_timeline.proofs.UndoLemmas.{TakesBack-more}
 use Rattle.druid_timeline.proofs.turn.remove_segment.Goals as goal
+
+pub remove-requires : goal.remove-requires
+remove-requires c = (IsHeld-chunk c.args.chunks.now c.is_complete_without-is_complete.ensures.chunks c.args.node c.args.id.now).0 c.requires.there
 
 pub returns-in_err-remove-clause-pieces : goal.returns-in_err-remove-clause-pieces
 returns-in_err-remove-clause-pieces c =
@@ -25,19 +33,34 @@ returns-in_err-remove-clause-err c =
 
 pub returns-clause-pieces : goal.returns-clause-pieces
 returns-clause-pieces c =
-    let g = group_of c.args.id.now in
-    let at = IsCompleteIn-at c.args.chunks.now c.remove.ensures.was g in
-    let was : IsTrue c.is_complete-was_complete.result ↔ IsCompleteIn (held_in c.args.chunks.now) g = (λ e. at.1 (c.is_complete-was_complete.ensures.complete.0 e), λ h. c.is_complete-was_complete.ensures.complete.1 (at.0 h)) in
-    c.settle.ensures.pieces (held_in c.args.chunks.now)
-    (subst (λ (items : List Run). ArePieces (held_in c.args.chunks.now) (map shown_at items)) (sym c.prepare_edit.ensures.same) c.requires.pieces)
-    (subst (λ (items : List Run). ArePiecesTurned (held_in c.args.chunks.now) g (map shown_at (exchanged items c.in_ok-edit.edit))) (sym c.prepare_edit.ensures.same) c.in_ok-edit.ensures.turned)
-    was
-    (alike_chunks c.args.chunks.now c.remove.new.self (group_of c.args.id.now) c.remove.ensures.was c.remove.ensures.chunks c.remove.ensures.others)
+    let at = IsCompleteIn-at c.remove.new.self c.remove.ensures.chunks (group_of c.args.id.now) in
+    let told = c.is_complete_without-is_complete.ensures.complete (members_at c.remove.new.self (group_of c.args.id.now)) c.in_ok-remove.ensures.removed in
+    let is : IsTrue c.is_complete_without-is_complete.result ↔ IsCompleteIn (held_in c.remove.new.self) (group_of c.args.id.now) = (λ e. at.1 (told.0 e), λ h. told.1 (at.0 h)) in
+    let alike = alike_chunks c.args.chunks.now c.remove.new.self (group_of c.args.id.now) c.remove.ensures.was c.remove.ensures.chunks c.remove.ensures.others in
+    let items = c.settle.ensures ∙ ap (λ (rs : List Run). settled rs c.in_ok-edit.edit) c.prepare_edit.ensures.same in
+    subst (λ (rs : List Run). ArePieces (held_in c.remove.new.self) (map shown_at rs)) (sym items) (c.in_ok-edit.ensures.pieces (held_in c.remove.new.self) alike is)
 
 pub returns-clause-removed : goal.returns-clause-removed
-returns-clause-removed c =
-    RemovesHeld-chunk c.args.chunks.now c.remove.new.self c.args.node c.args.id.now c.remove.ensures.was c.remove.ensures.chunks c.remove.ensures.others c.in_ok-remove.ensures.removed
+returns-clause-removed c = RemovesHeld-chunk c.args.chunks.now c.remove.new.self c.args.node c.args.id.now c.remove.ensures.was c.remove.ensures.chunks c.remove.ensures.others c.in_ok-remove.ensures.removed
 
 pub returns-clause-one : goal.returns-clause-one
-returns-clause-one c =
-    RemovesOneHeld-chunk c.args.chunks.now c.remove.new.self c.args.node c.args.id.now c.remove.ensures.was c.remove.ensures.chunks c.remove.ensures.others c.in_ok-remove.ensures.one
+returns-clause-one c = RemovesOneHeld-chunk c.args.chunks.now c.remove.new.self c.args.node c.args.id.now c.remove.ensures.was c.remove.ensures.chunks c.remove.ensures.others c.in_ok-remove.ensures.one
+
+pub returns-in_err-edit-clause-met : goal.returns-in_err-edit-clause-met
+returns-in_err-edit-clause-met c not pieces are =
+    met_of (held_in c.args.chunks.now) (group_of c.args.id.now) (map shown_at c.args.runs.now.items) pieces c.args.meter.now c.prepare_edit.new.meter c.requires.pieces are (c.prepare_edit.ensures.met not)
+
+pub returns-in_err-remove-clause-met : goal.returns-in_err-remove-clause-met
+returns-in_err-remove-clause-met c not pieces are =
+    met_of (held_in c.args.chunks.now) (group_of c.args.id.now) (map shown_at c.args.runs.now.items) pieces c.args.meter.now c.prepare_edit.new.meter c.requires.pieces are (c.prepare_edit.ensures.met not)
+
+pub returns-clause-met : goal.returns-clause-met
+returns-clause-met c not pieces are =
+    met_of (held_in c.args.chunks.now) (group_of c.args.id.now) (map shown_at c.args.runs.now.items) pieces c.args.meter.now c.prepare_edit.new.meter c.requires.pieces are (c.prepare_edit.ensures.met not)
+
+pub returns-clause-level : goal.returns-clause-level
+returns-clause-level c level =
+    let at = IsCompleteIn-at c.remove.new.self c.remove.ensures.chunks (group_of c.args.id.now) in
+    let told = c.is_complete_without-is_complete.ensures.complete (members_at c.remove.new.self (group_of c.args.id.now)) c.in_ok-remove.ensures.removed in
+    let is : IsTrue c.is_complete_without-is_complete.result ↔ IsCompleteIn (held_in c.remove.new.self) (group_of c.args.id.now) = (λ e. at.1 (told.0 e), λ h. told.1 (at.0 h)) in
+    c.prepare_edit.ensures.level (level_told (IsCompleteIn (held_in c.args.chunks.now) (group_of c.args.id.now)) (IsCompleteIn (held_in c.remove.new.self) (group_of c.args.id.now)) c.is_complete_without-is_complete.result is level)

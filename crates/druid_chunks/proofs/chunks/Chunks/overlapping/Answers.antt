@@ -7,4 +7,4 @@ use Rattle.druid_chunks.proofs.chunks.Chunks.overlapping.Goals as goal
 
 pub returns-clause-all : goal.returns-clause-all
 returns-clause-all c =
-    if_ok_weaker c.overlaps_in.result _ _ (subst (λ (xs : List Chunk). IfOk c.overlaps_in.result (λ found. AreOverlapsOf xs (group_of c.args.id.now) (map (λ key. key.now) found.items))) c.ordered.ensures.value c.overlaps_in.ensures) (λ found h g. h.all g)
+    if_ok_weaker c.overlaps_in.result _ _ (subst (λ (xs : List Chunk). IfOk c.overlaps_in.result (λ found. AreOverlapsOf xs (group_of c.args.id.now) c.args.part (map (λ key. key.now) found.items))) c.ordered.ensures.value c.overlaps_in.ensures) (λ found h g. h.all g)

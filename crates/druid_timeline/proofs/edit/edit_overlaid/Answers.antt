@@ -1,0 +1,28 @@
+use Rattle.std.proofs.Common.{◌<◌, ◌≤◌, ◌⊎◌, ◌↔◌, ℕ, map, take, drop, sym, subst}
+use Rattle.std.specs.List.{Contains}
+use Rattle.druid_segid.specs.Group.{Group}
+use Rattle.druid_time.specs.Extent.{Extent, Has}
+use Rattle.druid_timeline.specs.Edited.{AreRunsEdited, IsOverlaid, spliced}
+use Rattle.druid_timeline.specs.Pieces.{Shows, shown_at}
+use Rattle.druid_timeline.proofs.HalvingLemmas.{places_ordered}
+use Rattle.druid_timeline.proofs.SpliceLemmas.{AreRunsEdited-spliced, middle_made}
+use Rattle.druid_timeline.proofs.SweepLemmas.{Run}
+use Rattle.druid_timeline.proofs.edit.edit_overlaid.Goals as goal
+
+pub returns-clause-inside : goal.returns-clause-inside
+returns-clause-inside c =
+    let early = subst (λ (s : ℕ). (r : Run) → Contains (take c.first_to-from.result c.args.runs.now) r → r.0.end < s) c.start.ensures.value c.first_to-from.ensures.before in
+    let late = subst (λ (s : ℕ). (r : Run) → Contains (drop c.first_after-to.result c.args.runs.now) r → s < r.0.start) c.end.ensures.value c.first_after-to.ensures.rest in
+    (places_ordered c.args.runs.now c.first_to-from.result c.first_after-to.result c.interval-part.result.start c.interval-part.result.end c.start.ensures.valid.0 c.requires c.first_to-from.ensures.bound early late, c.first_after-to.ensures.bound)
+
+pub returns-clause-edited : goal.returns-clause-edited
+returns-clause-edited c =
+    let early = subst (λ (s : ℕ). (r : Run) → Contains (take c.first_to-from.result c.args.runs.now) r → r.0.end < s) c.start.ensures.value c.first_to-from.ensures.before in
+    let late = subst (λ (s : ℕ). (r : Run) → Contains (drop c.first_after-to.result c.args.runs.now) r → s < r.0.start) c.end.ensures.value c.first_after-to.ensures.rest in
+    let first = subst (λ (s : ℕ). (t : ℕ) (g : Group) → Shows (map shown_at c.in_ok-middle.middle.items) t g ↔ (Shows (map shown_at (drop c.first_to-from.result c.args.runs.now)) t g × (t < s))) c.start-2.ensures.value c.in_ok-middle.ensures.shows in
+    let third = subst (λ (s : ℕ). (t : ℕ) (g : Group) → Shows (map shown_at c.add_back.new.middle.items) t g ↔ (Shows (map shown_at c.add_overlaid.new.middle.items) t g ⊎ (Shows (map shown_at (take c.first_after-to.result c.args.runs.now)) t g × (s ≤ t)))) c.end-2.ensures.value c.in_ok-add_back.ensures.shows in
+    let second = subst (λ (p : Extent). (t : ℕ) (g : Group) → Shows (map shown_at c.add_overlaid.new.middle.items) t g ↔ (Shows (map shown_at c.in_ok-middle.middle.items) t g ⊎ (Has p t × IsOverlaid (map shown_at c.args.runs.now) c.args.own.now t g))) (sym c.interval-part.ensures.value) c.in_ok-add_overlaid.ensures.shows in
+    subst (λ (p : Extent). AreRunsEdited p (IsOverlaid (map shown_at c.args.runs.now) c.args.own.now) (map shown_at c.args.runs.now) (map shown_at (spliced c.args.runs.now c.first_to-from.result c.first_after-to.result c.add_back.new.middle.items))) c.interval-part.ensures.value
+    (AreRunsEdited-spliced c.interval-part.result (IsOverlaid (map shown_at c.args.runs.now) c.args.own.now) c.args.runs.now c.add_back.new.middle.items c.first_to-from.result c.first_after-to.result c.start.ensures.valid.0 c.requires c.in_ok-add_back.ensures.runs early late
+    (middle_made c.interval-part.result (IsOverlaid (map shown_at c.args.runs.now) c.args.own.now) (map shown_at (drop c.first_to-from.result c.args.runs.now)) (map shown_at (take c.first_after-to.result c.args.runs.now)) (map shown_at c.in_ok-middle.middle.items) (map shown_at c.add_overlaid.new.middle.items) (map shown_at c.add_back.new.middle.items)
+    first second third))

@@ -1,0 +1,18 @@
+use Rattle.std.proofs.Common.{◌≤◌, ◌+◌, List, [], ◌∷◌, length, ap, subst}
+use Rattle.std.specs.Result.{OnOk, OnErr}
+use Rattle.druid_segid.specs.Group.{group_of}
+use Rattle.druid_timeline.specs.Chunks.{held_in}
+use Rattle.druid_timeline.specs.Holding.{Held, IsCompleteIn, held_of, AddsHeld, SameHeld}
+use Rattle.druid_timeline.specs.Pieces.{Shown, ArePieces, cut}
+use Rattle.druid_timeline.specs.Transactions.{Edited}
+use Rattle.druid_timeline.proofs.transaction.Transaction.add_absent.Goals as goal
+
+pub returns-clause-added : goal.returns-clause-added
+returns-clause-added c = subst (λ (hs : List Held). OnOk c.add_logged.result (AddsHeld hs (held_in c.add_logged.new.chunks.now) (held_of c.args.node c.args.descriptor.now))) (ap (λ (s : Edited). s.now.held) c.self.view_is) c.add_logged.ensures.added
+
+pub returns-clause-err : goal.returns-clause-err
+returns-clause-err c = subst (λ (hs : List Held). OnErr c.add_logged.result (SameHeld hs (held_in c.add_logged.new.chunks.now))) (ap (λ (s : Edited). s.now.held) c.self.view_is) c.add_logged.ensures.err
+
+pub returns-clause-met : goal.returns-clause-met
+returns-clause-met c =
+    subst (λ (hs : List Held). (IsCompleteIn hs (group_of c.args.descriptor.now.id) → ⊥) → (pieces : List Shown) → ArePieces hs pieces → c.add_logged.new.meter ≤ c.args.meter.now + length (cut ((group_of c.args.descriptor.now.id).interval ∷ []) pieces)) (ap (λ (s : Edited). s.now.held) c.self.view_is) c.add_logged.ensures.met
