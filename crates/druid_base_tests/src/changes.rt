@@ -1,9 +1,7 @@
 use crate::printing::{assert_printed, assert_reported, assert_rows, owned, printed};
-use crate::rows::{
-    change, first_segments, mark_reported, numbered, parsed, push_partition, push_partitions,
-};
+use crate::rows::{change, mark_reported, parsed, push_partition, push_partitions};
 use druid_changes::{History, HistoryFault};
-use druid_shard::{Ask, Body, Cause, Change, Descriptor, MAX_SEGMENTS, Mark, Reply};
+use druid_shard::{Ask, Body, Cause, Change, Descriptor, Mark, Reply};
 use std::alloc::Global;
 use std::fmt::Write;
 use std::process::Abort;
@@ -119,20 +117,6 @@ fn set_after(rt: &impl Abort, alloc: Global, text: &str) -> String {
     }
 }
 
-// Why a node of 200,000 segments loads no more.
-fn fault_when_full(rt: &impl Abort, alloc: Global) -> Option<HistoryFault> {
-    let mut history = History::new(alloc, 1, 1).expect(rt, "memory");
-    for segment in first_segments(rt, alloc, 200_000) {
-        history
-            .record(Change::Load(segment))
-            .expect(rt, "a refused load");
-    }
-    assert!(rt; MAX_SEGMENTS == 200_000);
-    history
-        .record(Change::Load(numbered(rt, alloc, 200_000)))
-        .err()
-}
-
 #[test]
 fn ample_memory(rt: HostRuntime) {
     let reported = answered(&rt, rt.alloc(), &Ask::Whole);
@@ -145,12 +129,6 @@ fn ample_memory(rt: HostRuntime) {
 #[test]
 fn history_answers(rt: HostRuntime) {
     assert_rows(&rt, rt.alloc(), ANSWERS, answer_since);
-}
-
-#[test]
-fn the_limit_of_a_set(rt: HostRuntime) {
-    let fault = fault_when_full(&rt, rt.alloc());
-    assert!(rt; fault == Some(HistoryFault::Full));
 }
 
 #[test]

@@ -257,10 +257,10 @@ fn many_lines(rt: HostRuntime) {
     let brokers = "{\"count\":1,\"do\":\"brokers\",\"nodes\":[\"n\"]}\n";
     let marks = "{\"broker\":0,\"do\":\"marks\"}\n";
     let marked = "{\"marks\":[{\"counter\":0,\"hash\":0}]}\n";
-    let mut input = line_and_more(&rt, rt.alloc(), brokers, marks, 100_000);
-    let answers = line_and_more(&rt, rt.alloc(), "{\"brokers\":1}\n", marked, 100_000);
+    let mut input = line_and_more(&rt, rt.alloc(), brokers, marks, 20_000);
+    let answers = line_and_more(&rt, rt.alloc(), "{\"brokers\":1}\n", marked, 20_000);
     input.push(b'x').expect(&rt, "memory");
-    let bad = (1, answers.as_slice(), "line 100002: bad command\n");
+    let bad = (1, answers.as_slice(), "line 20002: bad command\n");
     assert_ended(&rt, rt.alloc(), "replay", &input, bad);
 }
 
