@@ -26,14 +26,14 @@ fn add(rt: &impl Abort, timeline: &mut Timeline, segment: &Descriptor, meter: &m
     ensures among { (g : Group) (others : List Group) → AreAmong timeline.old.held g others
         → IsAmong g others (group_of segment.now.id) → AreAmong timeline.new.held g others }
     ensures counted { (others : List Group) → AreAmong timeline.old.held (group_of segment.now.id) others
-        → meter.new ≤ meter.old + (2 * length others + 1) * (length others + 1) }
+        → meter.new ≤ meter.old + 3 * length others + 1 }
 {
     timeline.add(segment, 0, meter).expect(rt, "an edit");
 }
 
 fn remove(rt: &impl Abort, timeline: &mut Timeline, id: &SegmentId, meter: &mut Meter)
     ensures counted { (others : List Group) → AreAmong timeline.old.held (group_of id.now) others
-        → meter.new ≤ meter.old + (2 * length others + 1) * (length others + 1) }
+        → meter.new ≤ meter.old + 3 * length others + 1 }
 {
     timeline.remove(id, 0, meter).expect(rt, "an edit");
 }
@@ -63,8 +63,8 @@ fn count_edits(
     back: &mut Meter,
 )
     ensures first { first.new ≤ first.old + 1 }
-    ensures third { third.new ≤ third.old + 15 }
-    ensures back { back.new ≤ back.old + 15 }
+    ensures third { third.new ≤ third.old + 7 }
+    ensures back { back.new ≤ back.old + 7 }
 {
     let day = interval(rt, "2024-01-01/2024-01-02");
     let v1 = segment(rt, alloc, day, "v1");
