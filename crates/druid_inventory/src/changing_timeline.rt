@@ -11,7 +11,7 @@ use std::alloc::{AllocError, Global};
 use std::marker::Model;
 
 // More changes than one for so many chunks are many: then one sweep over all chunks costs less than they.
-const CHUNKS_PER_CHANGE: usize = 8;
+const CHUNKS_PER_CHANGE: usize = 32;
 
 // How a timeline changes.
 #[derive(Debug, Drop)]
