@@ -1,6 +1,7 @@
 #!/usr/bin/env python3
 """Counts the chunks that an edit of a timeline looks at, over hour chunks under 20 chunks of a year each: `hours` come and go,
-partitions of a year that stays complete (`level`), and chunks of two hours that complete and are shown nowhere (`weaker`).
+partitions of a year that stays complete (`level`), replicas of hours on a second node (`replica`), and chunks of two hours that
+complete and are shown nowhere (`weaker`).
 
 A search looks at a chunk by computing the length class of its interval, which is the one use of the instruction `bsr` in the
 crates of timelines: valgrind counts how often it is executed, in two runs that differ by 200 edits. Where a chunk that was
@@ -13,7 +14,7 @@ from lib import build, need, parser_of
 
 SIZES = (5_000, 10_000, 20_000)
 EDITS = (100, 300)
-KINDS = ('hours', 'level', 'weaker')
+KINDS = ('hours', 'level', 'replica', 'weaker')
 CRATES = ('druid_chunks', 'druid_timeline')
 
 

@@ -1,1 +1,2 @@
 pub mod OthersLemmas
+mod ReplicaLemmas

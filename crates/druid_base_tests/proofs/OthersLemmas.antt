@@ -1,5 +1,5 @@
 -- Which chunks an edit may be compared with.
-use Rattle.std.proofs.Common.{◌≡◌, ◌≢◌, ◌≤◌, ◌<◌, ◌∷◌, [], ℕ, List, filter, Result, Ok, sym, subst, inl, inr, arith}
+use Rattle.std.proofs.Common.{◌≡◌, ◌≤◌, ◌<◌, [], List, filter, Result, Ok, sym, subst, inl, inr, arith}
 use Rattle.std.specs.List.{Contains}
 use Rattle.std.specs.Result.{OnOk}
 use Rattle.druid_base.proofs.MemberLemmas.{Contains-map, Contains-nil}

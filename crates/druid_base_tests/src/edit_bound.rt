@@ -1,4 +1,5 @@
-//! How much one edit counts at most, by the contract: v1 and v2 on each of 100 days, and then v3 on the first day.
+//! How much one edit counts at most, by the contract: v1 and v2 on each of 100 days, and then v3 on the first day; and that a
+//! replica of v1 counts nothing.
 ghost use Rattle.std.specs.Prelude.{◌≡◌, ◌≤◌, ◌+◌, ◌*◌, List, length};
 ghost use Rattle.druid_segid.specs.Group.{Group, group_of};
 ghost use Rattle.druid_base_tests.specs.Others.{AreAmong, IsAmong};
@@ -26,14 +27,14 @@ fn add(rt: &impl Abort, timeline: &mut Timeline, segment: &Descriptor, meter: &m
     ensures among { (g : Group) (others : List Group) → AreAmong timeline.old.held g others
         → IsAmong g others (group_of segment.now.id) → AreAmong timeline.new.held g others }
     ensures counted { (others : List Group) → AreAmong timeline.old.held (group_of segment.now.id) others
-        → meter.new ≤ meter.old + (2 * length others + 1) * (length others + 1) }
+        → meter.new ≤ meter.old + 3 * length others + 1 }
 {
     timeline.add(segment, 0, meter).expect(rt, "an edit");
 }
 
 fn remove(rt: &impl Abort, timeline: &mut Timeline, id: &SegmentId, meter: &mut Meter)
     ensures counted { (others : List Group) → AreAmong timeline.old.held (group_of id.now) others
-        → meter.new ≤ meter.old + (2 * length others + 1) * (length others + 1) }
+        → meter.new ≤ meter.old + 3 * length others + 1 }
 {
     timeline.remove(id, 0, meter).expect(rt, "an edit");
 }
@@ -63,8 +64,8 @@ fn count_edits(
     back: &mut Meter,
 )
     ensures first { first.new ≤ first.old + 1 }
-    ensures third { third.new ≤ third.old + 15 }
-    ensures back { back.new ≤ back.old + 15 }
+    ensures third { third.new ≤ third.old + 7 }
+    ensures back { back.new ≤ back.old + 7 }
 {
     let day = interval(rt, "2024-01-01/2024-01-02");
     let v1 = segment(rt, alloc, day, "v1");
@@ -78,8 +79,23 @@ fn count_edits(
     remove(rt, &mut timeline, v3.id(), back);
 }
 
+// The row: a second node loads v1 and drops it, which counts nothing.
+fn count_replica(rt: &impl Abort, alloc: Global, comes: &mut Meter, goes: &mut Meter)
+    ensures comes { comes.new ≡ comes.old }
+    ensures goes { goes.new ≡ goes.old }
+{
+    let day = interval(rt, "2024-01-01/2024-01-02");
+    let v1 = segment(rt, alloc, day, "v1");
+    let mut timeline = Timeline::new(alloc, name(rt, alloc, "wiki"));
+    let mut meter = Meter::new();
+    timeline.add(&v1, 0, &mut meter).expect(rt, "an edit");
+    timeline.add(&v1, 1, comes).expect(rt, "an edit");
+    timeline.remove(v1.id(), 1, goes).expect(rt, "an edit");
+}
+
 #[test]
 fn edit_bound(rt: HostRuntime) {
     let (mut first, mut third, mut back) = (Meter::new(), Meter::new(), Meter::new());
     count_edits(&rt, rt.alloc(), &mut first, &mut third, &mut back);
+    count_replica(&rt, rt.alloc(), &mut third, &mut back);
 }

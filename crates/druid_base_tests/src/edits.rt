@@ -9,7 +9,7 @@ use crate::rows::name;
 use druid_segid::{GroupKey, Meter, SegmentId, Version};
 use druid_shard::{Descriptor, NodeNo};
 use druid_time::{Instant, Interval, IntervalSet};
-use druid_timeline::{Timeline, TimelineFault};
+use druid_timeline::{Holding, Timeline, TimelineFault};
 use std::alloc::Global;
 use std::process::Abort;
 
@@ -28,12 +28,22 @@ const MOST_HELD: usize = 40;
 
 // A partition of a chunk that a node serves, and how many core partitions it names; or a tombstone.
 #[derive(Clone, Copy, PartialEq, Eq, Drop)]
-struct Served {
+pub(crate) struct Served {
     chunk: u64,
     partition: u16,
     core: u16,
     node: NodeNo,
     is_tombstone: bool,
+}
+
+impl Served {
+    pub(crate) fn chunk(&self) -> u64 {
+        self.chunk
+    }
+
+    pub(crate) fn partition(&self) -> u16 {
+        self.partition
+    }
 }
 
 fn start_of(chunk: u64) -> u64 {
@@ -50,13 +60,13 @@ fn has(chunk: u64, tick: u64) -> bool {
 
 // Instants that rise, and versions, by their number.
 #[derive(Drop)]
-struct Table {
+pub(crate) struct Table {
     ticks: Vec<Instant>,
     versions: Vec<Version>,
 }
 
 impl Table {
-    fn new(rt: &impl Abort, alloc: Global, draws: &mut Draws) -> Table {
+    pub(crate) fn new(rt: &impl Abort, alloc: Global, draws: &mut Draws) -> Table {
         let mut ms = 0_i64;
         let mut ticks = Vec::new(alloc);
         for _tick in 0..=TICKS {
@@ -124,7 +134,7 @@ impl Table {
         SegmentId::new(name(rt, alloc, source), interval, version, partition)
     }
 
-    fn descriptor(
+    pub(crate) fn descriptor(
         &self,
         rt: &impl Abort,
         alloc: Global,
@@ -346,7 +356,7 @@ fn draw_ticks(draws: &mut Draws) -> (u64, u64) {
     (start, start.wrapping_add(length).wrapping_add(1).min(24))
 }
 
-fn draw_served(draws: &mut Draws) -> Served {
+pub(crate) fn draw_served(draws: &mut Draws) -> Served {
     let (start, end) = draw_ticks(draws);
     let version = draws.below(4);
     let chunk = version
@@ -454,13 +464,21 @@ fn remove(
     assert_nodes(rt, alloc, timeline, held, table, &served);
 }
 
-// Makes drawn edits, and compares after each.
+// The timeline of what a timeline holds, by one sweep.
+fn swept(rt: &impl Abort, timeline: &Timeline) -> Timeline {
+    let holding = Holding::of(timeline).expect(rt, "memory");
+    holding
+        .into_timeline(&mut Meter::new())
+        .expect(rt, "memory")
+}
+
+// Makes drawn edits, and compares after each, and after some what a sweep gives.
 fn edit(rt: &impl Abort, alloc: Global, seed: u64) {
     let mut draws = Draws::new(seed);
     let table = Table::new(rt, alloc, &mut draws);
     let mut timeline = Timeline::new(alloc, name(rt, alloc, "wiki"));
     let mut held = Vec::new(alloc);
-    for _edit in 0..EDITS {
+    for number in 0..EDITS {
         if draws.below(2) == 0 {
             add(rt, alloc, &mut draws, &mut timeline, &mut held, &table);
         } else {
@@ -468,6 +486,10 @@ fn edit(rt: &impl Abort, alloc: Global, seed: u64) {
         }
         let window = draw_ticks(&mut draws);
         assert_same(rt, alloc, &timeline, &held, &table, window);
+        if number % 8 == 0 {
+            let swept = swept(rt, &timeline);
+            assert_same(rt, alloc, &swept, &held, &table, window);
+        }
     }
 }
 

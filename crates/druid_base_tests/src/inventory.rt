@@ -1,5 +1,6 @@
 use crate::printing::{assert_printed, assert_reported, assert_rows, printed};
 use crate::rows::{change, descriptor, mark_reported, name, parsed, push_partitions};
+use crate::sweeps::assert_alike;
 use druid_inventory::{ApplyFault, Inventory, InventoryFault, JoinFault, Outcome};
 use druid_shard::{Cause, Change, Descriptor, Mark, NodeNo, Reply};
 use std::alloc::Global;
@@ -146,9 +147,18 @@ fn outcome_reported(
     format!(in alloc; "{} {entry}", name_of(outcome)).expect(rt, "memory")
 }
 
-// What a reply does to the inventory, which is the new one after that.
-fn take(rt: &impl Abort, alloc: Global, inventory: &mut Inventory, reply: &Reply) -> String {
-    match inventory.apply(0, reply) {
+// What a reply does to the inventory, which is the new one after that. The old one stays what another is, which shares
+// nothing with it.
+fn take(
+    rt: &impl Abort,
+    alloc: Global,
+    inventory: &mut Inventory,
+    other: &Inventory,
+    reply: &Reply,
+) -> String {
+    let applied = inventory.apply(0, reply);
+    assert_alike(rt, alloc, inventory, other);
+    match applied {
         Ok((next, outcome)) => {
             *inventory = next;
             outcome_reported(rt, alloc, inventory, outcome)
@@ -177,14 +187,11 @@ fn assert_replies(rt: &impl Abort, alloc: Global, rows: &str) {
     for row in rows.lines() {
         let (text, wanted) = row.split_once(" = ").expect(rt, "no row");
         let reply = reply(rt, alloc, text);
-        assert_reported(rt, text, take(rt, alloc, &mut inventory, &reply), wanted);
-        assert_reported(
-            rt,
-            text,
-            take_in_place(rt, alloc, &mut alone, &reply),
-            wanted,
-        );
-        assert!(rt; inventory == alone, "{text}");
+        let reported = take(rt, alloc, &mut inventory, &alone, &reply);
+        assert_reported(rt, text, reported, wanted);
+        let reported = take_in_place(rt, alloc, &mut alone, &reply);
+        assert_reported(rt, text, reported, wanted);
+        assert_alike(rt, alloc, &inventory, &alone);
     }
 }
 

@@ -105,6 +105,36 @@ fn takes_delta(rt: &impl Abort, alloc: Global, count: u16) -> bool {
         && next.segments(0).expect(rt, "a node").len() == count as usize
 }
 
+// So many changes of one segment: loads and drops in turn.
+fn turns(rt: &impl Abort, alloc: Global, count: u16) -> Vec<Change> {
+    let mut changes = Vec::new(alloc);
+    for number in 0..count {
+        let segment = descriptor(rt, alloc, 0);
+        let change = if number % 2 == 0 {
+            Change::Load(segment)
+        } else {
+            Change::Drop(segment)
+        };
+        changes.push(change).expect(rt, "memory");
+    }
+    changes
+}
+
+// Whether a broker takes a delta of so many changes of one segment, and holds what the last one leaves.
+fn takes_turns(rt: &impl Abort, alloc: Global, count: u16) -> bool {
+    let (from, to) = (Mark::new(1, 7), Mark::new(1, 7 + count as u64));
+    let (mut inventory, _) = fresh(rt, alloc, 1)
+        .apply(0, &snapshot(rt, alloc, from, 0))
+        .expect(rt, "a refused snapshot");
+    let delta = Reply::delta(from, to, turns(rt, alloc, count)).expect(rt, "a delta");
+    let (next, _) = inventory.apply(0, &delta).expect(rt, "a refused delta");
+    inventory.advance(0, &delta).expect(rt, "a refused delta");
+    let held = (count % 2) as usize;
+    next == inventory
+        && next.segments(0).expect(rt, "a node").len() == held
+        && next.sources().expect(rt, "memory").len() == held
+}
+
 // Whether a node that keeps so many changes answers with as many.
 fn answers_kept(rt: &impl Abort, alloc: Global, count: u16) -> bool {
     if count == 0 || 1_000 < count {
@@ -199,6 +229,7 @@ fn simulates(rt: &impl Abort, alloc: Global, count: u16) -> bool {
 fn ample_memory(rt: HostRuntime) {
     assert_sizes(&rt, rt.alloc(), 1_000, follows_restarts);
     assert_sizes(&rt, rt.alloc(), 1_000, takes_delta);
+    assert_sizes(&rt, rt.alloc(), 1_000, takes_turns);
     assert_sizes(&rt, rt.alloc(), 1_000, answers_kept);
     assert_sizes(&rt, rt.alloc(), 1_000, finds_pieces);
     assert_sizes(&rt, rt.alloc(), 64, knows_nodes);

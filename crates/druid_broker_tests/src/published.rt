@@ -87,8 +87,8 @@ fn both<J: Publication>(
     format!(in alloc; "{first} {other}").expect(rt, "memory")
 }
 
-// What the views read before anything is published, once a snapshot is, once a delta is, once a reply was refused, and once the
-// publisher is gone. The receipts are given to the first of them alone.
+// What the views read before anything is published, once a snapshot is, once a delta is, once it is again, which moves nothing,
+// once a reply was refused, and once the publisher is gone. The receipts are given to the first of them alone.
 fn views_read<R: Wait + Abort + Drop, J: Publication>(
     rt: &R,
     alloc: Global,
@@ -102,11 +102,13 @@ fn views_read<R: Wait + Abort + Drop, J: Publication>(
     let snapshot = both(rt, alloc, reported, untold);
     publish_to(rt, alloc, &mut publisher, reported, DELTA);
     let delta = both(rt, alloc, reported, untold);
+    publish_to(rt, alloc, &mut publisher, reported, DELTA);
+    let again = both(rt, alloc, reported, untold);
     let refused = refused(rt, alloc, &mut publisher, GAP);
     let after = both(rt, alloc, reported, untold);
     drop(publisher);
     let gone = both(rt, alloc, reported, untold);
-    format!(in alloc; "{before}, {snapshot}, {delta}, {refused}, {after}, {gone}").expect(
+    format!(in alloc; "{before}, {snapshot}, {delta}, {again}, {refused}, {after}, {gone}").expect(
         rt, "memory",
     )
 }
@@ -191,6 +193,6 @@ fn ample_memory(rt: HostRuntime) {
         &rt,
         "two views",
         read,
-        "0 0: 0 0 0: 0, 1 3: 1 1 3: 1, 1 4: 0 1 4: 0, B1: A2: a gap, 1 4: 0 1 4: 0, B3: no reading B3: no reading",
+        "0 0: 0 0 0: 0, 1 3: 1 1 3: 1, 1 4: 0 1 4: 0, 1 4: 0 1 4: 0, B1: A2: a gap, 1 4: 0 1 4: 0, B3: no reading B3: no reading",
     );
 }

@@ -1,4 +1,5 @@
 pub mod ChangeLemmas
+pub mod ChangingLemmas
 pub mod EditLemmas
 pub mod EntryLemmas
 pub mod JoinLemmas

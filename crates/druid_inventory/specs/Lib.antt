@@ -9,6 +9,7 @@ pub mod Timelines
 -- words of private contracts
 pub mod Judged
 pub mod Kept
+pub mod Ways
 pub mod Transactions
 pub mod Merged
 pub mod Moves

@@ -9,7 +9,7 @@ ghost use Rattle.druid_inventory.specs.Moves.{Moves, MovesAt};
 ghost use Rattle.druid_inventory.specs.Timelines.{AreTimelines, AreTimelinesOf, IsInventory, ServesWith};
 
 use crate::known::Known;
-use crate::timelines::{Timelines, change_set};
+use crate::timelines::{ChangingTimelines, Timelines, change_set};
 use druid_shard::{Change, Mark, NodeNo};
 use std::alloc::{AllocError, Global};
 use std::sync::Arc;
@@ -22,10 +22,10 @@ pub(crate) fn entry_of(entries: &[Arc<Known, Global>], node: usize) -> &Known
     &entries[node]
 }
 
-// Puts an entry of a node in the place of the one that is there, and edits the timelines.
+// Puts an entry of a node in the place of the one that is there, and changes the timelines.
 pub(crate) fn put_entry(
     entries: &mut Vec<Arc<Known, Global>>,
-    timelines: &mut Timelines,
+    timelines: &mut ChangingTimelines,
     alloc: Global,
     node: NodeNo,
     entry: Arc<Known, Global>,

@@ -25,7 +25,7 @@ use crate::join::{are_of_same_nodes, catch_up, first_conflict, has_later};
 use crate::judge::judge;
 use crate::known::{Known, copy_of};
 use crate::plan::Plan;
-use crate::timelines::{Timelines, names_of};
+use crate::timelines::{ChangingTimelines, Timelines, begin_changes, end_changes, names_of};
 use crate::{ApplyFault, InventoryFault, JoinFault, Outcome};
 use druid_base::{TextList, are_distinct};
 use druid_segid::Name;
@@ -127,6 +127,20 @@ impl Inventory {
         })
     }
 
+    // The inventory of these entries and the timelines over them, which have changed.
+    fn changed(
+        alloc: Global,
+        entries: Vec<Arc<Known, Global>>,
+        timelines: ChangingTimelines,
+    ) -> Result<Inventory, AllocError>
+        requires few { vec_len entries ≤ max_nodes }
+        requires over { AreTimelinesOf (map arc_value entries.items) timelines }
+        ensures { IfOk result (λ inventory. inventory ≡ map arc_value entries.items) }
+    {
+        let timelines = end_changes(alloc, timelines)?;
+        Inventory::of(alloc, entries, timelines)
+    }
+
     // The same inventory, which shares all with this one. Does not allocate: one more owner is counted.
     fn share(&self) -> Result<Inventory, AllocError>
         ensures { IfOk result (λ inventory. inventory ≡ self.now) }
@@ -151,6 +165,14 @@ impl Inventory {
         ensures { IfOk result (AreTimelinesOf self.now) }
     {
         Timelines::clone(&self.timelines)
+    }
+
+    // The timelines, shared, which begin to change.
+    fn changing_timelines(&self) -> Result<ChangingTimelines, AllocError>
+        ensures { IfOk result (AreTimelinesOf self.now) }
+    {
+        let timelines = self.copied_timelines()?;
+        begin_changes(self.alloc, timelines)
     }
 
     // The entries, borrowed.
@@ -338,12 +360,12 @@ impl Inventory {
             × (inventory ≡ slice_set self.now node (moved_to e at segments.now))) }
     {
         let mut entries = self.copied_entries()?;
-        let mut timelines = self.copied_timelines()?;
+        let mut timelines = self.changing_timelines()?;
         let set = copy_of(self.alloc, segments)?;
         let known = entry_of(&entries, node as usize).with_set(at, set)?;
         let entry = Arc::new(self.alloc, known)?;
         put_entry(&mut entries, &mut timelines, self.alloc, node, entry)?;
-        Inventory::of(self.alloc, entries, timelines)
+        Inventory::changed(self.alloc, entries, timelines)
     }
 
     /// What to ask a node for: all that it serves where it was never synced, and else the changes after its mark; None
@@ -464,7 +486,7 @@ impl Inventory {
         ensures { IfOk result (λ inventory. inventory ≡ later_each self.now (map arc_value others.now)) }
     {
         let mut entries = self.copied_entries()?;
-        let mut timelines = self.copied_timelines()?;
+        let mut timelines = self.changing_timelines()?;
         for node in 0..others.len() {
             catch_up(
                 &mut entries,
@@ -474,7 +496,7 @@ impl Inventory {
                 &others[node],
             )?;
         }
-        Inventory::of(self.alloc, entries, timelines)
+        Inventory::changed(self.alloc, entries, timelines)
     }
 }
 

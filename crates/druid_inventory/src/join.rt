@@ -10,7 +10,7 @@ ghost use Rattle.druid_inventory.specs.Timelines.{AreTimelinesOf};
 
 use crate::advance::{entry_of, put_entry};
 use crate::known::{Known, are_same};
-use crate::timelines::Timelines;
+use crate::timelines::ChangingTimelines;
 use druid_shard::NodeNo;
 use std::alloc::{AllocError, Global};
 use std::sync::Arc;
@@ -77,10 +77,10 @@ pub(crate) fn has_later(a: &[Arc<Known, Global>], b: &[Arc<Known, Global>]) -> b
     false
 }
 
-// Replaces the entry of a node by this one if it is later, and edits the timelines.
+// Replaces the entry of a node by this one if it is later, and changes the timelines.
 pub(crate) fn catch_up(
     entries: &mut Vec<Arc<Known, Global>>,
-    timelines: &mut Timelines,
+    timelines: &mut ChangingTimelines,
     alloc: Global,
     node: usize,
     entry: &Arc<Known, Global>,

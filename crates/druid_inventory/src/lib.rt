@@ -5,6 +5,7 @@ mod advance;
 mod answer;
 mod assembly;
 mod changes;
+mod changing_timeline;
 mod fault;
 mod inventory;
 mod join;

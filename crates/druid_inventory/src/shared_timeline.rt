@@ -5,7 +5,7 @@ ghost use Rattle.druid_inventory.specs.Kept.{timeline_in};
 
 use druid_segid::{Meter, SegmentId};
 use druid_shard::{Descriptor, NodeNo};
-use druid_timeline::{Timeline, TimelineFault};
+use druid_timeline::Timeline;
 use std::alloc::{AllocError, Global};
 use std::marker::Model;
 use std::mem;
@@ -50,48 +50,6 @@ impl Clone for SharedTimeline {
     }
 }
 
-// Adds a segment, which the node does not serve yet, to the timeline of its source.
-fn add_to_timeline(
-    timeline: &mut Timeline,
-    node: NodeNo,
-    descriptor: &Descriptor,
-) -> Result<(), AllocError>
-    requires source { descriptor.now.id.source ≡ timeline.old.source }
-    requires new { IsHeld timeline.old.held node descriptor.now.id → ⊥ }
-    ensures added { OnOk result
-        (AddsHeld timeline.old.held timeline.new.held (held_of node descriptor.now)) }
-    ensures source { timeline.new.source ≡ timeline.old.source }
-{
-    let mut meter = Meter::new();
-    match timeline.add(descriptor, node, &mut meter) {
-        Ok(()) => Ok(()),
-        Err(TimelineFault::Memory) => Err(AllocError),
-        Err(TimelineFault::OtherSource) => unreachable!(),
-        Err(TimelineFault::AlreadyThere) => unreachable!(),
-        Err(TimelineFault::NotThere) => unreachable!(),
-    }
-}
-
-// Removes a segment, which the node serves, from the timeline of its source.
-fn remove_from_timeline(
-    timeline: &mut Timeline,
-    node: NodeNo,
-    id: &SegmentId,
-) -> Result<(), AllocError>
-    requires { IsServed timeline.old node id.now }
-    ensures removed { OnOk result (RemovesHeld timeline.old.held timeline.new.held node id.now) }
-    ensures source { timeline.new.source ≡ timeline.old.source }
-{
-    let mut meter = Meter::new();
-    match timeline.remove(id, node, &mut meter) {
-        Ok(()) => Ok(()),
-        Err(TimelineFault::Memory) => Err(AllocError),
-        Err(TimelineFault::NotThere) => unreachable!(),
-        Err(TimelineFault::OtherSource) => unreachable!(),
-        Err(TimelineFault::AlreadyThere) => unreachable!(),
-    }
-}
-
 // Adds a segment, which the node does not serve yet. A timeline that others share is copied first.
 fn add_to_kept(kept: &mut Kept, node: NodeNo, descriptor: &Descriptor) -> Result<(), AllocError>
     requires source { descriptor.now.id.source ≡ (timeline_in kept.old).source }
@@ -100,12 +58,13 @@ fn add_to_kept(kept: &mut Kept, node: NodeNo, descriptor: &Descriptor) -> Result
         (AddsHeld (timeline_in kept.old).held (timeline_in kept.new).held (held_of node descriptor.now)) }
     ensures source { OnOk result ((timeline_in kept.new).source ≡ (timeline_in kept.old).source) }
 {
+    let mut meter = Meter::new();
     match kept {
         Kept::Shared(pointer) => {
             let timeline = Arc::make_mut(pointer)?;
-            add_to_timeline(timeline, node, descriptor)
+            timeline.add_absent(descriptor, node, &mut meter)
         }
-        Kept::Own(timeline) => add_to_timeline(timeline, node, descriptor),
+        Kept::Own(timeline) => timeline.add_absent(descriptor, node, &mut meter),
     }
 }
 
@@ -116,12 +75,13 @@ fn remove_from_kept(kept: &mut Kept, node: NodeNo, id: &SegmentId) -> Result<(),
         (RemovesHeld (timeline_in kept.old).held (timeline_in kept.new).held node id.now) }
     ensures source { OnOk result ((timeline_in kept.new).source ≡ (timeline_in kept.old).source) }
 {
+    let mut meter = Meter::new();
     match kept {
         Kept::Shared(pointer) => {
             let timeline = Arc::make_mut(pointer)?;
-            remove_from_timeline(timeline, node, id)
+            timeline.remove_present(id, node, &mut meter)
         }
-        Kept::Own(timeline) => remove_from_timeline(timeline, node, id),
+        Kept::Own(timeline) => timeline.remove_present(id, node, &mut meter),
     }
 }
 

@@ -1,5 +1,5 @@
-//! The timelines of the data sources: built from what nodes serve, and edited where that changes.
-ghost use Rattle.std.specs.Prelude.{◌≡◌, ◌↔◌, List, Contains, IsTrue, IfOk, IfSome, OnOk, Some};
+//! The timelines of the data sources: built from what nodes serve, and changed where that does.
+ghost use Rattle.std.specs.Prelude.{◌≡◌, ◌↔◌, ℕ, List, Contains, IsTrue, IfOk, IfSome, OnOk, Some};
 ghost use Rattle.std.specs.BTreeMap as tree;
 ghost use Rattle.std.specs.Ordering.{nat_cmp};
 ghost use Rattle.std.specs.Cmp.Lexicographic.{slice_cmp};
@@ -8,15 +8,18 @@ ghost use Rattle.druid_shard.specs.declared.change.Change.TheVariants.{Drop};
 ghost use Rattle.druid_inventory.specs.Entry.{Entry};
 ghost use Rattle.druid_inventory.specs.Timelines.{kept, AreTimelines, TakesSegment, TakesChange, AddsSegment, EditsOut, RemovesSegment, ServesThese, ServesWith};
 
+use crate::changing_timeline::ChangingTimeline;
 use crate::shared_timeline::SharedTimeline;
 use druid_segid::Name;
 use druid_shard::{Descriptor, NodeNo, find_segment};
-use druid_timeline::Timeline;
 use std::alloc::{AllocError, Global};
 use std::collections::BTreeMap;
 
 // The timeline of each data source of which a node serves a segment.
 pub(crate) type Timelines = BTreeMap<Name, SharedTimeline>;
+
+// The same while they change.
+pub(crate) type ChangingTimelines = BTreeMap<Name, ChangingTimeline>;
 
 // The names of the sources, in order.
 pub(crate) fn names_of(alloc: Global, timelines: &Timelines) -> Result<Vec<Name>, AllocError>
@@ -31,9 +34,68 @@ pub(crate) fn names_of(alloc: Global, timelines: &Timelines) -> Result<Vec<Name>
     Ok(names)
 }
 
+// The timelines, which begin to change.
+pub(crate) fn begin_changes(
+    alloc: Global,
+    mut timelines: Timelines,
+) -> Result<ChangingTimelines, AllocError>
+    ensures { IfOk result (λ changing. (s : List ℕ) → kept changing s ≡ kept timelines s) }
+{
+    let mut changing = BTreeMap::new(alloc);
+    while let Some((source, timeline)) = timelines.pop_first() {
+        changing.insert(source, ChangingTimeline::of(timeline))?;
+    }
+    Ok(changing)
+}
+
+// The timelines after their changes.
+pub(crate) fn end_changes(
+    alloc: Global,
+    mut changing: ChangingTimelines,
+) -> Result<Timelines, AllocError>
+    ensures { IfOk result (λ timelines. (s : List ℕ) → kept timelines s ≡ kept changing s) }
+{
+    let mut timelines = BTreeMap::new(alloc);
+    while let Some((source, timeline)) = changing.pop_first() {
+        timelines.insert(source, timeline.into_shared(alloc)?)?;
+    }
+    Ok(timelines)
+}
+
+// Announces one change more of the timeline of a source, if there is one.
+fn expect_change(timelines: &mut ChangingTimelines, source: &Name) -> Result<(), AllocError>
+    ensures { (s : List ℕ) → kept timelines.new s ≡ kept timelines.old s }
+{
+    match timelines.get_mut(source) {
+        Some(timeline) => timeline.expect_change(),
+        None => Ok(()),
+    }
+}
+
+// Announces a change for each segment that a set has and another has not; both are in order. How many are announced
+// decides on the way of a change alone.
+fn expect_others(
+    timelines: &mut ChangingTimelines,
+    set: &[Descriptor],
+    other: &[Descriptor],
+) -> Result<(), AllocError>
+    ensures { (s : List ℕ) → kept timelines.new s ≡ kept timelines.old s }
+{
+    let mut place = 0;
+    for descriptor in set {
+        while place < other.len() && other[place].id() < descriptor.id() {
+            place += 1;
+        }
+        if place >= other.len() || &other[place] != descriptor {
+            expect_change(timelines, descriptor.id().source())?;
+        }
+    }
+    Ok(())
+}
+
 // Adds a segment, which the node does not serve yet; the first one of a source begins its timeline.
 fn add_segment(
-    timelines: &mut Timelines,
+    timelines: &mut ChangingTimelines,
     alloc: Global,
     node: NodeNo,
     descriptor: &Descriptor,
@@ -46,8 +108,7 @@ fn add_segment(
     match timelines.get_mut(source) {
         Some(timeline) => timeline.add(node, descriptor),
         None => {
-            let timeline = Timeline::new(alloc, source.clone()?);
-            let mut timeline = SharedTimeline::new(alloc, timeline);
+            let mut timeline = ChangingTimeline::new(alloc, source.clone()?);
             timeline.add(node, descriptor)?;
             timelines.insert(source.clone()?, timeline)?;
             Ok(())
@@ -57,7 +118,7 @@ fn add_segment(
 
 // Removes a segment that the node serves from the timeline of its source; the answer is whether nothing is left of it.
 fn edit_out(
-    timelines: &mut Timelines,
+    timelines: &mut ChangingTimelines,
     node: NodeNo,
     descriptor: &Descriptor,
 ) -> Result<bool, AllocError>
@@ -68,7 +129,7 @@ fn edit_out(
     match timelines.get_mut(source) {
         Some(timeline) => {
             timeline.remove(node, descriptor.id())?;
-            Ok(timeline.as_timeline().is_empty())
+            Ok(timeline.is_empty())
         }
         None => unreachable!(),
     }
@@ -76,7 +137,7 @@ fn edit_out(
 
 // Removes a segment that the node serves; with the last one of a source goes its timeline.
 fn remove_segment(
-    timelines: &mut Timelines,
+    timelines: &mut ChangingTimelines,
     node: NodeNo,
     descriptor: &Descriptor,
 ) -> Result<(), AllocError>
@@ -104,7 +165,7 @@ fn has_segment(set: &[Descriptor], descriptor: &Descriptor) -> bool
 
 // Takes what the second set has not out of the timelines, where a node has the first.
 fn drop_others(
-    timelines: &mut Timelines,
+    timelines: &mut ChangingTimelines,
     node: NodeNo,
     old: &[Descriptor],
     new: &[Descriptor],
@@ -125,7 +186,7 @@ fn drop_others(
 
 // Puts what the first set has not into the timelines, where a node has what the sets share.
 fn load_others(
-    timelines: &mut Timelines,
+    timelines: &mut ChangingTimelines,
     alloc: Global,
     node: NodeNo,
     old: &[Descriptor],
@@ -147,9 +208,9 @@ fn load_others(
     Ok(())
 }
 
-// Edits the timelines where a node has a new set in place of an old one. Those of sources on which the sets agree stay.
+// Changes the timelines where a node has a new set in place of an old one. Those of sources on which the sets agree stay.
 pub(crate) fn change_set(
-    timelines: &mut Timelines,
+    timelines: &mut ChangingTimelines,
     alloc: Global,
     node: NodeNo,
     old: &[Descriptor],
@@ -161,6 +222,8 @@ pub(crate) fn change_set(
     ensures { OnOk result ((entries : List Entry) → AreTimelines (ServesWith entries node old.now) timelines.old
         → AreTimelines (ServesWith entries node new.now) timelines.new) }
 {
+    expect_others(timelines, old, new)?;
+    expect_others(timelines, new, old)?;
     drop_others(timelines, node, old, new)?;
     load_others(timelines, alloc, node, old, new)
 }

@@ -1,10 +1,7 @@
 //! Edits of the timelines of several sources, which are committed or rolled back together.
 ghost use Rattle.std.specs.Prelude.{IfOk, ◌≡◌, ℕ, List, [], None, Some, IsSome, OnOk, OnErr};
-ghost use Rattle.druid_segid.specs.Group.{Group};
-ghost use Rattle.druid_chunks.specs.Chunks.{members_at};
 ghost use Rattle.druid_shard.specs.Described.{Described};
 ghost use Rattle.druid_shard.specs.Replay.{IsSegmentSet, replay_from};
-ghost use Rattle.druid_timeline.specs.Holding.{held_of, IsHeld, IsServed, AddsHeld, RemovesHeld};
 ghost use Rattle.druid_inventory.specs.Entry.{Entry};
 ghost use Rattle.druid_inventory.specs.Judged.{segment_of};
 ghost use Rattle.druid_inventory.specs.Timelines.{kept, AreTimelines, ServesWith};
@@ -13,9 +10,9 @@ ghost use Rattle.druid_inventory.specs.Transactions.{edited, AreAfter, AreBefore
 use crate::shared_timeline::SharedTimeline;
 use crate::strict::segment_of;
 use crate::timelines::Timelines;
-use druid_segid::{Meter, Name, SegmentId};
-use druid_shard::{Change, Descriptor, NodeNo};
-use druid_timeline::{Timeline, TimelineFault, Transaction};
+use druid_segid::{Meter, Name};
+use druid_shard::{Change, NodeNo};
+use druid_timeline::{Timeline, Transaction};
 use std::alloc::{AllocError, Global};
 use std::collections::BTreeMap;
 
@@ -112,51 +109,6 @@ fn begin(
     }
 }
 
-// Adds a segment, which the node does not serve yet, to the timeline of its source.
-fn add_to_transaction(
-    transaction: &mut Transaction,
-    node: NodeNo,
-    descriptor: &Descriptor,
-) -> Result<(), AllocError>
-    requires source { descriptor.now.id.source ≡ transaction.old.now.source }
-    requires new { IsHeld transaction.old.now.held node descriptor.now.id → ⊥ }
-    ensures added { OnOk result
-        (AddsHeld transaction.old.now.held transaction.new.now.held (held_of node descriptor.now)) }
-    ensures source { transaction.new.now.source ≡ transaction.old.now.source }
-    ensures before { (g : Group) → members_at transaction.new.before g ≡ members_at transaction.old.before g }
-{
-    let mut meter = Meter::new();
-    match transaction.add(descriptor, node, &mut meter) {
-        Ok(()) => Ok(()),
-        Err(TimelineFault::Memory) => Err(AllocError),
-        Err(TimelineFault::OtherSource) => unreachable!(),
-        Err(TimelineFault::AlreadyThere) => unreachable!(),
-        Err(TimelineFault::NotThere) => unreachable!(),
-    }
-}
-
-// Removes a segment, which the node serves, from the timeline of its source.
-fn remove_from_transaction(
-    transaction: &mut Transaction,
-    node: NodeNo,
-    id: &SegmentId,
-) -> Result<(), AllocError>
-    requires { IsServed transaction.old.now node id.now }
-    ensures removed { OnOk result
-        (RemovesHeld transaction.old.now.held transaction.new.now.held node id.now) }
-    ensures source { transaction.new.now.source ≡ transaction.old.now.source }
-    ensures before { (g : Group) → members_at transaction.new.before g ≡ members_at transaction.old.before g }
-{
-    let mut meter = Meter::new();
-    match transaction.remove(id, node, &mut meter) {
-        Ok(()) => Ok(()),
-        Err(TimelineFault::Memory) => Err(AllocError),
-        Err(TimelineFault::NotThere) => unreachable!(),
-        Err(TimelineFault::OtherSource) => unreachable!(),
-        Err(TimelineFault::AlreadyThere) => unreachable!(),
-    }
-}
-
 // Makes a change of a timeline of its source, which takes it.
 fn change_transaction(
     transaction: &mut Transaction,
@@ -167,9 +119,10 @@ fn change_transaction(
     ensures ok { OnOk result (ChangesHeld transaction.old.now.held transaction.new.now.held node change.now) }
     ensures goes { Goes transaction.old transaction.new }
 {
+    let mut meter = Meter::new();
     match change {
-        Change::Load(descriptor) => add_to_transaction(transaction, node, descriptor),
-        Change::Drop(descriptor) => remove_from_transaction(transaction, node, descriptor.id()),
+        Change::Load(descriptor) => transaction.add_absent(descriptor, node, &mut meter),
+        Change::Drop(descriptor) => transaction.remove_present(descriptor.id(), node, &mut meter),
     }
 }
 

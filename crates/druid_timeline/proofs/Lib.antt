@@ -8,6 +8,7 @@ pub mod SpliceLemmas
 pub mod MoveLemmas
 pub mod HalvingLemmas
 pub mod TurnLemmas
+pub mod WholeLemmas
 pub mod CountLemmas
 pub mod UndoLemmas
 pub mod VisibleLemmas

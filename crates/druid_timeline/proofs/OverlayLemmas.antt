@@ -6,14 +6,14 @@ use Rattle.std.proofs.lemmas.List.{take-append-drop, take_more}
 use Rattle.std.proofs.lemmas.List.Elements.{Contains-append_cases, Contains-push_cases}
 use Rattle.std.proofs.lemmas.Option.{none-some, same_Some}
 use Rattle.druid_base.proofs.MemberLemmas.{Contains-cons}
-use Rattle.druid_time.specs.Extent.{Extent, Has, Share, common}
+use Rattle.druid_time.specs.Extent.{Extent, Has, common}
 use Rattle.druid_segid.specs.Group.{Group, Outranks}
 use Rattle.druid_timeline.specs.Edited.{IsOverlaid, IsWithin}
 use Rattle.druid_timeline.specs.Pieces.{shown_at, AreRuns, Shows}
 use Rattle.druid_timeline.proofs.LookupLemmas.{cut_runs, cut_here, later_within}
 use Rattle.druid_timeline.proofs.RunsLemmas.{Shows-beyond}
 use Rattle.druid_timeline.proofs.SpliceLemmas.{Shows-member, member-Shows, runs_drop}
-use Rattle.druid_timeline.proofs.SweepLemmas.{Run, Shows-one, SeenBetween, IsSwept, IsSwept-add, AreRuns-stretch, drop_next}
+use Rattle.druid_timeline.proofs.SweepLemmas.{Run, Shows-one, IsSwept, IsSwept-add, AreRuns-stretch, drop_next}
 
 -- ---- what a part and an interval have in common
 

@@ -1,5 +1,5 @@
 -- The skyline of the chunks that a sweep has passed.
-use Rattle.std.proofs.Common.{◌≡◌, ◌+◌, ◌-◌, ◌*◌, ◌<◌, ◌≤◌, ◌⊎◌, ◌↔◌, ◌++◌, ℕ, zero, suc, true, nat_lt, nat_cmp, List, [], ◌∷◌, length, get_or, take, drop, map, Option, Some, None, MatchOption, refl, sym, ap, ◌∙◌, subst, inl, inr, arith, Bor}
+use Rattle.std.proofs.Common.{◌≡◌, ◌+◌, ◌-◌, ◌<◌, ◌≤◌, ◌⊎◌, ◌++◌, ℕ, zero, suc, nat_lt, nat_cmp, List, [], ◌∷◌, length, get_or, take, drop, map, Option, Some, None, MatchOption, refl, sym, ap, ◌∙◌, subst, inl, inr, arith, Bor}
 use Rattle.std.specs.List.{Contains, AllWithin}
 use Rattle.std.specs.List.Sorted.{IsPermutation, IsNonDecreasingBy, IsPartitionedBy}
 use Rattle.std.specs.Ordering.{is_le}
@@ -9,12 +9,11 @@ use Rattle.std.proofs.lemmas.List.Elements.{Contains-get_or, Contains-push, Cont
 use Rattle.std.proofs.lemmas.List.Sorted.{Contains-permutation, IsNonDecreasingBy-drop}
 use Rattle.druid_base.proofs.MemberLemmas.{Contains-nil, Contains-cons, Contains-later, Contains-map, Contains-map_back}
 use Rattle.druid_base.proofs.OrderLemmas.{is_le-from}
-use Rattle.druid_time.specs.Extent.{Has}
 use Rattle.druid_time.proofs.ExtentLemmas.{at_most}
 use Rattle.druid_segid.specs.Group.{Group, Outranks}
 use Rattle.druid_segid.proofs.GroupLemmas.{Outranks-cases, Outranks-onward, Outranks-one_way}
 use Rattle.druid_timeline.specs.Candidates.{IsCandidateOf, IsBestOf}
-use Rattle.druid_timeline.specs.Skyline.{StartInOrder, StartLater, EndLater, StandsBehind, IsSkyline, IsCovered, IsTop, IsSkylineOf}
+use Rattle.druid_timeline.specs.Skyline.{StartInOrder, EndLater, StandsBehind, IsSkyline, IsCovered, IsTop, IsSkylineOf}
 use Rattle.druid_timeline.proofs.SweepLemmas.{SeenBetween, drop_next}
 
 -- ---- borrowed items
@@ -22,7 +21,7 @@ use Rattle.druid_timeline.proofs.SweepLemmas.{SeenBetween, drop_next}
 abbrev pub borrowed : List (Bor Group) → List Group
 borrowed items = map (λ (c : Bor Group). c.now) items
 
-borrowed_push : (items : List (Bor Group)) (item : Bor Group) → borrowed (items ++ item ∷ []) ≡ borrowed items ++ item.now ∷ []
+pub borrowed_push : (items : List (Bor Group)) (item : Bor Group) → borrowed (items ++ item ∷ []) ≡ borrowed items ++ item.now ∷ []
 borrowed_push items item = map-append (λ (c : Bor Group). c.now) items (item ∷ [])
 
 pub borrowed_within : (items : List (Bor Group)) (place : ℕ) → place < length items → place < length (borrowed items)
@@ -241,6 +240,14 @@ taken_in sky one two three place to end key e f h is order within longer shorter
   beaten = subst (λ (xs : List (Bor Group)). AllWithin (Outranks key) (borrowed xs) place to) h beaten;
   rest = λ g there. rest g (subst (λ (xs : List (Bor Group)). Contains (drop to (borrowed xs)) g) (sym h) there);
 }
+
+-- how many there are then
+pub length-replaced : (sky : List Group) (place to : ℕ) (key : Group) → place ≤ to → to ≤ length sky → length (replaced sky place to key) ≡ place + suc (length sky - to)
+length-replaced sky place to key order le =
+    let both = length-append (take place sky) (key ∷ drop to sky) in
+    let front = length-take-le place sky (omega (arith, order, le)) in
+    let back = length-drop to sky in
+    omega (arith, both, front, back)
 
 pub replaced_order : (sky : List Group) (place to : ℕ) (key : Group) → IsTakenIn sky place to key → IsSkyline (replaced sky place to key)
 replaced_order sky place to key h =

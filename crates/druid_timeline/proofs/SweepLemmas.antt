@@ -1,12 +1,11 @@
 -- Runs that grow at their end, and a part that is swept from its start on.
-use Rattle.std.proofs.Common.{◌≡◌, ◌≢◌, ◌+◌, ◌*◌, ◌-◌, ◌<◌, ◌≤◌, ◌⊎◌, ◌↔◌, ◌++◌, ℕ, suc, List, [], ◌∷◌, length, get_or, map, refl, sym, ap, ◌∙◌, subst, inl, inr, arith}
+use Rattle.std.proofs.Common.{◌≡◌, ◌≢◌, ◌+◌, ◌-◌, ◌<◌, ◌≤◌, ◌⊎◌, ◌↔◌, ◌++◌, ℕ, suc, List, [], ◌∷◌, length, get_or, map, refl, sym, ap, ◌∙◌, subst, inl, inr, arith}
 use Rattle.std.specs.List.{Contains}
 use Rattle.std.proofs.Common.{drop, add-one}
 use Rattle.std.proofs.Math.Seq.{drop-cons}
 use Rattle.druid_timeline.proofs.RunsLemmas.{AreRuns-first, AreRuns-rest, Shows-beyond}
 use Rattle.std.proofs.lemmas.Bool.{cases_lt, cases_order}
 use Rattle.std.proofs.lemmas.List.{map-append}
-use Rattle.std.proofs.lemmas.Nat.{row_fits}
 use Rattle.druid_time.specs.Extent.{Extent, Has}
 use Rattle.druid_segid.specs.Group.{Group}
 use Rattle.druid_base.proofs.MemberLemmas.{Contains-nil, Contains-cons}
@@ -262,19 +261,3 @@ AreRuns-stretch (x ∷ rs) runs r there = elim (Contains-cons x rs r there) [
   | inl same ↦ subst (λ (q : Run). IsStretch (shown_at q)) same (AreRuns-first (shown_at x) (map shown_at rs) runs)
   | inr later ↦ AreRuns-stretch rs (AreRuns-rest (shown_at x) (map shown_at rs) runs) r later
 ]
-
--- ---- what the sweep has counted
-
--- one candidate more, at no more than n comparisons
-pub counted_next : (old new len i n whole : ℕ) → i < len → new ≤ old + n → old + (len - i) * n ≤ whole → new + (len - (i + 1)) * n ≤ whole
-counted_next old new len i n whole l le high =
-    let row = row_fits (len - (i + 1)) n (len - i) n (omega (arith, l)) (omega arith) in
-    omega (arith, le, high, row)
-
-pub counted_within : (old new len i n whole : ℕ) → i < len → new ≤ old + n → old + (len - i) * n ≤ whole → new ≤ whole
-counted_within old new len i n whole l le high =
-    let row = row_fits (len - (i + 1)) n (len - i) n (omega (arith, l)) (omega arith) in
-    omega (arith, le, high, row)
-
-pub counted_start : (m len n : ℕ) → m + (len - 0) * n ≤ m + len * n
-counted_start m len n = let e : len ≡ len - 0 = omega arith in subst (λ (k : ℕ). m + k * n ≤ m + len * n) e (omega arith)

@@ -1,11 +1,10 @@
 -- What is visible where the completeness of one chunk turns.
-use Rattle.std.proofs.Common.{◌≡◌, ◌+◌, ◌*◌, ◌<◌, ◌≤◌, ◌⊎◌, ◌↔◌, ℕ, Bool, true, false, List, length, refl, sym, ◌∙◌, subst, inl, inr, arith}
+use Rattle.std.proofs.Common.{◌≡◌, ◌<◌, ◌≤◌, ◌⊎◌, ◌↔◌, ℕ, Bool, true, false, List, length, refl, sym, ◌∙◌, subst, inl, inr, arith}
 use mathlib.Core.Bool.{beq, not}
 use Rattle.std.specs.Bool.{IsTrue}
 use Rattle.std.specs.List.{Contains, IsDistinct}
 use Rattle.std.proofs.lemmas.Bool.{cases_lt, false≢true}
 use Rattle.std.proofs.lemmas.Map.Made.{length-le_from_is_member, is_member-Decides}
-use Rattle.std.proofs.lemmas.Nat.{mul-le}
 use Rattle.druid_time.specs.Extent.{Extent, Has}
 use Rattle.druid_segid.specs.Group.{Group, Outranks, same_group}
 use Rattle.druid_segid.proofs.GroupLemmas.{Outranks-cases, Outranks-onward, Outranks-one_way}
@@ -306,17 +305,6 @@ few_others cs g part found others are inside once overlap all =
     let high : at.share.0 < part.end = at.share.1.1 in
     let in_own : Has g.interval at.share.0 = (omega (arith, low, inside.0), omega (arith, high, inside.1)) in
     (decides others h).1 (all h ((IsCompleteIn-chunk cs are h).1 at.complete) at.different (at.share.0, at.share.2, in_own)))
-
--- at most so many comparisons, where n of the others are compared with each other
-pub bound_swept : (old new n others : ℕ) → new ≤ old + n * n → n ≤ others → new ≤ old + (2 * others + 1) * (others + 1)
-bound_swept old new n others le few =
-    let product = mul-le n n (2 * others + 1) (others + 1) (omega (arith, few)) (omega (arith, few)) in
-    omega (arith, le, product)
-
-pub bound_overlaid : (old new n others : ℕ) → new ≤ old + n → n ≤ 2 * others + 1 → new ≤ old + (2 * others + 1) * (others + 1)
-bound_overlaid old new n others le few =
-    let product = mul-le (2 * others + 1) 1 (2 * others + 1) (others + 1) (omega arith) (omega arith) in
-    omega (arith, le, few, product)
 
 -- ---- the same holding
 

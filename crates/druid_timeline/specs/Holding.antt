@@ -1,5 +1,6 @@
 -- What nodes hold of one data source.
 use Rattle.std.specs.Prelude.{◌≡◌, ℕ, true, List, map, filter, ◌⊎◌, ◌↔◌, Contains}
+use Rattle.std.specs.List.{IsDistinct}
 use Rattle.druid_segid.specs.Identifier.{Identifier}
 use Rattle.druid_segid.specs.Group.{Group, group_of, same_group}
 use Rattle.druid_shard.specs.Described.{Described}
@@ -24,6 +25,15 @@ members_of held g = map (λ h. h.member) (filter (λ h. same_group h.group g) he
 -- the chunk has a member, and each of its core partitions
 abbrev pub IsCompleteIn : List Held → Group → Type 0
 IsCompleteIn held g = IsComplete (members_of held g)
+
+-- the list has each complete chunk
+abbrev pub HasComplete : List Held → List Group → Type 0
+HasComplete held complete = (g : Group) → IsCompleteIn held g → Contains complete g
+
+-- each chunk of which something is held, once
+pub record AreGroupsOf (held : List Held) (groups : List Group) : Type 0 where
+  pub once : IsDistinct same_group groups
+  pub all : (g : Group) → Contains groups g ↔ ((h : Held) × Contains held h × (h.group ≡ g))
 
 -- what a timeline stands for: a data source, and what is held of it
 pub record Serving : Type 0 where

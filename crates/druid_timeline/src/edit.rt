@@ -107,8 +107,7 @@ pub(crate) fn edit_swept(
     ensures inside { IfOk result (λ edit. (edit.from ≤ edit.to) × (edit.to ≤ length runs.now)) }
     ensures edited { IfOk result (λ edit. AreRunsEdited part (IsBestOf (map (λ c. c.now) sorted.now)) (map shown_at runs.now)
         (map shown_at (spliced runs.now edit.from edit.to edit.runs.items))) }
-    ensures counted { (meter.old ≤ meter.new)
-        × (meter.new ≤ meter.old + length sorted.now * length sorted.now) }
+    ensures counted { (meter.old ≤ meter.new) × (meter.new ≤ meter.old + 3 * length sorted.now) }
 {
     let from = first_to(runs, part.start());
     let to = first_after(runs, part.end());

@@ -3,6 +3,7 @@
 
 mod edit;
 mod fault;
+mod holding;
 mod laws;
 mod lookup;
 mod overlay;
@@ -14,8 +15,10 @@ mod timeline;
 mod transaction;
 mod turn;
 mod undo;
+mod whole;
 
 pub use fault::TimelineFault;
+pub use holding::Holding;
 pub use laws::{
     cut_is_the_pieces_within, edits_are_undone, one_holding_shows_one, one_is_visible,
     one_list_of_pieces,

@@ -44,7 +44,7 @@ fn beats_before(sky: &[&GroupKey], place: usize, key: &GroupKey, meter: &mut Met
     ensures best { IsTrue result → (g : Group) → Contains (take place (map (λ c. c.now) sky.now)) g → Outranks key.now g }
     ensures beaten { (IsTrue result → ⊥) → (g : Group) × Contains (take place (map (λ c. c.now) sky.now)) g
         × ((key.now ≡ g) ⊎ Outranks g key.now) }
-    ensures counted { (meter.old ≤ meter.new) × (meter.new ≤ meter.old + place) }
+    ensures counted { (meter.old ≤ meter.new) × (meter.new ≤ meter.old + 1) }
 {
     if place == 0 {
         return true;
@@ -60,7 +60,7 @@ fn first_better(sky: &[&GroupKey], place: usize, key: &GroupKey, meter: &mut Met
     ensures high { result ≤ length sky.now }
     ensures beaten { AllWithin (λ g. Outranks key.now g) (map (λ c. c.now) sky.now) place result }
     ensures rest { (g : Group) → Contains (drop result (map (λ c. c.now) sky.now)) g → Outranks key.now g → ⊥ }
-    ensures counted { (meter.old ≤ meter.new) × (meter.new ≤ meter.old + (length sky.now - place)) }
+    ensures counted { (meter.old ≤ meter.new) × (meter.new ≤ meter.old + (result - place) + 1) }
 {
     let mut to = place;
     while to < sky.len() {
@@ -113,8 +113,8 @@ fn take_in<'a>(
     ensures covered { OnOk result (IsCovered (map (λ c. c.now) sky.new.items) key.now) }
     ensures kept { OnOk result ((g : Group) → IsCovered (map (λ c. c.now) sky.old.items) g
         → IsCovered (map (λ c. c.now) sky.new.items) g) }
-    ensures few { OnOk result (length sky.new.items ≤ length sky.old.items + 1) }
-    ensures counted { (meter.old ≤ meter.new) × (meter.new ≤ meter.old + length sky.old.items) }
+    ensures counted { (meter.old ≤ meter.new) × (meter.new ≤ meter.old + length sky.old.items + 2) }
+    ensures paid { OnOk result (meter.new + length sky.new.items ≤ meter.old + length sky.old.items + 3) }
 {
     let place = first_ending_before(sky, key.interval().end());
     if !beats_before(sky, place, key, meter) {
@@ -135,15 +135,15 @@ fn take_started<'a>(
     requires order { StartInOrder (map (λ c. c.now) sorted.now) }
     requires split { IsSkylineOf (map (λ c. c.now) sorted.now) (drop start (map (λ c. c.now) sorted.now))
         (map (λ c. c.now) sky.old.items) to }
-    requires few { (length sky.old.items ≤ start) × (start ≤ length sorted.now) }
+    requires within { start ≤ length sorted.now }
     ensures split { IfOk result (λ place. IsSkylineOf (map (λ c. c.now) sorted.now)
         (drop place (map (λ c. c.now) sorted.now)) (map (λ c. c.now) sky.new.items) to) }
     ensures later { IfOk result (λ place. StartLater (drop place (map (λ c. c.now) sorted.now)) to) }
-    ensures few { IfOk result (λ place. (length sky.new.items ≤ place) × (place ≤ length sorted.now)) }
+    ensures within { IfOk result (λ place. place ≤ length sorted.now) }
     ensures counted { (meter.old ≤ meter.new)
-        × (meter.new ≤ meter.old + (length sorted.now - start) * length sorted.now) }
-    ensures left { IfOk result (λ place. meter.new + (length sorted.now - place) * length sorted.now
-        ≤ meter.old + (length sorted.now - start) * length sorted.now) }
+        × (meter.new ≤ meter.old + length sky.old.items + 3 * (length sorted.now - start)) }
+    ensures paid { IfOk result (λ place. meter.new + length sky.new.items + 3 * (length sorted.now - place)
+        ≤ meter.old + length sky.old.items + 3 * (length sorted.now - start)) }
 {
     let mut place = start;
     while place < sorted.len() {
@@ -182,16 +182,16 @@ pub(crate) fn advance<'a>(
     requires order { StartInOrder (map (λ c. c.now) sorted.now) }
     requires split { IsSkylineOf (map (λ c. c.now) sorted.now) (drop start (map (λ c. c.now) sorted.now))
         (map (λ c. c.now) sky.old.items) to }
-    requires few { (length sky.old.items ≤ start) × (start ≤ length sorted.now) }
+    requires within { start ≤ length sorted.now }
     ensures split { IfOk result (λ place. IsSkylineOf (map (λ c. c.now) sorted.now)
         (drop place (map (λ c. c.now) sorted.now)) (map (λ c. c.now) sky.new.items) to) }
     ensures later { IfOk result (λ place. StartLater (drop place (map (λ c. c.now) sorted.now)) to) }
     ensures onward { OnOk result (EndLater (map (λ c. c.now) sky.new.items) to) }
-    ensures few { IfOk result (λ place. (length sky.new.items ≤ place) × (place ≤ length sorted.now)) }
+    ensures within { IfOk result (λ place. place ≤ length sorted.now) }
     ensures counted { (meter.old ≤ meter.new)
-        × (meter.new ≤ meter.old + (length sorted.now - start) * length sorted.now) }
-    ensures left { IfOk result (λ place. meter.new + (length sorted.now - place) * length sorted.now
-        ≤ meter.old + (length sorted.now - start) * length sorted.now) }
+        × (meter.new ≤ meter.old + length sky.old.items + 3 * (length sorted.now - start)) }
+    ensures paid { IfOk result (λ place. meter.new + length sky.new.items + 3 * (length sorted.now - place)
+        ≤ meter.old + length sky.old.items + 3 * (length sorted.now - start)) }
 {
     let place = take_started(sky, sorted, start, to, meter)?;
     let_go(sky, to);

@@ -123,7 +123,8 @@ fn next_bound(best: Option<&GroupKey>, sorted: &[&GroupKey], place: usize, end: 
 }
 
 // Adds what is visible in a part, which lies after the runs, of candidates in the order of their starts. Each of them is
-// compared with few others: with the best of those that end no sooner, and with those that it covers.
+// compared with the best of those that end no sooner, with those that it covers, which then are gone, and with one more:
+// with three on the average.
 pub(crate) fn add_best(
     alloc: Global,
     runs: &mut Vec<(Interval, GroupKey)>,
@@ -137,8 +138,7 @@ pub(crate) fn add_best(
     ensures runs { OnOk result (AreRuns (map shown_at runs.new.items)) }
     ensures shows { OnOk result ((t : ℕ) (g : Group) → Shows (map shown_at runs.new.items) t g
         ↔ (Shows (map shown_at runs.old.items) t g ⊎ (Has part t × IsBestOf (map (λ c. c.now) sorted.now) t g))) }
-    ensures counted { (meter.old ≤ meter.new)
-        × (meter.new ≤ meter.old + length sorted.now * length sorted.now) }
+    ensures counted { (meter.old ≤ meter.new) × (meter.new ≤ meter.old + 3 * length sorted.now) }
 {
     let mut sky = Vec::new(alloc);
     let mut place = 0;

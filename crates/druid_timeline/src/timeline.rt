@@ -3,7 +3,7 @@ ghost use Rattle.std.specs.List.Sorted.{IsStrictlyIncreasing, IsStrictlySortedBy
 ghost use Rattle.druid_time.specs.Extent.{AnyHas};
 ghost use Rattle.druid_segid.specs.Group.{Group, group_of};
 ghost use Rattle.druid_timeline.specs.Edited.{HasOthers};
-ghost use Rattle.druid_timeline.specs.Holding.{held_of, members_of, HoldsNothing, IsCompleteIn, IsHeld, IsServed, ServesRows, AddsHeld, RemovesHeld, RemovesOneHeld, SameHeld};
+ghost use Rattle.druid_timeline.specs.Holding.{held_of, members_of, AreGroupsOf, HoldsNothing, IsCompleteIn, IsHeld, IsServed, ServesRows, AddsHeld, RemovesHeld, RemovesOneHeld, SameHeld};
 ghost use Rattle.druid_timeline.specs.Overshadowed.{IsOvershadowed, place_cmp};
 ghost use Rattle.druid_timeline.specs.Pieces.{Shown, ArePieces, ArePiecesIn, ArePartitions, cut, shown_at, shown_of};
 ghost use Rattle.druid_timeline.specs.Visible.{IsVisible, NothingVisible};
@@ -86,11 +86,18 @@ impl Timeline {
         self.chunks.is_empty()
     }
 
+    /// How many chunks there are of which something is held. Does not allocate.
+    pub fn chunk_count(&self) -> usize
+        ensures { (groups : List Group) × AreGroupsOf self.now.held groups × (result ≡ length groups) }
+    {
+        self.chunks.as_slice().len()
+    }
+
     /// Adds a segment of this source that the node does not serve yet. A refusal changes nothing of what is held.
     ///
     /// It counts no comparison where the completeness of the segment's chunk does not turn. Where the chunk was not
     /// complete, it counts at most one for each visible piece inside its interval, and where k other complete chunks
-    /// overlap it, at most (2 * k + 1) * (k + 1), whatever the answer.
+    /// overlap it, at most 3 * k + 1, whatever the answer.
     pub fn add_absent(
         &mut self,
         descriptor: &Descriptor,
@@ -104,7 +111,7 @@ impl Timeline {
         ensures source { self.new.source ≡ self.old.source }
         ensures counted { meter.old ≤ meter.new }
         ensures bound { (others : List Group) → HasOthers self.old.held (group_of descriptor.now.id) others
-            → meter.new ≤ meter.old + (2 * length others + 1) * (length others + 1) }
+            → meter.new ≤ meter.old + 3 * length others + 1 }
         ensures level { OnOk result ((IsCompleteIn self.old.held (group_of descriptor.now.id)
             ↔ IsCompleteIn self.new.held (group_of descriptor.now.id)) → meter.new ≡ meter.old) }
         ensures met { (IsCompleteIn self.old.held (group_of descriptor.now.id) → ⊥)
@@ -141,7 +148,7 @@ impl Timeline {
         ensures counted { meter.old ≤ meter.new }
         ensures uncounted { IfErr result (λ fault. (fault ≡ TimelineFault.Memory) ⊎ (meter.new ≡ meter.old)) }
         ensures bound { (others : List Group) → HasOthers self.old.held (group_of descriptor.now.id) others
-            → meter.new ≤ meter.old + (2 * length others + 1) * (length others + 1) }
+            → meter.new ≤ meter.old + 3 * length others + 1 }
         ensures level { OnOk result ((IsCompleteIn self.old.held (group_of descriptor.now.id)
             ↔ IsCompleteIn self.new.held (group_of descriptor.now.id)) → meter.new ≡ meter.old) }
         ensures met { (IsCompleteIn self.old.held (group_of descriptor.now.id) → ⊥)
@@ -175,7 +182,7 @@ impl Timeline {
         ensures source { self.new.source ≡ self.old.source }
         ensures counted { meter.old ≤ meter.new }
         ensures bound { (others : List Group) → HasOthers self.old.held (group_of id.now) others
-            → meter.new ≤ meter.old + (2 * length others + 1) * (length others + 1) }
+            → meter.new ≤ meter.old + 3 * length others + 1 }
         ensures level { OnOk result ((IsCompleteIn self.old.held (group_of id.now)
             ↔ IsCompleteIn self.new.held (group_of id.now)) → meter.new ≡ meter.old) }
         ensures met { (IsCompleteIn self.old.held (group_of id.now) → ⊥)
@@ -209,7 +216,7 @@ impl Timeline {
         ensures counted { meter.old ≤ meter.new }
         ensures uncounted { IfErr result (λ fault. (fault ≡ TimelineFault.Memory) ⊎ (meter.new ≡ meter.old)) }
         ensures bound { (others : List Group) → HasOthers self.old.held (group_of id.now) others
-            → meter.new ≤ meter.old + (2 * length others + 1) * (length others + 1) }
+            → meter.new ≤ meter.old + 3 * length others + 1 }
         ensures level { OnOk result ((IsCompleteIn self.old.held (group_of id.now)
             ↔ IsCompleteIn self.new.held (group_of id.now)) → meter.new ≡ meter.old) }
         ensures met { (IsCompleteIn self.old.held (group_of id.now) → ⊥)

@@ -84,7 +84,7 @@ impl Transaction {
     ///
     /// It counts no comparison where the completeness of the segment's chunk does not turn. Where the chunk was not
     /// complete, it counts at most one for each visible piece inside its interval, and where k other complete chunks
-    /// overlap it, at most (2 * k + 1) * (k + 1), whatever the answer.
+    /// overlap it, at most 3 * k + 1, whatever the answer.
     pub fn add_absent(
         &mut self,
         descriptor: &Descriptor,
@@ -99,7 +99,7 @@ impl Transaction {
         ensures before { (g : Group) → members_at self.new.before g ≡ members_at self.old.before g }
         ensures counted { meter.old ≤ meter.new }
         ensures bound { (others : List Group) → HasOthers self.old.now.held (group_of descriptor.now.id) others
-            → meter.new ≤ meter.old + (2 * length others + 1) * (length others + 1) }
+            → meter.new ≤ meter.old + 3 * length others + 1 }
         ensures level { OnOk result ((IsCompleteIn self.old.now.held (group_of descriptor.now.id)
             ↔ IsCompleteIn self.new.now.held (group_of descriptor.now.id)) → meter.new ≡ meter.old) }
         ensures met { (IsCompleteIn self.old.now.held (group_of descriptor.now.id) → ⊥)
@@ -138,7 +138,7 @@ impl Transaction {
         ensures counted { meter.old ≤ meter.new }
         ensures uncounted { IfErr result (λ fault. (fault ≡ TimelineFault.Memory) ⊎ (meter.new ≡ meter.old)) }
         ensures bound { (others : List Group) → HasOthers self.old.now.held (group_of descriptor.now.id) others
-            → meter.new ≤ meter.old + (2 * length others + 1) * (length others + 1) }
+            → meter.new ≤ meter.old + 3 * length others + 1 }
         ensures level { OnOk result ((IsCompleteIn self.old.now.held (group_of descriptor.now.id)
             ↔ IsCompleteIn self.new.now.held (group_of descriptor.now.id)) → meter.new ≡ meter.old) }
         ensures met { (IsCompleteIn self.old.now.held (group_of descriptor.now.id) → ⊥)
@@ -172,7 +172,7 @@ impl Transaction {
         ensures before { (g : Group) → members_at self.new.before g ≡ members_at self.old.before g }
         ensures counted { meter.old ≤ meter.new }
         ensures bound { (others : List Group) → HasOthers self.old.now.held (group_of id.now) others
-            → meter.new ≤ meter.old + (2 * length others + 1) * (length others + 1) }
+            → meter.new ≤ meter.old + 3 * length others + 1 }
         ensures level { OnOk result ((IsCompleteIn self.old.now.held (group_of id.now)
             ↔ IsCompleteIn self.new.now.held (group_of id.now)) → meter.new ≡ meter.old) }
         ensures met { (IsCompleteIn self.old.now.held (group_of id.now) → ⊥)
@@ -208,7 +208,7 @@ impl Transaction {
         ensures counted { meter.old ≤ meter.new }
         ensures uncounted { IfErr result (λ fault. (fault ≡ TimelineFault.Memory) ⊎ (meter.new ≡ meter.old)) }
         ensures bound { (others : List Group) → HasOthers self.old.now.held (group_of id.now) others
-            → meter.new ≤ meter.old + (2 * length others + 1) * (length others + 1) }
+            → meter.new ≤ meter.old + 3 * length others + 1 }
         ensures level { OnOk result ((IsCompleteIn self.old.now.held (group_of id.now)
             ↔ IsCompleteIn self.new.now.held (group_of id.now)) → meter.new ≡ meter.old) }
         ensures met { (IsCompleteIn self.old.now.held (group_of id.now) → ⊥)

@@ -51,7 +51,7 @@ fn edit_without(
         (map shown_at (settled runs.now edit))) }
     ensures counted { meter.old ≤ meter.new }
     ensures bound { (others : List Group) → HasOthers (held_in chunks.now) (group_of id.now) others
-        → meter.new ≤ meter.old + (2 * length others + 1) * (length others + 1) }
+        → meter.new ≤ meter.old + 3 * length others + 1 }
 {
     let own = id.group()?;
     let Some(hull) = hull_of(runs, &own) else {
@@ -78,7 +78,7 @@ fn turn_of(
         (map shown_at (settled runs.now edit))) }
     ensures counted { meter.old ≤ meter.new }
     ensures bound { (others : List Group) → HasOthers (held_in chunks.now) (group_of id.now) others
-        → meter.new ≤ meter.old + (2 * length others + 1) * (length others + 1) }
+        → meter.new ≤ meter.old + 3 * length others + 1 }
     ensures met { IsTrue is_complete
         → meter.new ≤ meter.old + length (cut ((group_of id.now).interval ∷ []) (map shown_at runs.now)) }
 {
@@ -143,7 +143,7 @@ pub(crate) fn prepare_edit(
         (map shown_at (settled runs.old.items edit))) }
     ensures counted { meter.old ≤ meter.new }
     ensures bound { (others : List Group) → HasOthers (held_in chunks.now) (group_of id.now) others
-        → meter.new ≤ meter.old + (2 * length others + 1) * (length others + 1) }
+        → meter.new ≤ meter.old + 3 * length others + 1 }
     ensures level { (IsTrue is_complete ↔ IsCompleteIn (held_in chunks.now) (group_of id.now)) → meter.new ≡ meter.old }
     ensures met { (IsCompleteIn (held_in chunks.now) (group_of id.now) → ⊥)
         → meter.new ≤ meter.old + length (cut ((group_of id.now).interval ∷ []) (map shown_at runs.old.items)) }
@@ -182,7 +182,7 @@ pub(crate) fn add_segment(
     ensures err { OnErr result (SameHeld (held_in chunks.old) (held_in chunks.new)) }
     ensures counted { meter.old ≤ meter.new }
     ensures bound { (others : List Group) → HasOthers (held_in chunks.old) (group_of descriptor.now.id) others
-        → meter.new ≤ meter.old + (2 * length others + 1) * (length others + 1) }
+        → meter.new ≤ meter.old + 3 * length others + 1 }
     ensures level { OnOk result ((IsCompleteIn (held_in chunks.old) (group_of descriptor.now.id)
         ↔ IsCompleteIn (held_in chunks.new) (group_of descriptor.now.id)) → meter.new ≡ meter.old) }
     ensures met { (IsCompleteIn (held_in chunks.old) (group_of descriptor.now.id) → ⊥)
@@ -213,7 +213,7 @@ pub(crate) fn remove_segment(
     ensures err { OnErr result (SameHeld (held_in chunks.old) (held_in chunks.new)) }
     ensures counted { meter.old ≤ meter.new }
     ensures bound { (others : List Group) → HasOthers (held_in chunks.old) (group_of id.now) others
-        → meter.new ≤ meter.old + (2 * length others + 1) * (length others + 1) }
+        → meter.new ≤ meter.old + 3 * length others + 1 }
     ensures level { OnOk result ((IsCompleteIn (held_in chunks.old) (group_of id.now)
         ↔ IsCompleteIn (held_in chunks.new) (group_of id.now)) → meter.new ≡ meter.old) }
     ensures met { (IsCompleteIn (held_in chunks.old) (group_of id.now) → ⊥)

@@ -60,7 +60,7 @@ pub(crate) fn add_logged(
     ensures err { OnErr result (SameHeld (held_in chunks.old.now) (held_in chunks.new.now)) }
     ensures counted { meter.old ≤ meter.new }
     ensures bound { (others : List Group) → HasOthers (held_in chunks.old.now) (group_of descriptor.now.id) others
-        → meter.new ≤ meter.old + (2 * length others + 1) * (length others + 1) }
+        → meter.new ≤ meter.old + 3 * length others + 1 }
     ensures level { OnOk result ((IsCompleteIn (held_in chunks.old.now) (group_of descriptor.now.id)
         ↔ IsCompleteIn (held_in chunks.new.now) (group_of descriptor.now.id)) → meter.new ≡ meter.old) }
     ensures met { (IsCompleteIn (held_in chunks.old.now) (group_of descriptor.now.id) → ⊥)
@@ -103,7 +103,7 @@ pub(crate) fn remove_logged(
     ensures err { OnErr result (SameHeld (held_in chunks.old.now) (held_in chunks.new.now)) }
     ensures counted { meter.old ≤ meter.new }
     ensures bound { (others : List Group) → HasOthers (held_in chunks.old.now) (group_of id.now) others
-        → meter.new ≤ meter.old + (2 * length others + 1) * (length others + 1) }
+        → meter.new ≤ meter.old + 3 * length others + 1 }
     ensures level { OnOk result ((IsCompleteIn (held_in chunks.old.now) (group_of id.now)
         ↔ IsCompleteIn (held_in chunks.new.now) (group_of id.now)) → meter.new ≡ meter.old) }
     ensures met { (IsCompleteIn (held_in chunks.old.now) (group_of id.now) → ⊥)

@@ -29,7 +29,7 @@ returns-in_ok-insert-in-None c =
     let writes = subst (λ (m : BTreeMap (List ℕ) Serving). UpdatesBy (slice_cmp nat_cmp) (slice_cmp nat_cmp c.in_ok-clone-in-None-2.field-0) m c.insert.new.self (Some c.add-in-None.new.self))
     c.get_mut.follows.holds-at-none c.in_ok-insert-in-None.ensures.updates in
     AddsSegment-begun c.args.timelines.now c.insert.new.self c.source-source.result.now
-    c.in_ok-clone-in-None-2.field-0 c.in_ok-clone-in-None.field-0 c.new-timeline-in-None.result c.add-in-None.new.self
+    c.in_ok-clone-in-None-2.field-0 c.in_ok-clone-in-None.field-0 c.new-timeline.result c.add-in-None.new.self
     c.args.node c.args.descriptor.now
-    same c.in-None.ensures.value c.in_ok-clone-in-None-2.ensures.cases c.in_ok-clone-in-None.ensures.cases (c.new-timeline-in-None.ensures ∙ c.new-timeline.ensures)
+    same c.in-None.ensures.value c.in_ok-clone-in-None-2.ensures.cases c.in_ok-clone-in-None.ensures.cases c.new-timeline.ensures
     writes c.in_ok-add-in-None.ensures.source c.in_ok-add-in-None.ensures.added

@@ -1,4 +1,4 @@
-use Rattle.std.proofs.Common.{◌≡◌, ◌-◌, ◌<◌, length, get_or, sym, ap, ◌∙◌, subst, rules, arith}
+use Rattle.std.proofs.Common.{◌-◌, ◌<◌, length, get_or, sym, ap, ◌∙◌, rules, arith}
 use Rattle.druid_timeline.proofs.SkylineLemmas.{borrowed, borrowed_at, IsTop-last, length-borrowed}
 use Rattle.druid_timeline.proofs.skyline.best_of.Goals as goal
 

@@ -1,6 +1,5 @@
-use Rattle.std.proofs.Common.{◌≡◌, ◌+◌, ◌-◌, ◌≤◌, ◌++◌, ℕ, List, [], ◌∷◌, length, take, drop, map, sym, ap, ◌∙◌, subst, arith, Bor}
-use Rattle.druid_segid.specs.Group.{Group}
-use Rattle.druid_timeline.proofs.SkylineLemmas.{borrowed, borrowed_replaced, length-taken_out}
+use Rattle.std.proofs.Common.{length, ap, ◌∙◌, arith}
+use Rattle.druid_timeline.proofs.SkylineLemmas.{borrowed_replaced, length-taken_out}
 use Rattle.druid_timeline.proofs.skyline.replace.Goals as goal
 
 pub insert-requires : goal.insert-requires

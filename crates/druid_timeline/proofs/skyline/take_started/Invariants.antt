@@ -6,10 +6,9 @@ use Rattle.druid_timeline.proofs.skyline.take_started.Given as goal
 abbrev pub invariant-loop-place : goal.invariant-loop-place
 invariant-loop-place l = record {
   split : IsSkylineOf (borrowed l.sorted) (drop l.place (borrowed l.sorted)) (borrowed l.sky.items) l.to;
-  few : length l.sky.items ≤ l.place;
   inside : l.place ≤ length l.sorted;
   low : l.fn.meter ≤ l.meter;
-  high : l.meter + (length l.sorted - l.place) * length l.sorted ≤ l.fn.meter + (length l.sorted - l.start) * length l.sorted;
+  high : l.meter + length l.sky.items + 3 * (length l.sorted - l.place) ≤ l.fn.meter + length l.fn.sky.items + 3 * (length l.sorted - l.start);
 }
 
 abbrev pub decreases-loop-place : goal.decreases-loop-place

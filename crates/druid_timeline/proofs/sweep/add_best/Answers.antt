@@ -1,10 +1,9 @@
-use Rattle.std.proofs.Common.{◌≡◌, ◌<◌, ◌≤◌, ◌+◌, ◌-◌, ℕ, List, Option, [], length, drop, map, MatchOption, refl, sym, ap, ◌∙◌, subst, arith, rules, Bor}
+use Rattle.std.proofs.Common.{◌≡◌, ◌<◌, ◌≤◌, List, length, drop, MatchOption, ap, subst, arith, rules, Bor}
 use Rattle.std.specs.Option.{option_copied}
 use Rattle.druid_segid.specs.Group.{Group}
 use Rattle.druid_timeline.specs.Candidates.{IsBestOf}
-use Rattle.druid_timeline.specs.Skyline.{EndLater, IsSkylineOf}
 use Rattle.druid_timeline.proofs.SkylineLemmas.{borrowed, IsBestIn, IsSkylineOf-start, IsSkylineOf-later, best_onward, seen_between}
-use Rattle.druid_timeline.proofs.SweepLemmas.{IsSwept-start, IsSwept-add, IsSwept-beyond, IsSwept-end, counted_start}
+use Rattle.druid_timeline.proofs.SweepLemmas.{IsSwept-start, IsSwept-add, IsSwept-beyond, IsSwept-end}
 use Rattle.druid_timeline.proofs.sweep.add_best.Goals as goal
 
 pub loop-from-init : goal.loop-from-init
@@ -12,17 +11,13 @@ loop-from-init c =
     rw c.start-from.ensures.value (record {
       swept = IsSwept-start c.args.part (IsBestOf (borrowed c.args.sorted.now)) c.args.runs.now.items c.start-from.ensures.valid.0 c.requires.runs;
       split = IsSkylineOf-start (borrowed c.args.sorted.now) (borrowed c.new-sky.result.items) c.args.part.start (ap borrowed c.new-sky.ensures.items);
-      few = let none = ap length c.new-sky.ensures.items in omega (arith, none);
       inside = omega arith;
       low = omega arith;
-      high = counted_start c.args.meter.now (length c.args.sorted.now) (length c.args.sorted.now);
+      high = let none = ap length c.new-sky.ensures.items in omega (arith, none);
     })
 
 pub advance-requires-clause-split : goal.advance-requires-clause-split
 advance-requires-clause-split c = c.loop-from.invariant.split
-
-pub advance-requires-clause-few : goal.advance-requires-clause-few
-advance-requires-clause-few c = (c.loop-from.invariant.few, c.loop-from.invariant.inside)
 
 pub returns-in_err-place-clause-counted : goal.returns-in_err-place-clause-counted
 returns-in_err-place-clause-counted c =
@@ -62,8 +57,7 @@ loop-from-preserved c =
     let stop = c.end-stop.ensures.value in
     let low = c.loop-from.invariant.low in
     let bound = c.loop-from.invariant.high in
-    let left = c.in_ok-place.ensures.left in
-    let few = c.in_ok-place.ensures.few in
+    let paid = c.in_ok-place.ensures.paid in
     let counted = c.advance.ensures.counted in
     record {
       swept =
@@ -72,10 +66,9 @@ loop-from-preserved c =
           (seen_between (borrowed c.args.sorted.now) (drop c.in_ok-place.place (borrowed c.args.sorted.now)) (borrowed c.advance.new.sky.items) (option_copied c.best_of-best.result) c.loop-from.from c.next_bound-to.result c.in_ok-place.ensures.split c.next_bound-to.ensures.next best c.next_bound-to.ensures.best)
           c.in_ok-push_best.ensures.shows;
       split = IsSkylineOf-later (borrowed c.args.sorted.now) (drop c.in_ok-place.place (borrowed c.args.sorted.now)) (borrowed c.advance.new.sky.items) c.loop-from.from c.next_bound-to.result c.in_ok-place.ensures.split (omega (arith, onward));
-      few = few.0;
-      inside = few.1;
+      inside = c.in_ok-place.ensures.within;
       low = omega (arith, low, counted.0);
-      high = omega (arith, left, bound);
+      high = omega (arith, paid, bound);
     }
 
 pub returns-clause-runs : goal.returns-clause-runs

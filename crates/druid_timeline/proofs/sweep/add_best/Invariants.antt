@@ -9,10 +9,9 @@ abbrev pub invariant-loop-from : goal.invariant-loop-from
 invariant-loop-from l = record {
   swept : IsSwept l.fn.part (IsBestOf (borrowed l.sorted)) l.fn.runs.items l.runs.items l.from;
   split : IsSkylineOf (borrowed l.sorted) (drop l.place (borrowed l.sorted)) (borrowed l.sky.items) l.from;
-  few : length l.sky.items ≤ l.place;
   inside : l.place ≤ length l.sorted;
   low : l.fn.meter ≤ l.meter;
-  high : l.meter + (length l.sorted - l.place) * length l.sorted ≤ l.fn.meter + length l.sorted * length l.sorted;
+  high : l.meter + length l.sky.items + 3 * (length l.sorted - l.place) ≤ l.fn.meter + 3 * length l.sorted;
 }
 
 abbrev pub decreases-loop-from : goal.decreases-loop-from

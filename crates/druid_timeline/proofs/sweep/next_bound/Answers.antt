@@ -1,4 +1,4 @@
-use Rattle.std.proofs.Common.{◌≡◌, ◌<◌, ◌≤◌, ap, ◌∙◌, arith, rules}
+use Rattle.std.proofs.Common.{◌≡◌, ◌<◌, ap, ◌∙◌, arith, rules}
 use Rattle.druid_timeline.proofs.SkylineLemmas.{borrowed, borrowed_at, borrowed_within, start_from, first_left}
 use Rattle.druid_timeline.proofs.sweep.next_bound.Goals as goal
 

@@ -1,20 +1,18 @@
-use Rattle.std.proofs.Common.{◌≡◌, ◌↔◌, ◌≤◌, ◌+◌, ◌*◌, ◌∙◌, List, [], ◌∷◌, length, map, refl, sym, ap, subst}
+use Rattle.std.proofs.Common.{◌≡◌, ◌↔◌, ◌≤◌, ◌+◌, ◌*◌, ◌∙◌, List, [], ◌∷◌, length, map, sym, ap, subst}
 use Rattle.std.specs.Bool.{IsTrue}
-use Rattle.std.specs.Vec.{vec_capacity}
 use Rattle.druid_segid.specs.Group.{Group, group_of}
-use Rattle.druid_members.specs.Members.{member_of, IsComplete}
-use Rattle.druid_chunks.specs.Chunks.{Chunk, AreChunks, members_at}
+use Rattle.druid_members.specs.Members.{member_of}
+use Rattle.druid_chunks.specs.Chunks.{members_at}
 use Rattle.druid_chunks.proofs.EditLemmas.{always_err}
 use Rattle.druid_timeline.specs.Chunks.{held_in}
-use Rattle.druid_timeline.specs.Edited.{AreAlikeBut, ArePiecesThen, HasOthers}
+use Rattle.druid_timeline.specs.Edited.{ArePiecesThen, HasOthers}
 use Rattle.druid_timeline.specs.Exchanges.{settled}
 use Rattle.druid_timeline.specs.Holding.{IsCompleteIn, SameHeld}
 use Rattle.druid_timeline.specs.Pieces.{ArePieces, cut, shown_at}
-use Rattle.druid_timeline.proofs.ChunkLemmas.{IsHeld-chunk, IsCompleteIn-at, SameHeld-chunk, AddsHeld-chunk, RemovesHeld-chunk, RemovesOneHeld-chunk}
+use Rattle.druid_timeline.proofs.ChunkLemmas.{IsHeld-chunk, IsCompleteIn-at, SameHeld-chunk, AddsHeld-chunk}
 use Rattle.druid_timeline.proofs.CountLemmas.{met_of}
 use Rattle.druid_timeline.proofs.SweepLemmas.{Run}
 use Rattle.druid_timeline.proofs.TurnLemmas.{alike_chunks, level_told, pieces_same}
-use Rattle.druid_timeline.proofs.UndoLemmas.{TakesBack-more}
 use Rattle.druid_timeline.proofs.turn.add_segment.Goals as goal
 
 pub add-requires : goal.add-requires
@@ -45,21 +43,21 @@ returns-clause-added c =
     AddsHeld-chunk c.args.chunks.now c.add.new.self (group_of c.args.descriptor.now.id) (member_of c.args.node c.args.descriptor.now) c.add.ensures.was c.add.ensures.chunks c.add.ensures.others c.in_ok-add.ensures.added
 
 pub returns-in_err-edit-clause-bound : goal.returns-in_err-edit-clause-bound
-returns-in_err-edit-clause-bound c = (subst (λ (g : Group). (others : List Group) → HasOthers (held_in c.args.chunks.now) g others → c.prepare_edit.new.meter ≤ c.args.meter.now + (2 * length others + 1) * (length others + 1)) (ap group_of c.id.ensures.value) c.prepare_edit.ensures.bound)
+returns-in_err-edit-clause-bound c = (subst (λ (g : Group). (others : List Group) → HasOthers (held_in c.args.chunks.now) g others → c.prepare_edit.new.meter ≤ c.args.meter.now + 3 * length others + 1) (ap group_of c.id.ensures.value) c.prepare_edit.ensures.bound)
 
 pub returns-in_err-edit-clause-met : goal.returns-in_err-edit-clause-met
 returns-in_err-edit-clause-met c not pieces are =
     met_of (held_in c.args.chunks.now) (group_of c.args.descriptor.now.id) (map shown_at c.args.runs.now.items) pieces c.args.meter.now c.prepare_edit.new.meter c.requires.pieces are ((subst (λ (g : Group). (IsCompleteIn (held_in c.args.chunks.now) g → ⊥) → c.prepare_edit.new.meter ≤ c.args.meter.now + length (cut (g.interval ∷ []) (map shown_at c.args.runs.now.items))) (ap group_of c.id.ensures.value) c.prepare_edit.ensures.met) not)
 
 pub returns-in_err-add-clause-bound : goal.returns-in_err-add-clause-bound
-returns-in_err-add-clause-bound c = (subst (λ (g : Group). (others : List Group) → HasOthers (held_in c.args.chunks.now) g others → c.prepare_edit.new.meter ≤ c.args.meter.now + (2 * length others + 1) * (length others + 1)) (ap group_of c.id.ensures.value) c.prepare_edit.ensures.bound)
+returns-in_err-add-clause-bound c = (subst (λ (g : Group). (others : List Group) → HasOthers (held_in c.args.chunks.now) g others → c.prepare_edit.new.meter ≤ c.args.meter.now + 3 * length others + 1) (ap group_of c.id.ensures.value) c.prepare_edit.ensures.bound)
 
 pub returns-in_err-add-clause-met : goal.returns-in_err-add-clause-met
 returns-in_err-add-clause-met c not pieces are =
     met_of (held_in c.args.chunks.now) (group_of c.args.descriptor.now.id) (map shown_at c.args.runs.now.items) pieces c.args.meter.now c.prepare_edit.new.meter c.requires.pieces are ((subst (λ (g : Group). (IsCompleteIn (held_in c.args.chunks.now) g → ⊥) → c.prepare_edit.new.meter ≤ c.args.meter.now + length (cut (g.interval ∷ []) (map shown_at c.args.runs.now.items))) (ap group_of c.id.ensures.value) c.prepare_edit.ensures.met) not)
 
 pub returns-clause-bound : goal.returns-clause-bound
-returns-clause-bound c = (subst (λ (g : Group). (others : List Group) → HasOthers (held_in c.args.chunks.now) g others → c.prepare_edit.new.meter ≤ c.args.meter.now + (2 * length others + 1) * (length others + 1)) (ap group_of c.id.ensures.value) c.prepare_edit.ensures.bound)
+returns-clause-bound c = (subst (λ (g : Group). (others : List Group) → HasOthers (held_in c.args.chunks.now) g others → c.prepare_edit.new.meter ≤ c.args.meter.now + 3 * length others + 1) (ap group_of c.id.ensures.value) c.prepare_edit.ensures.bound)
 
 pub returns-clause-met : goal.returns-clause-met
 returns-clause-met c not pieces are =

@@ -1,13 +1,12 @@
-use Rattle.std.proofs.Common.{◌≡◌, ◌≤◌, ◌+◌, ◌*◌, ℕ, List, length, map, MatchOption, sym, ap, ◌∙◌, subst, arith, Bor}
+use Rattle.std.proofs.Common.{List, length, map, sym, ap, subst, arith, Bor}
 use Rattle.druid_time.specs.Extent.{Has}
 use Rattle.druid_segid.specs.Group.{Group, group_of}
-use Rattle.druid_chunks.proofs.EditLemmas.{if_ok_weaker}
 use Rattle.druid_timeline.specs.Candidates.{IsBestOf}
 use Rattle.druid_timeline.specs.Chunks.{held_in}
 use Rattle.druid_timeline.specs.Edited.{AreRunsEdited, IsWithin, spliced}
 use Rattle.druid_timeline.specs.Pieces.{Shows, shown_at}
 use Rattle.druid_timeline.proofs.SkylineLemmas.{borrowed}
-use Rattle.druid_timeline.proofs.TurnLemmas.{pieces_hidden, pieces_swept, bound_swept}
+use Rattle.druid_timeline.proofs.TurnLemmas.{pieces_hidden, pieces_swept}
 use Rattle.druid_timeline.proofs.turn.edit_without.Goals as goal
 
 pub returns-in_default-clause-pieces : goal.returns-in_default-clause-pieces
@@ -22,7 +21,8 @@ pub returns-in_err-edit-clause-bound : goal.returns-in_err-edit-clause-bound
 returns-in_err-edit-clause-bound c others all =
     let l = ap length c.deref.ensures.value in
     let few = c.in_ok-others.ensures.few others all in
-    bound_swept c.args.meter.now c.edit_swept.new.meter (length c.deref.result.now) (length others) c.edit_swept.ensures.counted.1 (omega (arith, l, few))
+    let counted = c.edit_swept.ensures.counted.1 in
+    omega (arith, l, few, counted)
 
 pub returns-clause-pieces : goal.returns-clause-pieces
 returns-clause-pieces c =
@@ -38,4 +38,5 @@ pub returns-clause-bound : goal.returns-clause-bound
 returns-clause-bound c others all =
     let l = ap length c.deref.ensures.value in
     let few = c.in_ok-others.ensures.few others all in
-    bound_swept c.args.meter.now c.edit_swept.new.meter (length c.deref.result.now) (length others) c.edit_swept.ensures.counted.1 (omega (arith, l, few))
+    let counted = c.edit_swept.ensures.counted.1 in
+    omega (arith, l, few, counted)

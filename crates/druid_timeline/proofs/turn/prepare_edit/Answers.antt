@@ -1,7 +1,7 @@
-use Rattle.std.proofs.Common.{◌≡◌, ◌↔◌, ◌≤◌, ◌+◌, Bool, List, [], ◌∷◌, length, map, sym, ◌∙◌, subst}
+use Rattle.std.proofs.Common.{◌↔◌, ◌≤◌, ◌+◌, Bool, List, [], ◌∷◌, length, map, sym, ◌∙◌, subst}
 use Rattle.std.specs.Bool.{IsTrue}
 use Rattle.std.proofs.lemmas.Bool.{false≢true}
-use Rattle.druid_segid.specs.Group.{Group, group_of}
+use Rattle.druid_segid.specs.Group.{group_of}
 use Rattle.druid_chunks.proofs.EditLemmas.{if_ok_weaker}
 use Rattle.druid_timeline.specs.Chunks.{held_in}
 use Rattle.druid_timeline.specs.Edited.{ArePiecesThen}

@@ -1,20 +1,16 @@
-use Rattle.std.proofs.Common.{◌≡◌, ◌↔◌, ◌≤◌, ◌+◌, ◌*◌, ◌∙◌, List, [], ◌∷◌, length, map, refl, sym, ap, subst}
+use Rattle.std.proofs.Common.{◌↔◌, ◌∙◌, List, map, sym, ap, subst}
 use Rattle.std.specs.Bool.{IsTrue}
-use Rattle.std.specs.Vec.{vec_capacity}
-use Rattle.druid_segid.specs.Group.{Group, group_of}
-use Rattle.druid_members.specs.Members.{member_of, IsComplete}
-use Rattle.druid_chunks.specs.Chunks.{Chunk, AreChunks, members_at}
+use Rattle.druid_segid.specs.Group.{group_of}
+use Rattle.druid_chunks.specs.Chunks.{members_at}
 use Rattle.druid_chunks.proofs.EditLemmas.{always_err}
 use Rattle.druid_timeline.specs.Chunks.{held_in}
-use Rattle.druid_timeline.specs.Edited.{AreAlikeBut, ArePiecesThen, HasOthers}
 use Rattle.druid_timeline.specs.Exchanges.{settled}
 use Rattle.druid_timeline.specs.Holding.{IsCompleteIn, SameHeld}
-use Rattle.druid_timeline.specs.Pieces.{ArePieces, cut, shown_at}
-use Rattle.druid_timeline.proofs.ChunkLemmas.{IsHeld-chunk, IsCompleteIn-at, SameHeld-chunk, AddsHeld-chunk, RemovesHeld-chunk, RemovesOneHeld-chunk}
+use Rattle.druid_timeline.specs.Pieces.{ArePieces, shown_at}
+use Rattle.druid_timeline.proofs.ChunkLemmas.{IsHeld-chunk, IsCompleteIn-at, SameHeld-chunk, RemovesHeld-chunk, RemovesOneHeld-chunk}
 use Rattle.druid_timeline.proofs.CountLemmas.{met_of}
 use Rattle.druid_timeline.proofs.SweepLemmas.{Run}
 use Rattle.druid_timeline.proofs.TurnLemmas.{alike_chunks, level_told, pieces_same}
-use Rattle.druid_timeline.proofs.UndoLemmas.{TakesBack-more}
 use Rattle.druid_timeline.proofs.turn.remove_segment.Goals as goal
 
 pub remove-requires : goal.remove-requires

@@ -1,17 +1,17 @@
-use Rattle.std.proofs.Common.{◌≤◌, ◌+◌, [], ◌∷◌, length, map, refl, subst}
+use Rattle.std.proofs.Common.{◌≤◌, ◌+◌, [], ◌∷◌, length, map, refl, subst, arith}
 use Rattle.druid_segid.specs.Group.{Group, group_of}
 use Rattle.druid_timeline.specs.Chunks.{held_in}
 use Rattle.druid_timeline.specs.Edited.{AreRunsEdited, IsOverlaid, spliced}
 use Rattle.druid_timeline.specs.Pieces.{cut, shown_at}
 use Rattle.druid_timeline.proofs.CountLemmas.{few_pieces}
-use Rattle.druid_timeline.proofs.TurnLemmas.{pieces_overlaid, bound_overlaid}
+use Rattle.druid_timeline.proofs.TurnLemmas.{pieces_overlaid}
 use Rattle.druid_timeline.proofs.turn.turn_of.Goals as goal
 
 pub returns-in_err-edit-clause-bound : goal.returns-in_err-edit-clause-bound
 returns-in_err-edit-clause-bound c others all =
     let counted = subst (λ (g : Group). c.edit_overlaid.new.meter ≤ c.args.meter.now + length (cut (g.interval ∷ []) (map shown_at c.args.runs.now))) c.in_ok-own.ensures c.edit_overlaid.ensures.counted.1 in
-    bound_overlaid c.args.meter.now c.edit_overlaid.new.meter (length (cut ((group_of c.args.id.now).interval ∷ []) (map shown_at c.args.runs.now))) (length others) counted
-    (few_pieces (held_in c.args.chunks.now) (group_of c.args.id.now) (map shown_at c.args.runs.now) others c.requires.pieces (c.requires.turned c.if-not-is_complete.false) all)
+    let few = few_pieces (held_in c.args.chunks.now) (group_of c.args.id.now) (map shown_at c.args.runs.now) others c.requires.pieces (c.requires.turned c.if-not-is_complete.false) all in
+    omega (arith, counted, few)
 
 pub returns-clause-pieces : goal.returns-clause-pieces
 returns-clause-pieces c new alike is =
@@ -24,5 +24,5 @@ returns-clause-pieces c new alike is =
 pub returns-clause-bound : goal.returns-clause-bound
 returns-clause-bound c others all =
     let counted = subst (λ (g : Group). c.edit_overlaid.new.meter ≤ c.args.meter.now + length (cut (g.interval ∷ []) (map shown_at c.args.runs.now))) c.in_ok-own.ensures c.edit_overlaid.ensures.counted.1 in
-    bound_overlaid c.args.meter.now c.edit_overlaid.new.meter (length (cut ((group_of c.args.id.now).interval ∷ []) (map shown_at c.args.runs.now))) (length others) counted
-    (few_pieces (held_in c.args.chunks.now) (group_of c.args.id.now) (map shown_at c.args.runs.now) others c.requires.pieces (c.requires.turned c.if-not-is_complete.false) all)
+    let few = few_pieces (held_in c.args.chunks.now) (group_of c.args.id.now) (map shown_at c.args.runs.now) others c.requires.pieces (c.requires.turned c.if-not-is_complete.false) all in
+    omega (arith, counted, few)

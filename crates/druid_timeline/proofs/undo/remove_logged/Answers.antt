@@ -1,16 +1,16 @@
-use Rattle.std.proofs.Common.{◌≡◌, ◌↔◌, ℕ, ◌≤◌, ◌+◌, ◌*◌, ◌∙◌, List, [], ◌∷◌, length, map, refl, sym, ap, subst}
+use Rattle.std.proofs.Common.{◌≡◌, ◌↔◌, ◌≤◌, ◌+◌, ◌*◌, ◌∙◌, List, [], ◌∷◌, length, map, refl, sym, ap, subst}
 use Rattle.std.specs.Bool.{IsTrue}
 use Rattle.std.specs.Vec.{vec_capacity}
 use Rattle.druid_segid.specs.Group.{Group, group_of}
-use Rattle.druid_members.specs.Members.{Member, member_of, IsComplete, Adds, RemovesPlace}
+use Rattle.druid_members.specs.Members.{Member, IsComplete, RemovesPlace}
 use Rattle.druid_chunks.specs.Chunks.{Chunk, AreChunks, members_at}
 use Rattle.druid_chunks.proofs.EditLemmas.{always_err}
 use Rattle.druid_timeline.specs.Chunks.{held_in}
-use Rattle.druid_timeline.specs.Edited.{AreAlikeBut, ArePiecesThen, HasOthers}
+use Rattle.druid_timeline.specs.Edited.{ArePiecesThen, HasOthers}
 use Rattle.druid_timeline.specs.Exchanges.{settled}
 use Rattle.druid_timeline.specs.Holding.{IsCompleteIn, SameHeld}
 use Rattle.druid_timeline.specs.Pieces.{ArePieces, cut, shown_at}
-use Rattle.druid_timeline.proofs.ChunkLemmas.{IsHeld-chunk, IsCompleteIn-at, SameHeld-chunk, AddsHeld-chunk, RemovesHeld-chunk, RemovesOneHeld-chunk}
+use Rattle.druid_timeline.proofs.ChunkLemmas.{IsHeld-chunk, IsCompleteIn-at, SameHeld-chunk, RemovesHeld-chunk, RemovesOneHeld-chunk}
 use Rattle.druid_timeline.proofs.CountLemmas.{met_of}
 use Rattle.druid_timeline.proofs.SweepLemmas.{Run}
 use Rattle.druid_timeline.proofs.TurnLemmas.{alike_chunks, level_told, pieces_same}
@@ -47,28 +47,28 @@ pub returns-clause-one : goal.returns-clause-one
 returns-clause-one c = RemovesOneHeld-chunk c.args.chunks.now.now c.remove.new.self.now c.args.node c.args.id.now c.remove.ensures.was c.remove.ensures.chunks c.remove.ensures.others c.in_ok-remove.ensures.one
 
 pub returns-in_err-edit-clause-bound : goal.returns-in_err-edit-clause-bound
-returns-in_err-edit-clause-bound c = (subst (λ (cs : List Chunk). (others : List Group) → HasOthers (held_in cs) (group_of c.args.id.now) others → c.prepare_edit.new.meter ≤ c.args.meter.now + (2 * length others + 1) * (length others + 1)) c.chunks-2.ensures c.prepare_edit.ensures.bound)
+returns-in_err-edit-clause-bound c = (subst (λ (cs : List Chunk). (others : List Group) → HasOthers (held_in cs) (group_of c.args.id.now) others → c.prepare_edit.new.meter ≤ c.args.meter.now + 3 * length others + 1) c.chunks-2.ensures c.prepare_edit.ensures.bound)
 
 pub returns-in_err-edit-clause-met : goal.returns-in_err-edit-clause-met
 returns-in_err-edit-clause-met c not pieces are =
     met_of (held_in c.args.chunks.now.now) (group_of c.args.id.now) (map shown_at c.args.runs.now.items) pieces c.args.meter.now c.prepare_edit.new.meter c.requires.pieces are ((subst (λ (cs : List Chunk). (IsCompleteIn (held_in cs) (group_of c.args.id.now) → ⊥) → c.prepare_edit.new.meter ≤ c.args.meter.now + length (cut ((group_of c.args.id.now).interval ∷ []) (map shown_at c.args.runs.now.items))) c.chunks-2.ensures c.prepare_edit.ensures.met) not)
 
 pub returns-in_err-reserve_for-clause-bound : goal.returns-in_err-reserve_for-clause-bound
-returns-in_err-reserve_for-clause-bound c = (subst (λ (cs : List Chunk). (others : List Group) → HasOthers (held_in cs) (group_of c.args.id.now) others → c.prepare_edit.new.meter ≤ c.args.meter.now + (2 * length others + 1) * (length others + 1)) c.chunks-2.ensures c.prepare_edit.ensures.bound)
+returns-in_err-reserve_for-clause-bound c = (subst (λ (cs : List Chunk). (others : List Group) → HasOthers (held_in cs) (group_of c.args.id.now) others → c.prepare_edit.new.meter ≤ c.args.meter.now + 3 * length others + 1) c.chunks-2.ensures c.prepare_edit.ensures.bound)
 
 pub returns-in_err-reserve_for-clause-met : goal.returns-in_err-reserve_for-clause-met
 returns-in_err-reserve_for-clause-met c not pieces are =
     met_of (held_in c.args.chunks.now.now) (group_of c.args.id.now) (map shown_at c.args.runs.now.items) pieces c.args.meter.now c.prepare_edit.new.meter c.requires.pieces are ((subst (λ (cs : List Chunk). (IsCompleteIn (held_in cs) (group_of c.args.id.now) → ⊥) → c.prepare_edit.new.meter ≤ c.args.meter.now + length (cut ((group_of c.args.id.now).interval ∷ []) (map shown_at c.args.runs.now.items))) c.chunks-2.ensures c.prepare_edit.ensures.met) not)
 
 pub returns-in_err-remove-clause-bound : goal.returns-in_err-remove-clause-bound
-returns-in_err-remove-clause-bound c = (subst (λ (cs : List Chunk). (others : List Group) → HasOthers (held_in cs) (group_of c.args.id.now) others → c.prepare_edit.new.meter ≤ c.args.meter.now + (2 * length others + 1) * (length others + 1)) c.chunks-2.ensures c.prepare_edit.ensures.bound)
+returns-in_err-remove-clause-bound c = (subst (λ (cs : List Chunk). (others : List Group) → HasOthers (held_in cs) (group_of c.args.id.now) others → c.prepare_edit.new.meter ≤ c.args.meter.now + 3 * length others + 1) c.chunks-2.ensures c.prepare_edit.ensures.bound)
 
 pub returns-in_err-remove-clause-met : goal.returns-in_err-remove-clause-met
 returns-in_err-remove-clause-met c not pieces are =
     met_of (held_in c.args.chunks.now.now) (group_of c.args.id.now) (map shown_at c.args.runs.now.items) pieces c.args.meter.now c.prepare_edit.new.meter c.requires.pieces are ((subst (λ (cs : List Chunk). (IsCompleteIn (held_in cs) (group_of c.args.id.now) → ⊥) → c.prepare_edit.new.meter ≤ c.args.meter.now + length (cut ((group_of c.args.id.now).interval ∷ []) (map shown_at c.args.runs.now.items))) c.chunks-2.ensures c.prepare_edit.ensures.met) not)
 
 pub returns-clause-bound : goal.returns-clause-bound
-returns-clause-bound c = (subst (λ (cs : List Chunk). (others : List Group) → HasOthers (held_in cs) (group_of c.args.id.now) others → c.prepare_edit.new.meter ≤ c.args.meter.now + (2 * length others + 1) * (length others + 1)) c.chunks-2.ensures c.prepare_edit.ensures.bound)
+returns-clause-bound c = (subst (λ (cs : List Chunk). (others : List Group) → HasOthers (held_in cs) (group_of c.args.id.now) others → c.prepare_edit.new.meter ≤ c.args.meter.now + 3 * length others + 1) c.chunks-2.ensures c.prepare_edit.ensures.bound)
 
 pub returns-clause-met : goal.returns-clause-met
 returns-clause-met c not pieces are =

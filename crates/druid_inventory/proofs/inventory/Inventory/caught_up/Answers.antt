@@ -42,4 +42,4 @@ pub returns : goal.returns
 returns c =
     let wide = length-map c.args.others.now arc_value in
     let all = later_first-all c.loop-node.node c.args.self.now (map arc_value c.args.others.now) (omega arith) (omega arith) in
-    IfOk-weaker c.of.result _ _ (λ inventory e. e ∙ c.loop-node.invariant.entries ∙ all) c.of.ensures
+    IfOk-weaker c.changed.result _ _ (λ inventory e. e ∙ c.loop-node.invariant.entries ∙ all) c.changed.ensures

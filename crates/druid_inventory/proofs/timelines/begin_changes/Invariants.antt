@@ -1,0 +1,9 @@
+use Rattle.std.specs.BTreeMap.{btree_map_len}
+use Rattle.druid_inventory.proofs.ChangingLemmas.{GoOver}
+use Rattle.druid_inventory.proofs.timelines.begin_changes.Given as goal
+
+abbrev pub invariant-loop-source : goal.invariant-loop-source
+invariant-loop-source l = GoOver l.initial.timelines l.timelines l.changing
+
+abbrev pub decreases-loop-source : goal.decreases-loop-source
+decreases-loop-source l = btree_map_len l.timelines
