@@ -37,4 +37,6 @@ mod scatter;
 #[cfg(test)]
 mod sockets;
 #[cfg(test)]
+mod turns;
+#[cfg(test)]
 mod unread;

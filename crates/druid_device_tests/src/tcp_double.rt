@@ -1,5 +1,8 @@
 //! Links over sockets for which doubles stand in: calls that are interrupted, that wait too long and that fail, and a clock
 //! that cannot be read.
+ghost use Rattle.std.specs.Prelude.{◌≡◌, ◌∷◌};
+ghost use Rattle.druid_link.specs.Links.{came_of};
+
 use crate::kinds::KINDS;
 use crate::link::REQUEST;
 use crate::printing::printed;
@@ -379,4 +382,42 @@ fn time_that_is_left(rt: HostRuntime) {
         has_waits(&rt, &tape, &[9, 8, 7, 6, 5, 4, 3, 2, 1]),
         "other waits"
     );
+}
+
+// Two exchanges: the link keeps both, the last first.
+fn exchanged_twice<N: Net + Clock>(
+    alloc: Global,
+    link: &mut TcpLink<N>,
+    first: &[u8],
+    second: &[u8],
+) -> (Result<Vec<u8>, WireFault>, Result<Vec<u8>, WireFault>)
+    ensures { link.new.made ≡ record { request = second.now; came = came_of result.1 }
+        ∷ record { request = first.now; came = came_of result.0 } ∷ link.old.made }
+{
+    let came = link.exchange(alloc, first);
+    let came_next = link.exchange(alloc, second);
+    (came, came_next)
+}
+
+fn has_sent(rt: &impl Abort, tape: &Tape, wanted: &[u8]) -> bool {
+    let sent = tape.sent.try_borrow().expect(rt, "what was sent");
+    sent.as_slice() == wanted
+}
+
+// Whether it is what each server answers.
+fn is_answer(came: &Result<Vec<u8>, WireFault>) -> bool {
+    match came {
+        Ok(bytes) => bytes.as_slice() == b"xxx".as_slice(),
+        Err(_) => false,
+    }
+}
+
+// What a link keeps of two exchanges was sent, and came.
+#[test]
+fn exchanges_are_kept(rt: HostRuntime) {
+    let (network, tape) = network(&rt, rt.alloc(), &PLAN);
+    let mut link = linked(&rt, rt.alloc(), network);
+    let (came, came_next) = exchanged_twice(rt.alloc(), &mut link, b"north", b"south");
+    assert!(rt; has_sent(&rt, &tape, b"northsouth"), "another request");
+    assert!(rt; is_answer(&came) && is_answer(&came_next), "another answer");
 }

@@ -1,5 +1,5 @@
 -- What was fetched, where it is no reply.
-use Rattle.std.proofs.Common.{◌≡◌, ◌≢◌, ℕ, zero, suc, List, [], ◌∷◌, ◌++◌, slice_get, None, Result, Ok, Err, IfOk, IfErr, length, inl, inr, refl, sym, ap, ◌∙◌, ◌<◌, ◌+◌, subst, arith}
+use Rattle.std.proofs.Common.{◌≡◌, ◌≢◌, ◌⊎◌, ℕ, List, [], ◌∷◌, ◌++◌, slice_get, None, Result, Ok, Err, IfOk, IfErr, length, inl, inr, refl, sym, ap, ◌∙◌, ◌<◌, subst, arith}
 use Rattle.std.proofs.lemmas.List.{length-map}
 use mathlib.Core.List.{IsPrefix}
 use Rattle.druid_shard.specs.declared.change.Ask.{Ask}
@@ -16,7 +16,7 @@ use Rattle.druid_published.specs.Fold.{Published, PublisherValue, fold_of}
 use Rattle.druid_published.proofs.FoldLemmas.{fold_names}
 use Rattle.druid_published.proofs.Beginnings.{prefix_self, prefix_trans}
 use Rattle.druid_follow.specs.Refused.{RefusesTurn}
-use Rattle.druid_follow.specs.Turns.{IsReported, Fetches, ask_request, FollowsPages, IsAsked, StartsAgain, IsFetched, IsFetchedFrom, TakesTurn, FailsTurn, Publishes, TakesSharedTurn, FailsSharedTurn, IsSharedTurn, MakesTurns}
+use Rattle.druid_follow.specs.Turns.{IsReported, Fetches, ask_request, FollowsPages, IsAsked, StartsAgain, IsFetched, IsFetchedFrom, TakesTurn, FailsTurn, Publishes, TakesSharedTurn, FailsSharedTurn, IsSharedTurn, MakesTurns, Turn}
 use Rattle.druid_follow.specs.declared.fault.TurnFault.{TurnFault}
 use Rattle.druid_follow.specs.declared.fault.TurnFault.TheVariants as turn
 
@@ -28,6 +28,7 @@ turn_lacks Fetched inventory node (turn.Wire fault) fetched = fetched
 turn_lacks Fetched inventory node (turn.Status status) fetched = fetched
 turn_lacks Fetched inventory node (turn.Reply fault) fetched = fetched
 turn_lacks Fetched inventory node turn.PageLost fetched = fetched
+turn_lacks Fetched inventory node turn.NoReading fetched = fetched
 
 -- and why a reply is not published
 pub turn_refused : (Fetched : Result Body TurnFault → Type 0) (inventory : List Entry) (node : ℕ) (reply : Body) (fault : TurnFault) → Fetched (Ok reply)
@@ -38,6 +39,7 @@ turn_refused Fetched inventory node reply (turn.Wire fault) fetched r = absurd r
 turn_refused Fetched inventory node reply (turn.Status status) fetched r = absurd r
 turn_refused Fetched inventory node reply (turn.Reply fault) fetched r = absurd r
 turn_refused Fetched inventory node reply turn.PageLost fetched r = absurd r
+turn_refused Fetched inventory node reply turn.NoReading fetched r = absurd r
 
 module _ {X : Type 0} (Fetched : Result Body TurnFault → Type 0) (node : ℕ) (reply : Body) (fetched : Fetched (Ok reply)) where
   pub takes_turn : (old new : PublisherValue) (r : Result (Outcome × X) TurnFault) → IfOk r (λ x. Publishes old node reply x.0 new) → IfOk r (λ x. TakesTurn Fetched old node x.0 new)
@@ -87,30 +89,56 @@ module _ {L : Type 0} (step : L → List ℕ → Came → L → Type 0) (opening
   turn_goes_on : (old new : Published) (link after : L) (result : Result Outcome TurnFault) → IsSharedTurn step opening node old new link after result → IsPrefix old new
   turn_goes_on old new link after (Ok outcome) takes = prefix_trans old takes.read new takes.goes_on takes.has_read
   turn_goes_on old new link after (Err fault) (inl (memory, same, unused)) = subst (λ (l : Published). IsPrefix old l) (sym same) (prefix_self old)
-  turn_goes_on old new link after (Err fault) (inr (before, prefix, fails)) = prefix
+  turn_goes_on old new link after (Err fault) (inr fails) = prefix_trans old fails.read new fails.goes_on fails.has_read
 
-  pub turns_go_on : (turns : ℕ) (old new : Published) (link after : L) → MakesTurns step opening node turns old new link after → IsPrefix old new
-  turns_go_on zero old new link after (same, unused) = subst (λ (l : Published). IsPrefix old l) (sym same) (prefix_self old)
-  turns_go_on (suc n) old new link after (seen, between, result, makes, turn) =
-      prefix_trans old seen new (turns_go_on n old seen link between makes) (turn_goes_on seen new between after result turn)
+  pub turns_go_on : (gave : List Turn) (old new : Published) (link after : L) → MakesTurns step opening node gave old new link after → IsPrefix old new
+  turns_go_on [] old new link after (same, unused) = subst (λ (l : Published). IsPrefix old l) (sym same) (prefix_self old)
+  turns_go_on (turn ∷ earlier) old new link after (seen, between, makes, made) =
+      prefix_trans old seen new (turns_go_on earlier old seen link between makes) (turn_goes_on seen new between after turn made)
 
-  pub one_more : (turns : ℕ) (old seen new : Published) (link between after : L) (result : Result Outcome TurnFault) → MakesTurns step opening node turns old seen link between
-      → IsSharedTurn step opening node seen new between after result → MakesTurns step opening node (turns + 1) old new link after
-  one_more turns old seen new link between after result makes turn =
-      let next : suc turns ≡ turns + 1 = omega arith in
-      subst (λ (n : ℕ). MakesTurns step opening node n old new link after) next (seen, between, result, makes, turn)
+  -- a turn that fetched no reply
+  pub unfetched : (old read : Published) (link after : L) (fault : TurnFault) → IsPrefix old read → IsFetchedFrom step (fold_of opening read) node link after (Err fault)
+      → FailsSharedTurn step opening node old read link after fault
+  unfetched old read link after fault goes fetched = inr (record {
+    read = read;
+    goes_on = goes;
+    before = read;
+    fails = turn_lacks (IsFetchedFrom step (fold_of opening read) node link after) (fold_of opening read) node fault fetched;
+    has_read = prefix_self read;
+    has_before = prefix_self read;
+    one = inl refl;
+  })
 
-  -- a turn whose reply is not published
-  pub unpublished : (old new : Published) (link after : L) (reply : Body) (fault : TurnFault) → IsPrefix old new → IsFetchedFrom step (fold_of opening new) node link after (Ok reply)
-      → ((before : Published) × RefusesTurn (fold_of opening before) node reply fault) → FailsSharedTurn step opening node old new link after fault
-  unpublished old new link after reply fault goes fetched (before, refused) =
-      inr (before, goes, turn_refused (IsFetchedFrom step (fold_of opening new) node link after) (fold_of opening before) node reply fault fetched refused)
+  -- one that fetched a reply, and then has seen what is published
+  module _ (old read told new : Published) (link after : L) (reply : Body) (goes : IsPrefix old read) (fetched : IsFetchedFrom step (fold_of opening read) node link after (Ok reply))
+      (has_read : IsPrefix read new) (has_told : IsPrefix told new) (one : (new ≡ read) ⊎ (new ≡ told)) where
+    pub published : (r : Result Outcome TurnFault) → IfOk r (λ outcome. (before : Published) × (entry : Entry) × StepsAt (fold_of opening before) node reply outcome entry × (told ≡ before ++ (node, reply) ∷ []))
+        → IfOk r (TakesSharedTurn step opening node old new link after)
+    published (Ok outcome) (before, entry, steps, is) = record {
+      read = read;
+      goes_on = goes;
+      reply = reply;
+      fetched = fetched;
+      before = before;
+      entry = entry;
+      steps = steps;
+      has_read = has_read;
+      has_reply = subst (λ (l : Published). IsPrefix l new) is has_told;
+      one = subst (λ (l : Published). (new ≡ read) ⊎ (new ≡ l)) is one;
+    }
+    published (Err fault) so = tt
 
-  -- one that fetched none
-  pub unfetched : (old new : Published) (link after : L) (fault : TurnFault) → IsPrefix old new → IsFetchedFrom step (fold_of opening new) node link after (Err fault)
-      → FailsSharedTurn step opening node old new link after fault
-  unfetched old new link after fault goes fetched =
-      inr (new, goes, turn_lacks (IsFetchedFrom step (fold_of opening new) node link after) (fold_of opening new) node fault fetched)
+    pub unpublished : (r : Result Outcome TurnFault) → IfErr r (RefusesTurn (fold_of opening told) node reply) → IfErr r (FailsSharedTurn step opening node old new link after)
+    unpublished (Ok outcome) refused = tt
+    unpublished (Err fault) refused = inr (record {
+      read = read;
+      goes_on = goes;
+      before = told;
+      fails = turn_refused (IsFetchedFrom step (fold_of opening read) node link after) (fold_of opening told) node reply fault fetched refused;
+      has_read = has_read;
+      has_before = has_told;
+      one = one;
+    })
 
 -- ---- what is published under a lock
 
@@ -120,16 +148,3 @@ fold_nodes opening published =
 
 pub there_in_fold : (opening inventory : List Entry) (published : Published) (node : ℕ) → inventory ≡ fold_of opening published → node < length opening → node < length inventory
 there_in_fold opening inventory published node folds there = let same = ap length folds ∙ fold_nodes opening published in omega (arith, same, there)
-
--- after what was published
-pub beyond : (opening : List Entry) (node : ℕ) (reply : Body) (old new : PublisherValue) (r : Result (Outcome × Published) TurnFault) → old.inventory ≡ fold_of opening old.published
-    → IfOk r (λ x. Publishes old node reply x.0 new) → IfOk r (λ x. x.1 ≡ new.published)
-    → IfOk r (λ x. (before : Published) × (entry : Entry) × StepsAt (fold_of opening before) node reply x.0 entry × (x.1 ≡ before ++ (node, reply) ∷ []))
-beyond opening node reply old new (Ok x) folds (entry, steps, is) same =
-    (old.published, entry, subst (λ (i : List Entry). StepsAt i node reply x.0 entry) folds steps, same ∙ ap (λ (p : PublisherValue). p.published) is)
-beyond opening node reply old new (Err fault) folds publishes same = tt
-
-pub refused_beyond : (opening : List Entry) (node : ℕ) (reply : Body) (old : PublisherValue) (r : Result (Outcome × Published) TurnFault) → old.inventory ≡ fold_of opening old.published
-    → IfErr r (RefusesTurn old.inventory node reply) → IfErr r (λ fault. (before : Published) × RefusesTurn (fold_of opening before) node reply fault)
-refused_beyond opening node reply old (Ok x) folds refuses = tt
-refused_beyond opening node reply old (Err fault) folds refuses = (old.published, subst (λ (i : List Entry). RefusesTurn i node reply fault) folds refuses)

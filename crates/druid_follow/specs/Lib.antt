@@ -1,5 +1,6 @@
 -- what public contracts rest on
 pub mod Turns
+pub mod Rests
 -- words of private contracts
 pub mod Refused
 pub mod Paging

@@ -25,7 +25,8 @@ use Rattle.druid_wire.specs.Written.{request_text}
 use Rattle.druid_message.specs.declared.fault.WireFault.{WireFault}
 use Rattle.druid_message.specs.declared.fault.WireFault.TheVariants as wire
 use Rattle.druid_follow.specs.declared.fault.TurnFault.{TurnFault}
-use Rattle.druid_follow.specs.declared.fault.TurnFault.TheVariants.{Wire, Status, Reply, PageLost, Apply, Memory}
+use Rattle.druid_follow.specs.declared.fault.TurnFault.TheVariants.{Wire, Status, Reply, PageLost, Apply, NoReading, Memory}
+use Rattle.druid_follow.specs.declared.turn_count.TurnCount.{TurnCount}
 
 -- ---- requests
 
@@ -66,6 +67,7 @@ IsAnswerTo came (Err (Reply fault)) =
     (bytes body : List ℕ) × (came ≡ Ok bytes) × Responds bytes 200 body × IsReadOf body (Err fault) × (fault ≢ sync.Memory)
 IsAnswerTo came (Err PageLost) = ⊥
 IsAnswerTo came (Err (Apply fault)) = ⊥
+IsAnswerTo came (Err NoReading) = ⊥
 IsAnswerTo came (Err Memory) = (came ≡ Err wire.Memory) ⊎ ((bytes body : List ℕ) × (came ≡ Ok bytes) × Responds bytes 200 body)
 
 -- one exchange leads the link from old to new, and is reported
@@ -196,20 +198,49 @@ pub record TakesSharedTurn {L : Type 0} (step : L → List ℕ → Came → L �
   pub has_reply : IsPrefix (before ++ (node, reply) ∷ []) new
   pub one : (new ≡ read) ⊎ (new ≡ before ++ (node, reply) ∷ [])
 
--- nothing was read, and no link is used; or the turn fails by a list that was read, with an inventory that another list made, and the
--- view has seen what it read
+-- why a view has no reading: it was given none, or memory ran out
+abbrev pub IsUnread : TurnFault → Type 0
+IsUnread fault = (fault ≡ NoReading) ⊎ (fault ≡ Memory)
+
+-- the turn fails by a list that the view read, with an inventory that another list made, and then the view has seen both lists
+pub record FailsBy {L : Type 0} (step : L → List ℕ → Came → L → Type 0) (opening : List Entry) (node : ℕ) (old new : Published) (link after : L) (fault : TurnFault) : Type 0 where
+  pub read : Published
+  pub goes_on : IsPrefix old read
+  pub before : Published
+  pub fails : FailsTurn (IsFetchedFrom step (fold_of opening read) node link after) (fold_of opening before) node fault
+  pub has_read : IsPrefix read new
+  pub has_before : IsPrefix before new
+  pub one : (new ≡ read) ⊎ (new ≡ before)
+
+-- nothing was read, and no link is used; or the turn fails by what was read
 abbrev pub FailsSharedTurn : {L : Type 0} → (L → List ℕ → Came → L → Type 0) → List Entry → ℕ → Published → Published → L → L → TurnFault → Type 0
 FailsSharedTurn step opening node old new link after fault =
-    ((fault ≡ Memory) × (new ≡ old) × (after ≡ link))
-    ⊎ ((before : Published) × IsPrefix old new × FailsTurn (IsFetchedFrom step (fold_of opening new) node link after) (fold_of opening before) node fault)
+    (IsUnread fault × (new ≡ old) × (after ≡ link)) ⊎ FailsBy step opening node old new link after fault
 
-abbrev pub IsSharedTurn : {L : Type 0} → (L → List ℕ → Came → L → Type 0) → List Entry → ℕ → Published → Published → L → L → Result Outcome TurnFault → Type 0
+-- what a turn gives
+abbrev pub Turn : Type 0
+Turn = Result Outcome TurnFault
+
+abbrev pub IsSharedTurn : {L : Type 0} → (L → List ℕ → Came → L → Type 0) → List Entry → ℕ → Published → Published → L → L → Turn → Type 0
 IsSharedTurn step opening node old new link after (Ok outcome) = TakesSharedTurn step opening node old new link after outcome
 IsSharedTurn step opening node old new link after (Err fault) = FailsSharedTurn step opening node old new link after fault
 
--- so many turns, one after another, each as it ends
-abbrev pub MakesTurns : {L : Type 0} → (L → List ℕ → Came → L → Type 0) → List Entry → ℕ → ℕ → Published → Published → L → L → Type 0
-MakesTurns step opening node zero old new link after = (new ≡ old) × (after ≡ link)
-MakesTurns {L} step opening node (suc n) old new link after =
-    (seen : Published) × (between : L) × (result : Result Outcome TurnFault)
-    × MakesTurns step opening node n old seen link between × IsSharedTurn step opening node seen new between after result
+-- turns, one after another, each as it ends; these are what they gave, the last first
+abbrev pub MakesTurns : {L : Type 0} → (L → List ℕ → Came → L → Type 0) → List Entry → ℕ → List Turn → Published → Published → L → L → Type 0
+MakesTurns step opening node [] old new link after = (new ≡ old) × (after ≡ link)
+MakesTurns {L} step opening node (turn ∷ earlier) old new link after =
+    (seen : Published) × (between : L)
+    × MakesTurns step opening node earlier old seen link between × IsSharedTurn step opening node seen new between after turn
+
+-- one more, where a turn failed
+abbrev pub failures_after : Turn → ℕ → ℕ
+failures_after (Ok outcome) failed = failed
+failures_after (Err fault) failed = failed + 1
+
+abbrev pub failures : List Turn → ℕ
+failures [] = 0
+failures (turn ∷ earlier) = failures_after turn (failures earlier)
+
+-- how many turns were made, and how many of them failed
+abbrev pub count_of : List Turn → TurnCount
+count_of turns = record { made = length turns; failed = failures turns }

@@ -25,6 +25,9 @@ pub enum TurnFault {
     /// K3: the reply is not applied.
     #[error("K3: {0}")]
     Apply(ApplyFault),
+    /// K6: the view has no reading.
+    #[error("K6: no reading")]
+    NoReading,
     /// K9: out of memory.
     #[error("K9: out of memory")]
     Memory,

@@ -1,108 +1,37 @@
-//! A turn of one of the threads that share a publisher.
-ghost use Rattle.std.specs.Prelude.{◌≡◌, ◌++◌, ◌∷◌, ◌<◌, [], IfOk, IfErr, OnErr, length};
-ghost use Rattle.std.specs.Arc.{arc_value};
+//! A thread that follows a node, turn after turn.
+ghost use Rattle.std.specs.Prelude.{◌≡◌, ◌<◌, ◌≤◌, ◌+◌, ◌-◌, ◌^◌, true, List, length};
+ghost use Rattle.std.specs.Result.{is_err};
 ghost use mathlib.Core.List.{IsPrefix};
-ghost use Rattle.druid_inventory.specs.Entry.{Entry};
-ghost use Rattle.druid_inventory.specs.Step.{StepsAt};
-ghost use Rattle.druid_published.specs.Fold.{Published, fold_of};
-ghost use Rattle.druid_follow.specs.Turns.{TakesSharedTurn, FailsSharedTurn, MakesTurns};
-ghost use Rattle.druid_follow.specs.Refused.{RefusesTurn};
+ghost use Rattle.druid_follow.specs.Turns.{Turn, IsSharedTurn, MakesTurns, count_of, failures_after};
+ghost use Rattle.druid_follow.specs.Rests.{next_rest};
 
 use crate::TurnFault;
-use crate::turns::{fetch, publish_reply};
-use druid_inventory::{Inventory, Outcome};
+use crate::rest::next_rest;
+use crate::shared::shared_turn;
+use crate::turn_count::TurnCount;
+use druid_inventory::Outcome;
 use druid_link::Link;
-use druid_published::{Publication, Publisher, Receipt, View};
-use druid_shard::{NodeNo, Reply};
+use druid_published::{Publication, Publisher, View};
+use druid_shard::NodeNo;
 use std::alloc::Global;
-use std::sync::{Arc, Mutex, Wait};
+use std::sync::{Mutex, Wait};
+use std::thread;
+use std::time::{Clock, Duration};
 
-// What the view reads. It has no reading where memory runs out to show it one.
-fn read_by<J: Publication>(view: &mut View<J>) -> Result<Arc<Inventory, Global>, TurnFault>
-    ensures prefix { IsPrefix view.old view.new }
-    ensures ok { IfOk result (λ found. arc_value found ≡ fold_of J.opening view.new) }
-    ensures nodes { IfOk result (λ found. length (arc_value found) ≡ length J.opening) }
-    ensures err { IfErr result (λ fault. fault ≡ TurnFault.Memory) }
-    ensures stays { OnErr result (view.new ≡ view.old) }
+// One more, where a turn failed.
+fn failures_after(turn: &Result<Outcome, TurnFault>, failed: u64) -> u64
+    requires { failed < 2 ^ 64 - 1 }
+    ensures count { result ≡ failures_after turn.now failed }
+    ensures few { result ≤ failed + 1 }
 {
-    match view.read() {
-        Ok(inventory) => Ok(inventory),
-        Err(_) => Err(TurnFault::Memory),
+    match turn {
+        Ok(_) => failed,
+        Err(_) => failed + 1,
     }
 }
 
-// What a publisher has is what its list makes of the opening inventory.
-fn inventory_is_fold<J: Publication, R: Wait + Drop>(publisher: &Publisher<J, R>)
-    ensures fold { publisher.now.inventory ≡ fold_of J.opening publisher.now.published }
-{
-    let _ = publisher.inventory();
-}
-
-fn publish_newer<J: Publication, R: Wait + Drop>(
-    node: NodeNo,
-    reply: &Reply,
-    publisher: &mut Publisher<J, R>,
-) -> Result<(Outcome, Receipt<J>), TurnFault>
-    requires { node < length J.opening }
-    ensures ok { IfOk result (λ r. (before : Published) × (entry : Entry) × StepsAt (fold_of J.opening before) node reply.now r.0 entry
-        × (r.1 ≡ before ++ (node, reply.now) ∷ [])) }
-    ensures err { IfErr result (λ fault. (before : Published) × RefusesTurn (fold_of J.opening before) node reply.now fault) }
-{
-    inventory_is_fold(publisher);
-    publish_reply(node, reply, publisher)
-}
-
-// The same under the lock.
-fn publish_locked<W: Wait, J: Publication, R: Wait + Drop>(
-    rt: &W,
-    node: NodeNo,
-    reply: &Reply,
-    publisher: &Mutex<Publisher<J, R>>,
-) -> Result<(Outcome, Receipt<J>), TurnFault>
-    requires { node < length J.opening }
-    ensures ok { IfOk result (λ r. (before : Published) × (entry : Entry) × StepsAt (fold_of J.opening before) node reply.now r.0 entry
-        × (r.1 ≡ before ++ (node, reply.now) ∷ [])) }
-    ensures err { IfErr result (λ fault. (before : Published) × RefusesTurn (fold_of J.opening before) node reply.now fault) }
-{
-    let mut publisher = publisher.lock(rt);
-    publish_newer(node, reply, &mut publisher)
-}
-
-/// A turn of one of the threads that share a publisher: fetches what changed of a node by what the view reads, page by page where it
-/// is sent so, in at most 11 exchanges, while nothing waits for the publisher; publishes it under the lock; and tells the view the
-/// receipt. K3 where the reply is not applied, K9 where the view has no reading, and else the faults of `fetch`, K5 of a page that is
-/// lost among them; then what is published stays as it was.
-pub fn shared_turn<W: Wait, J: Publication, R: Wait + Drop, L: Link>(
-    rt: &W,
-    alloc: Global,
-    node: NodeNo,
-    view: &mut View<J>,
-    link: &mut L,
-    publisher: &Mutex<Publisher<J, R>>,
-) -> Result<Outcome, TurnFault>
-    requires { node < length J.opening }
-    ensures ok { IfOk result (TakesSharedTurn L.exchanges J.opening node view.old view.new link.old link.new) }
-    ensures err { IfErr result (FailsSharedTurn L.exchanges J.opening node view.old view.new link.old link.new) }
-    ensures view { IsPrefix view.old view.new }
-{
-    let inventory = match read_by(view) {
-        Ok(inventory) => inventory,
-        Err(fault) => return Err(fault),
-    };
-    let reply = match fetch(alloc, &inventory, node, link) {
-        Ok(reply) => reply,
-        Err(fault) => return Err(fault),
-    };
-    match publish_locked(rt, node, &reply, publisher) {
-        Ok((outcome, receipt)) => {
-            view.learn(&receipt);
-            Ok(outcome)
-        }
-        Err(fault) => Err(fault),
-    }
-}
-
-/// Follows a node: makes so many turns, one after another. One that fails leaves what is published as it was, and the next asks again.
+/// Follows a node: makes so many turns, one after another, and gives how many it made and how many of them failed. One that fails
+/// leaves what is published as it was, and the next asks again.
 pub fn follow<W: Wait, J: Publication, R: Wait + Drop, L: Link>(
     rt: &W,
     alloc: Global,
@@ -111,12 +40,67 @@ pub fn follow<W: Wait, J: Publication, R: Wait + Drop, L: Link>(
     view: &mut View<J>,
     link: &mut L,
     publisher: &Mutex<Publisher<J, R>>,
-)
+) -> TurnCount
     requires { node < length J.opening }
-    ensures turns { MakesTurns L.exchanges J.opening node turns view.old view.new link.old link.new }
+    ensures turns { (gave : List Turn) × MakesTurns L.exchanges J.opening node gave view.old view.new link.old link.new
+        × (length gave ≡ turns) × (result ≡ count_of gave) }
     ensures view { IsPrefix view.old view.new }
 {
+    let mut failed = 0;
     for _turn in 0..turns {
-        let _ = shared_turn(rt, alloc, node, view, link, publisher);
+        let turn = shared_turn(rt, alloc, node, view, link, publisher);
+        failed = failures_after(&turn, failed);
     }
+    TurnCount {
+        made: turns,
+        failed,
+    }
+}
+
+// A rest of so many milliseconds and a turn: how long the next rest is.
+fn turn_after<W: Wait + Clock, J: Publication, R: Wait + Drop, L: Link>(
+    rt: &W,
+    alloc: Global,
+    node: NodeNo,
+    every: u64,
+    rest: u64,
+    view: &mut View<J>,
+    link: &mut L,
+    publisher: &Mutex<Publisher<J, R>>,
+) -> u64
+    requires { node < length J.opening }
+    ensures { (turn : Turn) × IsSharedTurn L.exchanges J.opening node view.old view.new link.old link.new turn
+        × (result ≡ next_rest rest every (is_err turn)) }
+{
+    thread::sleep(rt, Duration::from_millis(rest));
+    let turn = shared_turn(rt, alloc, node, view, link, publisher);
+    next_rest(rest, every, turn.is_err())
+}
+
+/// Follows a node for ever, or until `ends` says so: that is asked first, and after it come a rest of `every` milliseconds and a turn,
+/// again and again. After a turn that failed the rests grow, as `next_rest` says. One that fails leaves what is published as it was.
+pub fn follow_on<W: Wait + Clock, J: Publication, R: Wait + Drop, L: Link, F: Fn() -> bool>(
+    rt: &W,
+    alloc: Global,
+    node: NodeNo,
+    every: u64,
+    view: &mut View<J>,
+    link: &mut L,
+    publisher: &Mutex<Publisher<J, R>>,
+    ends: F,
+)
+    requires node { node < length J.opening }
+    requires ends { F.IsAlwaysCallable ends }
+    ensures ended { F.post ends true }
+    ensures turns { (gave : List Turn) × MakesTurns L.exchanges J.opening node gave view.old view.new link.old link.new }
+    ensures view { IsPrefix view.old view.new }
+{
+    let mut rest = every;
+    for _ in rt.forever() {
+        if ends() {
+            return;
+        }
+        rest = turn_after(rt, alloc, node, every, rest, view, link, publisher);
+    }
+    unreachable!()
 }

@@ -5,8 +5,14 @@ mod exchange;
 mod fault;
 mod following;
 mod paging;
+mod rest;
+mod shared;
+mod turn_count;
 mod turns;
 
 pub use fault::TurnFault;
-pub use following::{follow, shared_turn};
+pub use following::{follow, follow_on};
+pub use rest::{MAX_REST, next_rest};
+pub use shared::shared_turn;
+pub use turn_count::TurnCount;
 pub use turns::{fetch, fetch_entry, seed_turn, sync_turn};

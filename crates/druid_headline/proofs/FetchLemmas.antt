@@ -26,7 +26,7 @@ use Rattle.druid_follow.specs.Turns.{Exchanges, pages_from, Completes, FollowsPa
 use Rattle.druid_follow.specs.declared.fault.TurnFault.{TurnFault}
 use Rattle.druid_world.specs.World.{CameTo, Era, Life, IsHonest, IsLife, IsTruePage, changes_of, eras_of, set_at}
 use Rattle.druid_world.proofs.WorldLemmas.{came_to, from_one}
-use Rattle.druid_headline.specs.Headline.{AnswersHonestly, HasText, HasWords}
+use Rattle.druid_headline.specs.Headline.{AnswersHonestly, HasText, HasWords, Leads}
 use Rattle.druid_headline.proofs.HonestLemmas.{same_ok}
 
 -- ---- the numbers of the asks for pages
@@ -91,23 +91,52 @@ reported_few step request old new reply is = let read = is.reported.4 in form_fe
 
 -- ---- links
 
--- what holds from a state of a link on holds after an exchange
-onward : {L : Type 0} (step : L → List ℕ → Came → L → Type 0) (request : Ask → RequestValue) (life : Life) (sent : RequestValue) (old new : L) (answer : Result Body TurnFault)
-    → AnswersHonestly step request life old → IsReported step sent old new answer → AnswersHonestly step request life new
-onward step request life sent old new answer honest is more ask between next reply leads text reported =
-    honest (request_text sent ∷ more) ask between next reply (is.came, new, is.made, leads) text reported
+module _ {L : Type 0} (step : L → List ℕ → Came → L → Type 0) where
+  -- what holds on the way to the end holds on what is left of it after an exchange
+  onward : (request : Ask → RequestValue) (life : Life) (sent : RequestValue) (old new end : L) (answer : Result Body TurnFault)
+      → AnswersHonestly step request life old end → IsReported step sent old new answer → AnswersHonestly step request life new end
+  onward request life sent old new end answer honest is more later ask before after reply leads text reported rest =
+      honest (request_text sent ∷ more) later ask before after reply (is.came, new, is.made, leads) text reported rest
+
+  exchanges_lead : (made : List (RequestValue × Body)) (old new : L) → Exchanges step made old new → (sent : List (List ℕ)) × Leads step sent old new
+  exchanges_lead [] old new same = ([], same)
+  exchanges_lead (first ∷ rest) old new (between, is, more) =
+      let led = exchanges_lead rest between new more in (request_text first.0 ∷ led.0, (is.came, between, is.made, led.1))
+
+  follows_lead : (request : Ask → RequestValue) (first : Body) (old new : L) (reply : Body) → FollowsPages step request first old new (Ok reply)
+      → (sent : List (List ℕ)) × Leads step sent old new
+  follows_lead request (bodies.Page at zero of segments) old new reply (rest, set, is, made, snapshot) = exchanges_lead (pages_from request at of 1 rest) old new made
+  follows_lead request (bodies.Page at (suc page) of segments) old new reply h = absurd (no_shape h.0)
+  follows_lead request (bodies.Delta from to changes) old new reply h = ([], h.1)
+  follows_lead request (bodies.Snapshot at ds) old new reply h = ([], h.1)
+  follows_lead request (bodies.Reset cause at) old new reply h = ([], h.1)
+
+  asked_lead : (request : Ask → RequestValue) (ask : Ask) (old new : L) (reply : Body) → IsAsked step request ask old new (Ok reply)
+      → (sent : List (List ℕ)) × Leads step sent old new
+  asked_lead request ask old new reply (inl failed) = absurd (no_shape failed.1)
+  asked_lead request ask old new reply (inr (between, first, is, follows)) =
+      let led = follows_lead request first between new reply follows in (request_text (request ask) ∷ led.0, (is.came, between, is.made, led.1))
+
+  -- what fetches a reply leads to its end
+  pub fetched_lead : (ask : Ask) (old new : L) (reply : Body) → IsFetched step ask old new (Ok reply) → (sent : List (List ℕ)) × Leads step sent old new
+  fetched_lead ask old new reply (inl failed) = absurd (no_shape failed.1)
+  fetched_lead ask old new reply (inr (inl (between, first, is, goes_on, follows))) =
+      let led = follows_lead ask_request first between new reply follows in (request_text (ask_request ask) ∷ led.0, (is.came, between, is.made, led.1))
+  fetched_lead ask old new reply (inr (inr (between, first, is, again, all))) =
+      let led = asked_lead ask_request asks.Whole between new reply all in (request_text (ask_request ask) ∷ led.0, (is.came, between, is.made, led.1))
 
 -- ---- pages
 
 -- each page that came is one of the set
 pages_are : {L : Type 0} (step : L → List ℕ → Came → L → Type 0) (life : Life) (request : Ask → RequestValue) (at : Point) (of page : ℕ) (rest : List (List Described)) (old new : L)
-    → AnswersHonestly step request life old → IsWord at × (1 ≤ at.incarnation) → page + length rest ≤ 65_535
+    → AnswersHonestly step request life old new → IsWord at × (1 ≤ at.incarnation) → page + length rest ≤ 65_535
     → Exchanges step (pages_from request at of page rest) old new → (ds : List Described) → set_at (eras_of life) at ≡ Some ds
     → (i : ℕ) (segments : List Described) → slice_get (map Some rest) i ≡ Some (Some segments) → segments ≡ page_at ds (page + i)
 pages_are step life request at of page [] old new honest word low made ds there i segments got = absurd (none-some (Some segments) got)
 pages_are step life request at of page (s ∷ rest) old new honest word low made ds there zero segments got =
     let small : page ≤ 65_535 = omega (arith, low) in
-    let true_page = honest [] (asks.Page at page) old made.0 (bodies.Page at page of s) refl (word.0, word.1, small) made.1 in
+    let led = exchanges_lead step (pages_from request at of (suc page) rest) made.0 new made.2 in
+    let true_page = honest [] led.0 (asks.Page at page) old made.0 (bodies.Page at page of s) refl (word.0, word.1, small) made.1 led.1 in
     let sets : true_page.set ≡ ds = same_Some true_page.set ds (sym true_page.there ∙ there) in
     let here : s ≡ segments = same_Some s segments (same_Some (Some s) (Some segments) got) in
     let at_page : page ≡ page + 0 = omega arith in
@@ -115,13 +144,13 @@ pages_are step life request at of page (s ∷ rest) old new honest word low made
 pages_are step life request at of page (s ∷ rest) old new honest word low made ds there (suc i) segments got =
     let at_page : suc page + i ≡ page + suc i = omega arith in
     let less : suc page + length rest ≤ 65_535 = omega (arith, low) in
-    let after = onward step request life (request (asks.Page at page)) old made.0 (Ok (bodies.Page at page of s)) honest made.1 in
+    let after = onward step request life (request (asks.Page at page)) old made.0 new (Ok (bodies.Page at page of s)) honest made.1 in
     pages_are step life request at of (suc page) rest made.0 new after word less made.2 ds there i segments got ∙ ap (page_at ds) at_page
 
 -- the snapshot that pages are put together to is that of the set
 completes_true : {L : Type 0} (step : L → List ℕ → Came → L → Type 0) (life : Life) → IsLife life → HasWords life
     → (request : Ask → RequestValue) (at : Point) (of : ℕ) (first : List Described) (old new : L) (reply : Body)
-    → AnswersHonestly step request life old → of ≤ max_pages
+    → AnswersHonestly step request life old new → of ≤ max_pages
     → IsHonest (eras_of life) (bodies.Page at 0 of first) → Completes step request at of first old new (Ok reply) → IsHonest (eras_of life) reply
 completes_true step life valid words request at of first old new reply honest few start (rest, set, is, made, snapshot) =
     subst (IsHonest (eras_of life)) (sym snapshot) (subst (λ (s : List Described). set_at (eras_of life) at ≡ Some s) (sym same) start.there) where
@@ -154,7 +183,7 @@ completes_true step life valid words request at of first old new reply honest fe
       same = set_is_whole start.set set parts are is.whole
 
 follows_true : {L : Type 0} (step : L → List ℕ → Came → L → Type 0) (life : Life) → IsLife life → HasWords life
-    → (request : Ask → RequestValue) (first : Body) (old new : L) (reply : Body) → AnswersHonestly step request life old → IsOfFew first
+    → (request : Ask → RequestValue) (first : Body) (old new : L) (reply : Body) → AnswersHonestly step request life old new → IsOfFew first
     → IsHonest (eras_of life) first → FollowsPages step request first old new (Ok reply) → IsHonest (eras_of life) reply
 follows_true step life valid words request (bodies.Page at zero of segments) old new reply honest few start h =
     completes_true step life valid words request at of segments old new reply honest few start h
@@ -167,33 +196,34 @@ follows_true step life valid words request (bodies.Reset cause at) old new reply
 
 -- an ask whose reply came, and what it leads to
 led_true : {L : Type 0} (step : L → List ℕ → Came → L → Type 0) (life : Life) → IsLife life → HasWords life
-    → (request : Ask → RequestValue) (ask : Ask) (old between new : L) (first reply : Body) → AnswersHonestly step request life old → HasText ask
+    → (request : Ask → RequestValue) (ask : Ask) (old between new : L) (first reply : Body) → AnswersHonestly step request life old new → HasText ask
     → IsReported step (request ask) old between (Ok first) → FollowsPages step request first between new (Ok reply) → IsHonest (eras_of life) reply
 led_true step life valid words request ask old between new first reply honest text came follows =
+    let led = follows_lead step request first between new reply follows in
     follows_true step life valid words request first between new reply
-    (onward step request life (request ask) old between (Ok first) honest came)
+    (onward step request life (request ask) old between new (Ok first) honest came)
     (reported_few step (request ask) old between first came)
-    (honest [] ask old between first refl text came) follows
+    (honest [] led.0 ask old between first refl text came led.1) follows
 
 pub asked_true : {L : Type 0} (step : L → List ℕ → Came → L → Type 0) (life : Life) → IsLife life → HasWords life
-    → (request : Ask → RequestValue) (ask : Ask) (old new : L) (reply : Body) → AnswersHonestly step request life old → HasText ask
+    → (request : Ask → RequestValue) (ask : Ask) (old new : L) (reply : Body) → AnswersHonestly step request life old new → HasText ask
     → IsAsked step request ask old new (Ok reply) → IsHonest (eras_of life) reply
 asked_true step life valid words request ask old new reply honest text (inl failed) = absurd (no_shape failed.1)
 asked_true step life valid words request ask old new reply honest text (inr (between, first, came, follows)) =
     led_true step life valid words request ask old between new first reply honest text came follows
 
 fetched_true : {L : Type 0} (step : L → List ℕ → Came → L → Type 0) (life : Life) → IsLife life → HasWords life
-    → (ask : Ask) (old new : L) (reply : Body) → AnswersHonestly step ask_request life old → HasText ask
+    → (ask : Ask) (old new : L) (reply : Body) → AnswersHonestly step ask_request life old new → HasText ask
     → IsFetched step ask old new (Ok reply) → IsHonest (eras_of life) reply
 fetched_true step life valid words ask old new reply honest text (inl failed) = absurd (no_shape failed.1)
 fetched_true step life valid words ask old new reply honest text (inr (inl (between, first, came, goes_on, follows))) =
     led_true step life valid words ask_request ask old between new first reply honest text came follows
 fetched_true step life valid words ask old new reply honest text (inr (inr (between, first, came, again, all))) =
     asked_true step life valid words ask_request asks.Whole between new reply
-    (onward step ask_request life (ask_request ask) old between (Ok first) honest came) tt all
+    (onward step ask_request life (ask_request ask) old between new (Ok first) honest came) tt all
 
 pub fetched_from_true : {L : Type 0} (step : L → List ℕ → Came → L → Type 0) (life : Life) → IsLife life → HasWords life
-    → (inventory : List Entry) (node : ℕ) (entry : Entry) (old new : L) (reply : Body) → AnswersHonestly step ask_request life old
+    → (inventory : List Entry) (node : ℕ) (entry : Entry) (old new : L) (reply : Body) → AnswersHonestly step ask_request life old new
     → slice_get inventory node ≡ Some entry → HasText (ask_of entry.mark)
     → IsFetchedFrom step inventory node old new (Ok reply) → IsHonest (eras_of life) reply
 fetched_from_true step life valid words inventory node entry old new reply honest at text (e, got, fetched) =

@@ -5,3 +5,4 @@ pub mod WordLemmas
 pub mod HonestLemmas
 pub mod AskLemmas
 pub mod FetchLemmas
+mod SocketLemmas

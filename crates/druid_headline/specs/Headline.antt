@@ -1,6 +1,6 @@
 -- What a user of a broker relies on: what nodes serve in a world at the marks at which the broker stands, and the rows that are
 -- visible there.
-use Rattle.std.specs.Prelude.{◌≡◌, ◌<◌, ◌≤◌, ◌^◌, ⊤, ℕ, Bool, true, false, List, [], ◌∷◌, length, slice_get, Some, Ok, Contains, ◌↔◌, codes, bytes_eq}
+use Rattle.std.specs.Prelude.{◌≡◌, ◌<◌, ◌≤◌, ◌^◌, ◌==◌, ⊤, ℕ, Bool, true, false, if◌then◌else◌, List, [], ◌∷◌, ◌++◌, length, slice_get, Some, Ok, Contains, ◌↔◌, codes, bytes_eq}
 use Rattle.std.specs.List.{AllByRecursion}
 use Rattle.druid_changes.specs.Kept.{StandsFor, frozen_count}
 use Rattle.druid_shard.specs.Described.{Described, IsDescribed}
@@ -20,13 +20,15 @@ use Rattle.druid_scan.specs.Once.{HaveOwnSegments, segment_named}
 use Rattle.druid_partial.specs.Partials.{kinds_of}
 use Rattle.druid_partial_text.specs.Written.{result_text}
 use Rattle.druid_partial_text.specs.Answers.{shortfall_text}
+use Rattle.druid_link.specs.Exchanged.{Exchanged}
 use Rattle.druid_link.specs.Links.{Came}
 use Rattle.druid_message.specs.Requests.{RequestValue, path_of}
+use Rattle.druid_wire.specs.Written.{request_text}
 use Rattle.druid_node.specs.State.{State}
-use Rattle.druid_scatter.specs.Gathered.{Exchange, AreMade}
+use Rattle.druid_scatter.specs.Gathered.{Exchange, AreMade, request_for}
 use Rattle.druid_scatter.specs.Exact.{IsHonest, Sees, counted_visible}
 use Rattle.druid_broker.specs.Routes.{query, route_of}
-use Rattle.druid_follow.specs.Turns.{IsReported}
+use Rattle.druid_follow.specs.Turns.{IsAnswerTo, IsReported}
 use Rattle.druid_world.specs.World.{Life, eras_of, set_at}
 use Rattle.druid_world.specs.World as replies
 
@@ -84,11 +86,23 @@ abbrev pub Leads : {L : Type 0} → (L → List ℕ → Came → L → Type 0) �
 Leads step [] old new = new ≡ old
 Leads {L} step (bytes ∷ rest) old new = (came : Came) × (between : L) × step old bytes came between × Leads step rest between new
 
--- from this state of a link on, whatever is sent: where a reply comes to an ask, it is honest in this life of a node
-abbrev pub AnswersHonestly : {L : Type 0} → (L → List ℕ → Came → L → Type 0) → (Ask → RequestValue) → Life → L → Type 0
-AnswersHonestly {L} step request life link =
-    (sent : List (List ℕ)) (ask : Ask) (old new : L) (reply : Body) → Leads step sent link old → HasText ask
-    → IsReported step (request ask) old new (Ok reply) → replies.IsHonest (eras_of life) reply
+-- on the way from this state of a link to that: where a reply comes to an ask, it is honest in this life of a node
+abbrev pub AnswersHonestly : {L : Type 0} → (L → List ℕ → Came → L → Type 0) → (Ask → RequestValue) → Life → L → L → Type 0
+AnswersHonestly {L} step request life old new =
+    (sent later : List (List ℕ)) (ask : Ask) (before after : L) (reply : Body) → Leads step sent old before → HasText ask
+    → IsReported step (request ask) before after (Ok reply) → Leads step later after new → replies.IsHonest (eras_of life) reply
+
+-- of the exchanges that a link keeps: where a reply came to an ask, it was honest in this life of a node
+abbrev pub WereHonest : (Ask → RequestValue) → Life → List Exchanged → Type 0
+WereHonest request life made =
+    (ask : Ask) (came : Came) (reply : Body) → HasText ask → Contains made (record { request = request_text (request ask); came = came })
+    → IsAnswerTo came (Ok reply) → replies.IsHonest (eras_of life) reply
+
+-- what the link to a node keeps of these exchanges of a query, the newest first
+abbrev pub kept_of : Query → ℕ → List Exchange → List Exchanged
+kept_of asked node [] = []
+kept_of asked node (e ∷ more) =
+    kept_of asked node more ++ (if e.node == node then record { request = request_text (request_for asked e.asked); came = e.came } ∷ [] else [])
 
 -- ---- what a broker answers
 

@@ -1,5 +1,5 @@
 //! The sentences that a user of a broker relies on.
-ghost use Rattle.std.specs.Prelude.{◌≡◌, ◌⊎◌, ℕ, List, Some, Ok, length, map, slice_get};
+ghost use Rattle.std.specs.Prelude.{◌≡◌, ◌⊎◌, ◌++◌, ℕ, List, Some, Ok, length, map, slice_get};
 ghost use Rattle.druid_shard.specs.declared.change.Ask.{Ask};
 ghost use Rattle.druid_shard.specs.declared.change.Ask.TheVariants.{Whole};
 ghost use Rattle.druid_shard.specs.declared.reply.Body.{Body};
@@ -10,19 +10,21 @@ ghost use Rattle.druid_query.specs.Query.{Query};
 ghost use Rattle.druid_query.specs.Read.{IsQuery};
 ghost use Rattle.druid_query.specs.Asked.{Asked};
 ghost use Rattle.druid_query.specs.SubQuery.{IsAsked};
+ghost use Rattle.druid_link.specs.Exchanged.{Exchanged};
+ghost use Rattle.druid_link.specs.TcpLinks.{TcpLinkValue, ExchangesOverTcp};
 ghost use Rattle.druid_message.specs.Requests.{RequestValue};
 ghost use Rattle.druid_wire.specs.Written.{answer_text};
 ghost use Rattle.druid_node.specs.State.{State, IsState};
 ghost use Rattle.druid_node.specs.Routes.{RespondsInTurn, IsReplyTo};
 ghost use Rattle.druid_published.specs.Fold.{Published, fold_of};
-ghost use Rattle.druid_scatter.specs.Gathered.{request_for};
+ghost use Rattle.druid_scatter.specs.Gathered.{Exchange, AreMade, request_for};
 ghost use Rattle.druid_scatter.specs.Exact as pieces;
 ghost use Rattle.druid_follow.specs.Turns.{ask_request, entry_request, IsAnswerTo, IsFetchedFrom};
 ghost use Rattle.druid_follow.specs.Turns as turns;
 ghost use Rattle.druid_broker.specs.Views.{RespondsBy, AnswersUnread};
 ghost use Rattle.druid_world.specs.World.{Life, IsLife, IsWorld, IsHonest, IsInventoryOf, eras_of, marks_of};
 ghost use Rattle.druid_world.specs.Run.{AreHonest};
-ghost use Rattle.druid_headline.specs.Headline.{AreAmong, AnswersHonestly, HasText, HasWords, IsLastOf, IsPosted, IsExactAt};
+ghost use Rattle.druid_headline.specs.Headline.{AreAmong, AnswersHonestly, WereHonest, kept_of, HasText, HasWords, IsLastOf, IsPosted, IsExactAt};
 
 use druid_link::Link;
 
@@ -78,15 +80,32 @@ pub fn asks_are_answered()
         → IsHonest (eras_of life) reply }
 {}
 
-/// What `fetch` answers is honest in a life of the node, and so is what `fetch_entry` answers of a peer, where each ask that is sent
-/// from then on is answered honestly: so is a snapshot put together of pages, each of which was answered at its time, while the node
+/// What `fetch` answers is honest in a life of the node, and so is what `fetch_entry` answers of a peer, where each ask that was sent
+/// in this call was answered honestly: so is a snapshot put together of pages, each of which was answered at its time, while the node
 /// went on.
 pub fn fetched_replies_are_honest<L: Link>()
     ensures fetched { (life : Life) (inventory : List Entry) (node : ℕ) (entry : Entry) (old new : L) (reply : Body)
-        → IsLife life → HasWords life → AnswersHonestly L.exchanges ask_request life old
+        → IsLife life → HasWords life → AnswersHonestly L.exchanges ask_request life old new
         → slice_get inventory node ≡ Some entry → HasText (ask_of entry.mark)
         → IsFetchedFrom L.exchanges inventory node old new (Ok reply) → IsHonest (eras_of life) reply }
     ensures of_entry { (life : Life) (node : ℕ) (old new : L) (reply : Body)
-        → IsLife life → HasWords life → AnswersHonestly L.exchanges (entry_request node) life old
+        → IsLife life → HasWords life → AnswersHonestly L.exchanges (entry_request node) life old new
         → turns.IsAsked L.exchanges (entry_request node) Whole old new (Ok reply) → IsHonest (eras_of life) reply }
+{}
+
+/// Over sockets: what a call fetched came of exchanges that its link keeps, before those that it had; and what holds of these holds of
+/// the exchanges of the call. So where they were honest, what was fetched is.
+pub fn kept_exchanges_are_of_the_call()
+    ensures kept { (inventory : List Entry) (node : ℕ) (old new : TcpLinkValue) (reply : Body)
+        → IsFetchedFrom ExchangesOverTcp inventory node old new (Ok reply) → (made : List Exchanged) × (new.made ≡ made ++ old.made) }
+    ensures honest { (request : Ask → RequestValue) (life : Life) (old new : TcpLinkValue) (made : List Exchanged)
+        → new.made ≡ made ++ old.made → WereHonest request life made → AnswersHonestly ExchangesOverTcp request life old new }
+{}
+
+/// Of a query over sockets: what the link to a node keeps since is what was exchanged with that node, and nothing else. So an answer for
+/// which nothing was exchanged has no exchanges, and all that was asked for is missing.
+pub fn kept_exchanges_are_of_the_query()
+    ensures { (asked : Query) (exchanges : List Exchange) (old new : List TcpLinkValue) (node : ℕ) (before after : TcpLinkValue)
+        → AreMade ExchangesOverTcp asked exchanges old new → slice_get old node ≡ Some before → slice_get new node ≡ Some after
+        → after.made ≡ kept_of asked node exchanges ++ before.made }
 {}

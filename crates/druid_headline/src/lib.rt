@@ -5,6 +5,6 @@
 mod laws;
 
 pub use laws::{
-    asks_are_answered, fetched_replies_are_honest, nodes_are_honest, queries_are_exact,
-    readers_agree,
+    asks_are_answered, fetched_replies_are_honest, kept_exchanges_are_of_the_call,
+    kept_exchanges_are_of_the_query, nodes_are_honest, queries_are_exact, readers_agree,
 };

@@ -38,9 +38,9 @@ came_honest life state honest ask text back (Ok bytes) reply is answer =
     (subst (λ (r : RequestValue). RespondsInTurn state state r is.status is.body) (ask_read ask is.request is.rest text is.read) is.responds)
     (subst (λ (b : List ℕ). IsAnswerTo (Ok b) (Ok reply)) is.written answer)
 
-pub link_is_honest : ((ask : Ask) → HasText ask → ask_at (parameters_of ask) ≡ Some ask) → (life : Life) (state : State) → IsHonestNode life state
-    → AnswersHonestly ExchangesWithNode ask_request life state
-link_is_honest back life state honest sent ask old new reply leads text is =
+pub link_is_honest : ((ask : Ask) → HasText ask → ask_at (parameters_of ask) ≡ Some ask) → (life : Life) (state end : State) → IsHonestNode life state
+    → AnswersHonestly ExchangesWithNode ask_request life state end
+link_is_honest back life state end honest sent later ask old new reply leads text is rest =
     let here : old ≡ state = stays sent state old leads in
     came_honest life state honest ask text (back ask text) is.came reply
     (subst (λ (s : State). IfOk is.came (IsAnswered s (request_text (ask_request ask)))) here is.made.1) is.reported

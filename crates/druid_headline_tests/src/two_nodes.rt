@@ -57,7 +57,7 @@ fn node(rt: &impl Abort, alloc: Global, segment: Segment) -> NodeState {
 }
 
 // A node with `v1` of the day.
-fn left(rt: &impl Abort, alloc: Global) -> NodeState {
+pub(crate) fn left(rt: &impl Abort, alloc: Global) -> NodeState {
     let id = segment_id(rt, alloc, "v1", 0, 86_400_000);
     let times = [35_999_999, 36_000_000, 43_199_999, 43_200_000];
     node(rt, alloc, segment(rt, alloc, id, &times))
@@ -70,7 +70,7 @@ fn right(rt: &impl Abort, alloc: Global) -> NodeState {
 }
 
 // An inventory of two nodes, neither of which was synced.
-fn inventory(rt: &impl Abort, alloc: Global) -> Inventory
+pub(crate) fn inventory(rt: &impl Abort, alloc: Global) -> Inventory
     ensures { (names : List (List ℕ)) × (length names ≡ 2) × (result ≡ map fresh names) }
 {
     let first = Name::new(alloc, "n0").expect(rt, "a name");

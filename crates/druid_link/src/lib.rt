@@ -2,6 +2,7 @@
 #![tactic(auto)]
 
 mod link;
+mod log;
 mod memory_link;
 mod tcp_link;
 

@@ -6,6 +6,7 @@ ghost use Rattle.druid_link.specs.Limits.{max_exchange};
 ghost use Rattle.druid_link.specs.Links.{IsLinkFault, faults_at};
 ghost use Rattle.druid_link.specs.TcpLinks.{IsExchanged, fresh_tcp_link, limited};
 
+use crate::log::{Log, Note};
 use crate::{Link, MAX_EXCHANGE};
 use druid_message::WireFault;
 use druid_stream::{MAX_TRIES, is_interrupted};
@@ -27,6 +28,9 @@ const PART: usize = 16_384;
 /// its end. All of them together may take no longer than the limit: after the connecting it is `Read` where the time is
 /// over, or cannot be read, whether the request is being sent or the answer read. Of what the server gives nothing is
 /// claimed but how much it is.
+///
+/// It keeps, for proofs alone, the exchanges that were made over it: of each the request, and what came. So what a caller
+/// does over it is known, and that those exchanges were honest can be a premise.
 #[derive(Drop)]
 pub struct TcpLink<N: Net + Clock> {
     net: N,
@@ -34,6 +38,7 @@ pub struct TcpLink<N: Net + Clock> {
     limit: Duration,
     // How many exchanges failed.
     failed: u64,
+    log: Log,
 }
 
 impl<N: Net + Clock> Model for TcpLink<N> {
@@ -42,11 +47,11 @@ impl<N: Net + Clock> Model for TcpLink<N> {
 
     ghost Value = { TcpLinkValue };
 
-    ghost view = { λ a. record { address = string_bytes a.address; limit = a.limit; failed = a.failed } };
+    ghost view = { λ a. record { address = string_bytes a.address; limit = a.limit; failed = a.failed; made = a.log.made } };
 }
 
 impl<N: Net + Clock> TcpLink<N> {
-    /// A link to the server at this address, whose exchanges may take `EXCHANGE_SECONDS`.
+    /// A link to the server at this address, whose exchanges may take `EXCHANGE_SECONDS`, and over which none was made.
     pub fn new(net: N, address: String) -> TcpLink<N>
         ensures { result ≡ fresh_tcp_link (string_bytes address) }
     {
@@ -55,6 +60,7 @@ impl<N: Net + Clock> TcpLink<N> {
             address,
             limit: Duration::from_secs(EXCHANGE_SECONDS),
             failed: 0,
+            log: Log::new(),
         }
     }
 
@@ -76,7 +82,12 @@ impl<N: Net + Clock> Link for TcpLink<N> {
     ghost faults = { λ link. link.failed };
 
     fn exchange(&mut self, alloc: Global, request: &[u8]) -> Result<Vec<u8>, WireFault> {
-        match ask(alloc, &self.net, self.address.as_str(), self.limit, request) {
+        let came = ask(alloc, &self.net, self.address.as_str(), self.limit, request);
+        self.log = self.log.then(&Note {
+            request,
+            came: &came,
+        });
+        match came {
             Ok(bytes) => Ok(bytes),
             Err(fault) => {
                 self.failed = faults_at(fault, self.failed);

@@ -154,6 +154,10 @@ left_made inventory made node b o new steps is still = made_by inventory made no
 pub still_all : (opening : List Entry) (published : Published) (count : ℕ) → count ≡ length published → IsStill opening published count
 still_all opening published count e = record { same = λ k l. ap (fold_of opening) (take_all k published (omega arith)) }
 
+-- nor beyond what is later
+pub still_later : (opening : List Entry) (published : Published) (count later : ℕ) → IsStill opening published count → count ≤ later → IsStill opening published later
+still_later opening published count later still l = record { same = λ k more. still.same k (omega (arith, l, more)) }
+
 -- one more that changes nothing
 pub still_more : (opening : List Entry) (published : Published) (pair : ℕ × Body) (count : ℕ) → IsStill opening published count
     → step_by (fold_of opening published) pair ≡ fold_of opening published → IsStill opening (published ++ pair ∷ []) count

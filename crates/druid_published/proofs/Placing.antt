@@ -114,6 +114,10 @@ pub either_way : {A B Q : Type 0} (r : Result A B) (P : A → Type 0) (R : B →
 either_way (Ok a) P R m f h = f a m
 either_way (Err b) P R m f h = h b m
 
+pub if_ok_so : {A B : Type 0} (r : Result A B) (P Q : A → Type 0) (R : B → Type 0) → MatchResult r P R → ((a : A) → P a → Q a) → IfOk r Q
+if_ok_so (Ok a) P Q R m f = f a m
+if_ok_so (Err e) P Q R m f = tt
+
 pub if_ok_both : {A B : Type 0} (r : Result A B) (P P' Q : A → Type 0) (R R' : B → Type 0) → MatchResult r P R → MatchResult r P' R' → ((a : A) → P a → P' a → Q a) → IfOk r Q
 if_ok_both (Ok a) P P' Q R R' m m' f = f a m m'
 if_ok_both (Err e) P P' Q R R' m m' f = tt

@@ -11,7 +11,8 @@ pub enum PublishFault {
     /// B1: the reply is not applied.
     #[error("B1: {0}")]
     Apply(ApplyFault),
-    /// B3: there is nothing to read: the publisher is gone, or what the view has seen changed something that is not shown.
+    /// B3: there is nothing to read: the publisher is gone, or memory ran out when what the view has seen was to be shown, and nothing
+    /// was published since.
     #[error("B3: no reading")]
     NoReading,
     /// B9: out of memory.

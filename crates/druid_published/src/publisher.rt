@@ -7,8 +7,8 @@ ghost use Rattle.druid_inventory.specs.Step.{StepsAt, RefusedAt};
 ghost use Rattle.druid_inventory.specs.declared.fault.ApplyFault.{ApplyFault};
 ghost use Rattle.druid_inventory.specs.declared.fault.Outcome.TheVariants.{Moved};
 ghost use Rattle.druid_published.specs.Faults.{publish_fault, TellsPublish};
-ghost use Rattle.druid_published.specs.Places.{known};
-ghost use Rattle.druid_published.specs.Fold.{fold_of, step_by};
+ghost use Rattle.druid_published.specs.Places.{known, IsAlike};
+ghost use Rattle.druid_published.specs.Fold.{IsStill, fold_of, step_by};
 
 use crate::book::Head;
 use crate::fault::PublishFault;
@@ -30,17 +30,44 @@ pub type WriterPlace = Writer<Shown, Shown, Known, OneOpening>;
 // As many as are counted.
 const MOST: u64 = 1 << 62;
 
-// Shows it to the views. Where memory runs out it is left pending, and the next one is shown in its stead.
-fn show<J: Publication, R: Wait>(rt: &R, writer: WriterPlace, shown: Shown) -> (WriterPlace, ())
+// Shows it to the views. Where memory runs out they are shown what they were, and what is shown next stands in its stead.
+fn show<J: Publication, R: Wait>(
+    rt: &R,
+    writer: WriterPlace,
+    shown: Shown,
+) -> (WriterPlace, Result<(), AllocError>)
     requires place { view writer.desk.place ≡ known J.book J.opening }
     requires book { shown.seen.book ≡ J.book }
     requires fold { arc_value shown.inventory ≡ fold_of J.opening shown.seen.log }
-    ensures { view result.0.desk.place ≡ known J.book J.opening }
+    ensures place { view result.0.desk.place ≡ known J.book J.opening }
+    ensures shown { IfOk result.1 (λ _. IsAlike result.0.desk.shown.value shown) }
 {
     let mut writer = writer;
     match writer.append(shown) {
-        Ok(()) => (writer.publish_as::<Looks, R>(rt).0, ()),
-        Err(_) => (writer, ()),
+        Ok(()) => writer.publish_as::<Looks, R>(rt),
+        Err(_) => (writer, Err(AllocError)),
+    }
+}
+
+// Shows the views an inventory with all that was published, where more than they are shown changed something. So none that has seen
+// all of it lacks a reading.
+fn show_late<J: Publication, R: Wait>(
+    rt: &R,
+    writer: WriterPlace,
+    seen: &Receipt<J>,
+    inventory: &Arc<Inventory, Global>,
+) -> (WriterPlace, Result<(), AllocError>)
+    requires place { view writer.desk.place ≡ known J.book J.opening }
+    requires fold { arc_value inventory.now ≡ fold_of J.opening seen.now }
+    ensures place { view result.0.desk.place ≡ known J.book J.opening }
+    ensures shown { IfOk result.1 (λ _. IsStill J.opening seen.now result.0.desk.shown.value.count) }
+{
+    if seen.moved() <= writer.published().count {
+        return (writer, Ok(()));
+    }
+    match Arc::try_clone(inventory) {
+        Ok(inventory) => show::<J, R>(rt, writer, seen.show_with(inventory)),
+        Err(_) => (writer, Err(AllocError)),
     }
 }
 
@@ -141,7 +168,7 @@ impl<J: Publication, R: Wait + Drop> Publisher<J, R> {
     ///
     /// A reply that moves no entry is published, and what is shown stays. Else it waits for those that still read what was
     /// shown before. Room for what is shown is made by `open`; should memory be refused after the step all the same, the
-    /// reply is published, and shown with the next one that moves an entry.
+    /// reply is published, and shown with the next one, whatever that is, or by `show_again`.
     pub fn publish(
         &mut self,
         node: NodeNo,
@@ -222,7 +249,7 @@ impl<J: Publication, R: Wait + Drop> Publisher<J, R> {
         Ok(seen)
     }
 
-    // Publishes a reply of a node that leaves the inventory. What is shown stays.
+    // Publishes a reply of a node that leaves the inventory. What is shown stays, unless it is late.
     fn add_still(&mut self, node: NodeNo, reply: &Reply) -> Result<Receipt<J>, AllocError>
         requires { step_by self.old.inventory (node, reply.now) ≡ self.old.inventory }
         ensures inventory { self.new.inventory ≡ self.old.inventory }
@@ -233,6 +260,8 @@ impl<J: Publication, R: Wait + Drop> Publisher<J, R> {
     {
         let seen = self.still_step(node, reply)?;
         self.seen = seen.again();
+        // Where memory runs out again, the next publish tries once more.
+        let _ = self.show_again();
         Ok(seen)
     }
 
@@ -274,12 +303,43 @@ impl<J: Publication, R: Wait + Drop> Publisher<J, R> {
     {
         let (mine, theirs) = share(self.alloc, inventory)?;
         let (seen, shown) = self.step(node, reply, theirs)?;
-        replace_with(&mut self.writer, &self.rt, |writer, rt| {
+        // Where memory runs out, the next publish shows it.
+        let _ = replace_with(&mut self.writer, &self.rt, |writer, rt| {
             show::<J, R>(rt, writer, shown)
         });
         self.seen = seen.again();
         self.inventory = mine;
         Ok(seen)
+    }
+
+    /// Shows the views all that is published, where memory ran out when it was to be shown; else it does nothing. So a view that had
+    /// no reading has one again. It waits for those that still read what was shown before. B9 where memory runs out again; what is
+    /// published stays in either case.
+    pub fn show_again(&mut self) -> Result<(), PublishFault>
+        ensures same { self.new ≡ self.old }
+        ensures fault { IfErr result (λ fault. fault ≡ PublishFault.Memory) }
+    {
+        let Publisher {
+            rt,
+            seen,
+            inventory,
+            writer,
+            ..
+        } = self;
+        let done = replace_with(writer, &*rt, |writer, rt| {
+            show_late::<J, R>(rt, writer, seen, inventory)
+        });
+        match done {
+            Ok(()) => Ok(()),
+            Err(_) => Err(PublishFault::Memory),
+        }
+    }
+
+    /// A receipt for all that is published. Does not allocate.
+    pub fn receipt(&self) -> Receipt<J>
+        ensures { result ≡ self.now.published }
+    {
+        self.seen.again()
     }
 
     /// The inventory: the fold of what was published. Does not allocate.

@@ -35,6 +35,24 @@ fn publish<R: Abort + Wait + Drop, J: Publication>(
     view.learn(&receipt);
 }
 
+// Shows what is published, where it is not shown.
+fn show_again<R: Abort + Wait + Drop, J: Publication>(
+    rt: &R,
+    alloc: Global,
+    publisher: &mut Publisher<J, R>,
+) {
+    begin(rt, alloc);
+    let shown = end(rt, alloc, publisher.show_again());
+    assert_call(
+        rt,
+        "Publisher::show_again",
+        match shown {
+            Ok(()) => true,
+            Err(fault) => fault == PublishFault::Memory,
+        },
+    );
+}
+
 fn read<J: Publication>(rt: &impl Abort, alloc: Global, view: &mut View<J>, count: u64) {
     begin(rt, alloc);
     let found = end(rt, alloc, view.read());
@@ -87,6 +105,7 @@ fn open_and_publish<R: Abort + Wait + Drop + Copy, J: Publication>(
                 &snapshot(rt, alloc, "v2", 2),
                 2,
             );
+            show_again(rt, alloc, &mut publisher);
             read(rt, alloc, &mut view, 2);
         }
         Err(fault) => assert_call(rt, "open", fault == PublishFault::Memory),

@@ -1,8 +1,8 @@
 //! A broker: the threads that follow the nodes, and those that answer.
-ghost use Rattle.std.specs.Prelude.{◌≡◌, ◌<◌, ◌≤◌, ◌+◌, ◌-◌, ◌^◌, min, if◌then◌else◌, IfOk, OnOk, length, vec_len};
+ghost use Rattle.std.specs.Prelude.{◌≡◌, ◌<◌, ◌≤◌, ◌+◌, ◌-◌, ◌^◌, min, if◌then◌else◌, IfOk, OnOk, List, length, vec_len};
 ghost use Rattle.druid_config.specs.Limits.{max_workers};
 ghost use Rattle.druid_inventory.specs.Entry.{max_nodes};
-ghost use Rattle.druid_follow.specs.Turns.{MakesTurns};
+ghost use Rattle.druid_follow.specs.Turns.{Turn, MakesTurns};
 ghost use mathlib.Core.List.{IsPrefix};
 
 use druid_broker::{Routes, serve_one};
@@ -64,7 +64,8 @@ fn follow_node<R: Wait + Drop, J: Publication, L: Link>(
     turns: u64,
     syncer: &mut Syncer<R, J, L>,
 )
-    ensures { MakesTurns L.exchanges J.opening syncer.old.node turns syncer.old.view syncer.new.view syncer.old.link syncer.new.link }
+    ensures { (gave : List Turn) × MakesTurns L.exchanges J.opening syncer.old.node gave syncer.old.view syncer.new.view syncer.old.link syncer.new.link
+        × (length gave ≡ turns) }
 {
     let Syncer {
         node,
@@ -72,7 +73,7 @@ fn follow_node<R: Wait + Drop, J: Publication, L: Link>(
         link,
         publisher,
     } = syncer;
-    follow(rt, alloc, *node, turns, view, link, publisher);
+    let _ = follow(rt, alloc, *node, turns, view, link, publisher);
 }
 
 // A link to a server at an address.

@@ -1,16 +1,31 @@
-use Rattle.std.proofs.Common.{refl}
-use Rattle.druid_follow.proofs.TurnLemmas.{one_more, turn_ends, turns_go_on}
+use Rattle.std.proofs.Common.{◌∷◌, sym, ap, ◌∙◌, arith}
+use Rattle.druid_follow.specs.Turns.{failures_after}
+use Rattle.druid_follow.proofs.TurnLemmas.{turn_ends, turns_go_on}
 use Rattle.druid_follow.proofs.following.follow.Goals as goal
-
-pub loop-turn-init : goal.loop-turn-init
-loop-turn-init g c = (refl, refl)
 
 pub loop-turn-preserved : goal.loop-turn-preserved
 loop-turn-preserved g c =
-    one_more g.L.Link.exchanges g.J.Publication.opening c.args.node c.loop-turn._turn c.args.view.now c.loop-turn.view c.shared_turn.new.view c.args.link.now c.loop-turn.link c.shared_turn.new.link
-    c.shared_turn.result c.loop-turn.invariant
-    (turn_ends g.L.Link.exchanges g.J.Publication.opening c.args.node c.loop-turn.view c.shared_turn.new.view c.loop-turn.link c.shared_turn.new.link c.shared_turn.result c.shared_turn.ensures.ok c.shared_turn.ensures.err)
+    let so_far = c.loop-turn.invariant.turns in
+    let turn = c.shared_turn-turn.result in
+    let count = so_far.2 in
+    let few = c.loop-turn.invariant.few in
+    let one = c.failures_after-failed.ensures.few in record {
+      turns = (
+        turn ∷ so_far.0,
+        (
+          c.loop-turn.view,
+          c.loop-turn.link,
+          so_far.1,
+          turn_ends g.L.Link.exchanges g.J.Publication.opening c.args.node c.loop-turn.view c.shared_turn-turn.new.view c.loop-turn.link c.shared_turn-turn.new.link turn
+              c.shared_turn-turn.ensures.ok c.shared_turn-turn.ensures.err,
+        ),
+        omega (arith, count),
+        ap (failures_after turn) so_far.3 ∙ sym {b = failures_after turn c.loop-turn.failed} c.failures_after-failed.ensures.count,
+      );
+      few = omega (arith, few, one);
+    }
 
 pub returns-clause-view : goal.returns-clause-view
 returns-clause-view g c =
-    turns_go_on g.L.Link.exchanges g.J.Publication.opening c.args.node c.loop-turn._turn c.args.view.now c.loop-turn.view c.args.link.now c.loop-turn.link c.loop-turn.invariant
+    let so_far = c.loop-turn.invariant.turns in
+    turns_go_on g.L.Link.exchanges g.J.Publication.opening c.args.node so_far.0 c.args.view.now c.loop-turn.view c.args.link.now c.loop-turn.link so_far.1

@@ -9,7 +9,7 @@ use Rattle.druid_headline_tests.proofs.laws.fetches_are_honest.Goals as goal
 pub returns : goal.returns
 returns c life inventory number entry old new reply valid words last at text fetched =
     c.fetched_replies_are_honest.ensures.fetched life inventory number entry old new reply valid words
-    (link_is_honest back life old (λ ask status body reply. c.asks_are_answered.ensures.honest life old old ask status body reply valid last)) at text fetched where
+    (link_is_honest back life old new (λ ask status body reply. c.asks_are_answered.ensures.honest life old old ask status body reply valid last)) at text fetched where
       back : (ask : Ask) → HasText ask → ask_at (parameters_of ask) ≡ Some ask
       back Whole text = c.asks_are_read_back.ensures.whole
       back (Since m) text = c.asks_are_read_back.ensures.since m text.0 text.1

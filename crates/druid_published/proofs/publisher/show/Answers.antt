@@ -1,9 +1,9 @@
-use Rattle.std.proofs.Common.{◌≡◌, drop, sym, ap, ◌∙◌, refl, subst}
+use Rattle.std.proofs.Common.{◌≡◌, drop, IfOk, sym, ap, ◌∙◌, refl, subst}
 use Rattle.left_right.specs.Sides.{view}
-use Rattle.druid_published.specs.Places.{known}
+use Rattle.druid_published.specs.Places.{known, IsAlike}
 use Rattle.druid_published.specs.declared.rule.Known.{Known}
 use Rattle.druid_published.specs.declared.shown.Shown.{Shown}
-use Rattle.druid_published.proofs.Placing.{state_of, shows, names_same, sets, either_way}
+use Rattle.druid_published.proofs.Placing.{State, state_of, shows, names_same, sets, either_way, if_ok_so}
 use Rattle.druid_published.proofs.publisher.show.Goals as goal
 use Rattle.druid_published.proofs.publisher.show.Goals.{in-Ok, in-Err}
 
@@ -14,11 +14,23 @@ publish_as-requires g c next is = let now = c.append.new.self.desk.shown.value i
     (sets (λ s x. state_of x) (λ s x. refl) (state_of now) (drop c.args.writer.behind c.args.writer.log.items) (drop c.append.new.self.behind c.append.new.self.log.items) c.args.shown (state_of next) c.in-Ok.ensures.pending is)
     c.requires.book c.requires.fold
 
-pub returns : goal.returns
-returns g c =
+pub returns-clause-place : goal.returns-clause-place
+returns-clause-place g c =
     let is = ap (λ d. view {T = Shown} {V = Known} d.place) c.append.ensures.desk ∙ c.requires.place in
     let named = known g.J.Publication.book g.J.Publication.opening in elim c.match-append.branch [
       | in-Ok w ↦ subst (λ r. view {T = Shown} {V = Known} r.0.desk.place ≡ named) (sym w.result-is)
           (either_way w.publish_as.result.1 _ _ w.publish_as.ensures.rule (λ a p. names_same _ _ _ w.publish_as.result.0.desk.shown.value _ is p ∙ is) (λ b p. p ∙ is))
       | in-Err w ↦ subst (λ r. view {T = Shown} {V = Known} r.0.desk.place ≡ named) (sym w.result-is) is
     ]
+
+pub returns-clause-shown : goal.returns-clause-shown
+returns-clause-shown g c = elim c.match-append.branch [
+  | in-Ok w ↦
+      let now = c.append.new.self.desk.shown.value in
+      let then = w.publish_as.result.0.desk.shown.value in
+      subst (λ r. IfOk r.1 (λ _. IsAlike r.0.desk.shown.value c.args.shown)) (sym w.result-is)
+      (if_ok_so w.publish_as.result.1 _ _ _ w.publish_as.ensures.values (λ a p.
+      let set : state_of then ≡ state_of c.args.shown = sets (λ s x. state_of x) (λ s x. refl) (state_of now) (drop c.args.writer.behind c.args.writer.log.items) (drop c.append.new.self.behind c.append.new.self.log.items) c.args.shown (state_of then) w.in-Ok.ensures.pending p.0 in
+      (ap (λ (s : State). s.0) set, ap (λ (s : State). s.1) set)))
+  | in-Err w ↦ subst (λ r. IfOk r.1 (λ _. IsAlike r.0.desk.shown.value c.args.shown)) (sym w.result-is) tt
+]

@@ -1,0 +1,43 @@
+ghost use Rattle.std.specs.Prelude.{◌≡◌, List, [], ◌∷◌};
+ghost use Rattle.std.specs.Borrow.{ftrue};
+ghost use Rattle.druid_link.specs.Exchanged.{Exchanged};
+
+use druid_message::WireFault;
+use std::marker::Model;
+
+// The exchanges that were made over a link, the newest first. Only proofs read it: it takes no room, and its methods do nothing
+// at run time. That a note tells what was sent and what came is the author's word, which tests check over a double of the network.
+#[derive(Drop)]
+pub(crate) struct Log {
+    pub ghost made: { List Exchanged },
+}
+
+impl Model for Log {
+    ghost also_owns = { λ _. ftrue };
+}
+
+// It owns nothing.
+unsafe impl Send for Log {}
+
+// An exchange: the request, and what came.
+#[derive(Clone, Copy, Drop)]
+pub(crate) struct Note<'a> {
+    pub request: &'a [u8],
+    pub came: &'a Result<Vec<u8>, WireFault>,
+}
+
+impl Log {
+    ghost use Rattle.druid_link.specs.Noted.{exchange_of};
+
+    pub(crate) fn new() -> Log
+        ensures { result.made ≡ [] }
+    {
+        Log {}
+    }
+
+    pub(crate) fn then(&self, _note: &Note<'_>) -> Log
+        ensures { result.made ≡ exchange_of _note.now ∷ self.now.made }
+    {
+        Log {}
+    }
+}
