@@ -45,6 +45,8 @@ def interrupt(copy, words, seconds):
     if pid == 0:
         os.chdir(copy)
         os.environ['TMPDIR'] = temporary
+        # What is started in the background of a shell ignores Ctrl-C, and what it starts does too.
+        signal.signal(signal.SIGINT, signal.SIG_DFL)
         os.execv('./druid_cluster', ['./druid_cluster', *words, 'examples/cluster/console.json'])
     time.sleep(seconds)
     os.write(terminal, b'\x03')
