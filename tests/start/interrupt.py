@@ -5,7 +5,8 @@ interrupt.py [RUNS] [SEED]     8 runs of each kind unless said otherwise: `previ
                                and `serve` that proves
 
 Each run starts the launcher at a terminal of its own, over a copy of the repository in which nothing is built, presses Ctrl-C, and
-compares: the launcher ends within 5 seconds, no process of it is left, and the folder for temporary files is empty again.
+compares: the launcher ends within 15 seconds, of which a disk that discards what is freed takes some to remove the sources, no process
+of it is left, and the folder for temporary files is empty again.
 """
 import os, pty, random, shutil, signal, subprocess, sys, tempfile, time
 
@@ -51,7 +52,7 @@ def interrupt(copy, words, seconds):
     time.sleep(seconds)
     os.write(terminal, b'\x03')
     left = []
-    if wait_for(pid, 5) is None:
+    if wait_for(pid, 15) is None:
         left.append('the launcher goes on')
         os.kill(pid, signal.SIGKILL)
         os.waitpid(pid, 0)
