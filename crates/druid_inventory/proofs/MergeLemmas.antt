@@ -89,7 +89,7 @@ none_more segments i d id l = (
 
 -- ---- what goes
 
--- of the identifiers of the first i segments those of the set have gathered behind those that stay
+-- of the identifiers of the first i segments those of the set have gathered after those that stay
 pub record TakenTo (s items segments : List Described) (i kept gone : ℕ) : Type 0 where
   pub K : List Described
   pub H : List Described
@@ -572,7 +572,7 @@ loaded_none cs last segments loads empty = record {
   before = λ x k d c. absurd (Contains-nil x (subst (λ (ds : List Described). Contains ds x) empty c));
 }
 
--- one that loads comes behind those before it
+-- one that loads comes after those before it
 pub loaded_more : (cs : List Change) (last : List ℕ) (segments loads now : List Described) (i : ℕ) (c : Change) (d : Described) → AreLast cs last segments → LoadedTo cs last segments loads i
     → i < length last → c ≡ get_or cs (get_or last i 0) c → c ≡ Load d → now ≡ loads ++ d ∷ [] → LoadedTo cs last segments now (i + 1)
 loaded_more cs last segments loads now i c d l h within here is made = record {

@@ -51,7 +51,7 @@ fn exchange_parts(set: &mut Vec<Descriptor>, from: usize, middle: usize, to: usi
     exchange_slices(set, from, middle, to);
 }
 
-// Takes the segments out of a set of which a change at these places is. Those that go gather behind those that stay.
+// Takes the segments out of a set of which a change at these places is. Those that go gather after those that stay.
 pub(crate) fn take_out(set: &mut Vec<Descriptor>, changes: &[Change], last: &[u16])
     requires set { IsSegmentSet set.old.items }
     requires last { (segments : List Described) × AreLast changes.now last.now segments }

@@ -1,4 +1,4 @@
-//! What is held of a source while much of it changes: what is visible is told once, after all edits.
+//! What is held of a source while much of it changes: what is visible is made once, after all edits.
 ghost use Rattle.std.specs.Prelude.{◌≡◌, ◌≤◌, ◌+◌, ◌*◌, ◌↔◌, List, [], length, IsTrue, IfOk, OnOk, OnErr};
 ghost use Rattle.druid_segid.specs.Group.{Group};
 ghost use Rattle.druid_timeline.specs.Holding.{held_of, HoldsNothing, HasComplete, IsHeld, IsServed, AddsHeld, RemovesHeld, RemovesOneHeld, SameHeld};
