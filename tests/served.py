@@ -50,10 +50,12 @@ def write_segments(folder, segments, by_columns=False):
 
 
 class Cluster:
-    """Nodes over folders and one broker that follows them, in one process; it answers until it is ended."""
+    """Nodes over folders and one broker that follows them, in one process; it answers until it is ended. With `every` it goes on, and its
+    nodes look at their folders each `watch` milliseconds."""
 
-    def __init__(self, folder, held, workers=2, broker_workers=4, turns=1, environment=None, prefix=()):
+    def __init__(self, folder, held, workers=2, broker_workers=4, turns=1, environment=None, prefix=(), every=None, watch=None):
         self.folder, self.process = folder, None
+        self.errors = subprocess.DEVNULL if every else None
         self.broker, *self.nodes = free_ports(1 + len(held))
         for number, segments in enumerate(held):
             write_segments(f'{folder}/n{number}', segments)
@@ -61,13 +63,18 @@ class Cluster:
                  for number, port in enumerate(self.nodes)]
         config = {'brokers': [{'address': f'127.0.0.1:{self.broker}', 'workers': broker_workers}], 'connections': 1_000_000, 'kept': 100,
                   'nodes': nodes, 'queries': [], 'turns': turns}
+        if every:
+            del config['connections']
+            config['every'] = every
+        for node in nodes:
+            node.update({'watch': watch} if watch else {})
         with open(f'{folder}/config.json', 'w') as file:
             json.dump(config, file)
         self.words = [*prefix, PROGRAM, 'serve', f'{folder}/config.json']
         self.environment = {**os.environ, **(environment or {})}
 
     def start(self):
-        self.process = subprocess.Popen(self.words, stdout=subprocess.DEVNULL, env=self.environment)
+        self.process = subprocess.Popen(self.words, stdout=subprocess.DEVNULL, stderr=self.errors, env=self.environment)
         return self
 
     def stands(self, within=60):

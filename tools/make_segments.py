@@ -382,8 +382,11 @@ def make(asked):
     os.makedirs(asked.out, exist_ok=True)
     for segment, data in made:
         name = segment.identifier() + '.seg'
-        with open(os.path.join(asked.out, name), 'wb') as f:
+        path = os.path.join(asked.out, name)
+        # A node that watches the folder sees the whole file or none.
+        with open(path + '.part', 'wb') as f:
             f.write(data)
+        os.replace(path + '.part', path)
         print(f'{name}: {segment.identifier()}, {counted(segment.rows)}')
 
 

@@ -1,6 +1,6 @@
 //! Readers and writers that fail, that are interrupted, and that take a byte at a time.
 use crate::printing::{assert_rows, owned};
-use druid_cluster::{ReplayFault, replay, run_program};
+use druid_cluster::{ReplayFault, replay};
 use std::alloc::Global;
 use std::fmt::Display;
 use std::io;
@@ -162,64 +162,27 @@ bad a a f = line 3: device 28";
 }
 
 // The words of a command line.
-fn words_of(rt: &impl Abort, alloc: Global, line: &str) -> Vec<String> {
-    let mut words = Vec::new(alloc);
-    for word in line.split_whitespace() {
-        words.push(owned(rt, alloc, word)).expect(rt, "memory");
-    }
-    words
-}
-
-// Asserts how the program ends with these words over an input: its status, what it prints and what it reports.
-fn assert_ended(
+// Asserts how the run of an input ends, and what it writes.
+fn assert_replayed(
     rt: &impl Abort,
     alloc: Global,
-    words: &str,
     mut input: &[u8],
-    ending: (u8, &[u8], &str),
+    ended: Result<(), ReplayFault>,
+    answers: &[u8],
 ) {
-    let list = words_of(rt, alloc, words);
     let mut written = Vec::new(alloc);
-    let mut errors = Vec::new(alloc);
-    let end = run_program(
-        alloc,
-        Ok(list),
-        &mut input,
-        &mut written,
-        &mut errors,
-        false,
-    );
-    let (status, printed, reported) = ending;
-    assert!(rt;
-        end.status == status && end.reported.is_ok(),
-        "{words} {reported}"
-    );
-    assert!(rt; written.as_slice() == printed, "{words} {reported}");
-    assert!(rt;
-        errors.as_slice() == reported.as_bytes(),
-        "{words} {reported}"
-    );
-}
-
-const USAGE: &str = "usage: druid_cluster replay | druid_cluster serve CONFIG\n";
-
-#[test]
-fn words(rt: HostRuntime) {
-    for words in ["", "serve", "replay x", "replay replay", "Replay"] {
-        assert_ended(&rt, rt.alloc(), words, b"x", (2, b"", USAGE));
-    }
-    let bad = (1, b"".as_slice(), "line 1: bad command\n");
-    assert_ended(&rt, rt.alloc(), "replay", b"x", bad);
-    assert_ended(&rt, rt.alloc(), "replay", b"", (0, b"", ""));
+    assert!(rt; replay(alloc, &mut input, &mut written) == ended);
+    assert!(rt; written.as_slice() == answers);
 }
 
 #[test]
 fn whole_runs(rt: HostRuntime) {
     let (good, bad) = (script("good").as_bytes(), script("bad").as_bytes());
     let answers = ANSWERS.as_bytes();
-    assert_ended(&rt, rt.alloc(), "replay", good, (0, answers, ""));
-    let third = (1, answers, "line 3: bad command\n");
-    assert_ended(&rt, rt.alloc(), "replay", bad, third);
+    assert_replayed(&rt, rt.alloc(), b"", Ok(()), b"");
+    assert_replayed(&rt, rt.alloc(), good, Ok(()), answers);
+    let third = Err(ReplayFault::BadCommand(3));
+    assert_replayed(&rt, rt.alloc(), bad, third, answers);
 }
 
 // So many bytes of one letter.
@@ -233,8 +196,8 @@ fn repeated(rt: &impl Abort, alloc: Global, letter: u8, count: usize) -> Vec<u8>
 fn long_bad_lines(rt: HostRuntime) {
     for count in [1_000usize, 1_001, 70_000] {
         let line = repeated(&rt, rt.alloc(), b'x', count);
-        let bad = (1, b"".as_slice(), "line 1: bad command\n");
-        assert_ended(&rt, rt.alloc(), "replay", &line, bad);
+        let bad = Err(ReplayFault::BadCommand(1));
+        assert_replayed(&rt, rt.alloc(), &line, bad, b"");
     }
 }
 
@@ -260,56 +223,6 @@ fn many_lines(rt: HostRuntime) {
     let mut input = line_and_more(&rt, rt.alloc(), brokers, marks, 20_000);
     let answers = line_and_more(&rt, rt.alloc(), "{\"brokers\":1}\n", marked, 20_000);
     input.push(b'x').expect(&rt, "memory");
-    let bad = (1, answers.as_slice(), "line 20002: bad command\n");
-    assert_ended(&rt, rt.alloc(), "replay", &input, bad);
-}
-
-// The program, where its arguments can't be read, its input fails in the second line, or nothing takes what it reports.
-#[test]
-fn failing_streams(rt: HostRuntime) {
-    let alloc = rt.alloc();
-    let mut written = Vec::new(alloc);
-    let mut errors = Vec::new(alloc);
-    let unread = Err(ErrorKind::Other.into());
-    let end = run_program(
-        alloc,
-        unread,
-        &mut b"".as_slice(),
-        &mut written,
-        &mut errors,
-        false,
-    );
-    assert!(&rt; end.status == 3 && errors.as_slice() == b"line 1: device\n".as_slice());
-    let input = PlannedReader {
-        plan: planned("aaafa"),
-        rest: script("good").as_bytes(),
-    };
-    let mut reader = BufReader::with_capacity(alloc, 16, input).expect(&rt, "memory");
-    let replay = words_of(&rt, alloc, "replay");
-    let end = run_program(
-        alloc,
-        Ok(replay),
-        &mut reader,
-        &mut written,
-        &mut errors,
-        false,
-    );
-    assert!(&rt; end.status == 3 && written.as_slice() == b"{\"brokers\":1}\n".as_slice());
-    assert!(&rt; errors.as_slice() == b"line 1: device\nline 2: device\n".as_slice());
-    let mut nothing = PlannedWriter {
-        plan: planned("f"),
-        flushes: planned("f"),
-        written: Vec::new(alloc),
-        flushed: false,
-    };
-    let other = words_of(&rt, alloc, "other");
-    let end = run_program(
-        alloc,
-        Ok(other),
-        &mut b"".as_slice(),
-        &mut written,
-        &mut nothing,
-        false,
-    );
-    assert!(&rt; end.status == 2 && end.reported.is_err());
+    let bad = Err(ReplayFault::BadCommand(20_002));
+    assert_replayed(&rt, rt.alloc(), &input, bad, &answers);
 }

@@ -1,35 +1,24 @@
-//! What is said of a run that ended before its input, below its fault.
+//! What ended a run before the end of its input.
 use crate::printing::{assert_rows, owned};
-use druid_cluster::run_program;
+use druid_cluster::{Stop, replay, replay_explained};
 use std::alloc::Global;
+use std::io;
 use std::io::{BufReader, ErrorKind, Read, Write};
 use std::process::Abort;
-use std::{io, str};
 
-// The word `replay`.
-fn words(rt: &impl Abort, alloc: Global) -> Vec<String> {
-    let mut words = Vec::new(alloc);
-    words.push(owned(rt, alloc, "replay")).expect(rt, "memory");
-    words
+// How the run of an input ends, which has the fault that `replay` answers.
+fn stop_of(rt: &impl Abort, alloc: Global, input: &[u8]) -> Stop {
+    let (mut written, mut left) = (Vec::new(alloc), input);
+    let stop = replay_explained(alloc, &mut left, &mut written).expect_err(rt, "no fault");
+    let (mut written, mut left) = (Vec::new(alloc), input);
+    assert!(rt; replay(alloc, &mut left, &mut written) == Err(stop.fault));
+    stop
 }
 
-// What the program reports of an input.
-fn reported(rt: &impl Abort, alloc: Global, mut input: &[u8], explain: bool) -> String {
-    let (mut written, mut errors) = (Vec::new(alloc), Vec::new(alloc));
-    let words = Ok(words(rt, alloc));
-    let end = run_program(alloc, words, &mut input, &mut written, &mut errors, explain);
-    assert!(rt; end.reported.is_ok());
-    owned(rt, alloc, str::from_utf8(&errors).expect(rt, "a text"))
-}
-
-// What stands below the fault of an input, whose first line is as it is without.
+// What ended the run of an input.
 fn reason_of(rt: &impl Abort, alloc: Global, input: &str) -> String {
-    let plain = reported(rt, alloc, input.as_bytes(), false);
-    let text = reported(rt, alloc, input.as_bytes(), true);
-    let below = text.as_str().strip_prefix(plain.as_str());
-    let below = below.expect(rt, "another fault");
-    let reason = below.strip_prefix("  ").expect(rt, "no second line");
-    owned(rt, alloc, reason.strip_suffix("\n").expect(rt, "no line"))
+    let stop = stop_of(rt, alloc, input.as_bytes());
+    format!(in alloc; "{}", stop.reason).expect(rt, "memory")
 }
 
 #[test]
@@ -85,11 +74,10 @@ fn later_lines(rt: HostRuntime) {
 fn long_line(rt: HostRuntime) {
     let mut line = Vec::new(rt.alloc());
     line.resize(16_777_217, b' ').expect(&rt, "memory");
-    let text = reported(&rt, rt.alloc(), &line, true);
-    assert!(rt;
-        text.as_str() == "line 1: bad command\n  the line: more than 16777216 bytes\n",
-        "{text}"
-    );
+    let stop = stop_of(&rt, rt.alloc(), &line);
+    let text = format!(in rt.alloc(); "{}: {}", stop.fault, stop.reason).expect(&rt, "memory");
+    let wanted = "line 1: bad command: the line: more than 16777216 bytes";
+    assert!(rt; text.as_str() == wanted, "{text}");
 }
 
 // A reader that fails in this way, a writer that takes nothing, and one that takes all and does not flush.
@@ -119,69 +107,29 @@ impl Write for Failing {
     }
 }
 
-// What the program reports of a script, where the output is so.
-fn reported_over(rt: &impl Abort, alloc: Global, kind: ErrorKind, takes: bool) -> String {
-    let mut input = b"{\"count\":1,\"do\":\"brokers\",\"nodes\":[\"n\"]}\n".as_slice();
-    let (mut out, mut errors) = (Failing { kind, takes }, Vec::new(alloc));
-    let words = Ok(words(rt, alloc));
-    let end = run_program(alloc, words, &mut input, &mut out, &mut errors, true);
-    assert!(rt; end.status == 3 && end.reported.is_ok());
-    owned(rt, alloc, str::from_utf8(&errors).expect(rt, "a text"))
-}
-
-// What the program reports where nothing can be read.
-fn reported_unread(rt: &impl Abort, alloc: Global, kind: ErrorKind) -> String {
-    let input = Failing { kind, takes: false };
-    let mut input = BufReader::with_capacity(alloc, 16, input).expect(rt, "memory");
-    let (mut written, mut errors) = (Vec::new(alloc), Vec::new(alloc));
-    let words = Ok(words(rt, alloc));
-    let end = run_program(alloc, words, &mut input, &mut written, &mut errors, true);
-    assert!(rt; end.status == 3 && end.reported.is_ok());
-    owned(rt, alloc, str::from_utf8(&errors).expect(rt, "a text"))
-}
-
-// Fails where another text is reported than this.
-fn assert_reported(rt: &impl Abort, reported: &str, wanted: &str) {
-    assert!(rt; reported == wanted, "{reported}");
+// Asserts how a run ends.
+fn assert_stop(rt: &impl Abort, alloc: Global, ended: Result<(), Stop>, wanted: &str) {
+    let stop = ended.expect_err(rt, "no fault");
+    let text = format!(in alloc; "{}: {}", stop.fault, stop.reason).expect(rt, "memory");
+    assert!(rt; text.as_str() == wanted, "{text}");
 }
 
 #[test]
 fn failing_devices(rt: HostRuntime) {
     let (alloc, kind) = (rt.alloc(), ErrorKind::Other);
-    let text = reported_over(&rt, alloc, kind, false);
-    assert_reported(
-        &rt,
-        &text,
-        "line 1: device\n  standard output: a write failed\n",
-    );
-    let text = reported_over(&rt, alloc, kind, true);
-    assert_reported(
-        &rt,
-        &text,
-        "line 2: device\n  standard output: a write failed\n",
-    );
-    let text = reported_unread(&rt, alloc, kind);
-    assert_reported(
-        &rt,
-        &text,
-        "line 1: device\n  standard input: a read failed\n",
-    );
-}
-
-// Where the error writer takes the first line alone, that is no report.
-#[test]
-fn half_a_report(rt: HostRuntime) {
-    let mut room = [0u8; 20];
-    let mut errors = room.as_mut_slice();
-    let words = Ok(words(&rt, rt.alloc()));
-    let mut written = Vec::new(rt.alloc());
-    let end = run_program(
-        rt.alloc(),
-        words,
-        &mut b"x".as_slice(),
-        &mut written,
-        &mut errors,
-        true,
-    );
-    assert!(rt; end.status == 1 && end.reported.is_err());
+    let script = b"{\"count\":1,\"do\":\"brokers\",\"nodes\":[\"n\"]}\n".as_slice();
+    let rows = [
+        (false, "line 1: device: standard output: a write failed"),
+        (true, "line 2: device: standard output: a write failed"),
+    ];
+    for (takes, wanted) in rows {
+        let (mut input, mut out) = (script, Failing { kind, takes });
+        let ended = replay_explained(alloc, &mut input, &mut out);
+        assert_stop(&rt, alloc, ended, wanted);
+    }
+    let input = Failing { kind, takes: false };
+    let mut input = BufReader::with_capacity(alloc, 16, input).expect(&rt, "memory");
+    let ended = replay_explained(alloc, &mut input, &mut Vec::new(alloc));
+    let wanted = "line 1: device: standard input: a read failed";
+    assert_stop(&rt, alloc, ended, wanted);
 }

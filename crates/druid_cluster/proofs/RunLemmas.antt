@@ -19,7 +19,7 @@ use Rattle.druid_cluster.specs.declared.reason.Reason.{Reason}
 use Rattle.druid_cluster.specs.declared.reason.Reason.TheVariants.{Line as ForLine}
 use Rattle.druid_cluster.specs.declared.fault.ReplayFault.{ReplayFault}
 use Rattle.druid_cluster.specs.declared.fault.ReplayFault.TheVariants.{BadCommand, Device}
-use Rattle.druid_cluster.specs.Status.{line_of}
+use Rattle.druid_cluster.specs.Faults.{line_of}
 use Rattle.druid_cluster.proofs.LineLemmas.{lines_of-first}
 
 -- the run of the whole goes on as the run of what is left

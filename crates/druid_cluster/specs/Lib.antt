@@ -5,8 +5,7 @@ pub mod Answers
 pub mod Serving
 pub mod Lines
 pub mod Runs
-pub mod Status
-pub mod Program
+pub mod Faults
 -- words of private contracts
 pub mod Seen
 pub mod Nodes

@@ -1,5 +1,5 @@
 -- What a whole run writes.
-use Rattle.std.specs.Prelude.{◌≡◌, ◌⊎◌, ℕ, ◌+◌, ◌-◌, ◌^◌, min, ◌<◌, List, [], ◌∷◌, ◌++◌, length, Option, None, IfSome}
+use Rattle.std.specs.Prelude.{◌≡◌, ◌⊎◌, ℕ, ◌+◌, ◌-◌, ◌^◌, min, ◌<◌, List, [], ◌∷◌, ◌++◌, length, ⊤, Option, None, Result, Ok, Err, IfSome}
 use Rattle.std.specs.Io.KnownBytes.{Appends, Keeps}
 use Rattle.druid_inventory.specs.Entry.{Entry}
 use Rattle.druid_cluster.specs.Answers.{line_text}
@@ -50,7 +50,12 @@ EndsBy input old new (BadCommand number) = (bad : BadLine) × Writes input old n
 EndsBy input old new (Device number) =
     (line : ℕ) × (number ≡ min line (2 ^ 64 - 1)) × Writes input old new (broken_at line)
 
--- the same with what ended the run: of a bad line, what is wrong with it
+-- a replay of the input ends so, and the writer got what its run writes
+abbrev pub Replays : Option (List ℕ) → Option (List ℕ) → Option (List ℕ) → Result ⊤ ReplayFault → Type 0
+Replays input old new (Ok _) = Writes input old new done
+Replays input old new (Err fault) = EndsBy input old new fault
+
+-- the end with what ended the run: of a bad line, what is wrong with it
 abbrev pub EndsFor : Option (List ℕ) → Option (List ℕ) → Option (List ℕ) → ReplayFault → Reason → Type 0
 EndsFor input old new (BadCommand number) reason =
     (bad : BadLine) × (reason ≡ ForLine bad) × Writes input old new (bad_at number bad)

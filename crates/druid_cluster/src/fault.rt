@@ -1,7 +1,6 @@
 ghost use Rattle.std.specs.Prelude.{◌≡◌, Some};
-ghost use Rattle.druid_cluster.specs.Status.{line_of, status_of, fault_text};
+ghost use Rattle.druid_cluster.specs.Faults.{line_of, fault_text};
 
-use druid_command_line::Exit;
 use std::error::Error;
 use std::fmt;
 
@@ -21,16 +20,6 @@ impl ReplayFault {
     {
         match self {
             ReplayFault::BadCommand(line) | ReplayFault::Device(line) => *line,
-        }
-    }
-
-    /// The exit status that tells it: 1 for a fault of the input, and 3 for a device or memory.
-    pub fn status(&self) -> u8
-        ensures { result ≡ status_of self.now }
-    {
-        match self {
-            ReplayFault::BadCommand(_) => Exit::Refused.status(),
-            ReplayFault::Device(_) => Exit::Device.status(),
         }
     }
 }

@@ -1,4 +1,4 @@
-//! A cluster of brokers: the commands of `druid_cluster replay`, and what the program does with its handles.
+//! A cluster of brokers: the commands of `druid_cluster replay`, and whole runs of them.
 #![tactic(auto)]
 
 mod answer;
@@ -7,7 +7,6 @@ mod command;
 mod fault;
 mod laws;
 mod pieces;
-mod program;
 mod reason;
 mod run;
 mod serving;
@@ -18,6 +17,5 @@ pub use laws::{
     bad_lines_break_a_rule, each_line_is_bad_or_answered, no_answered_line_is_bad, one_node_list,
     one_run,
 };
-pub use program::run_program;
 pub use reason::{BadLine, BrokerKey, Reason, Stop};
 pub use run::{replay, replay_explained};

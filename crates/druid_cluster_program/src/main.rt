@@ -2,8 +2,7 @@
 //! serves the cluster of a config.
 #![tactic(auto)]
 
-use druid_command_line::{Exit, asks_for_explanation};
-use druid_serve::run;
+use druid_program::{Exit, asks_for_explanation, run};
 use std::io::{BufReader, BufWriter};
 use std::process::ExitCode;
 use std::{env, io};

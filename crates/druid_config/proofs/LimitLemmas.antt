@@ -1,5 +1,5 @@
 -- What is read of a config is within its limits.
-use Rattle.std.proofs.Common.{◌≡◌, ℕ, ◌<◌, ◌≤◌, List, [], ◌∷◌, length, map, get_or, codes, All, IsSome, Option, Some, None, option_and_then, Bool, true, ◌&&◌, ◌||◌, cond, nat_le, nat_lt, refl, subst, ◌∙◌, arith}
+use Rattle.std.proofs.Common.{◌≡◌, ℕ, ◌<◌, ◌≤◌, List, length, map, get_or, codes, All, IsSome, IfSome, is_some, is_none, Option, Some, None, option_map, option_and_then, Bool, true, false, ◌&&◌, cond, nat_le, nat_lt, IsTrue, lit≤, refl, subst, ◌∙◌, arith}
 use Rattle.std.proofs.lemmas.Bool.{leb-true, and_parts}
 use Rattle.std.proofs.lemmas.Bool.Decides.{nat_tests}
 use Rattle.std.proofs.lemmas.Option.{same_Some, cond_some}
@@ -9,13 +9,12 @@ use Rattle.serde_json.specs.Find.{get, as_object}
 use Rattle.druid_base.proofs.DistinctLemmas.{distinct_to}
 use Rattle.druid_base.proofs.OptionLemmas.{chained}
 use Rattle.druid_base.proofs.StepLemmas.{stepped}
-use Rattle.druid_base.specs.Options.{◌>>=◌}
 use Rattle.druid_base.specs.Each.{each_of}
 use Rattle.druid_base.proofs.EachLemmas.{each_sound}
 use Rattle.druid_segid.specs.Names.{is_name}
-use Rattle.druid_config.specs.Limits.{max_servers, max_workers, max_kept, max_count}
+use Rattle.druid_config.specs.Limits.{max_servers, max_workers, max_kept, max_count, max_rest, max_patience, usual_patience}
 use Rattle.druid_base.specs.Fields.{list_at, text_at, number_at}
-use Rattle.druid_config.specs.Configs.{IsObject, Node, Broker, Asked, Posted, Reported, asked_of, is_address, some_at, count_at, node_at, broker_at, query_at, are_few, names_of, nodes_in, brokers_in, config_at, IsNode, IsBroker, IsWithinLimits}
+use Rattle.druid_config.specs.Configs.{IsObject, Node, Broker, Asked, Posted, Reported, asked_of, is_address, name_at, address_at, status_of, status_at, some_at, count_at, rest_of, rest_at, patience_of, patience_at, is_endless, connections_at, node_at, broker_at, query_at, are_few, names_of, nodes_in, brokers_in, config_at, IsRest, IsPatience, IsAddress, IsNode, IsBroker, IsWithinLimits}
 use Rattle.druid_base.specs.Distinct.{AreDistinct, are_distinct}
 use Rattle.druid_config.proofs.PartLemmas.{node_parts, broker_parts, query_parts, config_parts}
 
@@ -43,17 +42,82 @@ some_between limit key d n e = between 1 limit n (passed (λ n. nat_le 1 n && na
 count_below : (key : List ℕ) (d : Data) (n : ℕ) → count_at key d ≡ Some n → n ≤ max_count
 count_below key d n e = leb-true n max_count (passed (λ n. nat_le n max_count) (number_at key d) n e)
 
+connections_so : (b : Bool) (d : Data) (n : ℕ) → cond b (Some 0) (count_at (codes "connections") d) ≡ Some n → n ≤ max_count
+connections_so true d n e = let none = same_Some 0 n e in omega (arith, none)
+connections_so false d n e = count_below (codes "connections") d n e
+
+connections_below : (d : Data) (n : ℕ) → connections_at d ≡ Some n → n ≤ max_count
+connections_below d n e = connections_so (is_endless d) d n e
+
+-- ---- rests
+
+some_rest : (key : List ℕ) (d : Data) (o : Option ℕ) (rest : Option ℕ) → some_at max_rest key d ≡ o → option_map Some o ≡ Some rest → IfSome rest IsRest
+some_rest key d None rest is e = absurd cc
+some_rest key d (Some n) rest is e =
+    let n_is = some_between max_rest key d n is in
+    subst (λ r. IfSome r IsRest) (same_Some (Some n) rest e) (record { some = n_is.above; short = n_is.below })
+
+rest_so : (key : List ℕ) (d : Data) (o : Option Data) (rest : Option ℕ) → rest_of key d o ≡ Some rest → IfSome rest IsRest
+rest_so key d None rest e = subst (λ r. IfSome r IsRest) (same_Some None rest e) tt
+rest_so key d (Some there) rest e = some_rest key d (some_at max_rest key d) rest refl e
+
+rest_is : (key : List ℕ) (d : Data) (rest : Option ℕ) → rest_at key d ≡ Some rest → IfSome rest IsRest
+rest_is key d rest e = rest_so key d (get key d) rest e
+
+-- ---- statuses and patience
+
+address_is : (key : List ℕ) (d : Data) (text : List ℕ) → address_at key d ≡ Some text → IsAddress text
+address_is key d text e = passed is_address (text_at key d) text e
+
+some_status : (d : Data) (o : Option (List ℕ)) (status : Option (List ℕ)) → address_at (codes "status") d ≡ o → option_map Some o ≡ Some status → IfSome status IsAddress
+some_status d None status is e = absurd cc
+some_status d (Some text) status is e = subst (λ s. IfSome s IsAddress) (same_Some (Some text) status e) (address_is (codes "status") d text is)
+
+status_so : (d : Data) (o : Option Data) (status : Option (List ℕ)) → status_of d o ≡ Some status → IfSome status IsAddress
+status_so d None status e = subst (λ s. IfSome s IsAddress) (same_Some None status e) tt
+status_so d (Some there) status e = some_status d (address_at (codes "status") d) status refl e
+
+status_is : (d : Data) (status : Option (List ℕ)) → status_at d ≡ Some status → IfSome status IsAddress
+status_is d status e = status_so d (get (codes "status") d) status e
+
+patience_so : (d : Data) (o : Option Data) (n : ℕ) → patience_of d o ≡ Some n → IsPatience n
+patience_so d None n e = subst IsPatience (same_Some usual_patience n e) (record { some = lit≤ tt; short = lit≤ tt })
+patience_so d (Some there) n e =
+    let n_is = some_between max_patience (codes "patience") d n e in
+    record { some = n_is.above; short = n_is.below }
+
+patience_is : (d : Data) (n : ℕ) → patience_at d ≡ Some n → IsPatience n
+patience_is d n e = patience_so d (get (codes "patience") d) n e
+
+rest_given : (o : Option ℕ) (rest : Option ℕ) → option_map Some o ≡ Some rest → IsSome rest
+rest_given None rest e = absurd cc
+rest_given (Some n) rest e = subst (λ r. IsSome r) (same_Some (Some n) rest e) refl
+
+rest_there : (key : List ℕ) (d : Data) (o : Option Data) (rest : Option ℕ) → is_some o ≡ true → rest_of key d o ≡ Some rest → IsSome rest
+rest_there key d None rest there e = absurd cc
+rest_there key d (Some x) rest there e = rest_given (some_at max_rest key d) rest e
+
+endless_goes_on : (d : Data) (every : Option ℕ) → is_endless d ≡ true → rest_at (codes "every") d ≡ Some every → IsSome every
+endless_goes_on d every endless e =
+    rest_there (codes "every") d (get (codes "every") d) every
+    (and_parts (is_none (get (codes "connections") d)) (is_some (get (codes "every") d)) endless).1 e
+
 -- ---- servers and queries
+
+pub name_is : (d : Data) (name : List ℕ) → name_at d ≡ Some name → IsTrue (is_name name)
+name_is d name e = passed is_name (text_at (codes "name") d) name e
 
 node_is : (d : Data) (node : Node) → node_at d ≡ Some node → IsNode node
 node_is d node read =
     let parts = node_parts d node read in
     let workers = some_between max_workers (codes "workers") d node.workers parts.workers in
     record {
-      name = passed is_name (text_at (codes "name") d) node.name parts.name;
-      address = passed is_address (text_at (codes "address") d) node.address parts.address;
+      name = name_is d node.name parts.name;
+      address = address_is (codes "address") d node.address parts.address;
       some_workers = workers.above;
       few_workers = workers.below;
+      rest = rest_is (codes "watch") d node.watch parts.watch;
+      status = status_is d node.status parts.status;
     }
 
 broker_is : (d : Data) (broker : Broker) → broker_at d ≡ Some broker → IsBroker broker
@@ -61,9 +125,10 @@ broker_is d broker read =
     let parts = broker_parts d broker read in
     let workers = some_between max_workers (codes "workers") d broker.workers parts.workers in
     record {
-      address = passed is_address (text_at (codes "address") d) broker.address parts.address;
+      address = address_is (codes "address") d broker.address parts.address;
       some_workers = workers.above;
       few_workers = workers.below;
+      status = status_is d broker.status parts.status;
     }
 
 query_is : (brokers : ℕ) (d : Data) (asked : Asked) → query_at brokers d ≡ Some asked → asked.broker < brokers
@@ -148,10 +213,13 @@ within d reported read =
       brokers = brokers.each;
       asked = each_is (λ q. q.broker < length reported.brokers) (query_at (length reported.brokers)) (query_is (length reported.brokers)) queued.0 reported.queries queued.2;
       objects = each_is IsObject (query_at (length reported.brokers)) (query_object (length reported.brokers)) queued.0 reported.queries queued.2;
-      few_connections = count_below (codes "connections") d reported.connections parts.connections;
+      few_connections = connections_below d reported.connections parts.connections;
       some_kept = kept.above;
       few_kept = kept.below;
       few_turns = count_below (codes "turns") d reported.turns parts.turns;
+      rest = rest_is (codes "every") d reported.every parts.every;
+      patience = patience_is d reported.patience parts.patience;
+      goes_on = λ endless. endless_goes_on d reported.every (parts.endless ∙ endless) parts.every;
     }
 
 -- what holds of queries as the config has them holds of them as they are posted

@@ -6,7 +6,7 @@ use Rattle.serde_json.specs.Data.{Data, Items}
 use Rattle.serde_json.specs.Find.{get_item}
 use Rattle.druid_base.specs.Each.{each_of}
 use Rattle.druid_base.specs.Fields.{list_at, text_at}
-use Rattle.druid_config.specs.Configs.{Node, Broker, name_at, address_at, loads_at, tombstones_at, some_at, count_at, place_at, object_at, node_at, broker_at, brokers_at, names_of, are_few}
+use Rattle.druid_config.specs.Configs.{Node, Broker, name_at, address_at, loads_at, tombstones_at, some_at, count_at, rest_at, status_at, patience_at, connections_at, place_at, object_at, node_at, broker_at, brokers_at, names_of, are_few}
 use Rattle.druid_config.specs.Limits.{max_workers, max_kept}
 use Rattle.druid_config.specs.declared.bad_field.BadField.{BadField}
 use Rattle.druid_config.specs.declared.bad_field.BadField.TheVariants as bad
@@ -37,15 +37,18 @@ HasOtherCount {A} f items = (servers : List A) × (each_of f items ≡ Some serv
 abbrev pub BreaksNode : Items → ℕ → NodeRule → Type 0
 BreaksNode items place node.Name = Lacks name_at items place
 BreaksNode items place node.OwnName = HasNameTwice items place
-BreaksNode items place node.Address = Lacks address_at items place
+BreaksNode items place node.Address = Lacks (address_at (codes "address")) items place
 BreaksNode items place node.Folder = Lacks (text_at (codes "folder")) items place
 BreaksNode items place node.Loads = Lacks loads_at items place
 BreaksNode items place node.Tombstones = Lacks tombstones_at items place
 BreaksNode items place node.Workers = Lacks (some_at max_workers (codes "workers")) items place
+BreaksNode items place node.Watch = Lacks (rest_at (codes "watch")) items place
+BreaksNode items place node.Status = Lacks status_at items place
 
 abbrev pub BreaksBroker : Items → ℕ → BrokerRule → Type 0
-BreaksBroker items place broker.Address = Lacks address_at items place
+BreaksBroker items place broker.Address = Lacks (address_at (codes "address")) items place
 BreaksBroker items place broker.Workers = Lacks (some_at max_workers (codes "workers")) items place
+BreaksBroker items place broker.Status = Lacks status_at items place
 
 -- the same of queries to so many brokers
 abbrev pub BreaksQuery : ℕ → Items → ℕ → QueryRule → Type 0
@@ -58,9 +61,11 @@ ListIs key P d = (items : Items) × (list_at key d ≡ Some items) × P items
 
 -- the whole breaks the rule
 abbrev pub BreaksWhole : WholeRule → Data → Type 0
-BreaksWhole whole.Connections d = count_at (codes "connections") d ≡ None
+BreaksWhole whole.Connections d = connections_at d ≡ None
 BreaksWhole whole.Kept d = some_at max_kept (codes "kept") d ≡ None
 BreaksWhole whole.Turns d = count_at (codes "turns") d ≡ None
+BreaksWhole whole.Every d = rest_at (codes "every") d ≡ None
+BreaksWhole whole.Patience d = patience_at d ≡ None
 BreaksWhole whole.Nodes d = list_at (codes "nodes") d ≡ None
 BreaksWhole whole.NodeCount d = ListIs (codes "nodes") (HasOtherCount node_at) d
 BreaksWhole whole.Brokers d = list_at (codes "brokers") d ≡ None

@@ -1,5 +1,5 @@
 -- Configs, read out of JSON. A text is its bytes.
-use Rattle.std.specs.Prelude.{◌≡◌, ℕ, ◌<◌, ◌≤◌, ◌&&◌, Bool, false, nat_le, nat_lt, IsTrue, IsSome, All, List, [], ◌∷◌, ◌++◌, codes, decimal, length, map, take, drop, Option, Some, None, option_and_then, if◌then◌else◌}
+use Rattle.std.specs.Prelude.{◌≡◌, ℕ, ◌<◌, ◌≤◌, ◌&&◌, Bool, true, false, nat_le, nat_lt, IsTrue, IsSome, IfSome, is_some, is_none, All, List, [], ◌++◌, codes, decimal, length, map, take, drop, Option, Some, None, option_map, option_and_then, if◌then◌else◌}
 use Rattle.std.specs.Str.{bytes_eq}
 use Rattle.serde_json.specs.Data.{Data, Items}
 use Rattle.serde_json.specs.Read.{read}
@@ -13,12 +13,13 @@ use Rattle.druid_base.specs.Distinct.{AreDistinct, are_distinct}
 use Rattle.druid_base.specs.Fields.{list_at, text_at, number_at}
 use Rattle.druid_shard_text.specs.Json.{source_at, interval_at, version_at}
 use Rattle.druid_base.specs.Each.{each_of}
-use Rattle.druid_config.specs.Limits.{max_servers, max_workers, max_kept, max_count, max_port}
+use Rattle.druid_config.specs.Limits.{max_servers, max_workers, max_kept, max_count, max_rest, max_patience, usual_patience, max_port}
 
 -- ---- what a config tells
 
--- a data node: its name, where it listens, the path of its folder, the files that it loads, the tombstones that it places, and
--- how many threads answer
+-- a data node: its name, where it listens, the path of its folder, the files that it loads, the tombstones that it places,
+-- how many threads answer, after how many milliseconds each it looks at its folder, if it does, and where it answers how it is,
+-- if it does
 pub record Node : Type 0 where
   pub name : List ℕ
   pub address : List ℕ
@@ -26,21 +27,37 @@ pub record Node : Type 0 where
   pub loads : List (List ℕ)
   pub tombstones : List Identifier
   pub workers : ℕ
+  pub watch : Option ℕ
+  pub status : Option (List ℕ)
 
-abbrev pub node_of : List ℕ → List ℕ → List ℕ → List (List ℕ) → List Identifier → ℕ → Node
-node_of name address folder loads tombstones workers =
-    record { name = name; address = address; folder = folder; loads = loads; tombstones = tombstones; workers = workers }
+abbrev pub node_of : List ℕ → List ℕ → List ℕ → List (List ℕ) → List Identifier → ℕ → Option ℕ → Option (List ℕ) → Node
+node_of name address folder loads tombstones workers watch status = record {
+  name = name;
+  address = address;
+  folder = folder;
+  loads = loads;
+  tombstones = tombstones;
+  workers = workers;
+  watch = watch;
+  status = status;
+}
 
--- a broker: where it listens, and how many threads answer
+-- a broker: where it listens, how many threads answer, and where it answers how it is, if it does
 pub record Broker : Type 0 where
   pub address : List ℕ
   pub workers : ℕ
+  pub status : Option (List ℕ)
+
+abbrev pub broker_of : List ℕ → ℕ → Option (List ℕ) → Broker
+broker_of address workers status = record { address = address; workers = workers; status = status }
 
 -- a query as it is posted: the place of the broker that is asked, and its text
 pub record Posted : Type 0 where
   pub broker : ℕ
   pub text : List ℕ
 
+-- every: after how many milliseconds each a syncer makes a turn once it has made its turns, if it goes on. An endless cluster has no
+-- connections after which it ends. patience: how many milliseconds an exchange with a node may take
 pub record Cluster : Type 0 where
   pub nodes : List Node
   pub brokers : List Broker
@@ -48,15 +65,21 @@ pub record Cluster : Type 0 where
   pub connections : ℕ
   pub kept : ℕ
   pub turns : ℕ
+  pub every : Option ℕ
+  pub patience : ℕ
+  pub endless : Bool
 
-abbrev pub cluster_of : List Node → List Broker → List Posted → ℕ → ℕ → ℕ → Cluster
-cluster_of nodes brokers queries connections kept turns = record {
+abbrev pub cluster_of : List Node → List Broker → List Posted → ℕ → ℕ → ℕ → Option ℕ → ℕ → Bool → Cluster
+cluster_of nodes brokers queries connections kept turns every patience endless = record {
   nodes = nodes;
   brokers = brokers;
   queries = queries;
   connections = connections;
   kept = kept;
   turns = turns;
+  every = every;
+  patience = patience;
+  endless = endless;
 }
 
 -- a query of a config: the place of the broker that is asked, and the JSON that the text of the query reads as
@@ -72,9 +95,25 @@ pub record Reported : Type 0 where
   pub connections : ℕ
   pub kept : ℕ
   pub turns : ℕ
+  pub every : Option ℕ
+  pub patience : ℕ
+  pub endless : Bool
 
 abbrev pub asked_of : Posted → Asked
 asked_of q = record { broker = q.broker; query = read q.text }
+
+abbrev pub reported_by : List Node → List Broker → List Asked → ℕ → ℕ → ℕ → Option ℕ → ℕ → Bool → Reported
+reported_by nodes brokers queries connections kept turns every patience endless = record {
+  nodes = nodes;
+  brokers = brokers;
+  queries = queries;
+  connections = connections;
+  kept = kept;
+  turns = turns;
+  every = every;
+  patience = patience;
+  endless = endless;
+}
 
 -- what a config tells of a cluster
 abbrev pub reported_of : Cluster → Reported
@@ -85,6 +124,9 @@ reported_of c = record {
   connections = c.connections;
   kept = c.kept;
   turns = c.turns;
+  every = c.every;
+  patience = c.patience;
+  endless = c.endless;
 }
 
 -- the text of a value is compact; one with a float has no text of its own
@@ -110,8 +152,17 @@ is_address text = bytes_eq (take 10 text) loopback && is_port (numbers.number_at
 abbrev pub NamesPort : List ℕ → Type 0
 NamesPort text = (port : ℕ) × (1 ≤ port) × (port ≤ max_port) × (text ≡ loopback ++ decimal port)
 
-abbrev pub address_at : Data → Option (List ℕ)
-address_at d = option_and_then (λ s. if is_address s then Some s else None) (text_at (codes "address") d)
+-- the address at a key
+abbrev pub address_at : List ℕ → Data → Option (List ℕ)
+address_at key d = option_and_then (λ s. if is_address s then Some s else None) (text_at key d)
+
+-- where a server answers how it is, where there is such a key
+abbrev pub status_of : Data → Option Data → Option (Option (List ℕ))
+status_of d None = Some None
+status_of d (Some there) = option_map Some (address_at (codes "status") d)
+
+abbrev pub status_at : Data → Option (Option (List ℕ))
+status_at d = status_of d (get (codes "status") d)
 
 abbrev pub name_at : Data → Option (List ℕ)
 name_at d = option_and_then (λ s. if is_name s then Some s else None) (text_at (codes "name") d)
@@ -123,6 +174,30 @@ some_at limit key d = option_and_then (λ n. if nat_le 1 n && nat_le n limit the
 -- the number at a key, where it is at most 1,000,000
 abbrev pub count_at : List ℕ → Data → Option ℕ
 count_at key d = option_and_then (λ n. if nat_le n max_count then Some n else None) (number_at key d)
+
+-- a rest in milliseconds, where there is such a key
+abbrev pub rest_of : List ℕ → Data → Option Data → Option (Option ℕ)
+rest_of key d None = Some None
+rest_of key d (Some there) = option_map Some (some_at max_rest key d)
+
+abbrev pub rest_at : List ℕ → Data → Option (Option ℕ)
+rest_at key d = rest_of key d (get key d)
+
+-- the patience with nodes in milliseconds, the usual one where there is no such key
+abbrev pub patience_of : Data → Option Data → Option ℕ
+patience_of d None = Some usual_patience
+patience_of d (Some there) = some_at max_patience (codes "patience") d
+
+abbrev pub patience_at : Data → Option ℕ
+patience_at d = patience_of d (get (codes "patience") d)
+
+-- the cluster does not end: `every` is there, and no `connections`
+abbrev pub is_endless : Data → Bool
+is_endless d = is_none (get (codes "connections") d) && is_some (get (codes "every") d)
+
+-- how many connections each broker answers before the end: 0 where there is none
+abbrev pub connections_at : Data → Option ℕ
+connections_at d = if is_endless d then Some 0 else count_at (codes "connections") d
 
 -- ---- nodes, brokers and queries
 
@@ -149,18 +224,21 @@ tombstones_at d = tombstones_in (get (codes "tombstones") d)
 unfoldable pub node_at : Data → Option Node
 node_at d = do
   name ← name_at d
-  address ← address_at d
+  address ← address_at (codes "address") d
   folder ← text_at (codes "folder") d
   loads ← loads_at d
   tombstones ← tombstones_at d
   workers ← some_at max_workers (codes "workers") d
-  Some (node_of name address folder loads tombstones workers)
+  watch ← rest_at (codes "watch") d
+  status ← status_at d
+  Some (node_of name address folder loads tombstones workers watch status)
 
 unfoldable pub broker_at : Data → Option Broker
 broker_at d = do
-  address ← address_at d
+  address ← address_at (codes "address") d
   workers ← some_at max_workers (codes "workers") d
-  Some (record { address = address; workers = workers })
+  status ← status_at d
+  Some (broker_of address workers status)
 
 -- the place of one of so many brokers
 abbrev pub place_at : ℕ → Data → Option ℕ
@@ -208,15 +286,31 @@ queries_at brokers d = option_and_then (each_of (query_at brokers)) (list_at (co
 -- what a config tells, if it is one
 unfoldable pub config_at : Data → Option Reported
 config_at d = do
-  connections ← count_at (codes "connections") d
+  connections ← connections_at d
   kept ← some_at max_kept (codes "kept") d
   turns ← count_at (codes "turns") d
+  every ← rest_at (codes "every") d
+  patience ← patience_at d
   nodes ← nodes_at d
   brokers ← brokers_at d
   queries ← queries_at (length brokers) d
-  Some (record { nodes = nodes; brokers = brokers; queries = queries; connections = connections; kept = kept; turns = turns })
+  Some (reported_by nodes brokers queries connections kept turns every patience (is_endless d))
 
 -- ---- limits
+
+-- a rest is a millisecond at least, and an hour at most
+pub record IsRest (n : ℕ) : Type 0 where
+  pub some : 1 ≤ n
+  pub short : n ≤ max_rest
+
+-- a patience is a millisecond at least, and an hour at most
+pub record IsPatience (n : ℕ) : Type 0 where
+  pub some : 1 ≤ n
+  pub short : n ≤ max_patience
+
+-- an address, as a fact
+abbrev pub IsAddress : List ℕ → Type 0
+IsAddress text = IsTrue (is_address text)
 
 -- a node of that name, which listens on this machine, and has 1 to 16 workers
 pub record IsNode (node : Node) : Type 0 where
@@ -224,12 +318,15 @@ pub record IsNode (node : Node) : Type 0 where
   pub address : IsTrue (is_address node.address)
   pub some_workers : 1 ≤ node.workers
   pub few_workers : node.workers ≤ max_workers
+  pub rest : IfSome node.watch IsRest
+  pub status : IfSome node.status IsAddress
 
 -- a broker that listens on this machine, and has 1 to 16 workers
 pub record IsBroker (broker : Broker) : Type 0 where
   pub address : IsTrue (is_address broker.address)
   pub some_workers : 1 ≤ broker.workers
   pub few_workers : broker.workers ≤ max_workers
+  pub status : IfSome broker.status IsAddress
 
 -- the query is an object
 abbrev pub IsObject : Asked → Type 0
@@ -250,3 +347,6 @@ pub record IsWithinLimits (reported : Reported) : Type 0 where
   pub some_kept : 1 ≤ reported.kept
   pub few_kept : reported.kept ≤ max_kept
   pub few_turns : reported.turns ≤ max_count
+  pub rest : IfSome reported.every IsRest
+  pub patience : IsPatience reported.patience
+  pub goes_on : reported.endless ≡ true → IsSome reported.every

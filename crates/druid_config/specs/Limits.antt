@@ -17,6 +17,18 @@ max_kept = 1000
 abbrev pub max_count : ℕ
 max_count = 1000000
 
+-- the longest rest, in milliseconds
+abbrev pub max_rest : ℕ
+max_rest = 3600000
+
+-- the longest patience with a node, in milliseconds
+abbrev pub max_patience : ℕ
+max_patience = 3600000
+
+-- the patience of a config that names none, in milliseconds
+abbrev pub usual_patience : ℕ
+usual_patience = 30000
+
 -- the greatest port
 abbrev pub max_port : ℕ
 max_port = 65535

@@ -24,7 +24,7 @@ pub enum BadField {
 /// What a field of the whole has to be, and is not.
 #[derive(Clone, Copy, Debug, PartialEq, Eq, Drop, Error)]
 pub enum WholeRule {
-    /// `connections` is such a number.
+    /// `connections` is such a number, or absent where there is `every`.
     #[error("connections: not a number from 0 to 1000000")]
     Connections,
     /// `kept` is such a number.
@@ -33,6 +33,12 @@ pub enum WholeRule {
     /// `turns` is such a number.
     #[error("turns: not a number from 0 to 1000000")]
     Turns,
+    /// `every` is absent, or such a number.
+    #[error("every: not a number from 1 to 3600000")]
+    Every,
+    /// `patience` is absent, or such a number.
+    #[error("patience: not a number from 1 to 3600000")]
+    Patience,
     /// `nodes` is a list.
     #[error("nodes: not a list")]
     Nodes,
@@ -74,6 +80,12 @@ pub enum NodeRule {
     /// `workers` is such a number.
     #[error("workers: not a number from 1 to 16")]
     Workers,
+    /// `watch` is absent, or such a number.
+    #[error("watch: not a number from 1 to 3600000")]
+    Watch,
+    /// `status` is absent, or an address of this machine.
+    #[error("status: not 127.0.0.1: and a port from 1 to 65535")]
+    Status,
 }
 
 /// What a field of a broker has to be, and is not.
@@ -85,6 +97,9 @@ pub enum BrokerRule {
     /// `workers` is such a number.
     #[error("workers: not a number from 1 to 16")]
     Workers,
+    /// `status` is absent, or an address of this machine.
+    #[error("status: not 127.0.0.1: and a port from 1 to 65535")]
+    Status,
 }
 
 /// What a field of a query has to be, and is not.

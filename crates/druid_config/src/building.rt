@@ -1,5 +1,5 @@
 //! A config, built out of JSON that was judged before: only memory can still run out.
-ghost use Rattle.std.specs.Prelude.{◌≡◌, ◌≤◌, Some, IsSome, IfOk, map, string_bytes};
+ghost use Rattle.std.specs.Prelude.{◌≡◌, ◌≤◌, Some, IsSome, IfOk, map, option_map, string_bytes};
 ghost use Rattle.serde_json.specs.Data.{depth, items_depth};
 ghost use Rattle.serde_json.specs.Find.{as_str};
 ghost use Rattle.serde_json.specs.Read.{max_depth};
@@ -8,7 +8,8 @@ ghost use Rattle.druid_base.specs.Each.{each_of};
 ghost use Rattle.druid_config.specs.Configs.{asked_of, reported_of, name_at, loads_at, tombstone_at, tombstones_at, node_at, broker_at, query_at, nodes_at, brokers_at, queries_at, config_at};
 
 use crate::fields::{
-    address_field, chunk_field, count_field, name_field, object_field, place_field, some_field,
+    address_field, chunk_field, connections_field, count_field, is_endless, name_field,
+    object_field, patience_field, place_field, rest_field, some_field, status_field,
 };
 use crate::limits::{MAX_KEPT, MAX_WORKERS};
 use crate::{BrokerConfig, Config, NodeConfig, QueryConfig};
@@ -101,8 +102,18 @@ fn name_of(alloc: Global, value: &Value) -> Result<Name, AllocError>
     }
 }
 
+// A copy of a text, where there is one.
+fn copied(alloc: Global, text: Option<&str>) -> Result<Option<String>, AllocError>
+    ensures { IfOk result (λ copy. option_map string_bytes copy ≡ option_map (λ s. s.now) text.entry) }
+{
+    match text {
+        Some(text) => Ok(Some(String::from_str(alloc, text)?)),
+        None => Ok(None),
+    }
+}
+
 // A node.
-#[tactic(auto, using(crate::proofs::PartLemmas::name_reads, crate::proofs::PartLemmas::loads_read, crate::proofs::PartLemmas::tombstones_read), unfolding(crate::specs::Configs::node_at))]
+#[tactic(auto, using(crate::proofs::PartLemmas::name_reads, crate::proofs::PartLemmas::loads_read, crate::proofs::PartLemmas::tombstones_read, crate::proofs::PartLemmas::watch_read, crate::proofs::PartLemmas::status_read), unfolding(crate::specs::Configs::node_at))]
 fn node_of(alloc: Global, value: &Value) -> Result<NodeConfig, AllocError>
     requires { IsSome (node_at (view value.now)) }
     ensures { IfOk result (λ node. node_at (view value.now) ≡ Some node) }
@@ -119,9 +130,18 @@ fn node_of(alloc: Global, value: &Value) -> Result<NodeConfig, AllocError>
     let Some(workers) = some_field(value, "workers", MAX_WORKERS) else {
         unreachable!()
     };
+    let Some(watch) = rest_field(value, "watch") else {
+        unreachable!()
+    };
+    let Some(status) = status_field(value) else {
+        unreachable!()
+    };
     let address = String::from_str(alloc, address)?;
     let folder = String::from_str(alloc, folder)?;
-    Ok(NodeConfig::new(name, address, folder, loads, tombstones, workers))
+    let status = copied(alloc, status)?;
+    Ok(NodeConfig::new(
+        name, address, folder, loads, tombstones, workers, watch, status,
+    ))
 }
 
 // A broker.
@@ -136,8 +156,12 @@ fn broker_of(alloc: Global, value: &Value) -> Result<BrokerConfig, AllocError>
     let Some(workers) = some_field(value, "workers", MAX_WORKERS) else {
         unreachable!()
     };
+    let Some(status) = status_field(value) else {
+        unreachable!()
+    };
     let address = String::from_str(alloc, address)?;
-    Ok(BrokerConfig::new(address, workers))
+    let status = copied(alloc, status)?;
+    Ok(BrokerConfig::new(address, workers, status))
 }
 
 // A query to one of so many brokers.
@@ -237,13 +261,13 @@ fn queries_of(alloc: Global, value: &Value, brokers: usize) -> Result<Vec<QueryC
 }
 
 // The config that a value is.
-#[tactic(auto, using(crate::proofs::PartLemmas::connections_read, crate::proofs::PartLemmas::kept_read, crate::proofs::PartLemmas::turns_read, crate::proofs::PartLemmas::nodes_read, crate::proofs::PartLemmas::brokers_read, crate::proofs::PartLemmas::queries_read), unfolding(crate::specs::Configs::config_at))]
+#[tactic(auto, using(crate::proofs::PartLemmas::connections_read, crate::proofs::PartLemmas::kept_read, crate::proofs::PartLemmas::turns_read, crate::proofs::PartLemmas::every_read, crate::proofs::PartLemmas::patience_read, crate::proofs::PartLemmas::nodes_read, crate::proofs::PartLemmas::brokers_read, crate::proofs::PartLemmas::queries_read), unfolding(crate::specs::Configs::config_at))]
 pub(crate) fn build_config(alloc: Global, value: &Value) -> Result<Config, AllocError>
     requires reads { IsSome (config_at (view value.now)) }
     requires shallow { depth (view value.now) ≤ max_depth }
     ensures { IfOk result (λ config. config_at (view value.now) ≡ Some (reported_of config)) }
 {
-    let Some(connections) = count_field(value, "connections") else {
+    let Some(connections) = connections_field(value) else {
         unreachable!()
     };
     let Some(kept) = some_field(value, "kept", MAX_KEPT) else {
@@ -252,8 +276,24 @@ pub(crate) fn build_config(alloc: Global, value: &Value) -> Result<Config, Alloc
     let Some(turns) = count_field(value, "turns") else {
         unreachable!()
     };
+    let Some(every) = rest_field(value, "every") else {
+        unreachable!()
+    };
+    let Some(patience) = patience_field(value) else {
+        unreachable!()
+    };
     let nodes = nodes_of(alloc, value)?;
     let brokers = brokers_of(alloc, value)?;
     let queries = queries_of(alloc, value, brokers.len())?;
-    Ok(Config::new(nodes, brokers, queries, connections, kept as usize, turns))
+    Ok(Config::new(
+        nodes,
+        brokers,
+        queries,
+        connections,
+        kept as usize,
+        turns,
+        every,
+        patience,
+        is_endless(value),
+    ))
 }

@@ -1,6 +1,6 @@
 //! What a config tells: the servers of a cluster, and what it does.
-ghost use Rattle.std.specs.Prelude.{◌≡◌, ◌<◌, All, IfOk, length, map, string_bytes};
-ghost use Rattle.druid_config.specs.Configs.{IsNode, IsBroker, IsCompact, IsObject, IsWithinLimits, asked_of, node_of, names_of, cluster_of, reported_of};
+ghost use Rattle.std.specs.Prelude.{◌≡◌, ◌<◌, All, IfOk, length, map, option_map, string_bytes};
+ghost use Rattle.druid_config.specs.Configs.{IsNode, IsBroker, IsCompact, IsObject, IsWithinLimits, asked_of, node_of, broker_of, names_of, cluster_of, reported_of};
 
 use druid_segid::{Name, SegmentId};
 use std::alloc::{AllocError, Global};
@@ -15,17 +15,19 @@ pub struct NodeConfig {
     loads: Vec<String>,
     tombstones: Vec<SegmentId>,
     workers: u16,
+    watch: Option<u64>,
+    status: Option<String>,
 }
 
 impl Model for NodeConfig {
-    ghost use Rattle.std.specs.Prelude.{map, string_bytes};
+    ghost use Rattle.std.specs.Prelude.{map, option_map, string_bytes};
     ghost use Rattle.druid_config.specs.Configs.{Node, IsNode, node_of};
 
     ghost Value = { Node };
 
-    ghost view = { λ a. node_of a.name (string_bytes a.address) (string_bytes a.folder) (map string_bytes a.loads.items) a.tombstones.items a.workers };
+    ghost view = { λ a. node_of a.name (string_bytes a.address) (string_bytes a.folder) (map string_bytes a.loads.items) a.tombstones.items a.workers a.watch (option_map string_bytes a.status) };
 
-    ghost invariant = { λ a. IsNode (node_of a.name (string_bytes a.address) (string_bytes a.folder) (map string_bytes a.loads.items) a.tombstones.items a.workers) };
+    ghost invariant = { λ a. IsNode (node_of a.name (string_bytes a.address) (string_bytes a.folder) (map string_bytes a.loads.items) a.tombstones.items a.workers a.watch (option_map string_bytes a.status)) };
 }
 
 impl NodeConfig {
@@ -37,9 +39,11 @@ impl NodeConfig {
         loads: Vec<String>,
         tombstones: Vec<SegmentId>,
         workers: u16,
+        watch: Option<u64>,
+        status: Option<String>,
     ) -> NodeConfig
-        requires { IsNode (node_of name (string_bytes address) (string_bytes folder) (map string_bytes loads.items) tombstones.items workers) }
-        ensures { result ≡ node_of name (string_bytes address) (string_bytes folder) (map string_bytes loads.items) tombstones.items workers }
+        requires { IsNode (node_of name (string_bytes address) (string_bytes folder) (map string_bytes loads.items) tombstones.items workers watch (option_map string_bytes status)) }
+        ensures { result ≡ node_of name (string_bytes address) (string_bytes folder) (map string_bytes loads.items) tombstones.items workers watch (option_map string_bytes status) }
     {
         NodeConfig {
             name,
@@ -48,6 +52,8 @@ impl NodeConfig {
             loads,
             tombstones,
             workers,
+            watch,
+            status,
         }
     }
 
@@ -95,6 +101,25 @@ impl NodeConfig {
     {
         self.workers
     }
+
+    /// After how many milliseconds each it looks at its folder, 1 to 3,600,000; None where it does not.
+    pub fn watch(&self) -> Option<u64>
+        ensures value { result ≡ self.now.watch }
+        ensures valid { IsNode self.now }
+    {
+        self.watch
+    }
+
+    /// Where it answers how it is: a port of this machine; None where it does not.
+    pub fn status(&self) -> Option<&str>
+        ensures value { option_map (λ s. s.now) result ≡ self.now.status }
+        ensures valid { IsNode self.now }
+    {
+        match &self.status {
+            Some(status) => Some(status.as_str()),
+            None => None,
+        }
+    }
 }
 
 /// A broker.
@@ -102,26 +127,31 @@ impl NodeConfig {
 pub struct BrokerConfig {
     address: String,
     workers: u16,
+    status: Option<String>,
 }
 
 impl Model for BrokerConfig {
-    ghost use Rattle.std.specs.Prelude.{string_bytes};
-    ghost use Rattle.druid_config.specs.Configs.{Broker, IsBroker};
+    ghost use Rattle.std.specs.Prelude.{option_map, string_bytes};
+    ghost use Rattle.druid_config.specs.Configs.{Broker, IsBroker, broker_of};
 
     ghost Value = { Broker };
 
-    ghost view = { λ a. record { address = string_bytes a.address; workers = a.workers } };
+    ghost view = { λ a. broker_of (string_bytes a.address) a.workers (option_map string_bytes a.status) };
 
-    ghost invariant = { λ a. IsBroker (record { address = string_bytes a.address; workers = a.workers }) };
+    ghost invariant = { λ a. IsBroker (broker_of (string_bytes a.address) a.workers (option_map string_bytes a.status)) };
 }
 
 impl BrokerConfig {
     // The broker of these parts.
-    pub(crate) fn new(address: String, workers: u16) -> BrokerConfig
-        requires { IsBroker (record { address = string_bytes address; workers = workers }) }
-        ensures { result ≡ record { address = string_bytes address; workers = workers } }
+    pub(crate) fn new(address: String, workers: u16, status: Option<String>) -> BrokerConfig
+        requires { IsBroker (broker_of (string_bytes address) workers (option_map string_bytes status)) }
+        ensures { result ≡ broker_of (string_bytes address) workers (option_map string_bytes status) }
     {
-        BrokerConfig { address, workers }
+        BrokerConfig {
+            address,
+            workers,
+            status,
+        }
     }
 
     /// Where it listens: a port of this machine.
@@ -138,6 +168,17 @@ impl BrokerConfig {
         ensures valid { IsBroker self.now }
     {
         self.workers
+    }
+
+    /// Where it answers how it is: a port of this machine; None where it does not.
+    pub fn status(&self) -> Option<&str>
+        ensures value { option_map (λ s. s.now) result ≡ self.now.status }
+        ensures valid { IsBroker self.now }
+    {
+        match &self.status {
+            Some(status) => Some(status.as_str()),
+            None => None,
+        }
     }
 }
 
@@ -193,6 +234,9 @@ pub struct Config {
     connections: u64,
     kept: usize,
     turns: u64,
+    every: Option<u64>,
+    patience: u64,
+    endless: bool,
 }
 
 impl Model for Config {
@@ -200,9 +244,9 @@ impl Model for Config {
 
     ghost Value = { Cluster };
 
-    ghost view = { λ a. cluster_of a.nodes.items a.brokers.items a.queries.items a.connections a.kept a.turns };
+    ghost view = { λ a. cluster_of a.nodes.items a.brokers.items a.queries.items a.connections a.kept a.turns a.every a.patience a.endless };
 
-    ghost invariant = { λ a. IsWithinLimits (reported_of (cluster_of a.nodes.items a.brokers.items a.queries.items a.connections a.kept a.turns)) };
+    ghost invariant = { λ a. IsWithinLimits (reported_of (cluster_of a.nodes.items a.brokers.items a.queries.items a.connections a.kept a.turns a.every a.patience a.endless)) };
 }
 
 impl Config {
@@ -214,9 +258,12 @@ impl Config {
         connections: u64,
         kept: usize,
         turns: u64,
+        every: Option<u64>,
+        patience: u64,
+        endless: bool,
     ) -> Config
-        requires { IsWithinLimits (reported_of (cluster_of nodes.items brokers.items queries.items connections kept turns)) }
-        ensures { result ≡ cluster_of nodes.items brokers.items queries.items connections kept turns }
+        requires { IsWithinLimits (reported_of (cluster_of nodes.items brokers.items queries.items connections kept turns every patience endless)) }
+        ensures { result ≡ cluster_of nodes.items brokers.items queries.items connections kept turns every patience endless }
     {
         Config {
             nodes,
@@ -225,6 +272,9 @@ impl Config {
             connections,
             kept,
             turns,
+            every,
+            patience,
+            endless,
         }
     }
 
@@ -253,7 +303,8 @@ impl Config {
         self.queries.as_slice()
     }
 
-    /// How many connections from outside each broker answers, at most 1,000,000.
+    /// How many connections from outside each broker answers before the program ends, at most 1,000,000; 0 where the cluster
+    /// does not end.
     pub fn connections(&self) -> u64
         ensures value { result ≡ self.now.connections }
         ensures valid { IsWithinLimits (reported_of self.now) }
@@ -275,6 +326,31 @@ impl Config {
         ensures valid { IsWithinLimits (reported_of self.now) }
     {
         self.turns
+    }
+
+    /// After how many milliseconds each a syncer makes a turn once it has made its turns, 1 to 3,600,000; None where it makes no
+    /// more.
+    pub fn every(&self) -> Option<u64>
+        ensures value { result ≡ self.now.every }
+        ensures valid { IsWithinLimits (reported_of self.now) }
+    {
+        self.every
+    }
+
+    /// How many milliseconds an exchange with a node may take, 1 to 3,600,000; 30,000 where the config names none.
+    pub fn patience(&self) -> u64
+        ensures value { result ≡ self.now.patience }
+        ensures valid { IsWithinLimits (reported_of self.now) }
+    {
+        self.patience
+    }
+
+    /// Whether the program serves until it is ended: then `every` is there.
+    pub fn is_endless(&self) -> bool
+        ensures value { result ≡ self.now.endless }
+        ensures valid { IsWithinLimits (reported_of self.now) }
+    {
+        self.endless
     }
 }
 

@@ -1,12 +1,12 @@
 //! The fields of a config, read out of JSON. Nothing here allocates.
-ghost use Rattle.std.specs.Prelude.{◌≡◌, ◌≤◌, IsTrue, IfSome, option_map};
+ghost use Rattle.std.specs.Prelude.{◌≡◌, ◌≤◌, IsTrue, IfSome, codes, option_map};
 ghost use Rattle.serde_json.specs.View.{view};
 ghost use Rattle.druid_segid.specs.Names.{is_name};
 ghost use Rattle.druid_base.specs.Numbers as numbers;
-ghost use Rattle.druid_config.specs.Configs.{is_port, is_address, address_at, name_at, tombstone_at, some_at, count_at, place_at, object_at};
+ghost use Rattle.druid_config.specs.Configs.{is_port, is_address, address_at, status_at, name_at, tombstone_at, some_at, count_at, rest_at, patience_at, is_endless, connections_at, place_at, object_at, IsRest, IsPatience, IsAddress};
 ghost use Rattle.druid_shard_text.specs.Json.{source_at, interval_at, version_at};
 
-use crate::limits::{MAX_COUNT, MAX_PORT};
+use crate::limits::{MAX_COUNT, MAX_PATIENCE, MAX_PORT, MAX_REST, USUAL_PATIENCE};
 use druid_base::{number_field, number_of, text_field};
 use druid_segid::{Name, Version};
 use druid_time::Interval;
@@ -33,13 +33,33 @@ fn is_address(text: &str) -> bool
     }
 }
 
+// The address at a key.
+fn address_at<'a>(value: &'a Value, key: &str) -> Option<&'a str>
+    ensures value { option_map (λ s. s.now) result ≡ address_at key.now (view value.now) }
+    ensures valid { IfSome result (λ s. IsAddress s.now) }
+{
+    let text = text_field(value, key)?;
+    if is_address(text) { Some(text) } else { None }
+}
+
 // The address of a server.
 pub(crate) fn address_field(value: &Value) -> Option<&str>
-    ensures value { option_map (λ s. s.now) result ≡ address_at (view value.now) }
-    ensures valid { IfSome result (λ s. IsTrue (is_address s.now)) }
+    ensures value { option_map (λ s. s.now) result ≡ address_at (codes "address") (view value.now) }
+    ensures valid { IfSome result (λ s. IsAddress s.now) }
 {
-    let text = text_field(value, "address")?;
-    if is_address(text) { Some(text) } else { None }
+    address_at(value, "address")
+}
+
+// Where a server answers how it is, where there is such a key.
+pub(crate) fn status_field(value: &Value) -> Option<Option<&str>>
+    ensures value { option_map (λ o. option_map (λ s. s.now) o) result ≡ status_at (view value.now) }
+    ensures valid { IfSome result (λ o. IfSome (option_map (λ s. s.now) o) IsAddress) }
+{
+    let Some(_) = value.get("status") else {
+        return Some(None);
+    };
+    let text = address_at(value, "status")?;
+    Some(Some(text))
 }
 
 // The name of a node.
@@ -137,6 +157,56 @@ pub(crate) fn count_field(value: &Value, key: &str) -> Option<u64>
         Some(number)
     } else {
         None
+    }
+}
+
+// The rest in milliseconds at a key, 1 to 3,600,000, where there is such a key.
+pub(crate) fn rest_field(value: &Value, key: &str) -> Option<Option<u64>>
+    ensures value { result ≡ rest_at key.now (view value.now) }
+    ensures rest { IfSome result (λ rest. IfSome rest IsRest) }
+{
+    let Some(_) = value.get(key) else {
+        return Some(None);
+    };
+    let rest = number_field(value, key)?;
+    if 1 <= rest && rest <= MAX_REST {
+        Some(Some(rest))
+    } else {
+        None
+    }
+}
+
+// The patience with nodes in milliseconds, 1 to 3,600,000, 30,000 where there is no such key.
+pub(crate) fn patience_field(value: &Value) -> Option<u64>
+    ensures value { result ≡ patience_at (view value.now) }
+    ensures patience { IfSome result IsPatience }
+{
+    let Some(_) = value.get("patience") else {
+        return Some(USUAL_PATIENCE);
+    };
+    let patience = number_field(value, "patience")?;
+    if 1 <= patience && patience <= MAX_PATIENCE {
+        Some(patience)
+    } else {
+        None
+    }
+}
+
+// Whether a cluster does not end: `every` is there, and no `connections`.
+pub(crate) fn is_endless(value: &Value) -> bool
+    ensures { result ≡ is_endless (view value.now) }
+{
+    value.get("connections").is_none() && value.get("every").is_some()
+}
+
+// How many connections each broker answers before the end, 0 where there is none.
+pub(crate) fn connections_field(value: &Value) -> Option<u64>
+    ensures { result ≡ connections_at (view value.now) }
+{
+    if is_endless(value) {
+        Some(0)
+    } else {
+        count_field(value, "connections")
     }
 }
 

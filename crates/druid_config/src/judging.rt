@@ -12,7 +12,8 @@ ghost use Rattle.druid_config.specs.Borrowed.{text_or, names_in};
 
 use crate::bad_field::{BadField, BrokerRule, NodeRule, QueryRule, WholeRule};
 use crate::fields::{
-    address_field, chunk_field, count_field, name_field, object_field, place_field, some_field,
+    address_field, chunk_field, connections_field, count_field, name_field, object_field,
+    patience_field, place_field, rest_field, some_field, status_field,
 };
 use crate::limits::{MAX_KEPT, MAX_SERVERS, MAX_WORKERS};
 use druid_base::{TextList, are_texts, doubled_text, list_field, text_field};
@@ -75,6 +76,12 @@ fn node_rule(value: &Value) -> Option<NodeRule>
     if some_field(value, "workers", MAX_WORKERS).is_none() {
         return Some(NodeRule::Workers);
     }
+    if rest_field(value, "watch").is_none() {
+        return Some(NodeRule::Watch);
+    }
+    if status_field(value).is_none() {
+        return Some(NodeRule::Status);
+    }
     None
 }
 
@@ -90,6 +97,9 @@ fn broker_rule(value: &Value) -> Option<BrokerRule>
     }
     if some_field(value, "workers", MAX_WORKERS).is_none() {
         return Some(BrokerRule::Workers);
+    }
+    if status_field(value).is_none() {
+        return Some(BrokerRule::Status);
     }
     None
 }
@@ -260,14 +270,14 @@ fn count_brokers(value: &Value) -> Result<usize, BadField>
     }
 }
 
-/// The first field of a value that is wrong, in the order `connections`, `kept`, `turns`, `nodes`, `brokers`, `queries`: None
-/// exactly where the value is a config. Does not allocate.
+/// The first field of a value that is wrong, in the order `connections`, `kept`, `turns`, `every`, `patience`, `nodes`, `brokers`,
+/// `queries`: None exactly where the value is a config. Does not allocate.
 #[tactic(auto, unfolding(crate::specs::Configs::config_at))]
 pub fn bad_field_of(value: &Value) -> Option<BadField>
     ensures test { is_none result ≡ is_some (config_at (view value.now)) }
     ensures wrong { IfSome result (λ bad. IsWrong bad (view value.now)) }
 {
-    if count_field(value, "connections").is_none() {
+    if connections_field(value).is_none() {
         return Some(BadField::Whole(WholeRule::Connections));
     }
     if some_field(value, "kept", MAX_KEPT).is_none() {
@@ -275,6 +285,12 @@ pub fn bad_field_of(value: &Value) -> Option<BadField>
     }
     if count_field(value, "turns").is_none() {
         return Some(BadField::Whole(WholeRule::Turns));
+    }
+    if rest_field(value, "every").is_none() {
+        return Some(BadField::Whole(WholeRule::Every));
+    }
+    if patience_field(value).is_none() {
+        return Some(BadField::Whole(WholeRule::Patience));
     }
     if let Some(bad) = wrong_nodes(value) {
         return Some(bad);

@@ -4,7 +4,8 @@ ghost use Rattle.serde_json.specs.Data.{Data};
 ghost use Rattle.druid_config.specs.Configs.{Reported, config_at, is_address, NamesPort, IsWithinLimits};
 
 /// What a config tells is within its limits: 1 to 64 nodes and brokers, no two nodes of one name, 1 to 16 workers each, 1 to
-/// 1,000 changes kept, at most 1,000,000 connections and turns, and each query an object and to a broker that is there.
+/// 1,000 changes kept, at most 1,000,000 connections and turns, rests and a patience of 1 to 3,600,000 milliseconds, each query an object and to a
+/// broker that is there; and a cluster that does not end goes on with its turns.
 pub fn configs_are_within_limits()
     ensures { (d : Data) (reported : Reported) → config_at d ≡ Some reported → IsWithinLimits reported }
 {}

@@ -12,5 +12,14 @@ pub const MAX_KEPT: u16 = 1_000;
 /// The most connections from outside, and the most turns.
 pub const MAX_COUNT: u64 = 1_000_000;
 
+/// The longest rest between two turns of a syncer, and between two looks of a node at its folder, in milliseconds: an hour.
+pub const MAX_REST: u64 = 3_600_000;
+
+/// The longest patience with a node, in milliseconds: an hour.
+pub const MAX_PATIENCE: u64 = 3_600_000;
+
+/// The patience of a config that names none, in milliseconds.
+pub const USUAL_PATIENCE: u64 = 30_000;
+
 /// The last port.
 pub const MAX_PORT: u64 = 65_535;

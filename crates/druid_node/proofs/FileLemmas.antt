@@ -1,6 +1,6 @@
 -- What a file gives.
-use Rattle.std.proofs.Common.{◌≡◌, ◌⊎◌, ℕ, true, false, cond, List, Option, Some, None, Result, Ok, Err, IsOk, IfErr, OnOk, refl, sym, ap, ◌∙◌, subst, inl, inr, bytes_eq}
-use Rattle.std.specs.Bool.{⊤}
+use Rattle.std.proofs.Common.{◌≡◌, ◌⊎◌, ℕ, Bool, true, false, cond, List, Option, Some, None, Result, Ok, Err, IsOk, IfErr, refl, sym, ap, ◌∙◌, subst, inl, inr, bytes_eq}
+use Rattle.std.proofs.lemmas.Slice.Eq.{bytes_eq-Decides}
 use Rattle.druid_rows.specs.Segment.{Segment}
 use Rattle.druid_segfile.specs.Reading.{GivesInMemory, segment_at}
 use Rattle.druid_segfile.specs.declared.fault.FileFault.{FileFault}
@@ -12,7 +12,7 @@ use Rattle.druid_folder.specs.declared.fault.StoreFault.{StoreFault}
 use Rattle.druid_folder.specs.declared.fault.StoreFault.TheVariants as store
 use Rattle.druid_shard.specs.Mark.{Point}
 use Rattle.druid_node.specs.Seen.{RefusesLoad}
-use Rattle.druid_node.specs.Files.{file_name, named, file_at, reported_as, RefusesFile, IsOfFile, RefusesBytes, RefusesFound, faults_after_load}
+use Rattle.druid_node.specs.Files.{file_name, named, file_at, reported_as, RefusesFile, IsOfFile, RefusesBytes, RefusesFound, faults_after_fault, faults_after_load}
 use Rattle.druid_node.specs.declared.fault.NodeFault.{NodeFault}
 use Rattle.druid_node.specs.declared.fault.NodeFault.TheVariants as faults
 
@@ -101,17 +101,24 @@ load_own incarnation seen (faults.Behind found) h = tt
 load_own incarnation seen faults.NotPartitionZero h = absurd h
 load_own incarnation seen faults.Memory h = tt
 
--- what holds anyhow holds where a load was done
-pub always : {A : Type 0} (r : Result ⊤ NodeFault) → A → OnOk r A
-always (Ok x) a = a
-always (Err fault) a = tt
+-- a file that gives a segment has its name
+if_named : (b : Bool) (name : List ℕ) (t s : Segment) → bytes_eq name (file_name t.descriptor.id) ≡ b → cond b (Ok t) (Err faults.NameDiffers) ≡ Ok s → name ≡ file_name s.descriptor.id
+if_named true name t s same e =
+    let same_segment : t ≡ s = cc in
+    subst (λ (x : Segment). name ≡ file_name x.descriptor.id) same_segment ((bytes_eq-Decides name (file_name t.descriptor.id)).0 same)
+if_named false name t s same e = absurd cc
+
+named_so : (name : List ℕ) (r : Result Segment FileFault) (s : Segment) → named name r ≡ Ok s → name ≡ file_name s.descriptor.id
+named_so name (Err fault) s e = absurd cc
+named_so name (Ok t) s e = if_named (bytes_eq name (file_name t.descriptor.id)) name t s refl e
+
+pub file_named : (name : List ℕ) (given : Option (List ℕ)) (s : Segment) → file_at name given ≡ Ok s → name ≡ file_name s.descriptor.id
+file_named name None s e = absurd cc
+file_named name (Some bytes) s e = named_so name (segment_at bytes) s e
 
 -- ---- how often the device has failed
 
-abbrev pub load_reported : NodeFault → Result ⊤ NodeFault
-load_reported fault = Err fault
-
-bytes_uncounted : (name bytes : List ℕ) (fault : NodeFault) (n : ℕ) → RefusesBytes name bytes fault → faults_after_load (load_reported fault) n ≡ n
+bytes_uncounted : (name bytes : List ℕ) (fault : NodeFault) (n : ℕ) → RefusesBytes name bytes fault → faults_after_fault fault n ≡ n
 bytes_uncounted name bytes faults.Device n h = absurd h
 bytes_uncounted name bytes (faults.File fault) n h = refl
 bytes_uncounted name bytes faults.NameDiffers n h = refl
@@ -122,11 +129,11 @@ bytes_uncounted name bytes (faults.Behind found) n h = refl
 bytes_uncounted name bytes faults.NotPartitionZero n h = refl
 bytes_uncounted name bytes faults.Memory n h = refl
 
-pub found_uncounted : (name : List ℕ) (found : Option (List ℕ)) (fault : NodeFault) (n : ℕ) → RefusesFound name found fault → faults_after_load (load_reported fault) n ≡ n
-found_uncounted name None fault n h = ap (λ (f : NodeFault). faults_after_load (load_reported f) n) h
+pub found_uncounted : (name : List ℕ) (found : Option (List ℕ)) (fault : NodeFault) (n : ℕ) → RefusesFound name found fault → faults_after_fault fault n ≡ n
+found_uncounted name None fault n h = ap (λ (f : NodeFault). faults_after_fault f n) h
 found_uncounted name (Some bytes) fault n h = bytes_uncounted name bytes fault n h
 
-pub load_uncounted : (incarnation : ℕ) (seen : Point) (r : Result ⊤ NodeFault) (n : ℕ) → IfErr r (RefusesLoad incarnation seen) → faults_after_load r n ≡ n
+pub load_uncounted : {A : Type 0} (incarnation : ℕ) (seen : Point) (r : Result A NodeFault) (n : ℕ) → IfErr r (RefusesLoad incarnation seen) → faults_after_load r n ≡ n
 load_uncounted incarnation seen (Ok x) n h = refl
 load_uncounted incarnation seen (Err faults.Device) n h = absurd h
 load_uncounted incarnation seen (Err (faults.File fault)) n h = refl
@@ -150,6 +157,6 @@ pub read_own : (fault : StoreFault) (reported : NodeFault) → ReadReported faul
 read_own fault reported (inl (e, f)) = subst IsOfFile (sym f) tt
 read_own fault reported (inr (e, f)) = subst IsOfFile (sym f) tt
 
-pub read_counted : (fault : StoreFault) (reported : NodeFault) (n : ℕ) → ReadReported fault reported → faults_at fault n ≡ faults_after_load (load_reported reported) n
-read_counted fault reported n (inl (e, f)) = ap (λ (g : StoreFault). faults_at g n) e ∙ ap (λ (g : NodeFault). faults_after_load (load_reported g) n) (sym f)
-read_counted fault reported n (inr (e, f)) = ap (λ (g : StoreFault). faults_at g n) e ∙ ap (λ (g : NodeFault). faults_after_load (load_reported g) n) (sym f)
+pub read_counted : (fault : StoreFault) (reported : NodeFault) (n : ℕ) → ReadReported fault reported → faults_at fault n ≡ faults_after_fault reported n
+read_counted fault reported n (inl (e, f)) = ap (λ (g : StoreFault). faults_at g n) e ∙ ap (λ (g : NodeFault). faults_after_fault g n) (sym f)
+read_counted fault reported n (inr (e, f)) = ap (λ (g : StoreFault). faults_at g n) e ∙ ap (λ (g : NodeFault). faults_after_fault g n) (sym f)

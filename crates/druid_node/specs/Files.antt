@@ -78,7 +78,10 @@ RefusesFound name None fault = fault ≡ faults.NoFile
 RefusesFound name (Some bytes) fault = RefusesBytes name bytes fault
 
 -- how often the device has failed after a load: a failure counts
-abbrev pub faults_after_load : Result ⊤ NodeFault → ℕ → ℕ
+abbrev pub faults_after_fault : NodeFault → ℕ → ℕ
+faults_after_fault faults.Device n = faults_at store.Device n
+faults_after_fault other n = n
+
+abbrev pub faults_after_load : {A : Type 0} → Result A NodeFault → ℕ → ℕ
 faults_after_load (Ok x) n = n
-faults_after_load (Err faults.Device) n = faults_at store.Device n
-faults_after_load (Err other) n = n
+faults_after_load (Err fault) n = faults_after_fault fault n

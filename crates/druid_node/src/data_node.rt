@@ -147,13 +147,26 @@ impl<I: Incarnation> DataNode<I> {
         }
     }
 
-    fn load(&self, rt: &impl Wait, segment: Segment, seen: &mut Mark) -> Result<(), NodeFault>
+    // Loads a segment, and gives its identifier: copied before, so that nothing fails after the load.
+    fn load(
+        &self,
+        rt: &impl Wait,
+        segment: Segment,
+        seen: &mut Mark,
+    ) -> Result<SegmentId, NodeFault>
+        ensures id { IfOk result (λ id. id ≡ segment.descriptor.id) }
         ensures raised { OnOk result (mark_cmp seen.old seen.new ≡ Less) }
         ensures own { OnOk result (seen.new.incarnation ≡ I.number) }
         ensures err { IfErr result (RefusesLoad I.number seen.old) }
         ensures unseen { OnErr result (seen.new ≡ seen.old) }
     {
-        self.state.lock(rt).load(segment, seen)
+        let Ok(id) = segment.descriptor().id().clone() else {
+            return Err(NodeFault::Memory);
+        };
+        if let Err(fault) = self.state.lock(rt).load(segment, seen) {
+            return Err(fault);
+        }
+        Ok(id)
     }
 
     /// Loads the segment of the file of that name, of which a folder gives no more than 16 MiB and a byte, and sees the mark
@@ -170,6 +183,34 @@ impl<I: Incarnation> DataNode<I> {
     ) -> Result<(), NodeFault>
         ensures ok { F.is_honest folder.new
             → OnOk result ((s : Segment) × (file_at name.now (read_part (F.content folder.old name.now)) ≡ Ok s)) }
+        ensures raised { OnOk result (mark_cmp seen.old seen.new ≡ Less) }
+        ensures own { OnOk result (seen.new.incarnation ≡ I.number) }
+        ensures err { F.is_honest folder.new
+            → IfErr result (RefusesFile I.number (file_at name.now (read_part (F.content folder.old name.now))) seen.old) }
+        ensures never { IfErr result IsOfFile }
+        ensures unseen { OnErr result (seen.new ≡ seen.old) }
+
+        ensures content { F.is_honest folder.new → F.content folder.new ≡ F.content folder.old }
+        ensures honest { F.is_honest folder.new → F.is_honest folder.old }
+        ensures counted { F.faults folder.new ≡ faults_after_load result (F.faults folder.old) }
+    {
+        self.load_identified(rt, folder, name, seen)?;
+        Ok(())
+    }
+
+    /// Loads the segment of the file of that name as `load_file` does, and gives its identifier, by which it is dropped: that
+    /// whose text and `.seg` the name is.
+    pub fn load_identified<F: Folder>(
+        &self,
+        rt: &impl Wait,
+        folder: &mut F,
+        name: &str,
+        seen: &mut Mark,
+    ) -> Result<SegmentId, NodeFault>
+        ensures ok { F.is_honest folder.new
+            → IfOk result (λ id. (s : Segment) × (file_at name.now (read_part (F.content folder.old name.now)) ≡ Ok s)
+            × (id ≡ s.descriptor.id)) }
+        ensures id { IfOk result (λ id. name.now ≡ file_name id) }
         ensures raised { OnOk result (mark_cmp seen.old seen.new ≡ Less) }
         ensures own { OnOk result (seen.new.incarnation ≡ I.number) }
         ensures err { F.is_honest folder.new

@@ -1,2 +1,4 @@
 -- what public contracts rest on
-pub mod Program
+pub mod Served
+-- words of private contracts
+pub mod Links

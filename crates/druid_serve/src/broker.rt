@@ -1,25 +1,28 @@
 //! A broker: the threads that follow the nodes, and those that answer.
-ghost use Rattle.std.specs.Prelude.{◌≡◌, ◌<◌, ◌≤◌, ◌+◌, ◌-◌, ◌^◌, min, if◌then◌else◌, IfOk, OnOk, List, length, vec_len};
+ghost use Rattle.std.specs.Prelude.{◌≡◌, ◌<◌, ◌≤◌, ◌+◌, ◌-◌, ◌^◌, List, min, if◌then◌else◌, IfOk, OnOk, length, vec_len};
+ghost use Rattle.druid_config.specs.Configs.{Node};
 ghost use Rattle.druid_config.specs.Limits.{max_workers};
 ghost use Rattle.druid_inventory.specs.Entry.{max_nodes};
-ghost use Rattle.druid_follow.specs.Turns.{Turn, MakesTurns};
+ghost use Rattle.druid_follow.specs.Turns.{Turn, MakesTurns, count_of};
+ghost use Rattle.druid_serve.specs.Links.{IsLinkAt, LeadTo, opening_of};
 ghost use mathlib.Core.List.{IsPrefix};
 
+use crate::links::{NodeList, link_to, links_to};
 use druid_broker::{Routes, serve_one};
 use druid_config::NodeConfig;
-use druid_follow::follow;
+use druid_follow::{TurnCount, follow, follow_on};
 use druid_inventory::Inventory;
 use druid_link::{Link, TcpLink};
 use druid_published::{Opened, Publication, Publisher, View, open};
 use druid_scatter::Rotate;
-use druid_server::{DeviceFailed, Gate, answer_each, limit};
+use druid_server::{DeviceFailed, Gate, Handover, answer_each, close_answered, limit};
 use druid_shard::NodeNo;
-use std::alloc::{AllocError, Global};
+use std::alloc::Global;
 use std::io::{BufReader, BufWriter, Write};
 use std::net::{Net, TcpListener, TcpStream};
 use std::sync::{Arc, Mutex, Wait};
 use std::thread;
-use std::thread::{JoinHandle, Threads};
+use std::thread::Threads;
 use std::time::Clock;
 
 /// A broker that stands.
@@ -27,8 +30,23 @@ use std::time::Clock;
 pub(crate) struct Broker {
     /// Where the connections that it answers are counted.
     pub(crate) gate: Arc<Gate, Global>,
-    /// The threads that follow the nodes.
-    pub(crate) syncers: Vec<JoinHandle<()>>,
+    /// What tells when its syncers have made their first turns.
+    pub(crate) syncers: Vec<Arc<Handover<EndOfTurns>, Global>>,
+}
+
+/// What the first turns of a syncer gave: only a syncer's thread gives one, once they are made.
+#[derive(Drop)]
+pub(crate) struct EndOfTurns {
+    count: TurnCount,
+}
+
+/// How a syncer makes its turns.
+#[derive(Clone, Copy, Drop)]
+pub(crate) struct Pace {
+    /// How many it makes first.
+    pub(crate) turns: u64,
+    /// How long it rests before each one after these, in milliseconds: None where it makes no more.
+    pub(crate) every: Option<u64>,
 }
 
 // The publisher, which threads share.
@@ -57,15 +75,15 @@ struct Syncer<R: Wait + Drop, J: Publication, L: Link> {
     ghost there: { node < length J.opening },
 }
 
-// Makes so many turns.
-fn follow_node<R: Wait + Drop, J: Publication, L: Link>(
+// Makes the first turns of a syncer.
+fn first_turns<R: Wait + Drop, J: Publication, L: Link>(
     rt: &R,
     alloc: Global,
     turns: u64,
     syncer: &mut Syncer<R, J, L>,
-)
+) -> EndOfTurns
     ensures { (gave : List Turn) × MakesTurns L.exchanges J.opening syncer.old.node gave syncer.old.view syncer.new.view syncer.old.link syncer.new.link
-        × (length gave ≡ turns) }
+        × (length gave ≡ turns) × (result.count ≡ count_of gave) }
 {
     let Syncer {
         node,
@@ -73,34 +91,45 @@ fn follow_node<R: Wait + Drop, J: Publication, L: Link>(
         link,
         publisher,
     } = syncer;
-    let _ = follow(rt, alloc, *node, turns, view, link, publisher);
-}
-
-// A link to a server at an address.
-fn link_to<R: Net + Clock + Copy>(
-    rt: &R,
-    alloc: Global,
-    address: &str,
-) -> Result<TcpLink<R>, AllocError> {
-    Ok(TcpLink::new(*rt, String::from_str(alloc, address)?))
-}
-
-// A link to each of these nodes.
-fn links_to<R: Net + Clock + Copy>(
-    rt: &R,
-    alloc: Global,
-    nodes: &[NodeConfig],
-) -> Result<Vec<TcpLink<R>>, AllocError>
-    ensures { IfOk result (λ links. vec_len links ≡ length nodes.now) }
-{
-    let mut links = Vec::with_capacity(alloc, nodes.len())?;
-    for node in nodes {
-        links.push(link_to(rt, alloc, node.address())?)?;
+    EndOfTurns {
+        count: follow(rt, alloc, *node, turns, view, link, publisher),
     }
-    Ok(links)
 }
 
-// Starts the thread that follows a node.
+// Makes turns for ever, one after another.
+fn later_turns<R: Wait + Clock + Drop, J: Publication, L: Link>(
+    rt: &R,
+    alloc: Global,
+    every: u64,
+    syncer: &mut Syncer<R, J, L>,
+)
+    ensures { (gave : List Turn) × MakesTurns L.exchanges J.opening syncer.old.node gave syncer.old.view syncer.new.view syncer.old.link syncer.new.link }
+{
+    let Syncer {
+        node,
+        view,
+        link,
+        publisher,
+    } = syncer;
+    follow_on(rt, alloc, *node, every, view, link, publisher, || false);
+}
+
+// Follows a node: makes the first turns, hands over what they gave, and goes on where the cluster does.
+fn follow_node<R: Wait + Clock + Drop, J: Publication, L: Link + Drop>(
+    rt: &R,
+    alloc: Global,
+    pace: Pace,
+    syncer: Syncer<R, J, L>,
+    end: &Handover<EndOfTurns>,
+) {
+    let mut syncer = syncer;
+    end.give(rt, first_turns(rt, alloc, pace.turns, &mut syncer));
+    if let Some(every) = pace.every {
+        later_turns(rt, alloc, every, &mut syncer);
+    }
+}
+
+// Starts the thread that follows a node of a cluster, over the link to that node.
 fn start_syncer<
     R: Net<Listener = TcpListener, Stream = TcpStream>
         + Wait
@@ -111,21 +140,29 @@ fn start_syncer<
         + Sync
         + 'static,
     J: Publication + Send + Sync + 'static,
+    C: NodeList,
 >(
     rt: &R,
     alloc: Global,
-    turns: u64,
+    pace: Pace,
     syncer: Syncer<R, J, TcpLink<R>>,
-) -> Result<JoinHandle<()>, DeviceFailed> {
+) -> Result<Arc<Handover<EndOfTurns>, Global>, DeviceFailed>
+    requires own { IsLinkAt C.nodes syncer.node syncer.link }
+{
     let rt = *rt;
-    let mut syncer = syncer;
-    match thread::spawn(&rt, move || follow_node(&rt, alloc, turns, &mut syncer)) {
-        Ok(thread) => Ok(thread),
+    let end = Arc::new(alloc, Handover::new())?;
+    let told = Arc::try_clone(&end)?;
+    match thread::spawn(&rt, move || follow_node(&rt, alloc, pace, syncer, &told)) {
+        Ok(thread) => {
+            drop(thread);
+            Ok(end)
+        }
         Err(_) => Err(DeviceFailed),
     }
 }
 
-// Answers one connection, and tells whether that was done.
+// Answers one connection, and gives the status that was written, if an answer was.
+#[tactic(auto, using(crate::proofs::LinkLemmas::answered_lead))]
 fn answer<
     R: Net<Listener = TcpListener, Stream = TcpStream>
         + Wait
@@ -135,18 +172,19 @@ fn answer<
         + Send
         + Sync,
     J: Publication,
->(rt: &R, alloc: Global, worker: &mut Worker<R, J>, stream: &TcpStream) -> bool
+>(rt: &R, alloc: Global, worker: &mut Worker<R, J>, stream: &TcpStream) -> Option<u16>
     ensures view { IsPrefix worker.old.view worker.new.view }
     ensures turn { worker.new.turn ≡ worker.old.turn }
+    ensures leads { (nodes : List Node) → LeadTo nodes worker.old.links.items → LeadTo nodes worker.new.links.items }
 {
     if !limit(stream) {
-        return false;
+        return None;
     }
     let Ok(mut reader) = BufReader::new(alloc, stream) else {
-        return false;
+        return None;
     };
     let Ok(mut writer) = BufWriter::new(alloc, stream) else {
-        return false;
+        return None;
     };
     let served = serve_one(
         rt,
@@ -159,7 +197,14 @@ fn answer<
         &Rotate,
         &mut worker.links,
     );
-    served.is_ok() && writer.flush().is_ok()
+    let Ok(status) = served else {
+        return None;
+    };
+    if writer.flush().is_ok() {
+        Some(status)
+    } else {
+        None
+    }
 }
 
 // Answers a connection, counts it once it is closed, and tells whether it was answered: then the next has the next turn.
@@ -174,14 +219,15 @@ fn take<
     J: Publication,
 >(rt: &R, alloc: Global, worker: &mut Worker<R, J>, gate: &Gate, stream: TcpStream) -> bool
     ensures view { IsPrefix worker.old.view worker.new.view }
+    ensures leads { (nodes : List Node) → LeadTo nodes worker.old.links.items → LeadTo nodes worker.new.links.items }
     ensures turn { worker.new.turn ≡ (if result then min (worker.old.turn + 1) (2 ^ 64 - 1) else worker.old.turn) }
 {
     let counts = gate.is_open(rt);
-    if !answer(rt, alloc, worker, &stream) {
+    let Some(status) = answer(rt, alloc, worker, &stream) else {
         return false;
-    }
+    };
     worker.turn = worker.turn.saturating_add(1);
-    drop(stream);
+    close_answered(rt, status, stream);
     if counts {
         gate.add(rt);
     }
@@ -198,15 +244,23 @@ fn work<
         + Send
         + Sync,
     J: Publication,
->(rt: &R, alloc: Global, worker: Worker<R, J>, gate: &Gate, listener: &TcpListener) -> Worker<R, J>
-    ensures { IsPrefix worker.view result.view }
+>(
+    rt: &R,
+    alloc: Global,
+    worker: Worker<R, J>,
+    gate: &Gate,
+    listener: &TcpListener,
+) -> Worker<R, J>
+    ensures view { IsPrefix worker.view result.view }
+    ensures leads { (nodes : List Node) → LeadTo nodes worker.links.items → LeadTo nodes result.links.items }
 {
     answer_each(
         rt,
         listener,
         worker,
         |worker: Worker<R, J>, stream: TcpStream|
-            ensures { IsPrefix worker.view result.view }
+            ensures { IsPrefix worker.view result.view
+                × ((nodes : List Node) → LeadTo nodes worker.links.items → LeadTo nodes result.links.items) }
         {
             let mut worker = worker;
             take(rt, alloc, &mut worker, gate, stream);
@@ -226,17 +280,22 @@ fn start_worker<
         + Sync
         + 'static,
     J: Publication + Send + Sync + 'static,
+    C: NodeList,
 >(
     rt: &R,
     alloc: Global,
     worker: Worker<R, J>,
     gate: &Arc<Gate, Global>,
     listener: &Arc<TcpListener, Global>,
-) -> Result<(), DeviceFailed> {
+) -> Result<(), DeviceFailed>
+    requires leads { LeadTo C.nodes worker.links.items }
+{
     let rt = *rt;
     let gate = Arc::try_clone(gate)?;
     let listener = Arc::try_clone(listener)?;
-    let job = move || drop(work(&rt, alloc, worker, &gate, &listener));
+    let job = move || {
+        drop(work(&rt, alloc, worker, &gate, &listener));
+    };
     match thread::spawn(&rt, job) {
         Ok(thread) => {
             drop(thread);
@@ -247,6 +306,7 @@ fn start_worker<
 }
 
 // What a worker answers with.
+#[tactic(auto, using(crate::proofs::LinkLemmas::leads_from))]
 fn worker_of<R: Net + Clock + Wait + Copy, J: Publication>(
     rt: &R,
     alloc: Global,
@@ -254,7 +314,8 @@ fn worker_of<R: Net + Clock + Wait + Copy, J: Publication>(
     nodes: &[NodeConfig],
     publisher: &Shared<J, R>,
 ) -> Result<Worker<R, J>, DeviceFailed>
-    requires { length nodes.now ≡ length J.opening }
+    requires there { length nodes.now ≡ length J.opening }
+    ensures { IfOk result (λ worker. LeadTo nodes.now worker.links.items) }
 {
     let links = links_to(rt, alloc, nodes)?;
     match Routes::new(alloc) {
@@ -278,14 +339,14 @@ pub(crate) struct BrokerParts {
     pub(crate) listener: Arc<TcpListener, Global>,
     /// How many threads answer, 1 to 16.
     pub(crate) workers: u16,
-    /// How many turns each of its syncers makes.
-    pub(crate) turns: u64,
+    /// How its syncers make their turns.
+    pub(crate) pace: Pace,
     ghost some: { 1 ≤ workers },
     ghost few: { workers ≤ max_workers },
 }
 
-// A publisher of an inventory, with a view for each node and for each worker.
-fn open_views<J: Publication, R: Wait + Drop + Copy>(
+// A publisher of what a broker of a cluster knows first, with a view for each node and for each worker.
+fn open_views<J: Publication, C: NodeList, R: Wait + Drop + Copy>(
     rt: &R,
     alloc: Global,
     opened: Opened,
@@ -294,6 +355,7 @@ fn open_views<J: Publication, R: Wait + Drop + Copy>(
 ) -> Result<(Shared<J, R>, Vec<View<J>>), DeviceFailed>
     requires book { opened ≡ J.book }
     requires opening { inventory ≡ J.opening }
+    requires fresh { inventory ≡ opening_of C.nodes }
     requires some { 1 ≤ workers }
     requires few { workers ≤ max_workers }
     ensures { IfOk result (λ shared. vec_len shared.1 ≡ length J.opening + workers) }
@@ -306,6 +368,7 @@ fn open_views<J: Publication, R: Wait + Drop + Copy>(
 }
 
 // Starts a syncer for each node, which takes a view.
+#[tactic(auto, using(crate::proofs::LinkLemmas::link_at))]
 fn start_syncers<
     R: Net<Listener = TcpListener, Stream = TcpStream>
         + Wait
@@ -316,18 +379,21 @@ fn start_syncers<
         + Sync
         + 'static,
     J: Publication + Send + Sync + 'static,
+    C: NodeList,
 >(
     rt: &R,
     alloc: Global,
-    turns: u64,
+    pace: Pace,
     nodes: &[NodeConfig],
     publisher: &Shared<J, R>,
     views: &mut Vec<View<J>>,
-) -> Result<Vec<JoinHandle<()>>, DeviceFailed>
+) -> Result<Vec<Arc<Handover<EndOfTurns>, Global>>, DeviceFailed>
+    requires cluster { nodes.now ≡ C.nodes }
     requires nodes { length nodes.now ≤ max_nodes }
     requires there { length nodes.now ≡ length J.opening }
     requires views { length nodes.now ≤ vec_len views.old }
-    ensures { OnOk result (length nodes.now + vec_len views.new ≡ vec_len views.old) }
+    ensures views { OnOk result (length nodes.now + vec_len views.new ≡ vec_len views.old) }
+    ensures each { IfOk result (λ syncers. vec_len syncers ≡ length nodes.now) }
 {
     let mut syncers = Vec::new(alloc);
     for node in 0..nodes.len() {
@@ -340,7 +406,7 @@ fn start_syncers<
             link: link_to(rt, alloc, nodes[node].address())?,
             publisher: Arc::try_clone(publisher)?,
         };
-        syncers.push(start_syncer(rt, alloc, turns, syncer)?)?;
+        syncers.push(start_syncer::<R, J, C>(rt, alloc, pace, syncer)?)?;
     }
     Ok(syncers)
 }
@@ -356,6 +422,7 @@ pub(crate) fn start_broker<
         + Sync
         + 'static,
     J: Publication + Send + Sync + 'static,
+    C: NodeList,
 >(
     rt: &R,
     alloc: Global,
@@ -365,20 +432,23 @@ pub(crate) fn start_broker<
 ) -> Result<Broker, DeviceFailed>
     requires book { list ≡ J.book }
     requires opening { parts.inventory ≡ J.opening }
+    requires cluster { nodes.now ≡ C.nodes }
+    requires fresh { parts.inventory ≡ opening_of nodes.now }
     requires nodes { length nodes.now ≡ length parts.inventory }
+    ensures { IfOk result (λ broker. vec_len broker.syncers ≡ length nodes.now) }
 {
     let BrokerParts {
         inventory,
         listener,
         workers,
-        turns,
+        pace,
     } = parts;
     let gate = Arc::new(alloc, Gate::new())?;
-    let (publisher, mut views) = open_views::<J, R>(rt, alloc, list, inventory, workers)?;
-    let syncers = start_syncers(rt, alloc, turns, nodes, &publisher, &mut views)?;
+    let (publisher, mut views) = open_views::<J, C, R>(rt, alloc, list, inventory, workers)?;
+    let syncers = start_syncers::<R, J, C>(rt, alloc, pace, nodes, &publisher, &mut views)?;
     for view in views {
         let worker = worker_of(rt, alloc, view, nodes, &publisher)?;
-        start_worker(rt, alloc, worker, &gate, &listener)?;
+        start_worker::<R, J, C>(rt, alloc, worker, &gate, &listener)?;
     }
     Ok(Broker { gate, syncers })
 }

@@ -2,9 +2,9 @@
 #![tactic(auto)]
 
 mod broker;
-mod program;
+mod links;
+mod live;
 mod serving;
 
 pub use druid_server::{PEER_SECONDS, ServeFault};
-pub use program::run;
 pub use serving::serve;

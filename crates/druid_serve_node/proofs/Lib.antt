@@ -1,1 +1,3 @@
 pub mod FolderLemmas
+pub mod KnownLemmas
+pub mod WatchLemmas

@@ -1,3 +1,6 @@
 -- what public contracts rest on
 pub mod Faults
 pub mod Files
+pub mod Looks
+-- words of private contracts
+pub mod Layout

@@ -1,6 +1,14 @@
 //! A data node, served: its folder, its sockets and its threads.
 #![tactic(auto)]
 
+mod known;
+mod latest;
+mod loader;
 mod node;
+mod watch;
+mod worker;
 
-pub use node::{EndOfLoads, load_later, start_node};
+pub use known::{FileState, Known};
+pub use loader::{EndOfLoads, Loading, load_later};
+pub use node::{start_node, start_owner};
+pub use watch::Watch;

@@ -1,7 +1,5 @@
 //! A data node: its folder, its sockets and its threads.
-ghost use Rattle.std.specs.Prelude.{◌≡◌, ◌≢◌, ◌≤◌, [], All, Some, Ok, length, IfOk, IfErr, IfSome, OnOk, map, string_bytes};
-ghost use Rattle.std.specs.declared.cmp.Ordering.TheVariants.{Greater};
-ghost use Rattle.druid_shard.specs.Mark.{mark_cmp};
+ghost use Rattle.std.specs.Prelude.{◌≡◌, ◌≤◌, [], All, Some, Ok, length, IfOk, IfErr, IfSome, OnOk, map, string_bytes};
 ghost use Rattle.druid_shard.specs.Reply.{max_changes};
 ghost use Rattle.druid_changes.specs.Kept.{StandsFor};
 ghost use Rattle.druid_rows.specs.Segment.{Segment};
@@ -13,24 +11,27 @@ ghost use Rattle.druid_server.specs.Faults.{of_node, NamesFile};
 ghost use Rattle.druid_serve_node.specs.Faults.{IsOfRaise, IsOfLoad, IsOfPlacing};
 ghost use Rattle.druid_serve_node.specs.Files.{is_segment_file, IsTaken, HoldsSegments, IsStarted};
 
+use crate::known::Known;
+use crate::latest::{Begun, Latest};
+use crate::loader::{Loader, Loading, start_loader};
+use crate::watch::Watch;
+use crate::worker::start_worker;
 use druid_changes::HistoryFault;
 use druid_config::NodeConfig;
 use druid_folder::{Folder, StoreFault};
 use druid_incarnation::next_incarnation;
 use druid_node::{DataNode, Incarnation, NodeFault, NodeState};
 use druid_segid::SegmentId;
-use druid_server::{Cause, DeviceFailed, StartFault, answer_each, limit, listen};
+use druid_server::{Cause, Handover, StartFault, listen};
 use druid_shard::Mark;
 use druid_store::{Device, DiskFolder};
 use std::alloc::{AllocError, Global};
 use std::fs::File;
-use std::io::{BufReader, BufWriter, Write};
 use std::marker::Brand;
 use std::net::{Net, TcpListener, TcpStream};
 use std::rt::Files;
 use std::sync::{Arc, Wait};
-use std::thread;
-use std::thread::{JoinHandle, Threads};
+use std::thread::Threads;
 use std::time::Clock;
 
 // The end of the name of a segment file.
@@ -48,31 +49,37 @@ fn copies_of(alloc: Global, texts: &[String]) -> Result<Vec<String>, AllocError>
 }
 
 // Whether a file of that name is a segment file.
-fn is_segment_file(name: &str) -> bool
+pub(crate) fn is_segment_file(name: &str) -> bool
     ensures { result ≡ is_segment_file name.now }
 {
     name.as_bytes().ends_with(SEGMENT_END)
 }
 
-// Loads a segment file.
+// Loads a segment file, and knows it as loaded.
 fn load_one<R: Wait, F: Folder, I: Incarnation>(
     rt: &R,
     alloc: Global,
     node: &DataNode<I>,
     folder: &mut F,
     name: &str,
+    known: &mut Known,
     seen: &mut Mark,
 ) -> Result<(), StartFault>
     ensures ok { F.is_honest folder.new
         → OnOk result ((s : Segment) × (file_at name.now (read_part (F.content folder.old name.now)) ≡ Ok s)) }
     ensures content { F.is_honest folder.new → F.content folder.new ≡ F.content folder.old }
     ensures honest { F.is_honest folder.new → F.is_honest folder.old }
+    ensures own { OnOk result (seen.new.incarnation ≡ I.number) }
     ensures cause { IfErr result (λ start. (why : Refusal) × (start.fault ≡ of_node why) × IfSome start.cause (NamesFile name.now why)) }
 {
-    match node.load_file(rt, folder, name, seen) {
-        Ok(()) => Ok(()),
-        Err(fault) => Err(StartFault::of_file(alloc, name, &fault)),
+    let id = match node.load_identified(rt, folder, name, seen) {
+        Ok(id) => id,
+        Err(fault) => return Err(StartFault::of_file(alloc, name, &fault)),
+    };
+    if known.load(name, id).is_err() {
+        return Err(StartFault::of_file(alloc, name, &NodeFault::Memory));
     }
+    Ok(())
 }
 
 // Loads the segment files among these.
@@ -82,16 +89,18 @@ fn load_named<R: Wait, F: Folder, I: Incarnation>(
     node: &DataNode<I>,
     folder: &mut F,
     names: &[String],
+    known: &mut Known,
     seen: &mut Mark,
 ) -> Result<(), StartFault>
     ensures ok { F.is_honest folder.new → OnOk result (All (IsTaken (F.content folder.old)) (names_of names.now)) }
     ensures content { F.is_honest folder.new → F.content folder.new ≡ F.content folder.old }
     ensures honest { F.is_honest folder.new → F.is_honest folder.old }
+    ensures own { seen.old.incarnation ≡ I.number → OnOk result (seen.new.incarnation ≡ I.number) }
     ensures cause { IfErr result (λ start. IfSome start.cause (IsOfLoad start.fault)) }
 {
     for name in names {
         if is_segment_file(name.as_str()) {
-            load_one(rt, alloc, node, folder, name.as_str(), seen)?;
+            load_one(rt, alloc, node, folder, name.as_str(), known, seen)?;
         }
     }
     Ok(())
@@ -103,15 +112,18 @@ fn load_files<R: Wait, F: Folder, I: Incarnation>(
     alloc: Global,
     node: &DataNode<I>,
     folder: &mut F,
+    known: &mut Known,
+    seen: &mut Mark,
 ) -> Result<(), StartFault>
     ensures ok { F.is_honest folder.new → OnOk result (HoldsSegments (F.content folder.new)) }
+    ensures own { seen.old.incarnation ≡ I.number → OnOk result (seen.new.incarnation ≡ I.number) }
     ensures cause { IfErr result (λ start. IfSome start.cause (IsOfLoad start.fault)) }
 {
     let names = match folder.list(alloc) {
         Ok(names) => names,
         Err(fault) => return Err(StartFault::of_store(fault, Cause::Names(fault))),
     };
-    load_named(rt, alloc, node, folder, &names, &mut Mark::never())
+    load_named(rt, alloc, node, folder, &names, known, seen)
 }
 
 // Places a tombstone; one that is served already is passed over.
@@ -120,7 +132,9 @@ fn place_one<R: Wait, I: Incarnation>(
     node: &DataNode<I>,
     id: SegmentId,
     seen: &mut Mark,
-) -> Result<(), NodeFault> {
+) -> Result<(), NodeFault>
+    ensures own { seen.old.incarnation ≡ I.number → seen.new.incarnation ≡ I.number }
+{
     match node.place_tombstone(rt, id, seen) {
         Ok(()) => Ok(()),
         Err(NodeFault::History(HistoryFault::Served)) => Ok(()),
@@ -133,15 +147,16 @@ fn place_tombstones<R: Wait, I: Incarnation>(
     rt: &R,
     node: &DataNode<I>,
     ids: &[SegmentId],
+    seen: &mut Mark,
 ) -> Result<(), StartFault>
-    ensures { IfErr result (λ start. IfSome start.cause (IsOfPlacing (length ids.now) start.fault)) }
+    ensures own { seen.old.incarnation ≡ I.number → seen.new.incarnation ≡ I.number }
+    ensures cause { IfErr result (λ start. IfSome start.cause (IsOfPlacing (length ids.now) start.fault)) }
 {
-    let mut seen = Mark::never();
     for place in 0..ids.len() {
         let Ok(id) = ids[place].clone() else {
             return Err(StartFault::device(Cause::Memory));
         };
-        if let Err(fault) = place_one(rt, node, id, &mut seen) {
+        if let Err(fault) = place_one(rt, node, id, seen) {
             return Err(StartFault::of_tombstone(place, &fault));
         }
     }
@@ -180,149 +195,88 @@ fn first_state<F: Folder>(
     }
 }
 
-// A node that goes on from that state, with the segments of a folder.
+// A node that goes on from that state, with the segments of a folder, of which it knows the files.
 fn load_node<R: Wait, F: Folder, I: Incarnation>(
     rt: &R,
     alloc: Global,
     folder: &mut F,
     state: NodeState,
-) -> Result<DataNode<I>, StartFault>
+) -> Result<LoadedNode<I>, StartFault>
     requires { state.history.incarnation ≡ I.number }
     ensures ok { F.is_honest folder.new → OnOk result (HoldsSegments (F.content folder.new)) }
+    ensures own { IfOk result (λ loaded. loaded.seen.incarnation ≡ I.number) }
     ensures cause { IfErr result (λ start. IfSome start.cause (IsOfLoad start.fault)) }
 {
+    let mut seen = state.mark();
+    let mut known = Known::new(alloc);
     let node = DataNode::new(state);
-    load_files(rt, alloc, &node, folder)?;
-    Ok(node)
+    load_files(rt, alloc, &node, folder, &mut known, &mut seen)?;
+    Ok(LoadedNode { node, known, seen })
 }
 
-/// Shows that the files that a node loads later were tried: only `load_later` gives one.
-#[derive(Debug, Drop)]
-pub struct EndOfLoads(());
-
-/// Loads files of a folder that a node serves from, one after another; one that is refused is passed over.
-pub fn load_later<R: Wait, F: Folder, I: Incarnation>(
-    rt: &R,
-    node: &DataNode<I>,
-    folder: &mut F,
-    names: &[String],
-    seen: &mut Mark,
-) -> EndOfLoads
-    ensures { mark_cmp seen.old seen.new ≢ Greater }
-{
-    for name in names {
-        drop(node.load_file(rt, folder, name.as_str(), seen));
-    }
-    EndOfLoads(())
+// A node whose segments are loaded: the files that they came from, and the mark of the last change.
+#[derive(Drop)]
+struct LoadedNode<I: Incarnation> {
+    node: DataNode<I>,
+    known: Known,
+    seen: Mark,
 }
 
-// What the thread does that loads files later.
-fn load_from<R: Files<File = File> + AllocGlobal + Wait + Copy, L: Device, I: Incarnation>(
-    rt: &R,
-    node: &DataNode<I>,
-    path: String,
-    names: &[String],
-) -> EndOfLoads {
-    let mut folder: DiskFolder<R, L> = DiskFolder::new(*rt, path);
-    load_later(rt, node, &mut folder, names, &mut Mark::never())
+// A node that can begin to answer.
+#[derive(Drop)]
+struct ReadyNode<I: Incarnation> {
+    node: Arc<DataNode<I>, Global>,
+    listener: Arc<TcpListener, Global>,
+    watch: Watch,
 }
 
-// Starts the thread that loads files once the node stands.
-fn start_loader<
-    R: Files<File = File> + AllocGlobal + Wait + Threads + Copy + Send + Sync + 'static,
+// Starts the threads of a node that is ready: the one that loads what comes later, and its workers, which answer from the mark on
+// that the node has now.
+fn start_threads<
+    R: Files<File = File>
+        + Net<Listener = TcpListener, Stream = TcpStream>
+        + AllocGlobal
+        + Wait
+        + Threads
+        + Clock
+        + Copy
+        + Send
+        + Sync
+        + 'static,
     L: Device + Send + Sync + 'static,
     I: Incarnation + Send + Sync + 'static,
->(
-    rt: &R,
-    node: &Arc<DataNode<I>, Global>,
-    path: String,
-    names: Vec<String>,
-) -> Result<JoinHandle<EndOfLoads>, DeviceFailed>
+    J: Begun + Send + Sync + 'static,
+>(rt: &R, alloc: Global, config: &NodeConfig, ready: ReadyNode<I>) -> Result<Loading, StartFault>
 where
     R::Dir: Send,
+    requires begun { ready.watch.seen ≡ J.mark }
+    requires own { J.mark.incarnation ≡ I.number }
 {
-    let rt = *rt;
-    let node = Arc::try_clone(node)?;
-    let job = move || load_from::<R, L, I>(&rt, &node, path, &names);
-    match thread::spawn(&rt, job) {
-        Ok(loader) => Ok(loader),
-        Err(_) => Err(DeviceFailed),
-    }
-}
-
-// Answers one connection.
-fn answer<R: Wait, I: Incarnation>(
-    rt: &R,
-    alloc: Global,
-    node: &DataNode<I>,
-    stream: &TcpStream,
-    seen: &mut Mark,
-)
-    ensures { mark_cmp seen.old seen.new ≢ Greater }
-{
-    if !limit(stream) {
-        return;
-    }
-    let Ok(mut reader) = BufReader::new(alloc, stream) else {
-        return;
-    };
-    let Ok(mut writer) = BufWriter::new(alloc, stream) else {
-        return;
-    };
-    if node.serve_one(rt, &mut reader, &mut writer, seen).is_ok() {
-        drop(writer.flush());
-    }
-}
-
-// Answers connections, and gives the mark of what was seen of the node by then.
-fn work<R: Wait + Clock, I: Incarnation>(
-    rt: &R,
-    alloc: Global,
-    node: &DataNode<I>,
-    listener: &TcpListener,
-    seen: Mark,
-) -> Mark
-    ensures { mark_cmp seen result ≢ Greater }
-{
-    answer_each(
-        rt,
+    let ReadyNode {
+        node,
         listener,
-        seen,
-        |seen: Mark, stream: TcpStream|
-            ensures { mark_cmp seen result ≢ Greater }
-        {
-            let mut seen = seen;
-            answer(rt, alloc, node, &stream, &mut seen);
-            seen
-        },
-    )
-}
-
-// Starts a thread that answers connections.
-fn start_worker<
-    R: Wait + Threads + Clock + Copy + Send + Sync + 'static,
-    I: Incarnation + Send + Sync + 'static,
->(
-    rt: &R,
-    alloc: Global,
-    node: &Arc<DataNode<I>, Global>,
-    listener: &Arc<TcpListener, Global>,
-) -> Result<(), DeviceFailed> {
-    let rt = *rt;
-    let node = Arc::try_clone(node)?;
-    let listener = Arc::try_clone(listener)?;
-    let job = move || work(&rt, alloc, &node, &listener, Mark::never());
-    match thread::spawn(&rt, job) {
-        Ok(worker) => {
-            drop(worker);
-            Ok(())
-        }
-        Err(_) => Err(DeviceFailed),
+        watch,
+    } = ready;
+    let latest: Arc<Latest<J>, Global> = Arc::new(alloc, Latest::new(watch.seen()))?;
+    let end = Arc::new(alloc, Handover::new())?;
+    let loader = Loader {
+        node: Arc::try_clone(&node)?,
+        latest: Arc::try_clone(&latest)?,
+        path: String::from_str(alloc, config.folder())?,
+        names: copies_of(alloc, config.loads())?,
+        rest: config.watch(),
+        watch,
+        end: Arc::try_clone(&end)?,
+    };
+    start_loader::<R, L, I, J>(*rt, alloc, loader)?;
+    for _ in 0..config.workers() {
+        start_worker(rt, alloc, &node, &latest, &listener)?;
     }
+    Ok(Loading::new(end))
 }
 
 // Starts a node that goes on from that state, whose incarnation its folder has: loads the segment files of the folder, places
-// the config's tombstones, listens, and starts its threads.
+// the config's tombstones, listens, unless it does already, and starts its threads.
 fn start_from<
     R: Files<File = File>
         + Net<Listener = TcpListener, Stream = TcpStream>
@@ -343,32 +297,42 @@ fn start_from<
     config: &NodeConfig,
     folder: &mut F,
     state: NodeState,
-) -> Result<JoinHandle<EndOfLoads>, StartFault>
+    listener: Option<TcpListener>,
+) -> Result<Loading, StartFault>
 where
     R::Dir: Send,
     requires own { state.history.incarnation ≡ I.number }
     requires has { F.is_honest folder.old → F.content folder.old number_file ≡ Some (number_text state.history.incarnation) }
 {
-    let node: Arc<DataNode<I>, Global> = Arc::new(alloc, load_node(rt, alloc, folder, state)?)?;
-    place_tombstones(rt, &node, config.tombstones())?;
-    let Ok(listener) = listen(rt, config.address()) else {
-        return Err(StartFault::device(Cause::Listener));
+    let loaded: LoadedNode<I> = load_node(rt, alloc, folder, state)?;
+    let LoadedNode { node, known, seen } = loaded;
+    let mut seen = seen;
+    place_tombstones(rt, &node, config.tombstones(), &mut seen)?;
+    let listener = match listener {
+        Some(listener) => listener,
+        None => listener_of(rt, config)?,
     };
-    let listener = Arc::new(alloc, listener)?;
-    let path = String::from_str(alloc, config.folder())?;
-    let loads = copies_of(alloc, config.loads())?;
-    let loader = start_loader::<R, L, I>(rt, &node, path, loads)?;
-    for _ in 0..config.workers() {
-        start_worker(rt, alloc, &node, &listener)?;
-    }
-    Ok(loader)
+    let ready = ReadyNode {
+        node: Arc::new(alloc, node)?,
+        listener: Arc::new(alloc, listener)?,
+        watch: Watch::new(known, seen),
+    };
+    start_threads::<R, L, I, Brand>(rt, alloc, config, ready)
 }
 
-/// Starts a data node: raises its incarnation, loads the segment files of its folder, places the config's tombstones, but for
-/// those of what is served already, listens, and starts its threads. It gives the thread that loads the files that come later.
-/// The device `D` is the one under the folder that it makes, and `L` the one under the folder that the thread makes at the same
-/// path: the call picks both.
-pub fn start_node<
+// Where a node listens.
+fn listener_of<R: Net<Listener = TcpListener, Stream = TcpStream>>(
+    rt: &R,
+    config: &NodeConfig,
+) -> Result<TcpListener, StartFault> {
+    match listen(rt, config.address()) {
+        Ok(listener) => Ok(listener),
+        Err(_) => Err(StartFault::device(Cause::Listener)),
+    }
+}
+
+// Raises the incarnation of a node's folder, and starts the node over it, at a listener or else at its address.
+fn start_over<
     R: Files<File = File>
         + Net<Listener = TcpListener, Stream = TcpStream>
         + AllocGlobal
@@ -386,7 +350,8 @@ pub fn start_node<
     alloc: Global,
     config: &NodeConfig,
     kept: usize,
-) -> Result<JoinHandle<EndOfLoads>, StartFault>
+    listener: Option<TcpListener>,
+) -> Result<Loading, StartFault>
 where
     R::Dir: Send,
     requires some { 1 ≤ kept }
@@ -395,5 +360,57 @@ where
     let path = String::from_str(alloc, config.folder())?;
     let mut folder: DiskFolder<R, D> = DiskFolder::new(*rt, path);
     let state = first_state(alloc, &mut folder, kept)?;
-    start_from::<R, DiskFolder<R, D>, L, Brand>(rt, alloc, config, &mut folder, state)
+    start_from::<R, DiskFolder<R, D>, L, Brand>(rt, alloc, config, &mut folder, state, listener)
+}
+
+/// Starts a data node: raises its incarnation, loads the segment files of its folder, places the config's tombstones, but for
+/// those of what is served already, listens, and starts its threads. It gives what tells when the files are tried that come later.
+/// A node that watches its folder goes on from then, until the program ends: it loads the segment files that come, and drops the
+/// segments whose files are gone. The device `D` is the one under the folder that it makes, and `L` the one under the folder that
+/// the thread makes at the same path: the call picks both.
+pub fn start_node<
+    R: Files<File = File>
+        + Net<Listener = TcpListener, Stream = TcpStream>
+        + AllocGlobal
+        + Wait
+        + Threads
+        + Clock
+        + Copy
+        + Send
+        + Sync
+        + 'static,
+    D: Device,
+    L: Device + Send + Sync + 'static,
+>(rt: &R, alloc: Global, config: &NodeConfig, kept: usize) -> Result<Loading, StartFault>
+where
+    R::Dir: Send,
+    requires some { 1 ≤ kept }
+    requires few { kept ≤ max_changes }
+{
+    start_over::<R, D, L>(rt, alloc, config, kept, None)
+}
+
+/// Starts a data node as `start_node` does, but that it listens before all else: so of two programs over one config the second
+/// is refused its address before it raises an incarnation.
+pub fn start_owner<
+    R: Files<File = File>
+        + Net<Listener = TcpListener, Stream = TcpStream>
+        + AllocGlobal
+        + Wait
+        + Threads
+        + Clock
+        + Copy
+        + Send
+        + Sync
+        + 'static,
+    D: Device,
+    L: Device + Send + Sync + 'static,
+>(rt: &R, alloc: Global, config: &NodeConfig, kept: usize) -> Result<Loading, StartFault>
+where
+    R::Dir: Send,
+    requires some { 1 ≤ kept }
+    requires few { kept ≤ max_changes }
+{
+    let listener = listener_of(rt, config)?;
+    start_over::<R, D, L>(rt, alloc, config, kept, Some(listener))
 }

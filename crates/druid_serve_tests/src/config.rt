@@ -180,3 +180,105 @@ fn ample_memory(rt: HostRuntime) {
     );
     assert!(rt; config.kept() == 1000 && config.turns() == 1_000_000 && config.connections() == 0);
 }
+
+// With rests: of syncers, and of a node that looks at its folder.
+#[test]
+fn taken_rests(rt: HostRuntime) {
+    let rows = "\"turns\":1000000 = \"turns\":1000000,\"every\":1
+\"turns\":1000000 = \"turns\":0,\"every\":3600000
+\"connections\":0 = \"every\":5
+\"connections\":0 = \"connections\":7,\"every\":5
+\"workers\":1} = \"workers\":1,\"watch\":1}
+\"workers\":1} = \"workers\":1,\"watch\":3600000}";
+    assert_reported(&rt, rt.alloc(), rows, "taken");
+}
+
+#[test]
+fn refused_rests(rt: HostRuntime) {
+    let rows = "\"turns\":1000000 = \"turns\":1000000,\"every\":0
+\"turns\":1000000 = \"turns\":1000000,\"every\":3600001
+\"turns\":1000000 = \"turns\":1000000,\"every\":null
+\"turns\":1000000 = \"turns\":1000000,\"every\":1.5
+\"turns\":1000000 = \"turns\":1000000,\"every\":\"5\"
+\"connections\":0 = \"connection\":0
+\"connections\":0 = \"every\":null
+\"connections\":0 = \"connections\":null,\"every\":5
+\"workers\":1} = \"workers\":1,\"watch\":0}
+\"workers\":1} = \"workers\":1,\"watch\":3600001}
+\"workers\":1} = \"workers\":1,\"watch\":null}";
+    assert_reported(&rt, rt.alloc(), rows, "bad config");
+}
+
+// What is told of the rests of a config: those of syncers, those of its first node, and whether it ends.
+fn rests_of(rt: &impl Abort, alloc: Global, text: &str) -> (Option<u64>, Option<u64>, bool) {
+    let config = read_config(alloc, text.as_bytes()).expect(rt, "a config");
+    let watch = config.nodes()[0].watch();
+    (config.every(), watch, config.is_endless())
+}
+
+#[test]
+fn rests(rt: HostRuntime) {
+    let alloc = rt.alloc();
+    assert!(rt; rests_of(&rt, alloc, whole()) == (None, None, false));
+    let text = changed(&rt, alloc, "\"connections\":0", "\"every\":250");
+    assert!(rt; rests_of(&rt, alloc, text.as_str()) == (Some(250), None, true));
+    let text = changed(
+        &rt,
+        alloc,
+        "\"connections\":0",
+        "\"connections\":3,\"every\":9",
+    );
+    assert!(rt; rests_of(&rt, alloc, text.as_str()) == (Some(9), None, false));
+    let text = changed(&rt, alloc, "\"workers\":1}", "\"workers\":1,\"watch\":20}");
+    assert!(rt; rests_of(&rt, alloc, text.as_str()) == (None, Some(20), false));
+}
+
+// With an address of a server's status, and a patience with nodes.
+#[test]
+fn taken_statuses(rt: HostRuntime) {
+    let rows = "\"turns\":1000000 = \"turns\":1000000,\"patience\":1
+\"turns\":1000000 = \"turns\":1000000,\"patience\":3600000
+\"workers\":1} = \"workers\":1,\"status\":\"127.0.0.1:1\"}
+\"workers\":16} = \"workers\":16,\"status\":\"127.0.0.1:65535\"}
+\"workers\":16} = \"workers\":16,\"status\":\"127.0.0.1:9001\"}";
+    assert_reported(&rt, rt.alloc(), rows, "taken");
+}
+
+#[test]
+fn refused_statuses(rt: HostRuntime) {
+    let rows = "\"turns\":1000000 = \"turns\":1000000,\"patience\":0
+\"turns\":1000000 = \"turns\":1000000,\"patience\":3600001
+\"turns\":1000000 = \"turns\":1000000,\"patience\":null
+\"turns\":1000000 = \"turns\":1000000,\"patience\":\"5\"
+\"workers\":1} = \"workers\":1,\"status\":\"127.0.0.1:0\"}
+\"workers\":1} = \"workers\":1,\"status\":null}
+\"workers\":1} = \"workers\":1,\"status\":9001}
+\"workers\":16} = \"workers\":16,\"status\":\"127.0.0.1:65536\"}
+\"workers\":16} = \"workers\":16,\"status\":\"0.0.0.0:9001\"}
+\"workers\":16} = \"workers\":16,\"status\":\"\"}";
+    assert_reported(&rt, rt.alloc(), rows, "bad config");
+}
+
+// Asserts what is told of the statuses of the first node and the first broker, with a dash for none, and of the patience.
+fn assert_statuses(rt: &impl Abort, alloc: Global, text: &str, wanted: &str) {
+    let config = read_config(alloc, text.as_bytes()).expect(rt, "a config");
+    let node = config.nodes()[0].status().unwrap_or("-");
+    let broker = config.brokers()[0].status().unwrap_or("-");
+    let patience = config.patience();
+    let told = format!(in alloc; "{node} {broker} {patience}").expect(rt, "memory");
+    assert!(rt; told.as_str() == wanted, "{told}");
+}
+
+#[test]
+fn statuses(rt: HostRuntime) {
+    let alloc = rt.alloc();
+    assert_statuses(&rt, alloc, whole(), "- - 30000");
+    let row = "\"workers\":1,\"status\":\"127.0.0.1:7001\"}";
+    let text = changed(&rt, alloc, "\"workers\":1}", row);
+    assert_statuses(&rt, alloc, text.as_str(), "127.0.0.1:7001 - 30000");
+    let row = "\"workers\":16,\"status\":\"127.0.0.1:7002\"}";
+    let text = changed(&rt, alloc, "\"workers\":16}", row);
+    assert_statuses(&rt, alloc, text.as_str(), "- 127.0.0.1:7002 30000");
+    let text = changed(&rt, alloc, "\"kept\"", "\"patience\":250,\"kept\"");
+    assert_statuses(&rt, alloc, text.as_str(), "- - 250");
+}

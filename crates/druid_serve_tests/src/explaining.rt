@@ -4,7 +4,7 @@ use crate::folders::put;
 use crate::host::Host;
 use crate::serve::{Full, Place, clear, config, place_of};
 use druid_config::bad_field_in;
-use druid_serve::{run, serve};
+use druid_program::{run, serve_config};
 use std::alloc::Global;
 use std::net::{Net, TcpListener, TcpStream};
 use std::process::Abort;
@@ -59,6 +59,39 @@ fn fields(rt: HostRuntime) {
 }
 
 #[test]
+fn fields_of_rests(rt: HostRuntime) {
+    let rows =
+        "\"turns\":1000000 = \"turns\":1000000,\"every\":0 -> every: not a number from 1 to 3600000
+\"connections\":0 = \"every\":3600001 -> every: not a number from 1 to 3600000
+\"connections\":0 = \"connections\":-1,\"every\":5 -> connections: not a number from 0 to 1000000
+\"connections\":0 = \"connection\":0 -> connections: not a number from 0 to 1000000
+\"turns\":1000000 = \"turns\":-1,\"every\":0 -> turns: not a number from 0 to 1000000
+\"nodes\" = \"every\":0,\"node\" -> every: not a number from 1 to 3600000
+\"workers\":1} = \"workers\":1,\"watch\":0} -> nodes[0].watch: not a number from 1 to 3600000
+\"workers\":1} = \"workers\":0,\"watch\":0} -> nodes[0].workers: not a number from 1 to 16
+\"connections\":0 = \"every\":5 -> ";
+    for row in rows.lines() {
+        assert_field(&rt, rt.alloc(), row);
+    }
+}
+
+#[test]
+fn fields_of_statuses(rt: HostRuntime) {
+    let rows =
+        "\"turns\":1000000 = \"turns\":1000000,\"patience\":0 -> patience: not a number from 1 to 3600000
+\"turns\":1000000 = \"turns\":1000000,\"patience\":0,\"every\":0 -> every: not a number from 1 to 3600000
+\"nodes\" = \"patience\":\"a\",\"node\" -> patience: not a number from 1 to 3600000
+\"workers\":1} = \"workers\":1,\"status\":\"127.0.0.1:0\"} -> nodes[0].status: not 127.0.0.1: and a port from 1 to 65535
+\"workers\":1} = \"workers\":1,\"watch\":0,\"status\":0} -> nodes[0].watch: not a number from 1 to 3600000
+\"workers\":16} = \"workers\":16,\"status\":null} -> brokers[0].status: not 127.0.0.1: and a port from 1 to 65535
+\"workers\":16} = \"workers\":17,\"status\":null} -> brokers[0].workers: not a number from 1 to 16
+\"kept\" = \"patience\":30000,\"kept\" -> ";
+    for row in rows.lines() {
+        assert_field(&rt, rt.alloc(), row);
+    }
+}
+
+#[test]
 fn nodes(rt: HostRuntime) {
     let reported = field_of(&rt, rt.alloc(), with_doubled(&rt, rt.alloc()).as_str());
     assert!(rt;
@@ -82,7 +115,7 @@ fn report_of<R: Host + Net<Listener = TcpListener, Stream = TcpStream>>(
 ) -> String {
     let (mut out, mut errors) = (Vec::new(alloc), Vec::new(alloc));
     let bytes = config.as_bytes();
-    let ending = serve(rt, alloc, bytes, &mut out, &mut errors, explain);
+    let ending = serve_config(rt, alloc, bytes, &mut out, &mut errors, explain);
     assert!(rt; ending.reported.is_ok());
     let status = ending.status;
     let reported = str::from_utf8(&errors).expect(rt, "a text");
@@ -212,7 +245,7 @@ fn outputs(rt: HostRuntime) {
     let config = config(&rt, rt.alloc(), &place, 0);
     let (mut out, mut errors) = (Full { takes: false }, Vec::new(rt.alloc()));
     let bytes = config.as_bytes();
-    let ending = serve(&rt, rt.alloc(), bytes, &mut out, &mut errors, true);
+    let ending = serve_config(&rt, rt.alloc(), bytes, &mut out, &mut errors, true);
     clear(&rt, &place);
     let wanted = b"device\n  standard output: a write failed\n".as_slice();
     assert!(rt; ending.status == 3 && errors.as_slice() == wanted);

@@ -11,10 +11,14 @@ mod folders;
 #[cfg(test)]
 mod host;
 #[cfg(test)]
+mod live;
+#[cfg(test)]
 mod loading;
 #[cfg(test)]
 mod serve;
 #[cfg(test)]
 mod serve_node;
+#[cfg(test)]
+mod words;
 #[cfg(test)]
 mod workers;

@@ -1,7 +1,7 @@
-//! Files that a node loads once it stands.
+//! Files that a node loads once it stands, and those that it finds by looks at its folder.
 use druid_folder::Folder;
 use druid_node::{DataNode, Incarnation, NodeState};
-use druid_serve_node::load_later;
+use druid_serve_node::{Known, Watch, load_later};
 use druid_shard::Mark;
 use druid_store::MemoryFolder;
 use std::alloc::Global;
@@ -67,4 +67,55 @@ fn loads_later(rt: HostRuntime) {
     load_later(&rt, &node, &mut folder, &names, &mut Mark::never());
     let reported = reported(&rt, rt.alloc(), &node);
     assert!(rt; reported.as_str().ends_with(SERVED), "{reported}");
+}
+
+// Does to a folder what a word says: the file comes whole or cut, or goes.
+fn change(rt: &impl Abort, folder: &mut MemoryFolder, word: &str) {
+    match word {
+        "cut" => folder.write(NAME, b"DSG1").expect(rt, "a file"),
+        "whole" => folder.write(NAME, FILE).expect(rt, "a file"),
+        "away" => folder.remove(NAME).expect(rt, "a folder"),
+        _ => (),
+    }
+}
+
+// Whether a node is at the mark of a row's count, and serves the segment or none.
+fn is_as(rt: &impl Abort, alloc: Global, reported: &str, wanted: &str) -> bool {
+    let (count, served) = wanted.split_once(' ').expect(rt, "no row");
+    let mark = format!(in alloc; "{{\"counter\":{count},\"hash\":1}}").expect(rt, "memory");
+    reported.contains(mark.as_str())
+        && reported.contains("\"action\":\"load\"") == (served == "served")
+}
+
+// Looks, one after another, over a folder that changes before each. A file that is refused at looks 2 and 3 is tried again at look 5
+// alone; one that is away is dropped at once, and loaded at once when it comes back.
+#[test]
+fn looks(rt: HostRuntime) {
+    let rows = "nothing -> 0 none
+cut -> 0 none
+nothing -> 0 none
+whole -> 0 none
+nothing -> 1 served
+nothing -> 1 served
+away -> 2 none
+nothing -> 2 none
+whole -> 3 served";
+    let alloc = rt.alloc();
+    let node = node(&rt, alloc);
+    let mut folder = MemoryFolder::new(alloc);
+    folder.write("other", FILE).expect(&rt, "a file");
+    let mut watch = Watch::new(Known::new(alloc), Mark::new(1, 0));
+    let mut look = 0_u64;
+    for row in rows.lines() {
+        look = look.saturating_add(1);
+        let (word, wanted) = row.split_once(" -> ").expect(&rt, "no row");
+        change(&rt, &mut folder, word);
+        let looked = watch.look(&rt, alloc, &node, &mut folder, look);
+        assert!(&rt; looked.is_ok());
+        let reported = reported(&rt, alloc, &node);
+        assert!(&rt;
+            is_as(&rt, alloc, reported.as_str(), wanted),
+            "{look}: {reported}"
+        );
+    }
 }

@@ -4,7 +4,7 @@ use crate::folders::{
 };
 use crate::host::{Host, address_of, listener};
 use druid_link::{Link, TcpLink};
-use druid_serve::{run, serve};
+use druid_program::{run, serve_config};
 use std::alloc::Global;
 use std::io::{ErrorKind, Write};
 use std::net::{Net, TcpListener, TcpStream};
@@ -93,7 +93,7 @@ pub(crate) fn served<R: Host + Net<Listener = TcpListener, Stream = TcpStream>>(
 ) -> String {
     let mut out = Vec::new(alloc);
     let mut errors = Vec::new(alloc);
-    let ending = serve(rt, alloc, config.as_bytes(), &mut out, &mut errors, false);
+    let ending = serve_config(rt, alloc, config.as_bytes(), &mut out, &mut errors, false);
     assert!(rt; ending.reported.is_ok());
     let status = ending.status;
     let printed = str::from_utf8(&out).expect(rt, "a text");
@@ -295,7 +295,7 @@ fn full_output(rt: HostRuntime) {
         let config = config(&rt, rt.alloc(), &place, 0);
         let mut errors = Vec::new(rt.alloc());
         let mut out = Full { takes };
-        let ending = serve(
+        let ending = serve_config(
             &rt,
             rt.alloc(),
             config.as_bytes(),
@@ -534,7 +534,7 @@ fn status_of<R: Host + Net<Listener = TcpListener, Stream = TcpStream>>(
 ) -> u8 {
     let mut out = Flagged { flushed };
     let mut errors = Vec::new(alloc);
-    serve(rt, alloc, config.as_bytes(), &mut out, &mut errors, false).status
+    serve_config(rt, alloc, config.as_bytes(), &mut out, &mut errors, false).status
 }
 
 // Asks each broker five times, once connections are counted.

@@ -46,6 +46,37 @@ fn workers_of_a_broker(rt: HostRuntime) {
     clear(&rt, &place);
 }
 
+// A body of 20 MB, of which a server reads no more than its limit.
+fn large_body(rt: &impl Abort, alloc: Global) -> Vec<u8> {
+    let mut bytes = Vec::new(alloc);
+    bytes
+        .extend_from_slice(b"POST /druid/v2 HTTP/1.1\r\nContent-Length: 20000000\r\n\r\n")
+        .expect(rt, "memory");
+    let len = bytes.len().saturating_add(20_000_000);
+    bytes.resize(len, b' ').expect(rt, "memory");
+    bytes
+}
+
+// A client that writes all of a request before it reads gets the refusal, though the server did not read it whole.
+#[test]
+fn refusals_of_large_requests_arrive(rt: HostRuntime) {
+    let alloc = rt.alloc();
+    let place = place_of(&rt, alloc, "large");
+    assert_served(&rt, served_at(&rt, alloc, &place));
+    let request = large_body(&rt, alloc);
+    for address in [&place.broker, &place.second] {
+        let mut stream = TcpStream::connect(&rt, address.as_str()).expect(&rt, "a connection");
+        stream.write_all(&request).expect(&rt, "a request");
+        let mut answer = Vec::new(alloc);
+        stream.read_to_end(&mut answer).expect(&rt, "an answer");
+        assert!(&rt;
+            answer.as_slice().starts_with(b"HTTP/1.1 400 "),
+            "{address}"
+        );
+    }
+    clear(&rt, &place);
+}
+
 #[test]
 fn workers_of_nodes(rt: HostRuntime) {
     let place = place_of(&rt, rt.alloc(), "workers");

@@ -17,12 +17,6 @@ abbrev pub of_cluster : ClusterFault → ServeFault
 of_cluster BadFolder = served.BadFolder
 of_cluster Device = served.Device
 
--- the exit status that tells a fault: 1 for what was handed in, and 3 for a device or memory
-abbrev pub status_of : ServeFault → ℕ
-status_of served.BadConfig = 1
-status_of served.BadFolder = 1
-status_of served.Device = 3
-
 -- what is reported of it
 abbrev pub fault_text : ServeFault → List ℕ
 fault_text served.BadConfig = codes "bad config"

@@ -2,3 +2,4 @@
 pub mod Faults
 pub mod Ends
 pub mod Printed
+pub mod Closing

@@ -1,5 +1,5 @@
 -- What is printed of an answer to a query that was posted.
-use Rattle.std.specs.Prelude.{◌≡◌, ◌⊎◌, ℕ, List, [], ◌∷◌, ◌++◌, codes, decimal, Ok, Err}
+use Rattle.std.specs.Prelude.{◌≡◌, ◌⊎◌, ℕ, zero, suc, List, [], ◌∷◌, ◌++◌, codes, decimal, Ok, Err}
 use Rattle.druid_message.specs.declared.fault.WireFault.{WireFault}
 use Rattle.druid_message.specs.declared.fault.WireFault.TheVariants.{Cut, Read, Write, BadHead, HeadTooLong, NoLength, BodyTooLong, Connect, Memory}
 use Rattle.druid_link.specs.Links.{Came}
@@ -35,3 +35,9 @@ IsPrintedOf bytes text =
 abbrev pub IsPrinted : Came → List ℕ → Type 0
 IsPrinted (Ok bytes) text = IsPrintedOf bytes text
 IsPrinted (Err fault) text = text ≡ fault_lines fault
+
+-- what was printed of so many queries, one after another
+abbrev pub ArePrinted : ℕ → List ℕ → Type 0
+ArePrinted zero text = text ≡ []
+ArePrinted (suc count) text =
+    (before last : List ℕ) × (came : Came) × ArePrinted count before × IsPrinted came last × (text ≡ before ++ last)

@@ -2,15 +2,19 @@
 #![tactic(auto)]
 
 mod asking;
+mod closing;
 mod fault;
 mod gate;
+mod handover;
 mod outside;
 mod serve_fault;
 mod stop;
 
 pub use asking::ask;
+pub use closing::{CLOSING_SECONDS, MAX_CLOSING, close_answered};
 pub use fault::{Cause, ClusterFault, DeviceFailed, StartFault};
 pub use gate::Gate;
+pub use handover::Handover;
 pub use outside::{PEER_SECONDS, answer_each, limit, listen};
 pub use serve_fault::ServeFault;
-pub use stop::{Ended, Stop};
+pub use stop::Stop;

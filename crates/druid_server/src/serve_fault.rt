@@ -1,8 +1,7 @@
 ghost use Rattle.std.specs.Prelude.{◌≡◌, Some};
-ghost use Rattle.druid_server.specs.Ends.{of_cluster, of_config, status_of, fault_text};
+ghost use Rattle.druid_server.specs.Ends.{of_cluster, of_config, fault_text};
 
 use crate::ClusterFault;
-use druid_command_line::Exit;
 use druid_config::ConfigFault;
 use std::error::Error;
 use std::fmt;
@@ -16,18 +15,6 @@ pub enum ServeFault {
     BadFolder,
     /// A device failed, or memory ran out.
     Device,
-}
-
-impl ServeFault {
-    /// The exit status that tells it: 1 for what was handed in, and 3 for a device or memory.
-    pub fn status(&self) -> u8
-        ensures { result ≡ status_of self.now }
-    {
-        match self {
-            ServeFault::BadConfig | ServeFault::BadFolder => Exit::Refused.status(),
-            ServeFault::Device => Exit::Device.status(),
-        }
-    }
 }
 
 impl fmt::Display for ServeFault {

@@ -4,24 +4,24 @@ ghost use Rattle.druid_server.specs.Ends.{of_cluster, of_config};
 ghost use Rattle.druid_server.specs.declared.fault.ClusterFault.TheVariants.{Device};
 
 use crate::{Cause, ClusterFault, DeviceFailed, ServeFault, StartFault};
-use druid_command_line::reason_text;
 use druid_config::{BrokerConfig, ConfigFault, NodeConfig, bad_field_in};
 use std::alloc::{AllocError, AllocFailed, Global};
 use std::io;
 use std::io::ErrorKind;
 
-/// Why a cluster whose config was read is not served: its fault, and the text of what kept it, where memory was there for it.
+/// Why a cluster is not served, a `ServeFault`, or a `ClusterFault` once its config was read: and the text of what kept it, where
+/// memory was there for it.
 #[derive(Drop)]
-pub struct Stop {
+pub struct Stop<F> {
     /// The fault.
-    pub fault: ClusterFault,
+    pub fault: F,
     /// What kept the cluster.
     pub reason: Option<String>,
 }
 
-impl Stop {
+impl Stop<ClusterFault> {
     // A device failed, and this says which.
-    fn device(reason: Option<String>) -> Stop
+    fn device(reason: Option<String>) -> Stop<ClusterFault>
         ensures { result.fault ≡ Device }
     {
         Stop {
@@ -31,7 +31,7 @@ impl Stop {
     }
 
     /// The node at a place does not start.
-    pub fn at_node(alloc: Global, place: usize, node: &NodeConfig, start: StartFault) -> Stop
+    pub fn at_node(alloc: Global, place: usize, node: &NodeConfig, start: StartFault) -> Stop<ClusterFault>
         ensures { result.fault ≡ start.fault }
     {
         Stop {
@@ -44,7 +44,7 @@ impl Stop {
     }
 
     /// The broker at a place does not listen.
-    pub fn at_broker(alloc: Global, place: usize, broker: &BrokerConfig) -> Stop
+    pub fn at_broker(alloc: Global, place: usize, broker: &BrokerConfig) -> Stop<ClusterFault>
         ensures { result.fault ≡ Device }
     {
         let address = broker.address();
@@ -52,7 +52,7 @@ impl Stop {
     }
 
     /// The output was not written or flushed.
-    pub fn at_output(alloc: Global, error: &io::Error) -> Stop
+    pub fn at_output(alloc: Global, error: &io::Error) -> Stop<ClusterFault>
         ensures { result.fault ≡ Device }
     {
         let text = if error.kind() == ErrorKind::OutOfMemory {
@@ -84,70 +84,61 @@ fn node_reason(alloc: Global, place: usize, node: &NodeConfig, cause: &Cause) ->
     text.ok()
 }
 
-impl From<AllocError> for Stop {
+impl From<AllocError> for Stop<ClusterFault> {
     ghost from_gives = { λ _ stop. stop.fault ≡ Device };
 
-    fn from(_error: AllocError) -> Stop {
+    fn from(_error: AllocError) -> Stop<ClusterFault> {
         Stop::device(None)
     }
 }
 
-impl<T: Drop> From<AllocFailed<T>> for Stop {
+impl<T: Drop> From<AllocFailed<T>> for Stop<ClusterFault> {
     ghost from_gives = { λ _ stop. stop.fault ≡ Device };
 
-    fn from(_error: AllocFailed<T>) -> Stop {
+    fn from(_error: AllocFailed<T>) -> Stop<ClusterFault> {
         Stop::device(None)
     }
 }
 
-impl From<DeviceFailed> for Stop {
+impl From<DeviceFailed> for Stop<ClusterFault> {
     ghost from_gives = { λ _ stop. stop.fault ≡ Device };
 
-    fn from(_failed: DeviceFailed) -> Stop {
+    fn from(_failed: DeviceFailed) -> Stop<ClusterFault> {
         Stop::device(None)
     }
 }
 
-/// Why a config is not served: its fault, and the text of what kept it, where memory was there for it.
-#[derive(Drop)]
-pub struct Ended {
-    /// The fault.
-    pub fault: ServeFault,
-    /// What kept the cluster.
-    pub reason: Option<String>,
-}
-
-impl Ended {
+impl Stop<ServeFault> {
     /// Of a fault, and a text that says why.
-    pub fn new(alloc: Global, fault: ServeFault, text: &str) -> Ended
+    pub fn new(alloc: Global, fault: ServeFault, text: &str) -> Stop<ServeFault>
         ensures { result.fault ≡ fault }
     {
-        Ended {
+        Stop {
             fault,
             reason: String::from_str(alloc, text).ok(),
         }
     }
 
     /// Of bytes that were not read as a config.
-    pub fn at_config(alloc: Global, bytes: &[u8], fault: ConfigFault) -> Ended
+    pub fn at_config(alloc: Global, bytes: &[u8], fault: ConfigFault) -> Stop<ServeFault>
         ensures { result.fault ≡ of_config fault }
     {
         let reason = match fault {
             ConfigFault::Refused => config_reason(alloc, bytes),
             ConfigFault::Memory => String::from_str(alloc, "the config: out of memory").ok(),
         };
-        Ended {
+        Stop {
             fault: fault.into(),
             reason,
         }
     }
 }
 
-impl From<Stop> for Ended {
-    ghost from_gives = { λ stop ended. ended.fault ≡ of_cluster stop.fault };
+impl From<Stop<ClusterFault>> for Stop<ServeFault> {
+    ghost from_gives = { λ stop served. served.fault ≡ of_cluster stop.fault };
 
-    fn from(stop: Stop) -> Ended {
-        Ended {
+    fn from(stop: Stop<ClusterFault>) -> Stop<ServeFault> {
+        Stop {
             fault: stop.fault.into(),
             reason: stop.reason,
         }
@@ -157,7 +148,7 @@ impl From<Stop> for Ended {
 // Which field of bytes is wrong, that are no config.
 fn config_reason(alloc: Global, bytes: &[u8]) -> Option<String> {
     match bad_field_in(alloc, bytes) {
-        Ok(Some(bad)) => reason_text(alloc, &bad),
+        Ok(Some(bad)) => format!(in alloc; "{bad}").ok(),
         _ => None,
     }
 }

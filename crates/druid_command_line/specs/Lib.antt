@@ -1,4 +1,0 @@
--- what public contracts rest on
-pub mod Exits
-pub mod Words
-pub mod Reasons

@@ -1,0 +1,5 @@
+-- what public contracts rest on
+pub mod Exits
+pub mod Words
+pub mod Reasons
+pub mod Ends

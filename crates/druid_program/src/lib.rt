@@ -1,0 +1,12 @@
+//! The program but for its handles: what its words ask for, how it ends, and what it reports.
+#![tactic(auto)]
+
+mod config_file;
+mod exit;
+mod program;
+mod report;
+mod words;
+
+pub use exit::{Ending, Exit};
+pub use program::{run, serve_config};
+pub use words::{asks_for_explanation, asks_for_replay, asks_for_serve};

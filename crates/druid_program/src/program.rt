@@ -1,0 +1,221 @@
+//! What the program does with its words, its input and its two outputs.
+ghost use Rattle.std.specs.Prelude.{◌≡◌, ◌∷◌, ◌++◌, [], ⊤, Result, Err, IfOk, OnOk, OnErr, map, string_bytes};
+ghost use Rattle.std.specs.Io.KnownBytes.{Appends, Keeps};
+ghost use Rattle.druid_cluster.specs.Runs.{Replays};
+ghost use Rattle.druid_cluster.specs.Faults.{fault_text as replay_text};
+ghost use Rattle.druid_cluster.specs.declared.fault.ReplayFault.{ReplayFault};
+ghost use Rattle.druid_server.specs.Ends.{fault_text as serve_text};
+ghost use Rattle.druid_server.specs.declared.serve_fault.ServeFault.{ServeFault};
+ghost use Rattle.druid_serve.specs.Served.{IsConfig, IsServed, ServesAs};
+ghost use Rattle.druid_program.specs.Ends.{usage_line, replay_status, replay_line, serve_status, serve_line};
+ghost use Rattle.druid_program.specs.Exits.{status_of, exit_of_serve};
+ghost use Rattle.druid_program.specs.Reasons.{Reports};
+ghost use Rattle.druid_program.specs.Words.{AsksForReplay, AsksForServe};
+
+use crate::config_file::config_bytes;
+use crate::report::report;
+use crate::{Ending, Exit, asks_for_replay, asks_for_serve};
+use druid_cluster::{Reason, ReplayFault, replay_explained};
+use druid_serve::serve;
+use druid_server::{ServeFault, Stop};
+use std::alloc::Global;
+use std::fs::File;
+use std::io;
+use std::io::{BufRead, Write};
+use std::net::{Net, TcpListener, TcpStream};
+use std::rt::Files;
+use std::sync::Wait;
+use std::thread::Threads;
+use std::time::Clock;
+
+// All was done, and nothing is reported.
+fn done() -> Ending
+    ensures { result.status ≡ 0 }
+{
+    Ending {
+        status: Exit::Done.status(),
+        reported: Ok(()),
+    }
+}
+
+// The end at words that ask for nothing: it reports what may be asked for.
+fn report_usage<E: Write>(errors: &mut E) -> Ending
+    ensures status { result.status ≡ 2 }
+    ensures reported { OnOk result.reported
+        (Appends (E.contents errors.old) (E.contents errors.new) usage_line) }
+{
+    Ending {
+        status: Exit::Usage.status(),
+        reported: writeln!(
+            errors,
+            "usage: druid_cluster replay | druid_cluster serve CONFIG"
+        ),
+    }
+}
+
+// The end at words that can't be read, which is that of a device at the first line.
+fn report_unread<E: Write>(alloc: Global, errors: &mut E) -> Ending
+    ensures status { result.status ≡ 3 }
+    ensures reported { OnOk result.reported (Appends (E.contents errors.old) (E.contents errors.new)
+        (replay_text (ReplayFault.Device 1) ++ 10 ∷ [])) }
+{
+    let fault = ReplayFault::Device(1);
+    report(alloc, errors, fault.into(), &fault, None::<&Reason>, false)
+}
+
+// Answers the commands of the input, and reports a fault.
+fn replay_all<R: BufRead, W: Write, E: Write>(
+    alloc: Global,
+    reader: &mut R,
+    writer: &mut W,
+    errors: &mut E,
+    explain: bool,
+) -> Ending
+    ensures { (end : Result ⊤ ReplayFault)
+        × Replays (R.remaining reader.old) (W.contents writer.old) (W.contents writer.new) end
+        × (result.status ≡ replay_status end)
+        × OnOk result.reported (Reports explain (E.contents errors.old) (E.contents errors.new) (replay_line end)) }
+{
+    match replay_explained(alloc, reader, writer) {
+        Ok(()) => done(),
+        Err(stop) => {
+            let fault = stop.fault;
+            report(alloc, errors, fault.into(), &fault, Some(&stop.reason), explain)
+        }
+    }
+}
+
+// Reports why a cluster is not served.
+fn report_stop<E: Write>(
+    alloc: Global,
+    errors: &mut E,
+    stop: Stop<ServeFault>,
+    explain: bool,
+) -> Ending
+    ensures status { result.status ≡ status_of (exit_of_serve stop.fault) }
+    ensures reported { OnOk result.reported
+        (Reports explain (E.contents errors.old) (E.contents errors.new) (serve_text stop.fault ++ 10 ∷ [])) }
+{
+    let fault = stop.fault;
+    report(alloc, errors, fault.into(), &fault, stop.reason.as_ref(), explain)
+}
+
+/// Serves the cluster of a config, prints the answers to its queries, and ends once each broker answered the connections from
+/// outside that the config asks for; a cluster without an end does not return (`druid_serve::serve`). It ends with status 0, or
+/// with that of the fault that it reports on the error writer; where `explain` is set, what kept the cluster stands below it, in a
+/// line that is indented, unless memory ran out for it. Status 0 only where the bytes are a config, and of each of its queries
+/// something was printed; where they are none, nothing is printed.
+pub fn serve_config<
+    R: Files<File = File>
+        + Net<Listener = TcpListener, Stream = TcpStream>
+        + AllocGlobal
+        + Wait
+        + Threads
+        + Clock
+        + Copy
+        + Send
+        + Sync
+        + 'static,
+    W: Write,
+    E: Write,
+>(rt: &R, alloc: Global, config: &[u8], out: &mut W, errors: &mut E, explain: bool) -> Ending
+where
+    R::Dir: Send,
+    ensures served { (end : Result ⊤ ServeFault) × ServesAs config.now end
+        × (result.status ≡ serve_status end)
+        × OnOk result.reported (Reports explain (E.contents errors.old) (E.contents errors.new) (serve_line end)) }
+    ensures printed { (result.status ≡ 0) → IsServed config.now (W.contents out.old) (W.contents out.new) }
+    ensures nothing { (IsConfig config.now → ⊥) → W.contents out.new ≡ W.contents out.old }
+{
+    match serve(rt, alloc, config, out, errors) {
+        Ok(()) => done(),
+        Err(stop) => report_stop(alloc, errors, stop, explain),
+    }
+}
+
+// Serves the cluster of the config at a path: the end is that of its bytes, or a device's where they can't be read.
+fn serve_file<
+    R: Files<File = File>
+        + Net<Listener = TcpListener, Stream = TcpStream>
+        + AllocGlobal
+        + Wait
+        + Threads
+        + Clock
+        + Copy
+        + Send
+        + Sync
+        + 'static,
+    W: Write,
+    E: Write,
+>(rt: &R, alloc: Global, path: &str, writer: &mut W, errors: &mut E, explain: bool) -> Ending
+where
+    R::Dir: Send,
+    ensures { (end : Result ⊤ ServeFault) × (result.status ≡ serve_status end)
+        × OnOk result.reported (Reports explain (E.contents errors.old) (E.contents errors.new) (serve_line end)) }
+{
+    match config_bytes(rt, alloc, path) {
+        Ok(config) => serve_config(rt, alloc, &config, writer, errors, explain),
+        Err(stop) => report_stop(alloc, errors, stop, explain),
+    }
+}
+
+/// The whole program, over its arguments, standard input, standard output and standard error. `replay` alone answers the commands
+/// of the input, and `serve CONFIG` serves the cluster of the config at that path; each reports a fault on the error writer, and
+/// below it, where `explain` is set, what ended the run or kept the cluster, in a line that is indented, unless memory ran out for
+/// it. Any other words get the usage line there, with status 2, and arguments that could not be read end with status 3 as a device
+/// that fails at line 1: then nothing is read or written.
+pub fn run<
+    R: Files<File = File>
+        + Net<Listener = TcpListener, Stream = TcpStream>
+        + AllocGlobal
+        + Wait
+        + Threads
+        + Clock
+        + Copy
+        + Send
+        + Sync
+        + 'static,
+    I: BufRead,
+    W: Write,
+    E: Write,
+>(
+    rt: &R,
+    alloc: Global,
+    words: io::Result<Vec<String>>,
+    reader: &mut I,
+    writer: &mut W,
+    errors: &mut E,
+    explain: bool,
+) -> Ending
+where
+    R::Dir: Send,
+    ensures unread { OnErr words ((result.status ≡ 3)
+        × Keeps (I.remaining reader.old) (I.remaining reader.new)
+        × Keeps (W.contents writer.old) (W.contents writer.new)
+        × OnOk result.reported (Appends (E.contents errors.old) (E.contents errors.new)
+        (replay_text (ReplayFault.Device 1) ++ 10 ∷ []))) }
+    ensures usage { IfOk words (λ list. (AsksForReplay (map string_bytes list.items) → ⊥)
+        → (AsksForServe (map string_bytes list.items) → ⊥) → (result.status ≡ 2)
+        × Keeps (I.remaining reader.old) (I.remaining reader.new)
+        × Keeps (W.contents writer.old) (W.contents writer.new)
+        × OnOk result.reported (Appends (E.contents errors.old) (E.contents errors.new) usage_line)) }
+    ensures served { IfOk words (λ list. AsksForServe (map string_bytes list.items)
+        → (end : Result ⊤ ServeFault) × (result.status ≡ serve_status end)
+        × OnOk result.reported (Reports explain (E.contents errors.old) (E.contents errors.new) (serve_line end))) }
+    ensures replayed { IfOk words (λ list. AsksForReplay (map string_bytes list.items)
+        → (end : Result ⊤ ReplayFault)
+        × Replays (I.remaining reader.old) (W.contents writer.old) (W.contents writer.new) end
+        × (result.status ≡ replay_status end)
+        × OnOk result.reported (Reports explain (E.contents errors.old) (E.contents errors.new) (replay_line end))) }
+{
+    let Ok(words) = words else {
+        return report_unread(alloc, errors);
+    };
+    if asks_for_replay(&words) {
+        return replay_all(alloc, reader, writer, errors, explain);
+    }
+    if asks_for_serve(&words) {
+        return serve_file(rt, alloc, words[1].as_str(), writer, errors, explain);
+    }
+    report_usage(errors)
+}

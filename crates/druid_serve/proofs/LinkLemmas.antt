@@ -1,0 +1,118 @@
+-- What connections leave of the links of a worker: where they lead.
+use Rattle.std.proofs.Common.{◌≡◌, ◌≢◌, ◌<◌, ◌≤◌, ◌⊎◌, ℕ, Bool, true, false, List, [], ◌∷◌, length, map, Option, Some, Ok, Err, Result, inl, inr, refl, sym, ap, ◌∙◌, subst, slice_get, get_or, option_map, unwrap_or, codes, bytes_eq, IfOk, IfErr}
+use Rattle.std.proofs.lemmas.Option.{slice_get_within, slice_get-get_or, slice_get-map}
+use Rattle.std.proofs.lemmas.List.{length-map}
+use Rattle.druid_config.specs.Configs.{Node, names_of}
+use Rattle.druid_link.specs.Links.{Came}
+use Rattle.druid_link.specs.TcpLinks.{TcpLinkValue, ExchangesOverTcp, fresh_tcp_link}
+use Rattle.druid_message.specs.Requests.{RequestValue, path_of}
+use Rattle.druid_message.specs.declared.fault.WireFault.{WireFault}
+use Rattle.druid_query.specs.Query.{Query}
+use Rattle.druid_inventory.specs.Entry.{Entry, fresh}
+use Rattle.druid_published.specs.Fold.{Published, fold_of}
+use Rattle.druid_scatter.specs.Gathered.{Exchange, AreMade, Leads}
+use Rattle.druid_wire.specs.Served.{Serves, IsServed, FailsToServe}
+use Rattle.druid_broker.specs.Queries.{AnswersQuery, WantsMemory}
+use Rattle.druid_broker.specs.Routes.{Route, health, query, sources, load_status, entry, nowhere, route_of, AnswersPost, AnswersAt}
+use Rattle.druid_broker.specs.Views.{RespondsAt, RespondsBy}
+use Rattle.druid_serve.specs.Links.{LeadTo, IsLinkAt, link_of, fresh_links, opening_of}
+
+-- exchanges keep the address
+same_address : (asked : Query) (node : ℕ) (exchanges : List Exchange) (old new : TcpLinkValue) → Leads ExchangesOverTcp asked node exchanges old new
+    → new.address ≡ old.address
+same_address asked node [] old new same = ap (λ (l : TcpLinkValue). l.address) (sym same)
+same_address asked node (e ∷ more) old new (inl (with, next, step, leads)) =
+    same_address asked node more next new leads ∙ ap (λ (l : TcpLinkValue). l.address) step.0
+same_address asked node (e ∷ more) old new (inr (other, leads)) = same_address asked node more old new leads
+
+made_lead : (nodes : List Node) (asked : Query) (exchanges : List Exchange) (old new : List TcpLinkValue)
+    → AreMade ExchangesOverTcp asked exchanges old new → LeadTo nodes old → LeadTo nodes new
+made_lead nodes asked exchanges old new made lead = record {
+  count = made.count ∙ lead.count;
+  each = λ k node link is at.
+    let within : k < length old = subst (λ (n : ℕ). k < n) made.count (slice_get_within new k link at) in
+    let there = slice_get-get_or old k link within in
+    same_address asked k exchanges (get_or old k link) link (made.each k (get_or old k link) link there at) ∙ lead.each k node (get_or old k link) is there;
+}
+
+stays : (nodes : List Node) (old new : List TcpLinkValue) → new ≡ old → LeadTo nodes old → LeadTo nodes new
+stays nodes old new same lead = subst (λ (links : List TcpLinkValue). LeadTo nodes links) (sym same) lead
+
+-- whatever was answered to a query
+query_lead : (nodes : List Node) (order : List ℕ → List ℕ) (inventory : List Entry) (bytes : List ℕ) (old new : List TcpLinkValue) (status : ℕ) (body : List ℕ)
+    → AnswersQuery ExchangesOverTcp order inventory bytes old new status body → LeadTo nodes old → LeadTo nodes new
+query_lead nodes order inventory bytes old new status body (inl (asked, is, answers)) lead =
+    made_lead nodes asked answers.exchanges old new answers.made lead
+query_lead nodes order inventory bytes old new status body (inr (fault, other, is, tells, same)) lead = stays nodes old new same lead
+
+memory_lead : (nodes : List Node) (order : List ℕ → List ℕ) (inventory : List Entry) (bytes : List ℕ) (old new : List TcpLinkValue)
+    → WantsMemory ExchangesOverTcp order inventory bytes old new → LeadTo nodes old → LeadTo nodes new
+memory_lead nodes order inventory bytes old new (inl (is, same)) lead = stays nodes old new same lead
+memory_lead nodes order inventory bytes old new (inr (inl (fault, names, is, same))) lead = stays nodes old new same lead
+memory_lead nodes order inventory bytes old new (inr (inr (asked, is, inl same))) lead = stays nodes old new same lead
+memory_lead nodes order inventory bytes old new (inr (inr (asked, is, inr asks))) lead = made_lead nodes asked asks.exchanges old new asks.made lead
+
+post_lead : (nodes : List Node) (order : List ℕ → List ℕ) (posts : Bool) (inventory : List Entry) (bytes : List ℕ) (old new : List TcpLinkValue) (status : ℕ) (body : List ℕ)
+    → AnswersPost ExchangesOverTcp order posts inventory bytes old new status body → LeadTo nodes old → LeadTo nodes new
+post_lead nodes order true inventory bytes old new status body (inl answers) lead = query_lead nodes order inventory bytes old new status body answers lead
+post_lead nodes order true inventory bytes old new status body (inr (wants, out)) lead = memory_lead nodes order inventory bytes old new wants lead
+post_lead nodes order false inventory bytes old new status body (tells, same) lead = stays nodes old new same lead
+
+route_lead : (nodes : List Node) (order : List ℕ → List ℕ) (route : Route) (inventory : List Entry) (old new : List TcpLinkValue) (request : RequestValue) (status : ℕ) (body : List ℕ)
+    → AnswersAt ExchangesOverTcp order route inventory old new request status body → LeadTo nodes old → LeadTo nodes new
+route_lead nodes order query inventory old new request status body answers lead =
+    post_lead nodes order (bytes_eq request.method (codes "POST")) inventory request.body old new status body answers lead
+route_lead nodes order health inventory old new request status body (tells, same) lead = stays nodes old new same lead
+route_lead nodes order sources inventory old new request status body (tells, same) lead = stays nodes old new same lead
+route_lead nodes order load_status inventory old new request status body (tells, same) lead = stays nodes old new same lead
+route_lead nodes order (entry node) inventory old new request status body (tells, same) lead = stays nodes old new same lead
+route_lead nodes order nowhere inventory old new request status body (tells, same) lead = stays nodes old new same lead
+
+responds_lead : (nodes : List Node) (order : List ℕ → List ℕ) (opening : List Entry) (route : Route) (seen now : Published) (old new : List TcpLinkValue) (request : RequestValue) (status : ℕ) (body : List ℕ)
+    → RespondsAt ExchangesOverTcp order opening route seen now old new request status body → LeadTo nodes old → LeadTo nodes new
+responds_lead nodes order opening route seen now old new request status body (inl (takes, prefix, answers)) lead =
+    route_lead nodes order route (fold_of opening now) old new request status body answers lead
+responds_lead nodes order opening route seen now old new request status body (inr (inl (takes, answers, is, same))) lead = stays nodes old new same lead
+responds_lead nodes order opening route seen now old new request status body (inr (inr (takes, answers, is, same))) lead = stays nodes old new same lead
+
+abbrev Responds : (List ℕ → List ℕ) → List Entry → Published → Published → List TcpLinkValue → List TcpLinkValue → RequestValue → ℕ → List ℕ → Type 0
+Responds order opening seen now old new = RespondsBy ExchangesOverTcp order opening seen now old new
+
+serves_lead : (nodes : List Node) (order : List ℕ → List ℕ) (opening : List Entry) (seen now : Published) (old new : List TcpLinkValue) (before after : Option (List ℕ)) (status : ℕ) (body : List ℕ)
+    → Serves (Responds order opening seen now old new) ((now ≡ seen) × (new ≡ old)) before after status body → LeadTo nodes old → LeadTo nodes new
+serves_lead nodes order opening seen now old new before after status body (inl answered) lead =
+    responds_lead nodes order opening (route_of (path_of answered.request.target)) seen now old new answered.request status body answered.answer lead
+serves_lead nodes order opening seen now old new before after status body (inr (refused, stayed)) lead = stays nodes old new stayed.1 lead
+
+-- what a worker answers leaves each link where it leads
+pub answered_lead : (nodes : List Node) (order : List ℕ → List ℕ) (opening : List Entry) (seen now : Published) (old new : List TcpLinkValue) (before after had has : Option (List ℕ)) (result : Result ℕ WireFault)
+    → IfOk result (IsServed (Responds order opening seen now old new) ((now ≡ seen) × (new ≡ old)) before after had has)
+    → IfErr result (FailsToServe (Responds order opening seen now old new) ((now ≡ seen) × (new ≡ old)) before after had has)
+    → LeadTo nodes old → LeadTo nodes new
+answered_lead nodes order opening seen now old new before after had has (Ok status) served failed lead =
+    serves_lead nodes order opening seen now old new before after served.status served.body served.served lead
+answered_lead nodes order opening seen now old new before after had has (Err fault) served (inl (unread, stayed)) lead = stays nodes old new stayed.1 lead
+answered_lead nodes order opening seen now old new before after had has (Err fault) served (inr unsent) lead =
+    serves_lead nodes order opening seen now old new before after unsent.status unsent.body unsent.served lead
+
+-- ---- where they lead first
+
+address_of : (nodes : List Node) (k : ℕ) (node : Node) (link : TcpLinkValue) → slice_get nodes k ≡ Some node
+    → slice_get (fresh_links nodes) k ≡ Some link → link.address ≡ node.address
+address_of nodes k node link is at =
+    let found : Some link ≡ Some (link_of node) = sym at ∙ slice_get-map link_of nodes k ∙ ap (option_map link_of) is in
+    ap (λ (o : Option TcpLinkValue). (unwrap_or o link).address) found
+
+-- fresh links lead to their nodes
+pub leads_from : (nodes : List Node) (links : List TcpLinkValue) → links ≡ fresh_links nodes → LeadTo nodes links
+leads_from nodes links same = stays nodes (fresh_links nodes) links same (record {
+  count = length-map nodes link_of;
+  each = address_of nodes;
+})
+
+-- the link to the node of a place is that node's
+pub link_at : (nodes : List Node) (k : ℕ) (node : Node) (link : TcpLinkValue) → slice_get nodes k ≡ Some node → link ≡ link_of node → IsLinkAt nodes k link
+link_at nodes k node link is same other at = same ∙ ap (λ (o : Option Node). link_of (unwrap_or o node)) (sym is ∙ at)
+
+pub opening_length : (nodes : List Node) → length (opening_of nodes) ≡ length nodes
+opening_length nodes = length-map (names_of nodes) fresh ∙ length-map nodes (λ n. n.name)

@@ -1,0 +1,84 @@
+//! A cluster without an end.
+ghost use Rattle.std.specs.Prelude.{◌≡◌, OnOk};
+
+use druid_config::{BrokerConfig, Config, NodeConfig};
+use druid_server::{ClusterFault, Stop};
+use std::alloc::Global;
+use std::io;
+use std::io::Write;
+use std::sync::Wait;
+use std::thread;
+use std::time::{Clock, Duration};
+
+// How long the thread rests that has nothing left to do, in seconds, before it rests again.
+const IDLE_SECONDS: u64 = 3_600;
+
+// Says where a node listens, and which folder it serves.
+fn say_node<E: Write>(node: &NodeConfig, errors: &mut E) -> io::Result<()> {
+    let (name, address, folder) = (node.name().as_str(), node.address(), node.folder());
+    writeln!(errors, "node {name}: listens on {address}, serves the folder {folder}")
+}
+
+// Says where a broker listens, and how many nodes it asks.
+fn say_broker<E: Write>(broker: &BrokerConfig, nodes: usize, errors: &mut E) -> io::Result<()> {
+    let address = broker.address();
+    writeln!(errors, "broker: listens on {address}, asks {nodes} nodes")
+}
+
+// Says it of each node.
+fn say_nodes<E: Write>(nodes: &[NodeConfig], errors: &mut E) -> io::Result<()> {
+    for node in nodes {
+        say_node(node, errors)?;
+    }
+    Ok(())
+}
+
+// Says it of each broker, all of which ask so many nodes.
+fn say_brokers<E: Write>(
+    brokers: &[BrokerConfig],
+    nodes: usize,
+    errors: &mut E,
+) -> io::Result<()> {
+    for broker in brokers {
+        say_broker(broker, nodes, errors)?;
+    }
+    Ok(())
+}
+
+// Says where the servers of a cluster listen and what they serve, a line each.
+fn say_all<E: Write>(config: &Config, errors: &mut E) -> io::Result<()> {
+    say_nodes(config.nodes(), errors)?;
+    say_brokers(config.brokers(), config.nodes().len(), errors)?;
+    errors.flush()
+}
+
+// Serves until the program is ended.
+fn rest_for_ever<R: Wait + Clock>(rt: &R)
+    ensures { ⊥ }
+{
+    for _ in rt.forever() {
+        thread::sleep(rt, Duration::from_secs(IDLE_SECONDS));
+    }
+    unreachable!()
+}
+
+/// Says where a cluster without an end listens, once what was printed is there, and serves it until the program is ended: so it
+/// returns only where the output is not flushed, and then nothing was said.
+pub(crate) fn serve_on<R: Wait + Clock, W: Write, E: Write>(
+    rt: &R,
+    alloc: Global,
+    config: &Config,
+    out: &mut W,
+    errors: &mut E,
+) -> Result<(), Stop<ClusterFault>>
+    ensures never { OnOk result ⊥ }
+    ensures quiet { E.contents errors.new ≡ E.contents errors.old }
+{
+    if let Err(error) = out.flush() {
+        return Err(Stop::at_output(alloc, &error));
+    }
+    // A cluster serves whether or not anybody reads where it listens.
+    drop(say_all(config, errors));
+    rest_for_ever(rt);
+    unreachable!()
+}

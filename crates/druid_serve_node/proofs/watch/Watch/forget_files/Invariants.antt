@@ -1,0 +1,14 @@
+use Rattle.std.proofs.Common.{◌≡◌, ◌≢◌, take}
+use Rattle.std.specs.List.{FoldsTo}
+use Rattle.std.specs.declared.cmp.Ordering.TheVariants.{Greater}
+use Rattle.druid_shard.specs.Mark.{mark_cmp}
+use Rattle.druid_folder.specs.Folder.{names_of}
+use Rattle.druid_serve_node.specs.Looks.{IsGone}
+use Rattle.druid_serve_node.proofs.watch.Watch.forget_files.Given as goal
+
+abbrev pub invariant-loop-name : goal.invariant-loop-name
+invariant-loop-name g l = record {
+  gone : FoldsTo (IsGone g.I.Incarnation.number) l.initial.self (names_of (take l.name-index l.names)) l.self;
+  risen : mark_cmp l.initial.self.seen l.self.seen ≢ Greater;
+  own : l.initial.self.seen.incarnation ≡ g.I.Incarnation.number → l.self.seen.incarnation ≡ g.I.Incarnation.number;
+}

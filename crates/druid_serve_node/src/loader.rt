@@ -1,0 +1,175 @@
+//! The thread of a node that loads what comes once the node listens.
+ghost use Rattle.std.specs.Prelude.{◌≡◌, ◌≢◌};
+ghost use Rattle.std.specs.declared.cmp.Ordering.TheVariants.{Greater};
+ghost use Rattle.druid_shard.specs.Mark.{mark_cmp};
+
+use crate::latest::{Begun, Latest};
+use crate::watch::Watch;
+use druid_folder::Folder;
+use druid_node::{DataNode, Incarnation};
+use druid_server::{DeviceFailed, Handover};
+use druid_shard::Mark;
+use druid_store::{Device, DiskFolder};
+use std::alloc::Global;
+use std::fs::File;
+use std::rt::Files;
+use std::sync::{Arc, Wait};
+use std::thread;
+use std::thread::Threads;
+use std::time::{Clock, Duration};
+
+/// Shows that the files that a node loads later were tried: only the thread that tries them gives one.
+#[derive(Debug, Drop)]
+pub struct EndOfLoads(());
+
+/// What tells when the files were tried that a node loads once it listens.
+#[derive(Drop)]
+pub struct Loading {
+    end: Arc<Handover<EndOfLoads>, Global>,
+}
+
+impl Loading {
+    // That of the thread that tells it there.
+    pub(crate) fn new(end: Arc<Handover<EndOfLoads>, Global>) -> Loading {
+        Loading { end }
+    }
+
+    /// Waits until they were tried.
+    pub fn join<R: Wait>(self, rt: &R) -> EndOfLoads {
+        self.end.take(rt)
+    }
+}
+
+/// Loads files of a folder that a node serves from, one after another; one that is refused is passed over.
+pub fn load_later<R: Wait, F: Folder, I: Incarnation>(
+    rt: &R,
+    node: &DataNode<I>,
+    folder: &mut F,
+    names: &[String],
+    seen: &mut Mark,
+) -> EndOfLoads
+    ensures risen { mark_cmp seen.old seen.new ≢ Greater }
+    ensures own { seen.old.incarnation ≡ I.number → seen.new.incarnation ≡ I.number }
+{
+    for name in names {
+        drop(node.load_file(rt, folder, name.as_str(), seen));
+    }
+    EndOfLoads(())
+}
+
+// Loads files as a look does: one that the start has loaded is passed over, and stays known as loaded. Where memory runs out, the
+// files that are left are found by the next look.
+fn load_known<R: Wait, F: Folder, I: Incarnation>(
+    rt: &R,
+    node: &DataNode<I>,
+    folder: &mut F,
+    names: &[String],
+    watch: &mut Watch,
+) -> EndOfLoads
+    ensures risen { mark_cmp watch.old.seen watch.new.seen ≢ Greater }
+    ensures own { watch.old.seen.incarnation ≡ I.number → watch.new.seen.incarnation ≡ I.number }
+{
+    drop(watch.try_due(rt, node, folder, 0, names));
+    EndOfLoads(())
+}
+
+// Looks at the folder for ever, after a rest of so many milliseconds each time, and notes the node's mark after each look. What
+// fails at a look is done at a later one.
+fn look_on<R: Wait + Clock, F: Folder, I: Incarnation, J: Begun>(
+    rt: &R,
+    alloc: Global,
+    node: &DataNode<I>,
+    latest: &Latest<J>,
+    folder: &mut F,
+    watch: &mut Watch,
+    rest: u64,
+)
+    requires begun { J.mark.incarnation ≡ I.number }
+    requires own { watch.old.seen.incarnation ≡ I.number }
+    requires reached { mark_cmp J.mark watch.old.seen ≢ Greater }
+{
+    let mut look = 0_u64;
+    for _ in rt.forever() {
+        thread::sleep(rt, Duration::from_millis(rest));
+        look = look.saturating_add(1);
+        drop(watch.look(rt, alloc, node, folder, look));
+        latest.note(rt, watch.seen());
+    }
+}
+
+// What the loading thread of a node works with.
+#[derive(Drop)]
+pub(crate) struct Loader<I: Incarnation, J: Begun> {
+    pub(crate) node: Arc<DataNode<I>, Global>,
+    pub(crate) latest: Arc<Latest<J>, Global>,
+    // The path of its folder.
+    pub(crate) path: String,
+    // The files that are loaded first.
+    pub(crate) names: Vec<String>,
+    // How long it rests before each look at the folder, in milliseconds, if it looks.
+    pub(crate) rest: Option<u64>,
+    pub(crate) watch: Watch,
+    // Where it tells that the files were tried that are loaded first.
+    pub(crate) end: Arc<Handover<EndOfLoads>, Global>,
+}
+
+// What the loading thread of a node does: it loads the files that come first, tells that it did, and then looks at the folder for
+// ever, where the node watches it. Without a watch nothing is known of the files: one that the start has loaded is refused.
+fn load_from<
+    R: Files<File = File> + AllocGlobal + Wait + Clock + Copy,
+    L: Device,
+    I: Incarnation,
+    J: Begun,
+>(rt: &R, alloc: Global, loader: Loader<I, J>)
+    requires begun { J.mark.incarnation ≡ I.number }
+    requires own { loader.watch.seen.incarnation ≡ I.number }
+    requires reached { mark_cmp J.mark loader.watch.seen ≢ Greater }
+{
+    let Loader {
+        node,
+        latest,
+        path,
+        names,
+        rest,
+        watch,
+        end,
+    } = loader;
+    let mut folder: DiskFolder<R, L> = DiskFolder::new(*rt, path);
+    let mut watch = watch;
+    let Some(rest) = rest else {
+        let mut seen = watch.seen();
+        let loaded = load_later(rt, &node, &mut folder, &names, &mut seen);
+        latest.note(rt, seen);
+        end.give(rt, loaded);
+        return;
+    };
+    let loaded = load_known(rt, &node, &mut folder, &names, &mut watch);
+    latest.note(rt, watch.seen());
+    end.give(rt, loaded);
+    look_on(rt, alloc, &node, &latest, &mut folder, &mut watch, rest);
+}
+
+// Starts the loading thread of a node.
+pub(crate) fn start_loader<
+    R: Files<File = File> + AllocGlobal + Wait + Threads + Clock + Copy + Send + Sync + 'static,
+    L: Device + Send + Sync + 'static,
+    I: Incarnation + Send + Sync + 'static,
+    J: Begun + Send + Sync + 'static,
+>(rt: R, alloc: Global, loader: Loader<I, J>) -> Result<(), DeviceFailed>
+where
+    R::Dir: Send,
+    requires begun { J.mark.incarnation ≡ I.number }
+    requires own { loader.watch.seen.incarnation ≡ I.number }
+    requires reached { mark_cmp J.mark loader.watch.seen ≢ Greater }
+{
+    let job = move ||
+        requires { (J.mark.incarnation ≡ I.number) × (loader.watch.seen.incarnation ≡ I.number) × (mark_cmp J.mark loader.watch.seen ≢ Greater) }
+    { load_from::<R, L, I, J>(&rt, alloc, loader) };
+    match thread::spawn(&rt, job) {
+        Ok(thread) => {
+            drop(thread);
+            Ok(())
+        }
+        Err(_) => Err(DeviceFailed),
+    }
+}

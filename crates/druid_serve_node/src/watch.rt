@@ -1,0 +1,173 @@
+//! A node that watches its folder: it loads the segment files that come, and drops those that go.
+ghost use Rattle.std.specs.Prelude.{◌≡◌, ◌≢◌, List, ℕ, OnOk};
+ghost use Rattle.std.specs.List.{FoldsTo};
+ghost use Rattle.std.specs.declared.cmp.Ordering.TheVariants.{Greater};
+ghost use Rattle.druid_shard.specs.Mark.{mark_cmp};
+ghost use Rattle.druid_folder.specs.Folder.{AreNames, names_of};
+ghost use Rattle.druid_serve_node.specs.Looks.{due_names, IsTried, IsGone, IsLook};
+
+use crate::known::Known;
+use druid_folder::{Folder, StoreFault};
+use druid_node::{DataNode, Incarnation};
+use druid_shard::Mark;
+use std::alloc::{AllocError, Global};
+use std::marker::Model;
+use std::sync::Wait;
+
+/// What a node that watches its folder has done so far: a contract sees what it knows of the files, and the mark of its last load
+/// or drop.
+#[derive(Drop)]
+pub struct Watch {
+    known: Known,
+    seen: Mark,
+}
+
+impl Model for Watch {
+    ghost use Rattle.druid_serve_node.specs.Looks.{Watched};
+
+    ghost Value = { Watched };
+
+    ghost view = { λ a. record { known = a.known; seen = a.seen } };
+}
+
+impl Watch {
+    /// A watch from that mark on, at which the node has these files.
+    pub fn new(known: Known, seen: Mark) -> Watch
+        ensures { result ≡ record { known = known; seen = seen } }
+    {
+        Watch { known, seen }
+    }
+
+    /// The mark of the node's last load or drop.
+    pub fn seen(&self) -> Mark
+        ensures { result ≡ self.now.seen }
+    {
+        self.seen
+    }
+
+    // Tries the file of that name at a look. It is noted as refused before, so that nothing has to be allocated once its segment is
+    // loaded.
+    fn try_file<R: Wait, F: Folder, I: Incarnation>(
+        &mut self,
+        rt: &R,
+        node: &DataNode<I>,
+        folder: &mut F,
+        look: u64,
+        name: &str,
+    ) -> Result<(), AllocError>
+        ensures tried { OnOk result (IsTried I.number look self.old name.now self.new) }
+        ensures risen { mark_cmp self.old.seen self.new.seen ≢ Greater }
+        ensures own { self.old.seen.incarnation ≡ I.number → self.new.seen.incarnation ≡ I.number }
+        ensures content { F.is_honest folder.new → F.content folder.new ≡ F.content folder.old }
+        ensures honest { F.is_honest folder.new → F.is_honest folder.old }
+    {
+        let Watch { known, seen } = self;
+        known.refuse(look, name)?;
+        if let Ok(id) = node.load_identified(rt, folder, name, seen) {
+            known.take(name, id);
+        }
+        Ok(())
+    }
+
+    // Tries files at a look, one after another. Where memory runs out, those that come after are not tried.
+    fn try_files<R: Wait, F: Folder, I: Incarnation>(
+        &mut self,
+        rt: &R,
+        node: &DataNode<I>,
+        folder: &mut F,
+        look: u64,
+        names: &[String],
+    ) -> Result<(), AllocError>
+        ensures tried { OnOk result (FoldsTo (IsTried I.number look) self.old (names_of names.now) self.new) }
+        ensures risen { mark_cmp self.old.seen self.new.seen ≢ Greater }
+        ensures own { self.old.seen.incarnation ≡ I.number → self.new.seen.incarnation ≡ I.number }
+        ensures content { F.is_honest folder.new → F.content folder.new ≡ F.content folder.old }
+        ensures honest { F.is_honest folder.new → F.is_honest folder.old }
+    {
+        for name in names {
+            self.try_file(rt, node, folder, look, name.as_str())?;
+        }
+        Ok(())
+    }
+
+    /// Tries the segment files among these that are due at a look, one after another: one whose segment is loaded is passed over.
+    /// Where memory runs out, those that come after are not tried.
+    pub fn try_due<R: Wait, F: Folder, I: Incarnation>(
+        &mut self,
+        rt: &R,
+        node: &DataNode<I>,
+        folder: &mut F,
+        look: u64,
+        names: &[String],
+    ) -> Result<(), AllocError>
+        ensures tried { OnOk result (FoldsTo (IsTried I.number look) self.old (due_names look self.old.known (names_of names.now)) self.new) }
+        ensures risen { mark_cmp self.old.seen self.new.seen ≢ Greater }
+        ensures own { self.old.seen.incarnation ≡ I.number → self.new.seen.incarnation ≡ I.number }
+        ensures content { F.is_honest folder.new → F.content folder.new ≡ F.content folder.old }
+        ensures honest { F.is_honest folder.new → F.is_honest folder.old }
+    {
+        let due = self.known.due_names(look, names)?;
+        self.try_files(rt, node, folder, look, &due)
+    }
+
+    // Lets go of a file that is gone: drops its segment, if that is loaded. Where the drop is refused, the file stays known, and is
+    // let go of at a later look.
+    fn forget<R: Wait, I: Incarnation>(&mut self, rt: &R, node: &DataNode<I>, name: &str)
+        ensures gone { IsGone I.number self.old name.now self.new }
+        ensures risen { mark_cmp self.old.seen self.new.seen ≢ Greater }
+        ensures own { self.old.seen.incarnation ≡ I.number → self.new.seen.incarnation ≡ I.number }
+    {
+        let Watch { known, seen } = self;
+        let Some(id) = known.loaded(name) else {
+            known.forget(name);
+            return;
+        };
+        if node.drop_segment(rt, id, seen).is_ok() {
+            known.forget(name);
+        }
+    }
+
+    // Lets go of files that are gone, one after another.
+    fn forget_files<R: Wait, I: Incarnation>(
+        &mut self,
+        rt: &R,
+        node: &DataNode<I>,
+        names: &[String],
+    )
+        ensures gone { FoldsTo (IsGone I.number) self.old (names_of names.now) self.new }
+        ensures risen { mark_cmp self.old.seen self.new.seen ≢ Greater }
+        ensures own { self.old.seen.incarnation ≡ I.number → self.new.seen.incarnation ≡ I.number }
+    {
+        for name in names {
+            self.forget(rt, node, name.as_str());
+        }
+    }
+
+    /// A look at the folder: tries the segment files that are due, and then drops the segments whose files are gone. O1 where the
+    /// names of the files cannot be read, and O9: then some of it may be done, and a later look does the rest. What is refused of a
+    /// file, or by the node, is no fault: the file is tried again at later looks, after 1, 2, 4 .. looks and at most 64.
+    pub fn look<R: Wait, F: Folder, I: Incarnation>(
+        &mut self,
+        rt: &R,
+        alloc: Global,
+        node: &DataNode<I>,
+        folder: &mut F,
+        look: u64,
+    ) -> Result<(), StoreFault>
+        ensures looked { OnOk result ((found : List (List ℕ)) × IsLook I.number look found self.old self.new
+            × (F.is_honest folder.new → AreNames (F.content folder.old) found)) }
+        ensures risen { mark_cmp self.old.seen self.new.seen ≢ Greater }
+        ensures own { self.old.seen.incarnation ≡ I.number → self.new.seen.incarnation ≡ I.number }
+        ensures content { F.is_honest folder.new → F.content folder.new ≡ F.content folder.old }
+        ensures honest { F.is_honest folder.new → F.is_honest folder.old }
+    {
+        let found = match folder.list(alloc) {
+            Ok(found) => found,
+            Err(fault) => return Err(fault),
+        };
+        let gone = self.known.gone_names(&found)?;
+        self.try_due(rt, node, folder, look, &found)?;
+        self.forget_files(rt, node, &gone);
+        Ok(())
+    }
+}
