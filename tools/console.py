@@ -117,14 +117,17 @@ class NodeWatch:
     def __init__(self, node):
         self.node, self.mark, self.segments = node, None, None
 
-    def get(self, asked):
-        status, body = exchange(self.node['address'], 'GET', '/druid-internal/v1/segments' + asked)
+    def get(self, asked, seconds=EXCHANGE):
+        status, body = exchange(self.node['address'], 'GET', '/druid-internal/v1/segments' + asked, seconds=seconds)
         if status != 200:
             raise OSError(f'status {status}')
         return json.loads(body)
 
     def ask(self):
-        return self.get('?counter=%d&hash=%d' % self.mark if self.mark else '')
+        if self.mark:
+            return self.get('?counter=%d&hash=%d' % self.mark, SHORT)
+        exchange(self.node['address'], 'GET', '/status/health')  # A large set may take its time, a node that is silent not.
+        return self.get('')
 
     def count_pages(self, first):
         """How many segments a snapshot has that is sent in pages: all but the last have as many as the first."""
@@ -140,8 +143,8 @@ class NodeWatch:
             self.mark = None
             reply = self.ask()
         loads = self.count_pages(reply) if 'pages' in reply else sum(1 if it['action'] == 'load' else -1 for it in reply['requests'])
-        self.segments = loads if reply['from'] is None else self.segments + loads
-        self.mark = (int(reply['counter']['counter']), int(reply['counter']['hash']))
+        mark = int(reply['counter']['counter']), int(reply['counter']['hash'])
+        self.mark, self.segments = mark, loads if reply['from'] is None else self.segments + loads
 
     def state(self):
         it = {'name': self.node['name'], 'address': self.node['address']}
@@ -149,7 +152,6 @@ class NodeWatch:
             self.refresh()
             return {**it, 'answers': True, 'segments': self.segments, 'mark': {'count': str(self.mark[0]), 'incarnation': str(self.mark[1])}}
         except NO_ANSWER as fault:
-            self.mark = None
             return {**it, 'answers': False, 'fault': str(fault) or type(fault).__name__}
 
 

@@ -5,7 +5,7 @@
 
 What is visible is worked out here once more, plainly, from the broker's snapshots. It ends with 1 where the page shows anything else.
 """
-import glob, json, os, shutil, sys, tempfile, traceback
+import glob, json, os, re, shutil, sys, tempfile, traceback
 
 from browser import Browser
 from served import CHROMIUM, TOP, console_of, exchange, need, need_program, parser_of, silent, write_config, write_segments
@@ -227,6 +227,26 @@ def requests_of(page, *_):
     equal([it['params'] for it in page.events if it['method'] == 'Runtime.exceptionThrown'], [], 'exceptions')
 
 
+def endless(folder):
+    """Over a cluster without an end the page says how many connections it took, and of no number."""
+    config = os.path.join(folder, 'endless.json')
+    broker, _ = write_config(config, [os.path.join(folder, f'n{node}') for node in range(3)], {'every': 500})
+    with console_of(config, broker) as url, Browser(CHROMIUM) as page:
+        page.open(url, "document.querySelectorAll('.in-view li').length >= 6")
+        words = page.wait_for("((words) => words.includes('looked at') && words)(document.getElementById('state').textContent)")
+        assert re.fullmatch('running; broker looked at [0-9]+ s ago; [1-9][0-9]* connections taken by this page', words), words
+
+
+def passes(test, *given):
+    try:
+        test(*given)
+        print(f'ok {test.__name__}', flush=True)
+        return True
+    except (AssertionError, OSError, TimeoutError):
+        print(f'FAILED {test.__name__}: {traceback.format_exc(limit=2)}', flush=True)
+        return False
+
+
 def main():
     parser_of(__doc__).parse_args()
     need_program()
@@ -238,12 +258,8 @@ def main():
         with console_of(config, broker) as url, Browser(CHROMIUM) as page:
             page.open(url, "document.querySelectorAll('.in-view li').length >= 6 && document.querySelectorAll('#nodes td').length >= 15")
             for test in (timelines, node_table, pointing, segment_rows, queries, refusals, doors, node_away, requests_of):
-                try:
-                    test(page, broker, nodes)
-                    print(f'ok {test.__name__}', flush=True)
-                except (AssertionError, OSError, TimeoutError):
-                    failed += 1
-                    print(f'FAILED {test.__name__}: {traceback.format_exc(limit=2)}', flush=True)
+                failed += not passes(test, page, broker, nodes)
+        failed += not passes(endless, folder)
     finally:
         shutil.rmtree(folder, ignore_errors=True)
     print(f'{failed} failed')

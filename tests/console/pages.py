@@ -1,10 +1,10 @@
 #!/usr/bin/env python3
-"""Compares what the console shows of a node that a broker gives in pages with the segments of that node.
+"""Compares what the console shows of a node that a broker gives in pages, as the node does, with the segments of that node.
 
     python3 tests/console/pages.py            # some seconds
 
-The broker is a short one in Python, which answers what docs/FORMATS.md says of inventories, but for pages of 40 segments in the place
-of 20,000; and it can move on between two pages, once or each time. It needs the built program, whose `replay` says what is visible,
+The broker and the node are a short one in Python, which answers what docs/FORMATS.md says of inventories, but for pages of 40 segments
+in the place of 20,000; and it can move on between two pages, once or each time. It needs the built program, whose `replay` says what is visible,
 and no browser. It ends with 1 where the console shows anything else, or shows a part and does not say so.
 """
 import contextlib
@@ -48,6 +48,8 @@ class Broker(http.server.ThreadingHTTPServer):
         reply = {'counter': {'counter': self.count, 'hash': 7}, 'from': None, 'requests': [], 'resetCause': None, 'resetCounter': False}
         if asked and asked['counter'] != str(self.count):
             return {**reply, 'resetCause': 'TooOld', 'resetCounter': True}
+        if asked and 'page' not in asked:
+            return {**reply, 'from': reply['counter']}
         page = int(asked.get('page', 0))
         return {**reply, 'page': page, 'pages': -(-len(self.segments) // PAGE), 'requests': self.segments[page * PAGE:(page + 1) * PAGE]}
 
@@ -55,9 +57,9 @@ class Broker(http.server.ThreadingHTTPServer):
 class Answers(http.server.BaseHTTPRequestHandler):
     def do_GET(self):
         path, _, words = self.path.partition('?')
-        is_known = path == '/druid-internal/v1/inventory/0'
-        body = json.dumps(self.server.reply(dict(urllib.parse.parse_qsl(words))) if is_known else {'error': 'V2'}).encode()
-        self.send_response(200 if is_known else 404)
+        is_known = path in ('/druid-internal/v1/inventory/0', '/druid-internal/v1/segments')
+        body = b'true' if path == '/status/health' else json.dumps(self.server.reply(dict(urllib.parse.parse_qsl(words))) if is_known else {'error': 'V2'}).encode()
+        self.send_response(200 if is_known or body == b'true' else 404)
         self.send_header('Content-Length', str(len(body)))
         self.end_headers()
         self.wfile.write(body)
@@ -68,8 +70,9 @@ class Answers(http.server.BaseHTTPRequestHandler):
 
 @contextlib.contextmanager
 def console_at(broker):
-    """The address of a console over the broker, and one node, which nobody asks here."""
-    config = {'brokers': [{'address': f'127.0.0.1:{broker.server_port}'}], 'nodes': [{'name': 'n0', 'address': '127.0.0.1:1', 'folder': '.'}],
+    """The address of a console over the broker, which is the node too."""
+    here = f'127.0.0.1:{broker.server_port}'
+    config = {'brokers': [{'address': here}], 'nodes': [{'name': 'n0', 'address': here, 'folder': '.'}],
               'connections': 1_000_000}
     server = console.Console(0, config, PROGRAM)
     threading.Thread(target=server.serve_forever, daemon=True).start()
@@ -94,6 +97,12 @@ def shown(address):
     return counts, answer.get('parts'), answer.get('connections')
 
 
+def node_shown(address):
+    """Whether the node answers, how many segments it has and its mark."""
+    node, = json.loads(exchange(address, '/api/nodes', Host=address)[1])['nodes']
+    return node['answers'], node.get('segments'), node.get('mark') or node.get('fault')
+
+
 WHOLE = {(source, 'visible'): (1, PARTITIONS) for source in 'abc'}
 ONE_PAGE = {('a', 'visible'): (1, 30), ('b', 'incomplete'): (1, 10)}
 TWO_PAGES = {('a', 'visible'): (1, 30), ('b', 'visible'): (1, 30), ('c', 'incomplete'): (1, 20)}
@@ -111,6 +120,11 @@ def main():
     need_program()
     broker, failed = Broker(), 0
     with console_at(broker) as address:
+        console.FRESH = 0
+        for name in ('the node in pages', 'the node at the same mark'):
+            found, wanted = node_shown(address), (True, 3 * PARTITIONS, {'count': str(BEGUN), 'incarnation': '7'})
+            failed += found != wanted
+            print(f'ok {name}' if found == wanted else f'FAILED {name}: the console shows {found}, and the node has {wanted}', flush=True)
         for name, line, page, moves, wanted in CASES:
             console.MAX_LINE, broker.moves_at, broker.moves = line, page, moves
             found = shown(address)

@@ -26,11 +26,11 @@ def write_segments(folder, segments):
             file.write(file_of(it))
 
 
-def write_config(path, folders):
-    """A config of one broker over nodes `n0` and on, one for each folder."""
+def write_config(path, folders, end={'connections': 1_000_000}):
+    """A config of one broker over nodes `n0` and on, one for each folder. `end` is what says when it ends, or that it does not."""
     broker, *nodes = [f'127.0.0.1:{port}' for port in free_ports(1 + len(folders))]
     with open(path, 'w', encoding='utf-8') as file:
-        json.dump({'brokers': [{'address': broker, 'workers': 4}], 'connections': 1_000_000, 'kept': 100, 'queries': [], 'turns': 1,
+        json.dump({'brokers': [{'address': broker, 'workers': 4}], **end, 'kept': 100, 'queries': [], 'turns': 1,
                    'nodes': [{'address': address, 'folder': folder, 'loads': [], 'name': f'n{place}', 'workers': 2}
                              for place, (address, folder) in enumerate(zip(nodes, folders))]}, file)
     return broker, nodes

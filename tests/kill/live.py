@@ -81,15 +81,14 @@ def incarnations(cluster):
 
 
 def wait_for(cluster, wanted, within=10):
-    """Waits until the answer is that, and looks whether it stays."""
-    end = time.monotonic() + within
-    while count_of(cluster) != wanted:
+    """Waits until the answer is that and stays: one from before the last moves may be the same, and those between still to come."""
+    end, same = time.monotonic() + within, 0
+    while same < 20:
+        count = count_of(cluster)
+        same = same + 1 if count == wanted else 0
         if time.monotonic() > end:
-            raise SystemExit(f'after {within} s the count is {count_of(cluster)}, and that of the files {wanted}')
+            raise SystemExit(f'after {within} s the count is {count}, and that of the files {wanted}')
         time.sleep(.005)
-    for _ in range(20):
-        if count_of(cluster) != wanted:
-            raise SystemExit(f'the count was {wanted}, as of the files, and did not stay')
 
 
 def live_and_die(cluster, folder, seed, seen):

@@ -79,7 +79,8 @@ class Page {
   showState() {
     const state = byId('state');
     const ago = this.lookedAt === undefined ? '' : `; broker looked at ${Math.round((performance.now() - this.lookedAt) / 1000)} s ago`;
-    const taken = `${this.connections.toLocaleString('en')} of ${Number(this.cluster.connections).toLocaleString('en')} connections taken by this page`;
+    const most = this.cluster.connections === null ? '' : ` of ${Number(this.cluster.connections).toLocaleString('en')}`;
+    const taken = `${this.connections.toLocaleString('en')}${most} connections taken by this page`;
     const words = this.fault ? `✗ ${this.fault}` : `${this.isPaused ? 'paused' : 'running'}${ago}; ${taken}`;
     state.classList.toggle('fault', Boolean(this.fault));
     // Read aloud only where it is more than the time that goes by.

@@ -3,6 +3,8 @@ ghost use Rattle.std.specs.Prelude.{◌≡◌, ◌≢◌, ◌↔◌, ◌≤◌, 
 ghost use Rattle.druid_partial.specs.Partials.{IsPartialFor};
 ghost use Rattle.druid_query.specs.Read.{IsReadOf};
 ghost use Rattle.druid_query.specs.Refused.{refusal_text};
+ghost use Rattle.druid_scatter.specs.Gathered.{Exchange, AreMade, AreAsked, IsGathered};
+ghost use Rattle.druid_scatter.specs.Rounds.{AreLinked};
 ghost use Rattle.druid_wire.specs.Served.{Tells, IsOutOfMemory};
 ghost use Rattle.druid_broker.specs.Queries.{TellsRows, AnswersRows, AsksRows, NamesField};
 ghost use Rattle.druid_broker.specs.Routes.{AnswersPost};
@@ -11,7 +13,7 @@ use druid_inventory::Inventory;
 use druid_link::Link;
 use druid_partial_text::{result_text, shortfall_text};
 use druid_query::{Query, QueryFault};
-use druid_scatter::{Answer, Pick, gather, plan};
+use druid_scatter::{Answer, GatherFault, Pick, Plan, gather, plan};
 use druid_wire::Response;
 use http::StatusCode;
 use std::alloc::{AllocError, Global};
@@ -62,14 +64,47 @@ fn tell_rows(alloc: Global, query: &Query, answer: &Answer) -> Result<Response, 
     Ok(Response::of_text(StatusCode::SERVICE_UNAVAILABLE, text))
 }
 
+// Gives the exchanges over these links so much time, in milliseconds from now.
+fn hasten_all<L: Link>(links: &mut [L], millis: Option<u64>)
+    ensures { links.new ≡ links.old }
+{
+    for link in links.iter_mut() {
+        link.hasten(millis);
+    }
+}
+
+// What is gathered where the exchanges have so much time together, in milliseconds, beside the limit of each.
+fn gather_within<T: Threads + Sync, P: Pick, L: Link + Send>(
+    rt: &T,
+    alloc: Global,
+    query: &Query,
+    pairs: &Plan,
+    turn: &Turn<'_, P>,
+    timeout: Option<u64>,
+    links: &mut [L],
+) -> Result<Answer, GatherFault>
+    requires { AreLinked (length links.old) pairs.now }
+    ensures ok { IfOk result (λ answer. (exchanges : List Exchange) × AreMade L.exchanges query.now exchanges links.old links.new
+        × IsGathered (P.orders turn.now.pick.now turn.now.number) query.now pairs.now exchanges answer.missing answer.partial.groups) }
+    ensures of_query { IfOk result (λ answer. IsPartialFor query.now answer.partial) }
+    ensures err { OnErr result ((exchanges : List Exchange) × AreMade L.exchanges query.now exchanges links.old links.new
+        × AreAsked (P.orders turn.now.pick.now turn.now.number) query.now pairs.now exchanges) }
+{
+    hasten_all(links, timeout);
+    let gathered = gather(rt, alloc, query, pairs, turn.number, turn.pick, links);
+    hasten_all(links, None);
+    gathered
+}
+
 /// The answer to a query, whatever bytes it was read of: its rows, of what the nodes of the inventory serve, gathered over their
-/// links.
+/// links. With a timeout, in milliseconds, each exchange has what is left of it, and a millisecond at least.
 pub(crate) fn answer_query<T: Threads + Sync, P: Pick, L: Link + Send>(
     rt: &T,
     alloc: Global,
     inventory: &Inventory,
     query: &Query,
     turn: &Turn<'_, P>,
+    timeout: Option<u64>,
     links: &mut [L],
 ) -> Response
     requires { length inventory.now ≤ length links.old }
@@ -79,7 +114,7 @@ pub(crate) fn answer_query<T: Threads + Sync, P: Pick, L: Link + Send>(
     let Ok(pairs) = plan(alloc, inventory, query) else {
         return Response::out_of_memory();
     };
-    let Ok(gathered) = gather(rt, alloc, query, &pairs, turn.number, turn.pick, links) else {
+    let Ok(gathered) = gather_within(rt, alloc, query, &pairs, turn, timeout, links) else {
         return Response::out_of_memory();
     };
     match tell_rows(alloc, query, &gathered) {

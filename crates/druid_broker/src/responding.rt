@@ -14,6 +14,7 @@ use crate::knowing::{tell_entry, tell_load_status, tell_sources, unknown_node};
 use crate::querying::{Turn, answer_query, refuse_query};
 use crate::routes::{Route, Routes};
 use druid_base::number_of;
+use druid_context::timeout_of;
 use druid_inventory::Inventory;
 use druid_link::Link;
 use druid_message::Request;
@@ -162,8 +163,11 @@ fn answer_posted<T: Threads + Wait + Sync, J: Publication, P: Pick, L: Link + Se
         Ok(asked) => asked,
         Err(fault) => return refuse_query(alloc, fault),
     };
+    let Ok(timeout) = timeout_of(alloc, request.body()) else {
+        return Response::out_of_memory();
+    };
     match view.read() {
-        Ok(inventory) => answer_query(rt, alloc, &inventory, &asked, turn, links),
+        Ok(inventory) => answer_query(rt, alloc, &inventory, &asked, turn, timeout, links),
         Err(fault) => answer_unread(fault),
     }
 }

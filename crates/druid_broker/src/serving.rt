@@ -22,7 +22,8 @@ use std::thread::Threads;
 /// the answer takes an inventory, and only there.
 ///
 /// `POST` of a query to `/druid/v2` or `/druid/v2/` is answered with its rows, as its nodes tell them; 503 with what is missing
-/// beside them where no replica gave a piece; 400 with the number of the fault where the body is no query. `GET` is answered on
+/// beside them where no replica gave a piece. Where its context has a `timeout`, each exchange ends within what is left of that
+/// time, and one with a millisecond at least. 400 with the number of the fault where the body is no query. `GET` is answered on
 /// `/druid/v2/datasources` with the data sources in order, on `/druid/broker/v1/loadstatus` with whether each node was synced,
 /// on `/druid-internal/v1/inventory/{node}` with what is known of the node, and on `/status/health` with `true`. Another method
 /// there is answered 405, and another path 404. 500 and `{"error":"Memory"}` where memory ran out for the answer, and

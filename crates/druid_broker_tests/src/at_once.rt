@@ -74,6 +74,8 @@ impl<R: Handle> Link for SharedLink<R> {
         answer_of(&self.rt, alloc, &self.node, request, &mut self.seen)
     }
 
+    fn hasten(&mut self, _millis: Option<u64>) {}
+
     fn faults(&self) -> u64 {
         self.faults
     }

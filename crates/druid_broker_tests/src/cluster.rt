@@ -141,6 +141,8 @@ impl<R: Handle> Link for TestLink<R> {
         }
     }
 
+    fn hasten(&mut self, _millis: Option<u64>) {}
+
     fn faults(&self) -> u64 {
         self.faults
     }

@@ -66,6 +66,8 @@ impl<R: Handle + Clock> Link for GateLink<R> {
         }
     }
 
+    fn hasten(&mut self, _millis: Option<u64>) {}
+
     fn faults(&self) -> u64 {
         self.faults
     }

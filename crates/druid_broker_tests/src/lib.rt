@@ -15,6 +15,8 @@ mod follow;
 #[cfg(test)]
 mod gate;
 #[cfg(test)]
+mod hanging;
+#[cfg(test)]
 mod hostile_drawn;
 #[cfg(test)]
 mod hostile_gather;

@@ -4,7 +4,7 @@ ghost use Rattle.std.specs.Prelude.{◌≡◌, ◌≤◌, IsTrue, length};
 use crate::cluster::Handle;
 use crate::follow::{link, mark_text, one_node};
 use crate::printing::{assert_reported, halves};
-use druid_follow::{TurnCount, follow, follow_on};
+use druid_follow::{Observe, TurnCount, Turned, follow_observed, follow_on_observed};
 use druid_inventory::Inventory;
 use druid_link::MemoryLink;
 use druid_published::{Opened, Publication, Publisher, View, open};
@@ -24,6 +24,38 @@ const TURNS: &str =
 4:200 {\"counter\":{\"counter\":3,\"hash\":1},\"from\":null,\"requests\":[@],\"resetCause\":null,\"resetCounter\":false} = 4 3 1 3
 3:404 {};200 [;200 {\"counter\":{\"counter\":3,\"hash\":1},\"from\":null,\"requests\":[@],\"resetCause\":null,\"resetCounter\":false} = 3 2 1 3
 3:200 {\"counter\":{\"counter\":3,\"hash\":1},\"from\":null,\"requests\":[@],\"resetCause\":null,\"resetCounter\":false};200 {\"counter\":{\"counter\":8,\"hash\":1},\"from\":{\"counter\":7,\"hash\":1},\"requests\":[@],\"resetCause\":null,\"resetCounter\":false};200 {\"counter\":{\"counter\":9,\"hash\":2},\"from\":null,\"requests\":[],\"resetCause\":null,\"resetCounter\":false} = 3 1 2 9";
+
+// What was seen of turns: how many, how many of them failed, and how many showed a mark below the one that was held.
+#[derive(Clone, Copy, Drop)]
+struct Seen {
+    turns: u64,
+    failed: u64,
+    fell: u64,
+}
+
+impl Seen {
+    fn new() -> Seen {
+        Seen {
+            turns: 0,
+            failed: 0,
+            fell: 0,
+        }
+    }
+}
+
+impl Observe for Seen {
+    fn turn(&mut self, turned: &Turned) {
+        self.turns = self.turns.saturating_add(1);
+        if turned.outcome.is_err() {
+            self.failed = self.failed.saturating_add(1);
+        }
+        if let Some(marks) = &turned.marks
+            && marks.fell()
+        {
+            self.fell = self.fell.saturating_add(1);
+        }
+    }
+}
 
 // Whether there is a node that a view reads of.
 #[tactic(auto, using(druid_inventory::proofs::JoinLemmas::fewer_names))]
@@ -48,11 +80,12 @@ fn followed_for<R: Handle + Clock, J: Publication>(
     view: &mut View<J>,
     link: &mut MemoryLink,
     publisher: &Mutex<Publisher<J, R>>,
+    seen: &mut Seen,
 ) -> Option<TurnCount>
     requires { 1 ≤ length J.opening }
 {
     if !endless {
-        return Some(follow(&rt, alloc, 0, turns, view, link, publisher));
+        return Some(follow_observed(&rt, alloc, 0, turns, view, link, publisher, seen));
     }
     let made = Cell::new(0_u64);
     let ends = || {
@@ -60,7 +93,7 @@ fn followed_for<R: Handle + Clock, J: Publication>(
         made.set(before.saturating_add(1));
         before >= turns
     };
-    follow_on(&rt, alloc, 0, 0, view, link, publisher, ends);
+    follow_on_observed(&rt, alloc, 0, 0, view, link, publisher, seen, ends);
     None
 }
 
@@ -73,6 +106,7 @@ fn turned<R: Handle + Clock, J: Publication>(
     turns: u64,
     endless: bool,
     link: MemoryLink,
+    seen: &mut Seen,
 ) -> String
     requires book { opened ≡ J.book }
     requires opening { inventory ≡ J.opening }
@@ -86,7 +120,9 @@ fn turned<R: Handle + Clock, J: Publication>(
     }
     let publisher = Mutex::new(publisher);
     let mut link = link;
-    let count = followed_for(rt, alloc, turns, endless, &mut view, &mut link, &publisher);
+    let count = followed_for(
+        rt, alloc, turns, endless, &mut view, &mut link, &publisher, seen,
+    );
     let found = view.read().ok().expect(&rt, "a reading");
     let mark = mark_text(&rt, alloc, &found, 0);
     let text = match count {
@@ -97,19 +133,35 @@ fn turned<R: Handle + Clock, J: Publication>(
 }
 
 // What is made of the turns of a line.
-fn reported<R: Handle + Clock>(rt: R, alloc: Global, line: &str, endless: bool) -> String {
+fn reported<R: Handle + Clock>(
+    rt: R,
+    alloc: Global,
+    line: &str,
+    endless: bool,
+    seen: &mut Seen,
+) -> String {
     let (turns, replies) = halves(&rt, line, ":");
     let turns = turns.parse::<u64>().expect(&rt, "a number");
     let link = link(&rt, alloc, replies);
     let inventory = one_node(&rt, alloc);
-    turned::<R, Brand>(rt, alloc, Opened::new(), inventory, turns, endless, link)
+    turned::<R, Brand>(
+        rt,
+        alloc,
+        Opened::new(),
+        inventory,
+        turns,
+        endless,
+        link,
+        seen,
+    )
 }
 
 #[test]
 fn turns_in_number(rt: HostRuntime) {
     for line in TURNS.lines() {
         let (given, wanted) = halves(&rt, line, " = ");
-        assert_reported(&rt, line, reported(&rt, rt.alloc(), given, false), wanted);
+        let reported = reported(&rt, rt.alloc(), given, false, &mut Seen::new());
+        assert_reported(&rt, line, reported, wanted);
     }
 }
 
@@ -118,7 +170,30 @@ fn turns_in_number(rt: HostRuntime) {
 fn turns_without_an_end(rt: HostRuntime) {
     for line in TURNS.lines() {
         let (given, wanted) = halves(&rt, line, " = ");
-        let reported = reported(&rt, rt.alloc(), given, true);
+        let reported = reported(&rt, rt.alloc(), given, true, &mut Seen::new());
         assert!(rt; wanted.ends_with(reported.as_str()), "{line}");
+    }
+}
+
+// Turns, and then how many were seen, how many of them failed, and how many showed a mark below the one that was held: of a node
+// that lost its folder and so begins again at its first incarnation, and of one that goes on.
+const FALLS: &str =
+    "2:200 {\"counter\":{\"counter\":3,\"hash\":5},\"from\":null,\"requests\":[@],\"resetCause\":null,\"resetCounter\":false};200 {\"counter\":{\"counter\":1,\"hash\":1},\"from\":null,\"requests\":[],\"resetCause\":\"OtherIncarnation\",\"resetCounter\":true};200 {\"counter\":{\"counter\":1,\"hash\":1},\"from\":null,\"requests\":[@],\"resetCause\":null,\"resetCounter\":false} = 2 0 1
+2:200 {\"counter\":{\"counter\":3,\"hash\":1},\"from\":null,\"requests\":[@],\"resetCause\":null,\"resetCounter\":false};200 {\"counter\":{\"counter\":3,\"hash\":1},\"from\":{\"counter\":3,\"hash\":1},\"requests\":[],\"resetCause\":null,\"resetCounter\":false} = 2 0 0
+3:404 {};200 {\"counter\":{\"counter\":3,\"hash\":1},\"from\":null,\"requests\":[@],\"resetCause\":null,\"resetCounter\":false} = 3 2 0";
+
+#[test]
+fn turns_that_are_seen(rt: HostRuntime) {
+    for line in FALLS.lines() {
+        let (given, wanted) = halves(&rt, line, " = ");
+        let mut seen = Seen::new();
+        let _ = reported(&rt, rt.alloc(), given, false, &mut seen);
+        let Seen {
+            turns,
+            failed,
+            fell,
+        } = seen;
+        let text = format!(in rt.alloc(); "{turns} {failed} {fell}").expect(&rt, "memory");
+        assert_reported(&rt, line, text, wanted);
     }
 }

@@ -1,5 +1,5 @@
 -- What the parts of a config are, where it is read.
-use Rattle.std.proofs.Common.{◌≡◌, ℕ, List, length, codes, Option, Some, None, IsSome, Bool, option_and_then, refl, sym, subst, ap, ◌∙◌}
+use Rattle.std.proofs.Common.{◌≡◌, ℕ, List, length, codes, Option, Some, None, IsSome, option_and_then, refl, sym, subst, ap, ◌∙◌}
 use Rattle.std.proofs.lemmas.Option.{same_Some}
 use Rattle.serde_json.specs.Data.{Data}
 use Rattle.druid_base.proofs.OptionLemmas.{given_so}

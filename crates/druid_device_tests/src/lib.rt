@@ -1,6 +1,6 @@
 //! What no contract says of segment files, of the folders that keep them, of messages and of links: worked examples,
 //! devices and calls of the system that fail, printed texts, and that calls succeed with ample memory. `folder`,
-//! `incarnation`, `link`, `message`, `rows`, `segfile`, `store`, `stream` and `wire` have the names of the crates that they
+//! `health`, `incarnation`, `link`, `message`, `rows`, `segfile`, `store`, `stream` and `wire` have the names of the crates that they
 //! test; `columns` is of `druid_segfile`, `serving` of `druid_wire`, `tcp_links` and `tcp_double` of `druid_link`, and
 //! `store_double` and `two_folders` of `druid_store`.
 #![tactic(auto)]
@@ -11,6 +11,8 @@ mod columns;
 mod devices;
 #[cfg(test)]
 mod folder;
+#[cfg(test)]
+mod health;
 #[cfg(test)]
 mod incarnation;
 #[cfg(test)]

@@ -380,3 +380,52 @@ fn nothing_of_the_name(rt: HostRuntime) {
         assert!(rt; given.as_str() == *answer, "{call}: {given}");
     }
 }
+
+// Which call of the system a call fails at, and what the folder answers to a sync after it.
+const SYNCS_AFTER: [(&str, u64, &str); 10] = [
+    ("write", 0, "done"),
+    ("write", 1, "O1: the device failed, 2"),
+    ("write", 2, "O1: the device failed, 2"),
+    ("write", 4, "O1: the device failed, 2"),
+    ("sync", 1, "O1: the device failed, 2"),
+    ("sync", 2, "O1: the device failed, 2"),
+    ("list", 1, "done"),
+    ("read", 2, "done"),
+    ("rename", 1, "done"),
+    ("remove", 1, "done"),
+];
+
+// How many calls of the system a tape keeps.
+fn count_of(rt: &impl Abort, alloc: Global, tape: &Tape) -> usize {
+    made_on(rt, alloc, tape).matches(' ').count()
+}
+
+// What a folder answers to a sync after that call, and how many calls of the system the sync makes.
+fn syncs_after(rt: &impl Abort, alloc: Global, call: &str, failing: u64) -> (String, usize) {
+    let (mut folder, tape) = folder_of(rt, alloc, failing, ErrorKind::Other);
+    answer_of(rt, alloc, &mut folder, call);
+    let before = count_of(rt, alloc, &tape);
+    let answer = answer_of(rt, alloc, &mut folder, "sync");
+    (answer, count_of(rt, alloc, &tape).wrapping_sub(before))
+}
+
+#[test]
+fn a_sync_after_a_failed_one_or_a_failed_write_fails(rt: HostRuntime) {
+    for (call, failing, answer) in &SYNCS_AFTER {
+        let (given, made) = syncs_after(&rt, rt.alloc(), call, *failing);
+        assert!(rt; given.as_str() == *answer, "{call} {failing}: {given}");
+        let wanted = if given.as_str() == "done" { 2 } else { 0 };
+        assert!(rt; made == wanted, "{call} {failing}: {made}");
+    }
+}
+
+// A write that succeeds does not make up for one that failed: what failed may be another file.
+#[test]
+fn a_write_after_a_failed_one_makes_no_sync(rt: HostRuntime) {
+    let (mut folder, _tape) = folder_of(&rt, rt.alloc(), 4, ErrorKind::Other);
+    answer_of(&rt, rt.alloc(), &mut folder, "write");
+    let write = answer_of(&rt, rt.alloc(), &mut folder, "write");
+    assert!(rt; write.as_str() == "done", "{write}");
+    let sync = answer_of(&rt, rt.alloc(), &mut folder, "sync");
+    assert!(rt; sync.as_str() == "O1: the device failed, 2", "{sync}");
+}

@@ -6,6 +6,7 @@ ghost use Rattle.druid_link.specs.Links.{came_of};
 use crate::kinds::KINDS;
 use crate::link::REQUEST;
 use crate::printing::printed;
+use druid_health::{Asker, Health, MonitoredLink};
 use druid_link::{Link, TcpLink};
 use druid_message::WireFault;
 use std::alloc::Global;
@@ -16,6 +17,7 @@ use std::net::{Net, OpenListener, OpenStream, SocketAddr};
 use std::os::fd::{AsRawFd, RawFd};
 use std::process::Abort;
 use std::rc::Rc;
+use std::sync::Arc;
 use std::time::{Clock, Duration};
 
 // What each call does before it succeeds: it fails so many times in this way. Then it takes so many bytes at most.
@@ -256,7 +258,7 @@ fn sent_on(rt: &impl Abort, tape: &Tape) -> usize {
 
 // What an exchange gives, how many faults are counted, how much of the request was sent, in how many writes, and how many
 // reads there were.
-fn reported(rt: &impl Abort, alloc: Global, link: &mut TcpLink<Double>, tape: &Tape) -> String {
+fn reported<L: Link>(rt: &impl Abort, alloc: Global, link: &mut L, tape: &Tape) -> String {
     let came = came_of(rt, alloc, link.exchange(alloc, REQUEST));
     let sent = sent_on(rt, tape);
     let (writes, reads) = (tape.writes.get(), tape.reads.get());
@@ -381,6 +383,97 @@ fn time_that_is_left(rt: HostRuntime) {
     assert!(rt;
         has_waits(&rt, &tape, &[9, 8, 7, 6, 5, 4, 3, 2, 1]),
         "other waits"
+    );
+}
+
+// A network whose clock goes on by a second with each reading, and whose servers give a byte at each read.
+fn slow_network(rt: &impl Abort, alloc: Global) -> (Double, Rc<Tape>) {
+    let mut plan = with_reads(ErrorKind::Other, 0, 1);
+    plan.answer = 1_000;
+    plan.step = 1;
+    network(rt, alloc, &plan)
+}
+
+// What an exchange tells over a link that was hastened and then hastened so, and whether its calls may wait so many seconds.
+fn assert_hastened<L: Link>(
+    rt: &impl Abort,
+    alloc: Global,
+    link: &mut L,
+    tape: &Tape,
+    millis: Option<u64>,
+    wanted: &str,
+    waits: &[u64],
+) {
+    link.hasten(Some(2_000));
+    link.hasten(millis);
+    let reported = reported(rt, alloc, link, tape);
+    assert!(rt; reported.as_str() == wanted, "{reported}");
+    assert!(rt; has_waits(rt, tape, waits), "other waits");
+}
+
+// The last that hastened a link counts, and the limit where it is less.
+#[test]
+fn time_that_is_left_of_a_query(rt: HostRuntime) {
+    let (network, tape) = slow_network(&rt, rt.alloc());
+    let mut link = linked(&rt, rt.alloc(), network);
+    assert_hastened(
+        &rt,
+        rt.alloc(),
+        &mut link,
+        &tape,
+        Some(5_000),
+        "X2 1 18 1 1",
+        &[3, 2, 1],
+    );
+}
+
+#[test]
+fn time_of_a_query_beyond_the_limit(rt: HostRuntime) {
+    for millis in [None, Some(60_000), Some(u64::MAX)] {
+        let (network, tape) = slow_network(&rt, rt.alloc());
+        let mut link = linked(&rt, rt.alloc(), network);
+        assert_hastened(
+            &rt,
+            rt.alloc(),
+            &mut link,
+            &tape,
+            millis,
+            "X2 1 18 1 7",
+            &[9, 8, 7, 6, 5, 4, 3, 2, 1],
+        );
+    }
+}
+
+// An exchange has a millisecond at least. (The clock stands still, so it ends in time.)
+#[test]
+fn time_of_a_query_that_is_over(rt: HostRuntime) {
+    let (network, tape) = network(&rt, rt.alloc(), &PLAN);
+    let mut link = linked(&rt, rt.alloc(), network);
+    link.hasten(Some(0));
+    let reported = reported(&rt, rt.alloc(), &mut link, &tape);
+    assert!(rt; reported.as_str() == "3 0 18 1 2", "{reported}");
+}
+
+// A monitored link hastens the link inside.
+#[test]
+fn monitored_link_is_hastened(rt: HostRuntime) {
+    let (network, tape) = slow_network(&rt, rt.alloc());
+    let health = Arc::new(
+        rt.alloc(),
+        Health::new(rt.alloc(), 1, 0).expect(&rt, "memory"),
+    )
+    .ok()
+    .expect(&rt, "memory");
+    let inside = linked(&rt, rt.alloc(), network);
+    let mut link = MonitoredLink::new(inside, &rt, 0, Asker::Query, health);
+    assert_hastened(
+        &rt,
+        rt.alloc(),
+        &mut link,
+        &tape,
+        Some(5_000),
+        "X2 1 18 1 1",
+        &[3, 2, 1],
     );
 }
 

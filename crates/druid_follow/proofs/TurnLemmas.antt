@@ -20,6 +20,11 @@ use Rattle.druid_follow.specs.Turns.{IsReported, Fetches, ask_request, FollowsPa
 use Rattle.druid_follow.specs.declared.fault.TurnFault.{TurnFault}
 use Rattle.druid_follow.specs.declared.fault.TurnFault.TheVariants as turn
 
+-- what holds, holds where a turn did not fail
+pub given_ok : {A B : Type 0} (P : Type 0) (r : Result A B) → P → IfOk r (λ _. P)
+given_ok P (Ok x) p = p
+given_ok P (Err e) p = tt
+
 -- what was fetched is a fault
 pub turn_lacks : (Fetched : Result Body TurnFault → Type 0) (inventory : List Entry) (node : ℕ) (fault : TurnFault) → Fetched (Err fault) → FailsTurn Fetched inventory node fault
 turn_lacks Fetched inventory node (turn.Apply fault) fetched = inl fetched

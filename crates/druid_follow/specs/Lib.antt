@@ -4,3 +4,4 @@ pub mod Rests
 -- words of private contracts
 pub mod Refused
 pub mod Paging
+pub mod Shown

@@ -167,7 +167,7 @@ IsFetchedFrom step inventory node old new answer =
 abbrev pub Publishes : PublisherValue → ℕ → Body → Outcome → PublisherValue → Type 0
 Publishes old node reply outcome new =
     (entry : Entry) × StepsAt old.inventory node reply outcome entry
-    × (new ≡ record { published = old.published ++ (node, reply) ∷ []; inventory = slice_set old.inventory node entry })
+    × (new.published ≡ old.published ++ (node, reply) ∷ []) × (new.inventory ≡ slice_set old.inventory node entry)
 
 -- the reply that was fetched is published
 abbrev pub TakesTurn : (Result Body TurnFault → Type 0) → PublisherValue → ℕ → Outcome → PublisherValue → Type 0

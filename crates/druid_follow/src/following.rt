@@ -6,8 +6,9 @@ ghost use Rattle.druid_follow.specs.Turns.{Turn, IsSharedTurn, MakesTurns, count
 ghost use Rattle.druid_follow.specs.Rests.{next_rest};
 
 use crate::TurnFault;
+use crate::observe::{Observe, Unobserved};
 use crate::rest::next_rest;
-use crate::shared::shared_turn;
+use crate::shared::observed_turn;
 use crate::turn_count::TurnCount;
 use druid_inventory::Outcome;
 use druid_link::Link;
@@ -31,6 +32,34 @@ fn failures_after(turn: &Result<Outcome, TurnFault>, failed: u64) -> u64
 }
 
 /// Follows a node: makes so many turns, one after another, and gives how many it made and how many of them failed. One that fails
+/// leaves what is published as it was, and the next asks again. The observer sees each.
+pub fn follow_observed<W: Wait, J: Publication, R: Wait + Drop, L: Link, O: Observe>(
+    rt: &W,
+    alloc: Global,
+    node: NodeNo,
+    turns: u64,
+    view: &mut View<J>,
+    link: &mut L,
+    publisher: &Mutex<Publisher<J, R>>,
+    observer: &mut O,
+) -> TurnCount
+    requires { node < length J.opening }
+    ensures turns { (gave : List Turn) × MakesTurns L.exchanges J.opening node gave view.old view.new link.old link.new
+        × (length gave ≡ turns) × (result ≡ count_of gave) }
+    ensures view { IsPrefix view.old view.new }
+{
+    let mut failed = 0;
+    for _turn in 0..turns {
+        let turn = observed_turn(rt, alloc, node, view, link, publisher, observer);
+        failed = failures_after(&turn, failed);
+    }
+    TurnCount {
+        made: turns,
+        failed,
+    }
+}
+
+/// Follows a node: makes so many turns, one after another, and gives how many it made and how many of them failed. One that fails
 /// leaves what is published as it was, and the next asks again.
 pub fn follow<W: Wait, J: Publication, R: Wait + Drop, L: Link>(
     rt: &W,
@@ -46,19 +75,20 @@ pub fn follow<W: Wait, J: Publication, R: Wait + Drop, L: Link>(
         × (length gave ≡ turns) × (result ≡ count_of gave) }
     ensures view { IsPrefix view.old view.new }
 {
-    let mut failed = 0;
-    for _turn in 0..turns {
-        let turn = shared_turn(rt, alloc, node, view, link, publisher);
-        failed = failures_after(&turn, failed);
-    }
-    TurnCount {
-        made: turns,
-        failed,
-    }
+    follow_observed(
+        rt,
+        alloc,
+        node,
+        turns,
+        view,
+        link,
+        publisher,
+        &mut Unobserved,
+    )
 }
 
 // A rest of so many milliseconds and a turn: how long the next rest is.
-fn turn_after<W: Wait + Clock, J: Publication, R: Wait + Drop, L: Link>(
+fn turn_after<W: Wait + Clock, J: Publication, R: Wait + Drop, L: Link, O: Observe>(
     rt: &W,
     alloc: Global,
     node: NodeNo,
@@ -67,14 +97,54 @@ fn turn_after<W: Wait + Clock, J: Publication, R: Wait + Drop, L: Link>(
     view: &mut View<J>,
     link: &mut L,
     publisher: &Mutex<Publisher<J, R>>,
+    observer: &mut O,
 ) -> u64
     requires { node < length J.opening }
     ensures { (turn : Turn) × IsSharedTurn L.exchanges J.opening node view.old view.new link.old link.new turn
         × (result ≡ next_rest rest every (is_err turn)) }
 {
     thread::sleep(rt, Duration::from_millis(rest));
-    let turn = shared_turn(rt, alloc, node, view, link, publisher);
+    let turn = observed_turn(rt, alloc, node, view, link, publisher, observer);
     next_rest(rest, every, turn.is_err())
+}
+
+/// Follows a node for ever, or until `ends` says so: that is asked first, and after it come a rest of `every` milliseconds and a turn,
+/// again and again. After a turn that failed the rests grow, as `next_rest` says. One that fails leaves what is published as it was. The
+/// observer sees each turn.
+pub fn follow_on_observed<
+    W: Wait + Clock,
+    J: Publication,
+    R: Wait + Drop,
+    L: Link,
+    O: Observe,
+    F: Fn() -> bool,
+>(
+    rt: &W,
+    alloc: Global,
+    node: NodeNo,
+    every: u64,
+    view: &mut View<J>,
+    link: &mut L,
+    publisher: &Mutex<Publisher<J, R>>,
+    observer: &mut O,
+    ends: F,
+)
+    requires node { node < length J.opening }
+    requires ends { F.IsAlwaysCallable ends }
+    ensures ended { F.post ends true }
+    ensures turns { (gave : List Turn) × MakesTurns L.exchanges J.opening node gave view.old view.new link.old link.new }
+    ensures view { IsPrefix view.old view.new }
+{
+    let mut rest = every;
+    for _ in rt.forever() {
+        if ends() {
+            return;
+        }
+        rest = turn_after(
+            rt, alloc, node, every, rest, view, link, publisher, observer,
+        );
+    }
+    unreachable!()
 }
 
 /// Follows a node for ever, or until `ends` says so: that is asked first, and after it come a rest of `every` milliseconds and a turn,
@@ -95,12 +165,15 @@ pub fn follow_on<W: Wait + Clock, J: Publication, R: Wait + Drop, L: Link, F: Fn
     ensures turns { (gave : List Turn) × MakesTurns L.exchanges J.opening node gave view.old view.new link.old link.new }
     ensures view { IsPrefix view.old view.new }
 {
-    let mut rest = every;
-    for _ in rt.forever() {
-        if ends() {
-            return;
-        }
-        rest = turn_after(rt, alloc, node, every, rest, view, link, publisher);
-    }
-    unreachable!()
+    follow_on_observed(
+        rt,
+        alloc,
+        node,
+        every,
+        view,
+        link,
+        publisher,
+        &mut Unobserved,
+        ends,
+    )
 }

@@ -4,6 +4,7 @@
 mod exchange;
 mod fault;
 mod following;
+mod observe;
 mod paging;
 mod rest;
 mod shared;
@@ -11,8 +12,9 @@ mod turn_count;
 mod turns;
 
 pub use fault::TurnFault;
-pub use following::{follow, follow_on};
+pub use following::{follow, follow_observed, follow_on, follow_on_observed};
+pub use observe::{Marks, Observe, Turned, Unobserved};
 pub use rest::{MAX_REST, next_rest};
-pub use shared::shared_turn;
+pub use shared::{observed_turn, shared_turn};
 pub use turn_count::TurnCount;
 pub use turns::{fetch, fetch_entry, seed_turn, sync_turn};

@@ -1,14 +1,17 @@
 //! A turn of one of the threads that share a publisher.
-ghost use Rattle.std.specs.Prelude.{◌≡◌, ◌++◌, ◌∷◌, ◌<◌, [], IfOk, IfErr, OnErr, length};
+ghost use Rattle.std.specs.Prelude.{◌≡◌, ◌++◌, ◌∷◌, ◌<◌, [], IfOk, IfErr, OnErr, Ok, length};
 ghost use Rattle.std.specs.Arc.{arc_value};
 ghost use mathlib.Core.List.{IsPrefix};
 ghost use Rattle.druid_inventory.specs.Entry.{Entry};
 ghost use Rattle.druid_inventory.specs.Step.{StepsAt};
 ghost use Rattle.druid_published.specs.Fold.{Published, fold_of};
-ghost use Rattle.druid_follow.specs.Turns.{IsUnread, TakesSharedTurn, FailsSharedTurn};
+ghost use Rattle.druid_shard.specs.declared.reply.Body.{Body};
+ghost use Rattle.druid_follow.specs.Shown.{marks_at};
+ghost use Rattle.druid_follow.specs.Turns.{IsUnread, IsFetchedFrom, TakesSharedTurn, FailsSharedTurn};
 ghost use Rattle.druid_follow.specs.Refused.{RefusesTurn};
 
 use crate::TurnFault;
+use crate::observe::{Marks, Observe, Turned, marks_at};
 use crate::turns::{fetch, publish_reply};
 use druid_inventory::{Inventory, Outcome};
 use druid_link::Link;
@@ -110,6 +113,37 @@ fn publish_locked<W: Wait, J: Publication, R: Wait + Drop>(
     publish_newer(node, reply, &mut publisher)
 }
 
+// A turn, which also gives the marks of the node where it sent a reply.
+fn marked_turn<W: Wait, J: Publication, R: Wait + Drop, L: Link>(
+    rt: &W,
+    alloc: Global,
+    node: NodeNo,
+    view: &mut View<J>,
+    link: &mut L,
+    publisher: &Mutex<Publisher<J, R>>,
+    marks: &mut Option<Marks>,
+) -> Result<Outcome, TurnFault>
+    requires { node < length J.opening }
+    ensures ok { IfOk result (TakesSharedTurn L.exchanges J.opening node view.old view.new link.old link.new) }
+    ensures err { IfErr result (FailsSharedTurn L.exchanges J.opening node view.old view.new link.old link.new) }
+    ensures view { IsPrefix view.old view.new }
+    ensures marks { IfOk result (λ _. (read : Published) × (reply : Body) × IsFetchedFrom L.exchanges (fold_of J.opening read) node link.old link.new (Ok reply)
+        × (marks.new ≡ marks_at (fold_of J.opening read) node reply)) }
+{
+    let inventory = match read_shown(rt, view, publisher) {
+        Ok(inventory) => inventory,
+        Err(fault) => return Err(fault),
+    };
+    let reply = match fetch(alloc, &inventory, node, link) {
+        Ok(reply) => reply,
+        Err(fault) => return Err(fault),
+    };
+    *marks = marks_at(&inventory, node, &reply);
+    let turned = publish_locked(rt, node, &reply, publisher);
+    view.learn(&turned.1);
+    turned.0
+}
+
 /// A turn of one of the threads that share a publisher: fetches what changed of a node by what the view reads, page by page where it
 /// is sent so, in at most 11 exchanges, while nothing waits for the publisher; publishes it under the lock; and tells the view what is
 /// published then, where it is refused too. K3 where the reply is not applied to what is published; K6 where the view has no reading,
@@ -128,15 +162,27 @@ pub fn shared_turn<W: Wait, J: Publication, R: Wait + Drop, L: Link>(
     ensures err { IfErr result (FailsSharedTurn L.exchanges J.opening node view.old view.new link.old link.new) }
     ensures view { IsPrefix view.old view.new }
 {
-    let inventory = match read_shown(rt, view, publisher) {
-        Ok(inventory) => inventory,
-        Err(fault) => return Err(fault),
-    };
-    let reply = match fetch(alloc, &inventory, node, link) {
-        Ok(reply) => reply,
-        Err(fault) => return Err(fault),
-    };
-    let turned = publish_locked(rt, node, &reply, publisher);
-    view.learn(&turned.1);
-    turned.0
+    let mut marks = None;
+    marked_turn(rt, alloc, node, view, link, publisher, &mut marks)
+}
+
+/// The same, and shows what it gave, and the marks of the node, to an observer.
+pub fn observed_turn<W: Wait, J: Publication, R: Wait + Drop, L: Link, O: Observe>(
+    rt: &W,
+    alloc: Global,
+    node: NodeNo,
+    view: &mut View<J>,
+    link: &mut L,
+    publisher: &Mutex<Publisher<J, R>>,
+    observer: &mut O,
+) -> Result<Outcome, TurnFault>
+    requires { node < length J.opening }
+    ensures ok { IfOk result (TakesSharedTurn L.exchanges J.opening node view.old view.new link.old link.new) }
+    ensures err { IfErr result (FailsSharedTurn L.exchanges J.opening node view.old view.new link.old link.new) }
+    ensures view { IsPrefix view.old view.new }
+{
+    let mut marks = None;
+    let outcome = marked_turn(rt, alloc, node, view, link, publisher, &mut marks);
+    observer.turn(&Turned { outcome, marks });
+    outcome
 }

@@ -3,7 +3,7 @@ use Rattle.std.proofs.Common.{◌≡◌, ℕ, List, [], ◌∷◌, length, map, 
 use Rattle.druid_inventory.specs.Entry.{fresh}
 use Rattle.druid_inventory.specs.declared.fault.Outcome.{Outcome}
 use Rattle.druid_node.specs.State.{State}
-use Rattle.druid_published.specs.Fold.{PublisherValue}
+use Rattle.druid_published.specs.Fold.{Published, PublisherValue}
 use Rattle.druid_follow.specs.Turns.{IsFetchedFrom, TakesTurn}
 use Rattle.druid_headline_tests.specs.Exchanges.{ExchangesWithNode}
 use Rattle.druid_headline_tests.specs.Following.{AreFollowed}
@@ -18,12 +18,13 @@ pub record BothFollowed (left right left_after right_after : State) (new : Publi
   pub same_right : right_after ≡ right
   pub followed : AreFollowed left right new.published
 
-of_two : (x y : List ℕ) (mid new : PublisherValue) (left right left_after right_after : State) (o p : Outcome)
-    → IsReadBack → IsNode left → IsNode right → Turns (record { published = []; inventory = fresh x ∷ fresh y ∷ [] }) 0 left left_after o mid → Turns mid 1 right right_after p new
+of_two : (x y : List ℕ) (shown : Published) (mid new : PublisherValue) (left right left_after right_after : State) (o p : Outcome)
+    → IsReadBack → IsNode left → IsNode right → Turns (record { published = []; inventory = fresh x ∷ fresh y ∷ []; shown = shown }) 0 left left_after o mid → Turns mid 1 right right_after p new
     → BothFollowed left right left_after right_after new
-of_two x y mid new left right left_after right_after o p back is_left is_right first second =
+of_two x y shown mid new left right left_after right_after o p back is_left is_right first second =
     let a = fetched_first back (fresh x ∷ fresh y ∷ []) 0 (fresh x) left left_after first.0 is_left refl refl first.1 in
-    let before : mid ≡ record { published = (0, first.0) ∷ []; inventory = first.2.0 ∷ fresh y ∷ [] } = first.2.2 in
+    let before : mid ≡ record { published = (0, first.0) ∷ []; inventory = first.2.0 ∷ fresh y ∷ []; shown = mid.shown } =
+    λ i. record { published = first.2.2 i; inventory = first.2.3 i; shown = mid.shown } in
     let again = subst (λ (m : PublisherValue). Turns m 1 right right_after p new) before second in
     let b = fetched_first back (first.2.0 ∷ fresh y ∷ []) 1 (fresh y) right right_after again.0 is_right refl refl again.1 in
     record {
@@ -32,7 +33,7 @@ of_two x y mid new left right left_after right_after o p back is_left is_right f
       followed = record {
         first = first.0;
         second = again.0;
-        are = ap (λ (v : PublisherValue). v.published) again.2.2;
+        are = again.2.2;
         of_left = a.1;
         of_right = b.1;
       };
@@ -45,5 +46,6 @@ both_followed [] old mid new left right left_after right_after o p back is_left 
 both_followed (x ∷ []) old mid new left right left_after right_after o p back is_left is_right two none opening first second = absurd (omega (arith, two))
 both_followed (x ∷ y ∷ z ∷ names) old mid new left right left_after right_after o p back is_left is_right two none opening first second = absurd (omega (arith, two))
 both_followed (x ∷ y ∷ []) old mid new left right left_after right_after o p back is_left is_right two none opening first second =
-    let is : old ≡ record { published = []; inventory = fresh x ∷ fresh y ∷ [] } = λ i. record { published = none i; inventory = opening i } in
-    of_two x y mid new left right left_after right_after o p back is_left is_right (subst (λ (v : PublisherValue). Turns v 0 left left_after o mid) is first) second
+    let is : old ≡ record { published = []; inventory = fresh x ∷ fresh y ∷ []; shown = old.shown } =
+    λ i. record { published = none i; inventory = opening i; shown = old.shown } in
+    of_two x y old.shown mid new left right left_after right_after o p back is_left is_right (subst (λ (v : PublisherValue). Turns v 0 left left_after o mid) is first) second

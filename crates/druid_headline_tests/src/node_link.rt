@@ -59,6 +59,8 @@ impl Link for NodeLink {
         Ok(text)
     }
 
+    fn hasten(&mut self, _millis: Option<u64>) {}
+
     fn faults(&self) -> u64 {
         0
     }

@@ -6,3 +6,4 @@ pub mod MemoryLinks
 pub mod TcpLinks
 -- words of private contracts
 pub mod Noted
+pub mod Times

@@ -26,6 +26,11 @@ pub trait Link {
         ensures counted { faults self.new ≡ faults_after (came_of result) (faults self.old) }
         ensures fault { IfErr result IsLinkFault };
 
+    /// From now on no exchange takes longer than what is left of so many milliseconds, which begin now; each has one millisecond at
+    /// least. `None`: exchanges have the link's own limit alone.
+    fn hasten(&mut self, millis: Option<u64>)
+        ensures { self.new ≡ self.old };
+
     /// How often the device has failed; at 2^64 - 1 it stays.
     fn faults(&self) -> u64
         ensures { result ≡ faults self.now };

@@ -65,6 +65,9 @@ impl Link for MemoryLink {
         Ok(reply)
     }
 
+    // Its replies are there at once.
+    fn hasten(&mut self, _millis: Option<u64>) {}
+
     fn faults(&self) -> u64 {
         self.failed
     }

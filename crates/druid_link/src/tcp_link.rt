@@ -1,5 +1,8 @@
 //! Links over sockets.
-ghost use Rattle.std.specs.Prelude.{◌≡◌, ◌↔◌, ◌≤◌, ◌<◌, ◌⊎◌, length, take, string_bytes, IfOk, IfErr, IfSome, IsErrOf, OnOk};
+ghost use Rattle.std.specs.Prelude.{◌≡◌, ◌↔◌, ◌≤◌, ◌<◌, ◌⊎◌, length, take, string_bytes, min, max, option_map, IfOk, IfErr, IfSome, IsErrOf, OnOk};
+ghost use Rattle.std.specs.Duration.{as_nanos};
+ghost use Rattle.std.specs.Time.{instant_nanos};
+ghost use Rattle.druid_link.specs.Times.{time_from};
 ghost use Rattle.std.specs.Io.KnownBytes.{Appends, Consumes, IsAtEnd};
 ghost use Rattle.std.specs.IoError.{error_kind};
 ghost use Rattle.druid_link.specs.Limits.{max_exchange};
@@ -19,15 +22,18 @@ use std::time::{Clock, Duration, Instant};
 /// The longest that an exchange may take, in seconds, connecting included; then it fails.
 pub const EXCHANGE_SECONDS: u64 = 30;
 
+// The least time that a hastened exchange has, in milliseconds.
+const LEAST_MILLIS: u64 = 1;
+
 // How many bytes are read at once.
 const PART: usize = 16_384;
 
 /// A link to the server at an address, as `127.0.0.1:8082`. Each exchange makes a connection of its own, which is closed
 /// after it. `Connect` where the text is no address of a socket, where no connection is made, or where the clock cannot be
 /// read before; `Write` where the socket fails before the request is sent whole; `Read` where the answer cannot be read to
-/// its end. All of them together may take no longer than the limit: after the connecting it is `Read` where the time is
-/// over, or cannot be read, whether the request is being sent or the answer read. Of what the server gives nothing is
-/// claimed but how much it is.
+/// its end. All of them together may take no longer than the limit, and where the link was hastened no longer than what is
+/// left of that time: after the connecting it is `Read` where the time is over, or cannot be read, whether the request is
+/// being sent or the answer read. Of what the server gives nothing is claimed but how much it is.
 ///
 /// It keeps, for proofs alone, the exchanges that were made over it: of each the request, and what came. So what a caller
 /// does over it is known, and that those exchanges were honest can be a premise.
@@ -36,6 +42,8 @@ pub struct TcpLink<N: Net + Clock> {
     net: N,
     address: String,
     limit: Duration,
+    // When the time is over that `hasten` set, by the clock of `net`.
+    deadline: Option<Instant>,
     // How many exchanges failed.
     failed: u64,
     log: Log,
@@ -59,6 +67,7 @@ impl<N: Net + Clock> TcpLink<N> {
             net,
             address,
             limit: Duration::from_secs(EXCHANGE_SECONDS),
+            deadline: None,
             failed: 0,
             log: Log::new(),
         }
@@ -82,7 +91,11 @@ impl<N: Net + Clock> Link for TcpLink<N> {
     ghost faults = { λ link. link.failed };
 
     fn exchange(&mut self, alloc: Global, request: &[u8]) -> Result<Vec<u8>, WireFault> {
-        let came = ask(alloc, &self.net, self.address.as_str(), self.limit, request);
+        let time = Time {
+            limit: self.limit,
+            deadline: self.deadline,
+        };
+        let came = ask(alloc, &self.net, self.address.as_str(), time, request);
         self.log = self.log.then(&Note {
             request,
             came: &came,
@@ -96,9 +109,22 @@ impl<N: Net + Clock> Link for TcpLink<N> {
         }
     }
 
+    fn hasten(&mut self, millis: Option<u64>) {
+        self.deadline = deadline_after(&self.net, millis);
+    }
+
     fn faults(&self) -> u64 {
         self.failed
     }
+}
+
+// When so many milliseconds from now are over. `None` too where the clock cannot be read, or ends before.
+fn deadline_after<C: Clock>(clock: &C, millis: Option<u64>) -> Option<Instant> {
+    let millis = millis?;
+    let Ok(now) = Instant::now(clock) else {
+        return None;
+    };
+    now.checked_add(Duration::from_millis(millis))
 }
 
 // How often the device has failed, after a fault.
@@ -113,6 +139,48 @@ fn faults_at(fault: WireFault, failed: u64) -> u64
         | WireFault::NoLength
         | WireFault::BodyTooLong
         | WireFault::Memory => failed,
+    }
+}
+
+// The time that exchanges over a link have.
+#[derive(Clone, Copy)]
+struct Time {
+    limit: Duration,
+    deadline: Option<Instant>,
+}
+
+impl Time {
+    // How long an exchange may take that starts then: as long as is left until the deadline, but a millisecond at least, and never
+    // longer than the limit.
+    fn from(&self, start: Instant) -> Duration
+        ensures { as_nanos result ≡ time_from (as_nanos self.now.limit) (option_map instant_nanos self.now.deadline) (instant_nanos start) }
+    {
+        let Some(deadline) = self.deadline else {
+            return self.limit;
+        };
+        let left = deadline.duration_since(start);
+        shorter(
+            longer(left, Duration::from_millis(LEAST_MILLIS)),
+            self.limit,
+        )
+    }
+}
+
+fn shorter(a: Duration, b: Duration) -> Duration
+    ensures { as_nanos result ≡ min (as_nanos a) (as_nanos b) }
+{
+    match a.checked_sub(b) {
+        Some(_) => b,
+        None => a,
+    }
+}
+
+fn longer(a: Duration, b: Duration) -> Duration
+    ensures { as_nanos result ≡ max (as_nanos a) (as_nanos b) }
+{
+    match a.checked_sub(b) {
+        Some(_) => a,
+        None => b,
     }
 }
 
@@ -139,7 +207,7 @@ fn ask<N: Net + Clock>(
     alloc: Global,
     net: &N,
     address: &str,
-    limit: Duration,
+    time: Time,
     request: &[u8],
 ) -> Result<Vec<u8>, WireFault>
     ensures bound { IfOk result (λ bytes. length bytes.items ≤ max_exchange) }
@@ -148,7 +216,10 @@ fn ask<N: Net + Clock>(
     let Ok(start) = Instant::now(net) else {
         return Err(WireFault::Connect);
     };
-    let timer = Timer { start, limit };
+    let timer = Timer {
+        start,
+        limit: time.from(start),
+    };
     let Some(mut stream) = connect(net, &timer, address) else {
         return Err(WireFault::Connect);
     };

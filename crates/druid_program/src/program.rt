@@ -17,16 +17,13 @@ use crate::report::report;
 use crate::{Ending, Exit, asks_for_replay, asks_for_serve};
 use druid_cluster::{Reason, ReplayFault, replay_explained};
 use druid_serve::serve;
-use druid_server::{ServeFault, Stop};
+use druid_server::{Host, ServeFault, Stop};
 use std::alloc::Global;
 use std::fs::File;
 use std::io;
 use std::io::{BufRead, Write};
 use std::net::{Net, TcpListener, TcpStream};
 use std::rt::Files;
-use std::sync::Wait;
-use std::thread::Threads;
-use std::time::Clock;
 
 // All was done, and nothing is reported.
 fn done() -> Ending
@@ -80,7 +77,14 @@ fn replay_all<R: BufRead, W: Write, E: Write>(
         Ok(()) => done(),
         Err(stop) => {
             let fault = stop.fault;
-            report(alloc, errors, fault.into(), &fault, Some(&stop.reason), explain)
+            report(
+                alloc,
+                errors,
+                fault.into(),
+                &fault,
+                Some(&stop.reason),
+                explain,
+            )
         }
     }
 }
@@ -97,7 +101,14 @@ fn report_stop<E: Write>(
         (Reports explain (E.contents errors.old) (E.contents errors.new) (serve_text stop.fault ++ 10 ∷ [])) }
 {
     let fault = stop.fault;
-    report(alloc, errors, fault.into(), &fault, stop.reason.as_ref(), explain)
+    report(
+        alloc,
+        errors,
+        fault.into(),
+        &fault,
+        stop.reason.as_ref(),
+        explain,
+    )
 }
 
 /// Serves the cluster of a config, prints the answers to its queries, and ends once each broker answered the connections from
@@ -109,9 +120,7 @@ pub fn serve_config<
     R: Files<File = File>
         + Net<Listener = TcpListener, Stream = TcpStream>
         + AllocGlobal
-        + Wait
-        + Threads
-        + Clock
+        + Host
         + Copy
         + Send
         + Sync
@@ -138,9 +147,7 @@ fn serve_file<
     R: Files<File = File>
         + Net<Listener = TcpListener, Stream = TcpStream>
         + AllocGlobal
-        + Wait
-        + Threads
-        + Clock
+        + Host
         + Copy
         + Send
         + Sync
@@ -168,9 +175,7 @@ pub fn run<
     R: Files<File = File>
         + Net<Listener = TcpListener, Stream = TcpStream>
         + AllocGlobal
-        + Wait
-        + Threads
-        + Clock
+        + Host
         + Copy
         + Send
         + Sync

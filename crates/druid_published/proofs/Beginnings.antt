@@ -1,5 +1,5 @@
 -- Beginnings of one list.
-use Rattle.std.proofs.Common.{◌≡◌, ◌≤◌, List, [], ◌∷◌, ◌++◌, length, refl, ap, sym, ◌∙◌, arith, append_assoc}
+use Rattle.std.proofs.Common.{◌≡◌, ◌⊎◌, inl, inr, subst, ◌≤◌, List, [], ◌∷◌, ◌++◌, length, refl, ap, sym, ◌∙◌, arith, append_assoc}
 use mathlib.Core.List.{IsPrefix}
 
 -- each list begins with itself
@@ -27,3 +27,10 @@ prefix_whole [] (y ∷ ys) p le = absurd (omega arith)
 prefix_whole (x ∷ xs) [] p le = absurd (cc (p.1))
 prefix_whole (x ∷ xs) (y ∷ ys) p le =
     let rest = prefix_whole xs ys (p.0, cc (p.1)) (omega arith) in cc (p.1, rest)
+
+-- where one more was added, a beginning of what there was, or all that there is now, begins it
+pub begins_more : {A : Type 0} (was now before all : List A) (x : A) → (now ≡ all) ⊎ (now ≡ was) → IsPrefix was before → all ≡ before ++ x ∷ []
+    → IsPrefix now all
+begins_more was now before all x (inl whole) begins is = subst (λ l. IsPrefix l all) (sym whole) (prefix_self all)
+begins_more was now before all x (inr same) begins is =
+    subst (λ l. IsPrefix l all) (sym same) (subst (λ l. IsPrefix was l) (sym is) (prefix_trans was before (before ++ x ∷ []) begins (x ∷ [], refl)))

@@ -154,6 +154,14 @@ left_made inventory made node b o new steps is still = made_by inventory made no
 pub still_all : (opening : List Entry) (published : Published) (count : ℕ) → count ≡ length published → IsStill opening published count
 still_all opening published count e = record { same = λ k l. ap (fold_of opening) (take_all k published (omega arith)) }
 
+-- where nothing changed beyond a beginning, it has the same fold
+pub fold_begun : (opening : List Entry) (published begun : Published) (count : ℕ) → IsStill opening published count → count ≤ length begun
+    → IsPrefix begun published → fold_of opening begun ≡ fold_of opening published
+fold_begun opening published begun count h le begins =
+    sym (ap (fold_of opening) (
+    ap (λ (xs : Published). take (length begun) xs) (sym begins.1) ∙ (take-append-le (length begun) begun begins.0 (omega arith) ∙ take_all (length begun) begun (omega arith))
+    )) ∙ h.same (length begun) le
+
 -- nor beyond what is later
 pub still_later : (opening : List Entry) (published : Published) (count later : ℕ) → IsStill opening published count → count ≤ later → IsStill opening published later
 still_later opening published count later still l = record { same = λ k more. still.same k (omega (arith, l, more)) }

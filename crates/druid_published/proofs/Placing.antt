@@ -1,5 +1,5 @@
 -- Steps that keep the rule of what is shown.
-use Rattle.std.proofs.Common.{◌≡◌, ◌≢◌, ℕ, zero, suc, List, [], ◌∷◌, ◌++◌, fold, Result, Ok, Err, IfOk, MatchResult, set, refl, sym, ap, ◌∙◌, subst, ⊎_elim}
+use Rattle.std.proofs.Common.{◌≡◌, ◌≢◌, ℕ, zero, suc, List, [], ◌∷◌, ◌++◌, fold, Result, Ok, Err, IfOk, IfErr, OnOk, OnErr, ◌⊎◌, inl, inr, MatchResult, set, refl, sym, ap, ◌∙◌, subst, ⊎_elim}
 use Rattle.std.specs.Arc.{arc_value}
 use Rattle.std.proofs.lemmas.Bool.{false≢true}
 use mathlib.Core.Option.{some, some-injective, some-ne-none}
@@ -117,6 +117,14 @@ either_way (Err b) P R m f h = h b m
 pub if_ok_so : {A B : Type 0} (r : Result A B) (P Q : A → Type 0) (R : B → Type 0) → MatchResult r P R → ((a : A) → P a → Q a) → IfOk r Q
 if_ok_so (Ok a) P Q R m f = f a m
 if_ok_so (Err e) P Q R m f = tt
+
+pub ok_or_err : {A B P Q R : Type 0} (r : Result A B) → OnOk r P → OnErr r Q → (Q → R) → P ⊎ R
+ok_or_err (Ok a) p q f = inl p
+ok_or_err (Err b) p q f = inr (f q)
+
+pub if_err_so : {A B : Type 0} (r : Result A B) (P : A → Type 0) (R Q : B → Type 0) → MatchResult r P R → ((b : B) → R b → Q b) → IfErr r Q
+if_err_so (Ok a) P R Q m f = tt
+if_err_so (Err e) P R Q m f = f e m
 
 pub if_ok_both : {A B : Type 0} (r : Result A B) (P P' Q : A → Type 0) (R R' : B → Type 0) → MatchResult r P R → MatchResult r P' R' → ((a : A) → P a → P' a → Q a) → IfOk r Q
 if_ok_both (Ok a) P P' Q R R' m m' f = f a m m'

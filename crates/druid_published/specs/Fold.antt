@@ -48,7 +48,9 @@ fold_of inventory (pair ∷ published) = fold_of (step_by inventory pair) publis
 pub record IsStill (opening : List Entry) (published : Published) (count : ℕ) : Type 0 where
   pub same : (k : ℕ) → count ≤ k → fold_of opening (take k published) ≡ fold_of opening published
 
--- what a contract sees of a publisher: what it published, and what it has
+-- what a contract sees of a publisher: what it published, what it has, and the beginning of what it published that views are
+-- shown
 pub record PublisherValue : Type 0 where
   pub published : Published
   pub inventory : List Entry
+  pub shown : Published

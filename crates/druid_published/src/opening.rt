@@ -53,7 +53,8 @@ fn know<J: Publication, R: Wait>(
     requires book { shown.seen.book ≡ J.book }
     requires log { shown.seen.log ≡ [] }
     requires inventory { arc_value shown.inventory ≡ J.opening }
-    ensures { IfOk result.1 (λ _. view result.0.desk.place ≡ known J.book J.opening) }
+    ensures place { IfOk result.1 (λ _. view result.0.desk.place ≡ known J.book J.opening) }
+    ensures shown { IfOk result.1 (λ _. result.0.desk.shown.value.seen.log ≡ []) }
 {
     let mut writer = writer;
     match writer.append(shown) {
@@ -66,6 +67,7 @@ fn know<J: Publication, R: Wait>(
 fn place_of(writer: &mut WriterPlace) -> Result<ReaderPlace, AllocError>
     ensures place { IfOk result (λ place. view place.place ≡ view writer.old.desk.place) }
     ensures same { view writer.new.desk.place ≡ view writer.old.desk.place }
+    ensures shown { writer.new.desk.shown ≡ writer.old.desk.shown }
 {
     let mut place = writer.factory().reader()?;
     place.learn::<Notes>(writer.tell::<Notes>());
@@ -78,8 +80,10 @@ fn views_of<J: Publication>(
     seen: &Receipt<J>,
     places: u16,
 ) -> Result<Vec<View<J>>, AllocError>
-    requires { view writer.old.desk.place ≡ known J.book J.opening }
+    requires place { view writer.old.desk.place ≡ known J.book J.opening }
+    requires shown { writer.old.desk.shown.value.seen.log ≡ [] }
     ensures place { view writer.new.desk.place ≡ known J.book J.opening }
+    ensures shown { writer.new.desk.shown.value.seen.log ≡ [] }
     ensures views { IfOk result (λ views. views.items ≡ replicate places seen.now) }
 {
     let mut views = Vec::new(alloc);
@@ -105,6 +109,7 @@ pub fn open<J: Publication, R: Wait + Drop>(
     requires few { places ≤ 80 }
     ensures published { IfOk result (λ r. r.0.published ≡ []) }
     ensures inventory { IfOk result (λ r. r.0.inventory ≡ J.opening) }
+    ensures shown { IfOk result (λ r. r.0.shown ≡ []) }
     ensures views { IfOk result (λ r. r.1.items ≡ replicate places []) }
     ensures fault { IfErr result (λ fault. fault ≡ PublishFault.Memory) }
 {

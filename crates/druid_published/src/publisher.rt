@@ -1,6 +1,7 @@
 //! A publisher, the one owner of an inventory.
-ghost use Rattle.std.specs.Prelude.{◌≡◌, ◌≢◌, ◌↔◌, ◌++◌, ◌∷◌, [], None, IfOk, IfErr, OnOk, OnErr, IsErrOf, slice_get, slice_set};
+ghost use Rattle.std.specs.Prelude.{◌≡◌, ◌≢◌, ◌↔◌, ◌⊎◌, ◌++◌, ◌∷◌, [], None, IfOk, IfErr, OnOk, OnErr, IsErrOf, slice_get, slice_set};
 ghost use Rattle.std.specs.Arc.{arc_value};
+ghost use mathlib.Core.List.{IsPrefix};
 ghost use Rattle.left_right.specs.Sides.{view};
 ghost use Rattle.druid_inventory.specs.Entry.{Entry};
 ghost use Rattle.druid_inventory.specs.Step.{StepsAt, RefusedAt};
@@ -8,7 +9,7 @@ ghost use Rattle.druid_inventory.specs.declared.fault.ApplyFault.{ApplyFault};
 ghost use Rattle.druid_inventory.specs.declared.fault.Outcome.TheVariants.{Moved};
 ghost use Rattle.druid_published.specs.Faults.{publish_fault, TellsPublish};
 ghost use Rattle.druid_published.specs.Places.{known, IsAlike};
-ghost use Rattle.druid_published.specs.Fold.{IsStill, fold_of, step_by};
+ghost use Rattle.druid_published.specs.Fold.{fold_of, step_by};
 
 use crate::book::Head;
 use crate::fault::PublishFault;
@@ -41,12 +42,27 @@ fn show<J: Publication, R: Wait>(
     requires fold { arc_value shown.inventory ≡ fold_of J.opening shown.seen.log }
     ensures place { view result.0.desk.place ≡ known J.book J.opening }
     ensures shown { IfOk result.1 (λ _. IsAlike result.0.desk.shown.value shown) }
+    ensures stays { IfErr result.1 (λ _. result.0.desk.shown.value ≡ writer.desk.shown.value) }
+    ensures either { (result.0.desk.shown.value.seen.log ≡ shown.seen.log)
+        ⊎ (result.0.desk.shown.value.seen.log ≡ writer.desk.shown.value.seen.log) }
 {
     let mut writer = writer;
     match writer.append(shown) {
         Ok(()) => writer.publish_as::<Looks, R>(rt),
         Err(_) => (writer, Err(AllocError)),
     }
+}
+
+// The same of a place that stays where it is.
+fn show_in_place<J: Publication, R: Wait>(rt: &R, writer: &mut WriterPlace, shown: Shown)
+    requires place { view writer.old.desk.place ≡ known J.book J.opening }
+    requires book { shown.seen.book ≡ J.book }
+    requires fold { arc_value shown.inventory ≡ fold_of J.opening shown.seen.log }
+    ensures place { view writer.new.desk.place ≡ known J.book J.opening }
+    ensures either { (writer.new.desk.shown.value.seen.log ≡ shown.seen.log)
+        ⊎ (writer.new.desk.shown.value.seen.log ≡ writer.old.desk.shown.value.seen.log) }
+{
+    let _ = replace_with(writer, rt, |writer, rt| show::<J, R>(rt, writer, shown));
 }
 
 // Shows the views an inventory with all that was published, where more than they are shown changed something. So none that has seen
@@ -59,8 +75,12 @@ fn show_late<J: Publication, R: Wait>(
 ) -> (WriterPlace, Result<(), AllocError>)
     requires place { view writer.desk.place ≡ known J.book J.opening }
     requires fold { arc_value inventory.now ≡ fold_of J.opening seen.now }
+    requires begins { IsPrefix writer.desk.shown.value.seen.log seen.now }
     ensures place { view result.0.desk.place ≡ known J.book J.opening }
-    ensures shown { IfOk result.1 (λ _. IsStill J.opening seen.now result.0.desk.shown.value.count) }
+    ensures begins { IsPrefix result.0.desk.shown.value.seen.log seen.now }
+    ensures shown { IfOk result.1
+        (λ _. fold_of J.opening result.0.desk.shown.value.seen.log ≡ fold_of J.opening seen.now) }
+    ensures stays { IfErr result.1 (λ _. result.0.desk.shown.value ≡ writer.desk.shown.value) }
 {
     if seen.moved() <= writer.published().count {
         return (writer, Ok(()));
@@ -82,7 +102,8 @@ fn fault_of(fault: ApplyFault) -> PublishFault
     }
 }
 
-/// The owner of an inventory. A contract sees what it published, and the inventory.
+/// The owner of an inventory. A contract sees what it published, the inventory, and what views are shown: a beginning of what it
+/// published.
 ///
 /// It keeps the handle that it was opened with, since it waits for readers when it publishes and when it is dropped.
 pub struct Publisher<J: Publication, R: Wait + Drop> {
@@ -97,16 +118,22 @@ pub struct Publisher<J: Publication, R: Wait + Drop> {
 impl<J: Publication, R: Wait + Drop> Model for Publisher<J, R> {
     ghost use Rattle.std.specs.Prelude.{◌≡◌};
     ghost use Rattle.std.specs.Arc.{arc_value};
+    ghost use mathlib.Core.List.{IsPrefix};
     ghost use Rattle.left_right.specs.Sides as sides;
     ghost use Rattle.druid_published.specs.Places.{known};
     ghost use Rattle.druid_published.specs.Fold.{fold_of, PublisherValue};
 
     ghost Value = { PublisherValue };
 
-    ghost view = { λ a. record { published = a.seen; inventory = arc_value a.inventory } };
+    ghost view = { λ a. record {
+      published = a.seen;
+      inventory = arc_value a.inventory;
+      shown = a.writer.desk.shown.value.seen.log;
+    } };
 
     ghost invariant = { λ a. (arc_value a.inventory ≡ fold_of J.opening a.seen)
-        × (sides.view a.writer.desk.place ≡ known J.book J.opening) };
+        × (sides.view a.writer.desk.place ≡ known J.book J.opening)
+        × IsPrefix a.writer.desk.shown.value.seen.log a.seen };
 }
 
 impl<J: Publication, R: Wait + Drop> Drop for Publisher<J, R> {
@@ -148,8 +175,10 @@ impl<J: Publication, R: Wait + Drop> Publisher<J, R> {
         requires published { named.1 ≡ [] }
         requires inventory { arc_value inventory ≡ J.opening }
         requires place { view writer.desk.place ≡ known J.book J.opening }
+        requires shown { writer.desk.shown.value.seen.log ≡ [] }
         ensures published { result.published ≡ [] }
         ensures inventory { result.inventory ≡ J.opening }
+        ensures shown { result.shown ≡ [] }
     {
         let (head, seen) = named;
         Publisher {
@@ -179,6 +208,8 @@ impl<J: Publication, R: Wait + Drop> Publisher<J, R> {
         ensures published { OnOk result (self.new.published ≡ self.old.published ++ (node, reply.now) ∷ []) }
         ensures receipt { IfOk result (λ r. r.1 ≡ self.new.published) }
         ensures fold { self.new.inventory ≡ fold_of J.opening self.new.published }
+        ensures shown { OnOk result ((fold_of J.opening self.new.shown ≡ self.new.inventory)
+            ⊎ (self.new.shown ≡ self.old.shown)) }
         ensures stays { OnErr result (self.new ≡ self.old) }
         ensures fault { IfErr result (TellsPublish self.old.inventory node reply.now) }
         ensures unknown { IsErrOf result (PublishFault.Apply ApplyFault.UnknownNode) ↔ (slice_get self.old.inventory node ≡ None) }
@@ -200,6 +231,8 @@ impl<J: Publication, R: Wait + Drop> Publisher<J, R> {
         ensures published { OnOk result (self.new.published ≡ self.old.published ++ (node, reply.now) ∷ []) }
         ensures receipt { IfOk result (λ r. r.1 ≡ self.new.published) }
         ensures fold { self.new.inventory ≡ fold_of J.opening self.new.published }
+        ensures shown { OnOk result ((fold_of J.opening self.new.shown ≡ self.new.inventory)
+            ⊎ (self.new.shown ≡ self.old.shown)) }
         ensures stays { OnErr result (self.new ≡ self.old) }
         ensures fault { IfErr result (TellsPublish self.old.inventory node reply.now) }
     {
@@ -227,6 +260,8 @@ impl<J: Publication, R: Wait + Drop> Publisher<J, R> {
         ensures published { OnOk result (self.new.published ≡ self.old.published ++ (node, reply.now) ∷ []) }
         ensures receipt { IfOk result (λ receipt. receipt ≡ self.new.published) }
         ensures fold { self.new.inventory ≡ fold_of J.opening self.new.published }
+        ensures shown { OnOk result ((fold_of J.opening self.new.shown ≡ self.new.inventory)
+            ⊎ (self.new.shown ≡ self.old.shown)) }
         ensures stays { OnErr result (self.new ≡ self.old) }
     {
         match outcome {
@@ -256,6 +291,8 @@ impl<J: Publication, R: Wait + Drop> Publisher<J, R> {
         ensures published { OnOk result (self.new.published ≡ self.old.published ++ (node, reply.now) ∷ []) }
         ensures receipt { IfOk result (λ receipt. receipt ≡ self.new.published) }
         ensures fold { self.new.inventory ≡ fold_of J.opening self.new.published }
+        ensures shown { OnOk result ((fold_of J.opening self.new.shown ≡ self.new.inventory)
+            ⊎ (self.new.shown ≡ self.old.shown)) }
         ensures stays { OnErr result (self.new ≡ self.old) }
     {
         let seen = self.still_step(node, reply)?;
@@ -278,6 +315,7 @@ impl<J: Publication, R: Wait + Drop> Publisher<J, R> {
         ensures fold { IfOk result (λ r. arc_value inventory ≡ fold_of J.opening r.0) }
         ensures book { IfOk result (λ r. r.1.seen.book ≡ J.book) }
         ensures shown { IfOk result (λ r. arc_value r.1.inventory ≡ fold_of J.opening r.1.seen.log) }
+        ensures log { IfOk result (λ r. r.1.seen.log ≡ r.0) }
     {
         let mut seen = self.seen.again();
         if seen.len() >= MOST || !seen.add(&self.head, node, reply) {
@@ -299,14 +337,14 @@ impl<J: Publication, R: Wait + Drop> Publisher<J, R> {
         ensures published { OnOk result (self.new.published ≡ self.old.published ++ (node, reply.now) ∷ []) }
         ensures receipt { IfOk result (λ receipt. receipt ≡ self.new.published) }
         ensures fold { self.new.inventory ≡ fold_of J.opening self.new.published }
+        ensures shown { OnOk result ((fold_of J.opening self.new.shown ≡ self.new.inventory)
+            ⊎ (self.new.shown ≡ self.old.shown)) }
         ensures stays { OnErr result (self.new ≡ self.old) }
     {
         let (mine, theirs) = share(self.alloc, inventory)?;
         let (seen, shown) = self.step(node, reply, theirs)?;
         // Where memory runs out, the next publish shows it.
-        let _ = replace_with(&mut self.writer, &self.rt, |writer, rt| {
-            show::<J, R>(rt, writer, shown)
-        });
+        show_in_place::<J, R>(&self.rt, &mut self.writer, shown);
         self.seen = seen.again();
         self.inventory = mine;
         Ok(seen)
@@ -316,7 +354,10 @@ impl<J: Publication, R: Wait + Drop> Publisher<J, R> {
     /// no reading has one again. It waits for those that still read what was shown before. B9 where memory runs out again; what is
     /// published stays in either case.
     pub fn show_again(&mut self) -> Result<(), PublishFault>
-        ensures same { self.new ≡ self.old }
+        ensures published { self.new.published ≡ self.old.published }
+        ensures inventory { self.new.inventory ≡ self.old.inventory }
+        ensures shown { OnOk result (fold_of J.opening self.new.shown ≡ self.new.inventory) }
+        ensures stays { OnErr result (self.new ≡ self.old) }
         ensures fault { IfErr result (λ fault. fault ≡ PublishFault.Memory) }
     {
         let Publisher {

@@ -1,6 +1,6 @@
 //! What no contract says of queries, of partials and of data nodes: worked examples over texts, files and messages, printed
-//! texts, that calls succeed with ample memory, and drawn queries beside a plain computation. `subquery` is of
-//! `druid_query_text`, `partial` of `druid_scan` too, `answers` of `druid_partial_text`, `node`, `queries` and `columns` of
+//! texts, that calls succeed with ample memory, and drawn queries beside a plain computation. `context` is of
+//! `druid_context`, `subquery` of `druid_query_text`, `partial` of `druid_scan` too, `answers` of `druid_partial_text`, `node`, `queries` and `columns` of
 //! `druid_node`, and `drawn` of `druid_scan` over files by columns.
 #![tactic(auto)]
 
@@ -10,6 +10,8 @@ mod answers;
 mod asked_text;
 #[cfg(test)]
 mod columns;
+#[cfg(test)]
+mod context;
 #[cfg(test)]
 mod drawn;
 #[cfg(test)]

@@ -17,6 +17,8 @@ mod marks;
 #[cfg(test)]
 mod nodes;
 #[cfg(test)]
+mod operating;
+#[cfg(test)]
 mod published;
 #[cfg(test)]
 mod replies;

@@ -1,5 +1,5 @@
 -- What honest nodes answered, gathered, is what the visible rows tell.
-use Rattle.std.proofs.Common.{◌≡◌, ◌||◌, ◌&&◌, ◌+◌, ℕ, suc, arith, Bool, true, false, not, cond, List, [], ◌∷◌, ◌++◌, get_or, map, filter, Some, Result, Ok, refl, sym, ap, ◌∙◌, subst, inl, inr, ◌⊎◌}
+use Rattle.std.proofs.Common.{◌≡◌, ◌||◌, ◌&&◌, ℕ, suc, arith, Bool, true, false, not, cond, List, [], ◌∷◌, ◌++◌, get_or, map, filter, Some, Result, Ok, refl, sym, ap, ◌∙◌, subst, inl, inr, ◌⊎◌}
 use Rattle.std.specs.Bool.{nat_le, nat_lt}
 use Rattle.std.specs.Cmp.{first_so, second_so, IsTotalOrder}
 use Rattle.std.proofs.lemmas.Cmp.{tied_itself, then_total, on_total, nat_cmp_total}

@@ -9,3 +9,4 @@ pub mod GatherLemmas
 pub mod LawLemmas
 pub mod ExactLemmas
 pub mod AskedLemmas
+pub mod AilingLemmas

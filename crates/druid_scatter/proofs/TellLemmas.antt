@@ -12,13 +12,11 @@ use Rattle.druid_query.specs.SubQuery.{SubQuery}
 use Rattle.druid_partial_text.specs.Answers.{IsAnswerOf, TellsAnswer}
 use Rattle.druid_partial_text.specs.declared.fault.PartialFault.{PartialFault}
 use Rattle.druid_partial_text.specs.declared.fault.PartialFault.TheVariants.{NotJson, Shape}
-use Rattle.druid_partial_text.specs.declared.fault.PartialFault.TheVariants as faults
 use Rattle.druid_partial.specs.declared.answer.Answer.{Answer}
 use Rattle.druid_partial.specs.Groups.{Group}
 use Rattle.druid_partial_text.specs.Read.{TellsGroups}
 use Rattle.druid_partial_text.proofs.ReadBackLemmas as back
 use Rattle.druid_link.specs.Links.{Came}
-use Rattle.druid_message.specs.declared.fault.WireFault.TheVariants as wire
 use Rattle.druid_wire.specs.Messages.{IsResponse}
 use Rattle.druid_wire.proofs.OnceLemmas.{one_response}
 use Rattle.druid_scatter.specs.declared.fault.GatherFault.{GatherFault}

@@ -14,6 +14,7 @@ ghost use Rattle.druid_partial.specs.Groups.{Group, IsResult};
 ghost use Rattle.druid_partial.specs.Partials.{kinds_of};
 ghost use Rattle.druid_scatter.specs.Exact.{IsHonest, AreServed, Sees, counted_visible};
 ghost use Rattle.druid_scatter.specs.Gathered.{Exchange, IsGathered};
+ghost use Rattle.druid_scatter.specs.Order.{turned, ailing_last};
 ghost use Rattle.druid_scatter.specs.Plan.{Pair, asked_of, place_cmp, IsPlanOf};
 
 /// A query has one plan over an inventory.
@@ -39,4 +40,9 @@ pub fn gathered_rows_are_exact()
         → AreServed inventory query.source segments → IsHoldingOf inventory query.source held → Sees query held segments sees
         → ((e : Exchange) → Contains exchanges e → IsHonest query segments e)
         → IsResult (kinds_of query) (counted_visible query sees missing segments) groups }
+{}
+
+/// Where no node ails, `AilingLast` orders as `Rotate` does.
+pub fn none_ailing_is_rotate()
+    ensures { (turn : ℕ) (nodes : List ℕ) → ailing_last 0 (turned turn nodes) ≡ turned turn nodes }
 {}

@@ -15,9 +15,9 @@ mod waiting;
 
 pub use druid_partial::Answer;
 pub use fault::GatherFault;
-pub use laws::{gathered_rows_are_exact, one_plan, plans_may_be_asked};
+pub use laws::{gathered_rows_are_exact, none_ailing_is_rotate, one_plan, plans_may_be_asked};
 pub use pairs::{Pair, Plan};
-pub use pick::{Pick, Rotate};
+pub use pick::{AilingLast, Pick, Rotate};
 pub use planning::plan;
 pub use round::ask_round;
 pub use scatter::gather;

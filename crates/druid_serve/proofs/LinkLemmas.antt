@@ -1,10 +1,10 @@
 -- What connections leave of the links of a worker: where they lead.
-use Rattle.std.proofs.Common.{◌≡◌, ◌≢◌, ◌<◌, ◌≤◌, ◌⊎◌, ℕ, Bool, true, false, List, [], ◌∷◌, length, map, Option, Some, Ok, Err, Result, inl, inr, refl, sym, ap, ◌∙◌, subst, slice_get, get_or, option_map, unwrap_or, codes, bytes_eq, IfOk, IfErr}
+use Rattle.std.proofs.Common.{◌++◌, zero, suc, ◌≡◌, ◌≢◌, ◌<◌, ◌≤◌, ◌⊎◌, ℕ, Bool, true, false, List, [], ◌∷◌, length, map, Option, Some, Ok, Err, Result, inl, inr, refl, sym, ap, ◌∙◌, subst, slice_get, get_or, option_map, unwrap_or, codes, bytes_eq, IfOk, IfErr}
 use Rattle.std.proofs.lemmas.Option.{slice_get_within, slice_get-get_or, slice_get-map}
 use Rattle.std.proofs.lemmas.List.{length-map}
 use Rattle.druid_config.specs.Configs.{Node, names_of}
 use Rattle.druid_link.specs.Links.{Came}
-use Rattle.druid_link.specs.TcpLinks.{TcpLinkValue, ExchangesOverTcp, fresh_tcp_link}
+use Rattle.druid_link.specs.TcpLinks.{TcpLinkValue, ExchangesOverTcp}
 use Rattle.druid_message.specs.Requests.{RequestValue, path_of}
 use Rattle.druid_message.specs.declared.fault.WireFault.{WireFault}
 use Rattle.druid_query.specs.Query.{Query}
@@ -15,7 +15,7 @@ use Rattle.druid_wire.specs.Served.{Serves, IsServed, FailsToServe}
 use Rattle.druid_broker.specs.Queries.{AnswersQuery, WantsMemory}
 use Rattle.druid_broker.specs.Routes.{Route, health, query, sources, load_status, entry, nowhere, route_of, AnswersPost, AnswersAt}
 use Rattle.druid_broker.specs.Views.{RespondsAt, RespondsBy}
-use Rattle.druid_serve.specs.Links.{LeadTo, IsLinkAt, link_of, fresh_links, opening_of}
+use Rattle.druid_serve.specs.Links.{LeadTo, IsLinkAt, IsFresh, AreFresh, opening_of}
 
 -- exchanges keep the address
 same_address : (asked : Query) (node : ℕ) (exchanges : List Exchange) (old new : TcpLinkValue) → Leads ExchangesOverTcp asked node exchanges old new
@@ -30,9 +30,9 @@ made_lead : (nodes : List Node) (asked : Query) (exchanges : List Exchange) (old
 made_lead nodes asked exchanges old new made lead = record {
   count = made.count ∙ lead.count;
   each = λ k node link is at.
-    let within : k < length old = subst (λ (n : ℕ). k < n) made.count (slice_get_within new k link at) in
-    let there = slice_get-get_or old k link within in
-    same_address asked k exchanges (get_or old k link) link (made.each k (get_or old k link) link there at) ∙ lead.each k node (get_or old k link) is there;
+      let within : k < length old = subst (λ (n : ℕ). k < n) made.count (slice_get_within new k link at) in
+      let there = slice_get-get_or old k link within in
+      same_address asked k exchanges (get_or old k link) link (made.each k (get_or old k link) link there at) ∙ lead.each k node (get_or old k link) is there;
 }
 
 stays : (nodes : List Node) (old new : List TcpLinkValue) → new ≡ old → LeadTo nodes old → LeadTo nodes new
@@ -97,22 +97,43 @@ answered_lead nodes order opening seen now old new before after had has (Err fau
 
 -- ---- where they lead first
 
-address_of : (nodes : List Node) (k : ℕ) (node : Node) (link : TcpLinkValue) → slice_get nodes k ≡ Some node
-    → slice_get (fresh_links nodes) k ≡ Some link → link.address ≡ node.address
-address_of nodes k node link is at =
-    let found : Some link ≡ Some (link_of node) = sym at ∙ slice_get-map link_of nodes k ∙ ap (option_map link_of) is in
-    ap (λ (o : Option TcpLinkValue). (unwrap_or o link).address) found
-
 -- fresh links lead to their nodes
-pub leads_from : (nodes : List Node) (links : List TcpLinkValue) → links ≡ fresh_links nodes → LeadTo nodes links
-leads_from nodes links same = stays nodes (fresh_links nodes) links same (record {
-  count = length-map nodes link_of;
-  each = address_of nodes;
-})
+pub leads_from : (patience : ℕ) (nodes : List Node) (links : List TcpLinkValue) → AreFresh patience nodes links → LeadTo nodes links
+leads_from patience nodes links fresh = record {
+  count = fresh.count;
+  each = λ k node link is at. (fresh.each k link at node is).address;
+}
 
--- the link to the node of a place is that node's
-pub link_at : (nodes : List Node) (k : ℕ) (node : Node) (link : TcpLinkValue) → slice_get nodes k ≡ Some node → link ≡ link_of node → IsLinkAt nodes k link
-link_at nodes k node link is same other at = same ∙ ap (λ (o : Option Node). link_of (unwrap_or o node)) (sym is ∙ at)
+-- the fresh link to the node of a place is that node's
+pub link_at : (patience : ℕ) (nodes : List Node) (k : ℕ) (node : Node) (link : TcpLinkValue) → slice_get nodes k ≡ Some node
+    → IsFresh patience node link → IsLinkAt patience nodes k link
+link_at patience nodes k node link is fresh other at =
+    subst (λ (n : Node). IsFresh patience n link) (ap (λ (o : Option Node). unwrap_or o node) (sym is ∙ at)) fresh
+
+some_is : {A : Type 0} (a b : A) → Some a ≡ Some b → a ≡ b
+some_is {A = A} a b e = ap (λ (o : Option A). unwrap_or o a) e
+
+-- what stands in a list with one more at its end
+pushed : {A : Type 0} (xs : List A) (y : A) (k : ℕ) (l : A) → slice_get (xs ++ y ∷ []) k ≡ Some l
+    → (slice_get xs k ≡ Some l) ⊎ ((k ≡ length xs) × (y ≡ l))
+pushed [] y zero l is = inr (refl, some_is y l is)
+pushed [] y (suc k) l is = absurd cc
+pushed (x ∷ xs) y zero l is = inl is
+pushed (x ∷ xs) y (suc k) l is = after (pushed xs y k l is)
+  where
+    after : (slice_get xs k ≡ Some l) ⊎ ((k ≡ length xs) × (y ≡ l)) → (slice_get xs k ≡ Some l) ⊎ ((suc k ≡ length (x ∷ xs)) × (y ≡ l))
+    after (inl at) = inl at
+    after (inr (last, same)) = inr (ap suc last, same)
+
+-- one link more
+pub one_link : (patience : ℕ) (nodes : List Node) (links : List TcpLinkValue) (link : TcpLinkValue)
+    → ((k : ℕ) (l : TcpLinkValue) → slice_get links k ≡ Some l → IsLinkAt patience nodes k l) → IsLinkAt patience nodes (length links) link
+    → (k : ℕ) (l : TcpLinkValue) → slice_get (links ++ link ∷ []) k ≡ Some l → IsLinkAt patience nodes k l
+one_link patience nodes links link each last k l at = by (pushed links link k l at)
+  where
+    by : (slice_get links k ≡ Some l) ⊎ ((k ≡ length links) × (link ≡ l)) → IsLinkAt patience nodes k l
+    by (inl there) = each k l there
+    by (inr (end, same)) = subst (λ (n : ℕ). IsLinkAt patience nodes n l) (sym end) (subst (IsLinkAt patience nodes (length links)) same last)
 
 pub opening_length : (nodes : List Node) → length (opening_of nodes) ≡ length nodes
 opening_length nodes = length-map (names_of nodes) fresh ∙ length-map nodes (λ n. n.name)

@@ -47,6 +47,8 @@ pub(crate) struct Pace {
     pub(crate) turns: u64,
     /// How long it rests before each one after these, in milliseconds: None where it makes no more.
     pub(crate) every: Option<u64>,
+    /// How many milliseconds an exchange with a node may take.
+    pub(crate) patience: u64,
 }
 
 // The publisher, which threads share.
@@ -147,7 +149,7 @@ fn start_syncer<
     pace: Pace,
     syncer: Syncer<R, J, TcpLink<R>>,
 ) -> Result<Arc<Handover<EndOfTurns>, Global>, DeviceFailed>
-    requires own { IsLinkAt C.nodes syncer.node syncer.link }
+    requires own { IsLinkAt pace.patience C.nodes syncer.node syncer.link }
 {
     let rt = *rt;
     let end = Arc::new(alloc, Handover::new())?;
@@ -244,13 +246,7 @@ fn work<
         + Send
         + Sync,
     J: Publication,
->(
-    rt: &R,
-    alloc: Global,
-    worker: Worker<R, J>,
-    gate: &Gate,
-    listener: &TcpListener,
-) -> Worker<R, J>
+>(rt: &R, alloc: Global, worker: Worker<R, J>, gate: &Gate, listener: &TcpListener) -> Worker<R, J>
     ensures view { IsPrefix worker.view result.view }
     ensures leads { (nodes : List Node) → LeadTo nodes worker.links.items → LeadTo nodes result.links.items }
 {
@@ -306,18 +302,18 @@ fn start_worker<
 }
 
 // What a worker answers with.
-#[tactic(auto, using(crate::proofs::LinkLemmas::leads_from))]
 fn worker_of<R: Net + Clock + Wait + Copy, J: Publication>(
     rt: &R,
     alloc: Global,
     view: View<J>,
+    patience: u64,
     nodes: &[NodeConfig],
     publisher: &Shared<J, R>,
 ) -> Result<Worker<R, J>, DeviceFailed>
     requires there { length nodes.now ≡ length J.opening }
     ensures { IfOk result (λ worker. LeadTo nodes.now worker.links.items) }
 {
-    let links = links_to(rt, alloc, nodes)?;
+    let links = links_to(rt, alloc, patience, nodes)?;
     match Routes::new(alloc) {
         Ok(routes) => Ok(Worker {
             routes,
@@ -403,7 +399,7 @@ fn start_syncers<
         let syncer = Syncer {
             node: node as NodeNo,
             view,
-            link: link_to(rt, alloc, nodes[node].address())?,
+            link: link_to(rt, alloc, pace.patience, &nodes[node])?,
             publisher: Arc::try_clone(publisher)?,
         };
         syncers.push(start_syncer::<R, J, C>(rt, alloc, pace, syncer)?)?;
@@ -447,7 +443,7 @@ pub(crate) fn start_broker<
     let (publisher, mut views) = open_views::<J, C, R>(rt, alloc, list, inventory, workers)?;
     let syncers = start_syncers::<R, J, C>(rt, alloc, pace, nodes, &publisher, &mut views)?;
     for view in views {
-        let worker = worker_of(rt, alloc, view, nodes, &publisher)?;
+        let worker = worker_of(rt, alloc, view, pace.patience, nodes, &publisher)?;
         start_worker::<R, J, C>(rt, alloc, worker, &gate, &listener)?;
     }
     Ok(Broker { gate, syncers })

@@ -1,14 +1,13 @@
 //! Links to the nodes of a config.
-ghost use Rattle.std.specs.Prelude.{◌≡◌, IfOk, length, vec_len};
-ghost use Rattle.druid_link.specs.TcpLinks.{fresh_tcp_link};
-ghost use Rattle.druid_serve.specs.Links.{fresh_links};
+ghost use Rattle.std.specs.Prelude.{IfOk};
+ghost use Rattle.druid_serve.specs.Links.{IsFresh, AreFresh};
 
 use druid_config::NodeConfig;
 use druid_link::TcpLink;
 use std::alloc::{AllocError, Global};
 use std::marker::Brand;
 use std::net::Net;
-use std::time::Clock;
+use std::time::{Clock, Duration};
 
 /// The nodes of a cluster. Threads know what they begin with by its type alone, so the list is a matter of types.
 pub(crate) trait NodeList {
@@ -25,29 +24,31 @@ impl NodeList for Brand {
     ghost nodes = { [] };
 }
 
-// A link to a server at an address, over which nothing was exchanged.
+// A link to a node, over which nothing was exchanged, and whose exchanges may take so many milliseconds.
 pub(crate) fn link_to<R: Net + Clock + Copy>(
     rt: &R,
     alloc: Global,
-    address: &str,
+    patience: u64,
+    node: &NodeConfig,
 ) -> Result<TcpLink<R>, AllocError>
-    ensures { IfOk result (λ link. link ≡ fresh_tcp_link address.now) }
+    ensures { IfOk result (IsFresh patience node.now) }
 {
-    Ok(TcpLink::new(*rt, String::from_str(alloc, address)?))
+    let link = TcpLink::new(*rt, String::from_str(alloc, node.address())?);
+    Ok(link.with_limit(Duration::from_millis(patience)))
 }
 
 // A link to each of these nodes, in their order.
 pub(crate) fn links_to<R: Net + Clock + Copy>(
     rt: &R,
     alloc: Global,
+    patience: u64,
     nodes: &[NodeConfig],
 ) -> Result<Vec<TcpLink<R>>, AllocError>
-    ensures each { IfOk result (λ links. links.items ≡ fresh_links nodes.now) }
-    ensures count { IfOk result (λ links. vec_len links ≡ length nodes.now) }
+    ensures { IfOk result (λ links. AreFresh patience nodes.now links.items) }
 {
     let mut links = Vec::with_capacity(alloc, nodes.len())?;
-    for node in nodes {
-        links.push(link_to(rt, alloc, node.address())?)?;
+    for place in 0..nodes.len() {
+        links.push(link_to(rt, alloc, patience, &nodes[place])?)?;
     }
     Ok(links)
 }

@@ -4,11 +4,10 @@ ghost use Rattle.std.specs.Prelude.{◌≡◌, OnOk};
 use druid_config::{BrokerConfig, Config, NodeConfig};
 use druid_server::{ClusterFault, Stop};
 use std::alloc::Global;
-use std::io;
 use std::io::Write;
 use std::sync::Wait;
-use std::thread;
 use std::time::{Clock, Duration};
+use std::{io, thread};
 
 // How long the thread rests that has nothing left to do, in seconds, before it rests again.
 const IDLE_SECONDS: u64 = 3_600;
@@ -16,7 +15,10 @@ const IDLE_SECONDS: u64 = 3_600;
 // Says where a node listens, and which folder it serves.
 fn say_node<E: Write>(node: &NodeConfig, errors: &mut E) -> io::Result<()> {
     let (name, address, folder) = (node.name().as_str(), node.address(), node.folder());
-    writeln!(errors, "node {name}: listens on {address}, serves the folder {folder}")
+    writeln!(
+        errors,
+        "node {name}: listens on {address}, serves the folder {folder}"
+    )
 }
 
 // Says where a broker listens, and how many nodes it asks.
@@ -34,11 +36,7 @@ fn say_nodes<E: Write>(nodes: &[NodeConfig], errors: &mut E) -> io::Result<()> {
 }
 
 // Says it of each broker, all of which ask so many nodes.
-fn say_brokers<E: Write>(
-    brokers: &[BrokerConfig],
-    nodes: usize,
-    errors: &mut E,
-) -> io::Result<()> {
+fn say_brokers<E: Write>(brokers: &[BrokerConfig], nodes: usize, errors: &mut E) -> io::Result<()> {
     for broker in brokers {
         say_broker(broker, nodes, errors)?;
     }

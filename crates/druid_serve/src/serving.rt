@@ -14,7 +14,9 @@ use druid_config::{BrokerConfig, Config, NodeConfig, QueryConfig, names_in, read
 use druid_inventory::Inventory;
 use druid_published::Opened;
 use druid_serve_node::{EndOfLoads, Loading, start_node, start_owner};
-use druid_server::{ClusterFault, DeviceFailed, Gate, Handover, ServeFault, Stop, ask, listen};
+use druid_server::{
+    ClusterFault, DeviceFailed, Gate, Handover, Host, ServeFault, Stop, ask, listen,
+};
 use std::alloc::{AllocError, Global};
 use std::fs::File;
 use std::io::Write;
@@ -22,7 +24,6 @@ use std::marker::Brand;
 use std::net::{Net, TcpListener, TcpStream};
 use std::rt::Files;
 use std::sync::{Arc, Wait};
-use std::thread::Threads;
 use std::time::Clock;
 
 // Starts the nodes, one after another, and gives what tells when each has loaded what comes later. Where the cluster goes on, a
@@ -31,9 +32,7 @@ fn start_nodes<
     R: Files<File = File>
         + Net<Listener = TcpListener, Stream = TcpStream>
         + AllocGlobal
-        + Wait
-        + Threads
-        + Clock
+        + Host
         + Copy
         + Send
         + Sync
@@ -103,14 +102,7 @@ fn fresh(alloc: Global, nodes: &[NodeConfig]) -> Result<Inventory, DeviceFailed>
 
 // Starts a broker: its publisher, views and receipts are of this list, which begins with its inventory.
 fn start_one<
-    R: Net<Listener = TcpListener, Stream = TcpStream>
-        + Wait
-        + Threads
-        + Clock
-        + Copy
-        + Send
-        + Sync
-        + 'static,
+    R: Net<Listener = TcpListener, Stream = TcpStream> + Host + Copy + Send + Sync + 'static,
     C: NodeList,
 >(
     rt: &R,
@@ -129,14 +121,7 @@ fn start_one<
 
 // Starts the brokers of a cluster after their listeners: all of them over its one list of nodes.
 fn start_brokers<
-    R: Net<Listener = TcpListener, Stream = TcpStream>
-        + Wait
-        + Threads
-        + Clock
-        + Copy
-        + Send
-        + Sync
-        + 'static,
+    R: Net<Listener = TcpListener, Stream = TcpStream> + Host + Copy + Send + Sync + 'static,
     C: NodeList,
 >(
     rt: &R,
@@ -282,11 +267,12 @@ fn wait_for_others<R: Wait, W: Write>(
 
 // How the syncers of a cluster make their turns.
 fn pace_of(config: &Config) -> Pace
-    ensures { result ≡ record { turns = config.now.turns; every = config.now.every } }
+    ensures { result ≡ record { turns = config.now.turns; every = config.now.every; patience = config.now.patience } }
 {
     Pace {
         turns: config.turns(),
         every: config.every(),
+        patience: config.patience(),
     }
 }
 
@@ -296,9 +282,7 @@ fn serve_cluster<
     R: Files<File = File>
         + Net<Listener = TcpListener, Stream = TcpStream>
         + AllocGlobal
-        + Wait
-        + Threads
-        + Clock
+        + Host
         + Copy
         + Send
         + Sync
@@ -337,22 +321,14 @@ pub fn serve<
     R: Files<File = File>
         + Net<Listener = TcpListener, Stream = TcpStream>
         + AllocGlobal
-        + Wait
-        + Threads
-        + Clock
+        + Host
         + Copy
         + Send
         + Sync
         + 'static,
     W: Write,
     E: Write,
->(
-    rt: &R,
-    alloc: Global,
-    config: &[u8],
-    out: &mut W,
-    errors: &mut E,
-) -> Result<(), Stop<ServeFault>>
+>(rt: &R, alloc: Global, config: &[u8], out: &mut W, errors: &mut E) -> Result<(), Stop<ServeFault>>
 where
     R::Dir: Send,
     ensures quiet { E.contents errors.new ≡ E.contents errors.old }

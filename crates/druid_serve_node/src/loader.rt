@@ -7,7 +7,7 @@ use crate::latest::{Begun, Latest};
 use crate::watch::Watch;
 use druid_folder::Folder;
 use druid_node::{DataNode, Incarnation};
-use druid_server::{DeviceFailed, Handover};
+use druid_server::{DeviceFailed, Handover, Host};
 use druid_shard::Mark;
 use druid_store::{Device, DiskFolder};
 use std::alloc::Global;
@@ -15,7 +15,6 @@ use std::fs::File;
 use std::rt::Files;
 use std::sync::{Arc, Wait};
 use std::thread;
-use std::thread::Threads;
 use std::time::{Clock, Duration};
 
 /// Shows that the files that a node loads later were tried: only the thread that tries them gives one.
@@ -151,7 +150,7 @@ fn load_from<
 
 // Starts the loading thread of a node.
 pub(crate) fn start_loader<
-    R: Files<File = File> + AllocGlobal + Wait + Threads + Clock + Copy + Send + Sync + 'static,
+    R: Files<File = File> + AllocGlobal + Host + Copy + Send + Sync + 'static,
     L: Device + Send + Sync + 'static,
     I: Incarnation + Send + Sync + 'static,
     J: Begun + Send + Sync + 'static,

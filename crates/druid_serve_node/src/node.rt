@@ -22,7 +22,7 @@ use druid_folder::{Folder, StoreFault};
 use druid_incarnation::next_incarnation;
 use druid_node::{DataNode, Incarnation, NodeFault, NodeState};
 use druid_segid::SegmentId;
-use druid_server::{Cause, Handover, StartFault, listen};
+use druid_server::{Cause, Handover, Host, StartFault, listen};
 use druid_shard::Mark;
 use druid_store::{Device, DiskFolder};
 use std::alloc::{AllocError, Global};
@@ -31,8 +31,6 @@ use std::marker::Brand;
 use std::net::{Net, TcpListener, TcpStream};
 use std::rt::Files;
 use std::sync::{Arc, Wait};
-use std::thread::Threads;
-use std::time::Clock;
 
 // The end of the name of a segment file.
 const SEGMENT_END: &[u8] = b".seg";
@@ -236,9 +234,7 @@ fn start_threads<
     R: Files<File = File>
         + Net<Listener = TcpListener, Stream = TcpStream>
         + AllocGlobal
-        + Wait
-        + Threads
-        + Clock
+        + Host
         + Copy
         + Send
         + Sync
@@ -281,9 +277,7 @@ fn start_from<
     R: Files<File = File>
         + Net<Listener = TcpListener, Stream = TcpStream>
         + AllocGlobal
-        + Wait
-        + Threads
-        + Clock
+        + Host
         + Copy
         + Send
         + Sync
@@ -336,9 +330,7 @@ fn start_over<
     R: Files<File = File>
         + Net<Listener = TcpListener, Stream = TcpStream>
         + AllocGlobal
-        + Wait
-        + Threads
-        + Clock
+        + Host
         + Copy
         + Send
         + Sync
@@ -372,9 +364,7 @@ pub fn start_node<
     R: Files<File = File>
         + Net<Listener = TcpListener, Stream = TcpStream>
         + AllocGlobal
-        + Wait
-        + Threads
-        + Clock
+        + Host
         + Copy
         + Send
         + Sync
@@ -396,9 +386,7 @@ pub fn start_owner<
     R: Files<File = File>
         + Net<Listener = TcpListener, Stream = TcpStream>
         + AllocGlobal
-        + Wait
-        + Threads
-        + Clock
+        + Host
         + Copy
         + Send
         + Sync

@@ -6,14 +6,13 @@ ghost use Rattle.druid_node.specs.Seen.{IsServedAsSeen};
 
 use crate::latest::{Begun, Latest};
 use druid_node::{DataNode, Incarnation, NodeFault};
-use druid_server::{DeviceFailed, answer_each, close_answered, limit};
+use druid_server::{DeviceFailed, Host, answer_each, close_answered, limit};
 use druid_shard::Mark;
 use std::alloc::Global;
 use std::io::{BufRead, BufReader, BufWriter, Write};
 use std::net::{TcpListener, TcpStream};
 use std::sync::{Arc, Wait};
 use std::thread;
-use std::thread::Threads;
 use std::time::Clock;
 
 // Answers a request from a state that is not older than what was seen, nor than what the loading thread has noted, and so never
@@ -95,7 +94,7 @@ fn work<R: Wait + Clock, I: Incarnation, J: Begun>(
 
 // Starts a thread that answers connections.
 pub(crate) fn start_worker<
-    R: Wait + Threads + Clock + Copy + Send + Sync + 'static,
+    R: Host + Copy + Send + Sync + 'static,
     I: Incarnation + Send + Sync + 'static,
     J: Begun + Send + Sync + 'static,
 >(

@@ -259,14 +259,14 @@ fn refused_statuses(rt: HostRuntime) {
     assert_reported(&rt, rt.alloc(), rows, "bad config");
 }
 
-// Asserts what is told of the statuses of the first node and the first broker, with a dash for none, and of the patience.
+// Asserts what a config says of the statuses of the first node and the first broker, with a dash for none, and of the patience.
 fn assert_statuses(rt: &impl Abort, alloc: Global, text: &str, wanted: &str) {
     let config = read_config(alloc, text.as_bytes()).expect(rt, "a config");
     let node = config.nodes()[0].status().unwrap_or("-");
     let broker = config.brokers()[0].status().unwrap_or("-");
     let patience = config.patience();
-    let told = format!(in alloc; "{node} {broker} {patience}").expect(rt, "memory");
-    assert!(rt; told.as_str() == wanted, "{told}");
+    let parts = format!(in alloc; "{node} {broker} {patience}").expect(rt, "memory");
+    assert!(rt; parts.as_str() == wanted, "{parts}");
 }
 
 #[test]

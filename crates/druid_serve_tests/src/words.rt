@@ -46,8 +46,14 @@ fn assert_ended<R: Host + Net<Listener = TcpListener, Stream = TcpStream>>(
     let (ending, out) = ended(rt, alloc, words, input.as_bytes(), &mut errors, explain);
     let (status, printed, reported) = wanted;
     let report = str::from_utf8(&errors).expect(rt, "a text");
-    assert!(rt; ending.status == status && ending.reported.is_ok(), "{words} {report}");
-    assert!(rt; out.as_slice() == printed.as_bytes() && report == reported, "{words} {report}");
+    assert!(rt;
+        ending.status == status && ending.reported.is_ok(),
+        "{words} {report}"
+    );
+    assert!(rt;
+        out.as_slice() == printed.as_bytes() && report == reported,
+        "{words} {report}"
+    );
 }
 
 #[test]
@@ -84,6 +90,9 @@ fn failing_reports(rt: HostRuntime) {
     for (words, taken, status) in [("other", 0, 2), ("replay", 0, 1), ("replay", 20, 1)] {
         let mut errors = &mut room[..taken];
         let (ending, _out) = ended(&rt, rt.alloc(), words, b"x", &mut errors, true);
-        assert!(rt; ending.status == status && ending.reported.is_err(), "{words} {taken}");
+        assert!(rt;
+            ending.status == status && ending.reported.is_err(),
+            "{words} {taken}"
+        );
     }
 }

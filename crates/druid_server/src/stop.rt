@@ -31,7 +31,12 @@ impl Stop<ClusterFault> {
     }
 
     /// The node at a place does not start.
-    pub fn at_node(alloc: Global, place: usize, node: &NodeConfig, start: StartFault) -> Stop<ClusterFault>
+    pub fn at_node(
+        alloc: Global,
+        place: usize,
+        node: &NodeConfig,
+        start: StartFault,
+    ) -> Stop<ClusterFault>
         ensures { result.fault ≡ start.fault }
     {
         Stop {

@@ -6,18 +6,18 @@ use Rattle.druid_folder.specs.Folder.{Content}
 use Rattle.druid_store.specs.Honest.{Did, HonestIn}
 use Rattle.druid_store.specs.Model.{had_after, has_after, MayLeave, LeavesAfter, IsRight, AreRight, first_calls, IsHonestModel}
 
-did_right : (event : Event) (files : Content) (left : Content → Type 0) → left files → IsRight event files
-    → Did event files (had_after event files) left (MayLeave event files left)
-did_right (did_list names) files left now right = (right, refl, (λ c h. h, λ c h. h))
-did_right (did_read name found) files left now right = (right, refl, (λ c h. h, λ c h. h))
-did_right (did_write name bytes true) files left now right = (refl, λ c h. h)
-did_right (did_write name bytes false) files left now right = (torn_same files name, λ c h. h)
-did_right (did_sync true) files left now right = (λ c h. h, refl, λ c is. subst left (sym is) now)
-did_right (did_sync false) files left now right = (tt, refl, λ c h. h)
-did_right (did_rename from to true) files left now right = ((right, refl), λ c h. h)
-did_right (did_rename from to false) files left now right = (inl refl, λ c h. h)
-did_right (did_remove name true) files left now right = (refl, λ c h. h)
-did_right (did_remove name false) files left now right = (inl refl, λ c h. h)
+did_right : (event : Event) (earlier : List Event) (files : Content) (left : Content → Type 0) → left files → IsRight event files
+    → Did event earlier files (had_after event files) left (MayLeave event files left)
+did_right (did_list names) earlier files left now right = (right, refl, (λ c h. h, λ c h. h))
+did_right (did_read name found) earlier files left now right = (right, refl, (λ c h. h, λ c h. h))
+did_right (did_write name bytes true) earlier files left now right = (refl, λ c h. h)
+did_right (did_write name bytes false) earlier files left now right = (torn_same files name, λ c h. h)
+did_right (did_sync true) earlier files left now right = (λ kept c h. h, refl, λ c is. subst left (sym is) now)
+did_right (did_sync false) earlier files left now right = (tt, refl, λ c h. h)
+did_right (did_rename from to true) earlier files left now right = ((right, refl), λ c h. h)
+did_right (did_rename from to false) earlier files left now right = (inl refl, λ c h. h)
+did_right (did_remove name true) earlier files left now right = (refl, λ c h. h)
+did_right (did_remove name false) earlier files left now right = (inl refl, λ c h. h)
 
 stays_right : (event : Event) (files : Content) (left : Content → Type 0) → left files → MayLeave event files left (had_after event files)
 stays_right (did_list names) files left now = now
@@ -61,9 +61,9 @@ module _ (all : List Event) where
       ap (first_calls (length earlier)) (is ∙ assoc_one newer event earlier) ∙ first_are (newer ++ event ∷ []) earlier in
       let after : first_calls (length (event ∷ earlier)) all ≡ event ∷ earlier = ap (first_calls (length (event ∷ earlier))) is ∙ first_are newer (event ∷ earlier) in (
         honest_in earlier (newer ++ event ∷ []) (is ∙ assoc_one newer event earlier) right.1,
-        subst (λ l. Did event (has_after (first_calls (length earlier) all)) (has_after l) (LeavesAfter (first_calls (length earlier) all)) (LeavesAfter l)) (sym after)
-            (subst (λ l. Did event (has_after l) (has_after (event ∷ earlier)) (LeavesAfter l) (LeavesAfter (event ∷ earlier))) (sym before)
-            (did_right event (has_after earlier) (LeavesAfter earlier) (left_now earlier) right.0)),
+        subst (λ l. Did event earlier (has_after (first_calls (length earlier) all)) (has_after l) (LeavesAfter (first_calls (length earlier) all)) (LeavesAfter l)) (sym after)
+            (subst (λ l. Did event earlier (has_after l) (has_after (event ∷ earlier)) (LeavesAfter l) (LeavesAfter (event ∷ earlier))) (sym before)
+            (did_right event earlier (has_after earlier) (LeavesAfter earlier) (left_now earlier) right.0)),
         subst (λ l. LeavesAfter l (has_after l)) (sym after) (left_now (event ∷ earlier)),
         λ c during. inl during,
       )

@@ -5,7 +5,7 @@ use Rattle.druid_store.specs.declared.disk.DiskFolder.{DiskFolder}
 
 -- the calls made on a folder, the newest first
 abbrev pub calls_made : {R File Dir D : Type 0} → DiskFolder R File Dir D → List Event
-calls_made folder = folder.log.events
+calls_made folder = folder.calls.log.events
 
 -- how many of its calls have failed
 abbrev pub disk_failures : {R File Dir D : Type 0} → DiskFolder R File Dir D → ℕ

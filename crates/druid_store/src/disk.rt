@@ -1,4 +1,4 @@
-ghost use Rattle.std.specs.Prelude.{◌≡◌, ◌∷◌, ◌&&◌, IsErrOf, OnErr, ◌+◌, ◌≤◌, [], length, codes, bytes_eq, if◌then◌else◌, false, None, Ok, IfOk, IfErr, IfSome, MatchResult, All, string_bytes};
+ghost use Rattle.std.specs.Prelude.{◌≡◌, ◌∷◌, ◌&&◌, IsErrOf, OnOk, OnErr, ◌+◌, ◌≤◌, [], length, codes, bytes_eq, if◌then◌else◌, false, None, Ok, IfOk, IfErr, IfSome, MatchResult, All, string_bytes};
 ghost use Rattle.std.specs.Result.{is_ok};
 ghost use Rattle.druid_store.specs.Disk.{calls_made, disk_failures};
 ghost use Rattle.druid_store.specs.Event.{did_list, did_read, did_write, did_sync, did_rename, did_remove};
@@ -9,7 +9,7 @@ ghost use Rattle.druid_folder.specs.FileName.{is_file_name, IsFileName};
 ghost use Rattle.druid_folder.specs.Folder.{Torn, Follows, AreInOrder, max_file, names_of, faults_after, IsOwnFault};
 
 use crate::Device;
-use crate::log::{Log, Note};
+use crate::log::{Calls, Note};
 use crate::name::put_in_order;
 use druid_folder::{Folder, MAX_FILE, StoreFault, is_file_name};
 use std::alloc::{AllocError, Global};
@@ -28,12 +28,17 @@ use std::{fs, io};
 /// passes `Brand` to the function that makes the folder. That the real device is honest is a
 /// premise of whoever relies on it: no proof says what a real file gives back, nor what a stop
 /// leaves of it.
+///
+/// Each `write` syncs its file, and `sync` the folder. Once a write or a sync failed, each later
+/// `sync` is O1: the system may go on to give what it could not put onto the device, and a second
+/// sync does not tell. A folder made anew begins anew: what is there when it is made is to be on
+/// the device.
 #[derive(Drop)]
 pub struct DiskFolder<R: Files + AllocGlobal + Clone + Drop, D: Device> {
     rt: R,
     path: String,
     faults: u64,
-    log: Log,
+    calls: Calls,
     device: PhantomData<D>,
 }
 
@@ -48,7 +53,7 @@ impl<R: Files + AllocGlobal + Clone + Drop, D: Device> DiskFolder<R, D> {
             rt,
             path,
             faults: 0,
-            log: Log::new(),
+            calls: Calls::new(),
             device: PhantomData,
         }
     }
@@ -59,7 +64,7 @@ impl<R: Files + AllocGlobal + Clone + Drop, D: Device> DiskFolder<R, D> {
 impl<R: Files + AllocGlobal + Clone + Drop, D: Device> Folder for DiskFolder<R, D> {
     ghost use Rattle.std.specs.Prelude.{length};
     ghost use Rattle.druid_store.specs.Disk.{calls_made, disk_failures};
-    ghost use Rattle.druid_store.specs.Honest.{HonestIn, ElapsesOver, LeftFrom};
+    ghost use Rattle.druid_store.specs.Honest.{HonestIn, ElapsesOver, LeftFrom, AreKept};
     ghost use Rattle.druid_store.specs.HonestLaws.{honest_content, left_counts, left_alone};
 
     ghost is_honest = { λ d. HonestIn D.content D.left D.during (calls_made d) };
@@ -91,7 +96,7 @@ impl<R: Files + AllocGlobal + Clone + Drop, D: Device> Folder for DiskFolder<R, 
     {
         let found = files_in(&self.rt, alloc, folder_path(&self.path));
         let answer = count_fault(&mut self.faults, found);
-        self.log = self.log.then(&Note::List(&answer));
+        self.calls = self.calls.then(&Note::List(&answer));
         answer
     }
 
@@ -107,7 +112,7 @@ impl<R: Files + AllocGlobal + Clone + Drop, D: Device> Folder for DiskFolder<R, 
     {
         let found = read_named(&self.rt, alloc, &self.path, name);
         let answer = count_fault(&mut self.faults, found);
-        self.log = self.log.then(&Note::Read(name, &answer));
+        self.calls = self.calls.then(&Note::Read(name, &answer));
         answer
     }
 
@@ -132,18 +137,23 @@ impl<R: Files + AllocGlobal + Clone + Drop, D: Device> Folder for DiskFolder<R, 
         }
         let done = write_named(&self.rt, &self.path, name, bytes);
         let answer = count_fault(&mut self.faults, done);
-        self.log = self.log.then(&Note::Write(name, bytes, answer.is_ok()));
+        self.calls = self.calls.then(&Note::Write(name, bytes, answer.is_ok()));
         answer
     }
 
     fn sync(&mut self) -> Result<(), StoreFault>
         ensures noted { calls_made self.new ≡ did_sync (is_ok result) ∷ calls_made self.old }
+        ensures kept { OnOk result (AreKept (calls_made self.old)) }
         ensures counted { disk_failures self.new ≡ faults_after result (disk_failures self.old) }
         ensures fault { IfErr result IsOwnFault }
     {
-        let done = sync_folder(&self.rt, folder_path(&self.path));
+        let done = if self.calls.all_kept {
+            sync_folder(&self.rt, folder_path(&self.path))
+        } else {
+            Err(io::Error::from(ErrorKind::Other))
+        };
         let answer = count_fault(&mut self.faults, done);
-        self.log = self.log.then(&Note::Sync(answer.is_ok()));
+        self.calls = self.calls.then(&Note::Sync(answer.is_ok()));
         answer
     }
 
@@ -165,7 +175,7 @@ impl<R: Files + AllocGlobal + Clone + Drop, D: Device> Folder for DiskFolder<R, 
         }
         let done = rename_named(&self.rt, &self.path, from, to);
         let answer = count_fault(&mut self.faults, done);
-        self.log = self.log.then(&Note::Rename(from, to, answer.is_ok()));
+        self.calls = self.calls.then(&Note::Rename(from, to, answer.is_ok()));
         answer
     }
 
@@ -184,7 +194,7 @@ impl<R: Files + AllocGlobal + Clone + Drop, D: Device> Folder for DiskFolder<R, 
         }
         let done = remove_named(&self.rt, &self.path, name);
         let answer = count_fault(&mut self.faults, done);
-        self.log = self.log.then(&Note::Remove(name, answer.is_ok()));
+        self.calls = self.calls.then(&Note::Remove(name, answer.is_ok()));
         answer
     }
 

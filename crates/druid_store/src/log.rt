@@ -1,6 +1,7 @@
-ghost use Rattle.std.specs.Prelude.{◌≡◌, List, [], ◌∷◌};
+ghost use Rattle.std.specs.Prelude.{◌≡◌, true, List, [], ◌∷◌};
 ghost use Rattle.std.specs.Borrow.{ftrue};
 ghost use Rattle.druid_store.specs.Event.{Event};
+ghost use Rattle.druid_store.specs.Honest.{is_kept, AreKept};
 
 use druid_folder::StoreFault;
 use std::marker::Model;
@@ -44,5 +45,50 @@ impl Log {
         ensures { result.events ≡ event_of _note.now ∷ self.now.events }
     {
         Log {}
+    }
+}
+
+impl Note<'_> {
+    ghost use Rattle.druid_store.specs.Noted.{event_of};
+
+    // Whether it was no write and no sync that failed.
+    fn is_kept(&self) -> bool
+        ensures { result ≡ is_kept (event_of self.now) }
+    {
+        match *self {
+            Note::Write(_, _, done) | Note::Sync(done) => done,
+            _ => true,
+        }
+    }
+}
+
+// The calls made on a folder of the system, and whether no write and no sync among them failed.
+#[derive(Drop)]
+pub(crate) struct Calls {
+    pub(crate) log: Log,
+    pub(crate) all_kept: bool,
+    ghost valid: { all_kept ≡ true → AreKept log.events },
+}
+
+impl Calls {
+    ghost use Rattle.druid_store.specs.Noted.{event_of};
+
+    pub(crate) fn new() -> Calls
+        ensures { result.log.events ≡ [] }
+    {
+        Calls {
+            log: Log::new(),
+            all_kept: true,
+        }
+    }
+
+    // These, and one more.
+    pub(crate) fn then(&self, note: &Note<'_>) -> Calls
+        ensures { result.log.events ≡ event_of note.now ∷ self.now.log.events }
+    {
+        Calls {
+            log: self.log.then(note),
+            all_kept: self.all_kept && note.is_kept(),
+        }
     }
 }

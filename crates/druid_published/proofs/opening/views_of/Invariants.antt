@@ -1,4 +1,4 @@
-use Rattle.std.proofs.Common.{◌≡◌, replicate}
+use Rattle.std.proofs.Common.{◌≡◌, [], replicate}
 use Rattle.left_right.specs.Sides.{view}
 use Rattle.druid_published.specs.Places.{known}
 use Rattle.druid_published.specs.declared.rule.Known.{Known}
@@ -8,4 +8,4 @@ use Rattle.druid_published.proofs.opening.views_of.Given as goal
 abbrev pub invariant-loop-place : goal.invariant-loop-place
 invariant-loop-place g l =
     (view {T = Shown} {V = Known} l.writer.desk.place ≡ known g.J.Publication.book g.J.Publication.opening)
-    × (l.views.items ≡ replicate l._place l.seen)
+    × (l.writer.desk.shown.value.seen.log ≡ []) × (l.views.items ≡ replicate l._place l.seen)

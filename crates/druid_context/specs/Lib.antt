@@ -1,0 +1,2 @@
+-- what public contracts rest on
+pub mod Timeouts

@@ -1,0 +1,7 @@
+-- what public contracts rest on
+pub mod Limits
+pub mod Monitored
+pub mod Snapshots
+-- words of private contracts
+pub mod Marks
+pub mod Faults

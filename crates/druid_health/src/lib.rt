@@ -1,0 +1,15 @@
+//! Which nodes failed lately: noted of each exchange, remembered without a lock, and asked before each query.
+#![tactic(auto)]
+
+mod clock;
+mod counts;
+mod health;
+mod mark;
+mod monitored_link;
+mod standing;
+
+pub use clock::monotonic_millis;
+pub use counts::{Counts, FAULTS};
+pub use health::{Health, LEAST_PAUSE, MAX_NODES, Snapshot};
+pub use monitored_link::MonitoredLink;
+pub use standing::{Asker, Standing};

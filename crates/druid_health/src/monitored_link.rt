@@ -1,0 +1,89 @@
+//! Links whose exchanges are noted.
+ghost use Rattle.std.specs.Prelude.{◌≡◌};
+
+use crate::{Asker, Health, monotonic_millis};
+use druid_link::Link;
+use druid_message::WireFault;
+use std::alloc::Global;
+use std::marker::Model;
+use std::sync::Arc;
+use std::time::Clock;
+
+/// A link to a node, which notes how each of its exchanges ended. Its exchanges are those of the link inside.
+#[derive(Drop)]
+pub struct MonitoredLink<L: Link, C: Clock> {
+    link: L,
+    clock: C,
+    node: u16,
+    asker: Asker,
+    health: Arc<Health, Global>,
+}
+
+impl<L: Link, C: Clock> Model for MonitoredLink<L, C> {
+    ghost use Rattle.druid_health.specs.Monitored.{Monitored};
+
+    ghost Value = { Monitored L };
+
+    ghost view = { λ a. record { link = a.link; node = a.node } };
+}
+
+impl<L: Link, C: Clock> MonitoredLink<L, C> {
+    /// The link to a node, whose exchanges are noted as that node's, for who makes them, at the clock's time.
+    pub fn new(
+        link: L,
+        clock: C,
+        node: u16,
+        asker: Asker,
+        health: Arc<Health, Global>,
+    ) -> MonitoredLink<L, C>
+        ensures { result ≡ record { link = link; node = node } }
+    {
+        MonitoredLink {
+            link,
+            clock,
+            node,
+            asker,
+            health,
+        }
+    }
+
+    /// The link inside.
+    pub fn link(&self) -> &L
+        ensures { result.now ≡ self.now.link }
+    {
+        &self.link
+    }
+}
+
+// How an exchange ended, without its bytes.
+fn ended(came: &Result<Vec<u8>, WireFault>) -> Result<(), WireFault> {
+    match came {
+        Ok(_) => Ok(()),
+        Err(fault) => Err(*fault),
+    }
+}
+
+impl<L: Link, C: Clock> Link for MonitoredLink<L, C> {
+    ghost exchanges = { λ before request came after. L.exchanges before.link request came after.link };
+
+    ghost faults = { λ link. L.faults link.link };
+
+    fn exchange(&mut self, alloc: Global, request: &[u8]) -> Result<Vec<u8>, WireFault> {
+        let came = self.link.exchange(alloc, request);
+        self.health.note(
+            self.node,
+            self.asker,
+            ended(&came),
+            monotonic_millis(&self.clock),
+        );
+        came
+    }
+
+    fn hasten(&mut self, millis: Option<u64>) {
+        self.link.hasten(millis);
+    }
+
+    fn faults(&self) -> u64 {
+        self.link.faults()
+    }
+}

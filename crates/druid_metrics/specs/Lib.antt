@@ -1,0 +1,5 @@
+pub mod Text
+pub mod Pieces
+pub mod Routes
+pub mod Response
+pub mod Counted

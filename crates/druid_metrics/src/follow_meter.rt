@@ -1,0 +1,78 @@
+//! What a broker counts of a node that it follows.
+ghost use Rattle.std.specs.Prelude.{◌≡◌, ◌<◌, IfSome, length};
+
+use crate::families::{EXCHANGE_ENDS, Followed, TURN_ENDS};
+use crate::meter::Counts;
+use std::alloc::{AllocError, Global};
+
+// The places of the sums: the incarnation and the count of the mark that is held, and when the node was heard.
+const INCARNATION: usize = 0;
+
+const CHANGES: usize = 1;
+
+const HEARD: usize = 2;
+
+/// The place of an end among those that there are, from 0: None where it is none of them.
+pub fn end_place(ends: &[&str], end: &str) -> Option<usize>
+    ensures { IfSome result (λ place. place < length ends.now) }
+{
+    ends.iter().position(|one| *one == end)
+}
+
+/// What a broker counts of a node that it follows, in cells that no writer waits for.
+#[derive(Drop)]
+pub struct FollowMeter {
+    turns: Counts,
+    exchanges: Counts,
+    held: Counts,
+}
+
+impl FollowMeter {
+    /// One that has counted nothing.
+    pub fn new(alloc: Global) -> Result<FollowMeter, AllocError> {
+        Ok(FollowMeter {
+            turns: Counts::new(alloc, TURN_ENDS.len())?,
+            exchanges: Counts::new(alloc, EXCHANGE_ENDS.len())?,
+            held: Counts::new(alloc, 3)?,
+        })
+    }
+
+    /// Counts a turn by its end, one of `TURN_ENDS`; another is not counted.
+    pub fn turn(&self, end: &str) {
+        if let Some(place) = end_place(&TURN_ENDS, end) {
+            self.turns.add(place, 1);
+        }
+    }
+
+    /// Counts an exchange by its end, one of `EXCHANGE_ENDS`; another is not counted.
+    pub fn exchange(&self, end: &str) {
+        if let Some(place) = end_place(&EXCHANGE_ENDS, end) {
+            self.exchanges.add(place, 1);
+        }
+    }
+
+    /// Notes the mark that is held of the node.
+    pub fn hold(&self, incarnation: u64, changes: u64) {
+        self.held.set(INCARNATION, incarnation);
+        self.held.set(CHANGES, changes);
+    }
+
+    /// Notes that a turn did not fail at an instant, in milliseconds since 1970.
+    pub fn hear(&self, at: u64) {
+        self.held.set(HEARD, at);
+    }
+
+    /// What was counted so far of the node of that name: each number is one that it had while this was called.
+    pub fn read<'a>(&self, alloc: Global, node: &'a str) -> Result<Followed<'a>, AllocError> {
+        let held = self.held.read(alloc)?;
+        let number = |place: usize| held.get(place).copied().unwrap_or(0);
+        Ok(Followed {
+            node,
+            incarnation: number(INCARNATION),
+            changes: number(CHANGES),
+            heard: number(HEARD),
+            turns: self.turns.read(alloc)?,
+            exchanges: self.exchanges.read(alloc)?,
+        })
+    }
+}

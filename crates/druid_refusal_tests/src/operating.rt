@@ -1,0 +1,167 @@
+//! What servers count and log.
+use crate::marks::{assert_call, begin, end};
+use druid_log::{Event, Level, Refusals, line_of};
+use druid_metrics::{
+    Counts, FollowMeter, Meter, NodeState, Readings, Route, broker_families, metrics_response,
+    node_families, render, server_families, server_histogram,
+};
+use druid_time::Instant;
+use std::alloc::{AllocError, Global};
+use std::process::Abort;
+
+// Whether a call gave a list of so many, or was refused memory.
+fn has_count<T>(given: &Result<Vec<T>, AllocError>, count: usize) -> bool {
+    match given {
+        Ok(list) => list.len() == count,
+        Err(AllocError) => true,
+    }
+}
+
+// What a server counted: one query.
+fn counted(rt: &impl Abort, alloc: Global) -> Meter {
+    let meter = Meter::new(alloc).expect(rt, "memory");
+    meter.answer(Route::Query, Some(200), 9, 5);
+    meter
+}
+
+fn counts(rt: &impl Abort, alloc: Global) {
+    begin(rt, alloc);
+    let made = end(rt, alloc, Counts::new(alloc, 3));
+    assert_call(
+        rt,
+        "Counts::new",
+        match &made {
+            Ok(counts) => counts.len() == 3,
+            Err(AllocError) => true,
+        },
+    );
+    let counts = Counts::new(alloc, 3).expect(rt, "memory");
+    begin(rt, alloc);
+    let read = end(rt, alloc, counts.read(alloc));
+    assert_call(rt, "Counts::read", has_count(&read, 3));
+}
+
+fn meters(rt: &impl Abort, alloc: Global) {
+    begin(rt, alloc);
+    let made = end(rt, alloc, Meter::new(alloc));
+    assert_call(rt, "Meter::new", matches!(&made, Ok(_) | Err(AllocError)));
+    let meter = counted(rt, alloc);
+    begin(rt, alloc);
+    let read = end(rt, alloc, meter.read(alloc));
+    assert_call(
+        rt,
+        "Meter::read",
+        match &read {
+            Ok(readings) => readings.bytes() == 9,
+            Err(AllocError) => true,
+        },
+    );
+}
+
+fn of_a_server(rt: &impl Abort, alloc: Global, readings: &Readings) {
+    begin(rt, alloc);
+    let families = end(rt, alloc, server_families(alloc, "n0", readings));
+    assert_call(rt, "server_families", has_count(&families, 3));
+    begin(rt, alloc);
+    let histogram = end(rt, alloc, server_histogram(alloc, "n0", readings));
+    assert_call(
+        rt,
+        "server_histogram",
+        match &histogram {
+            Ok(histogram) => histogram.spreads().len() == 1,
+            Err(AllocError) => true,
+        },
+    );
+}
+
+fn of_nodes(rt: &impl Abort, alloc: Global) {
+    let state = NodeState {
+        incarnation: 1,
+        changes: 2,
+        segments: 3,
+        rows: 4,
+        bytes: 5,
+    };
+    begin(rt, alloc);
+    let families = end(rt, alloc, node_families(alloc, "n0", &state));
+    assert_call(rt, "node_families", has_count(&families, 5));
+    begin(rt, alloc);
+    let made = end(rt, alloc, FollowMeter::new(alloc));
+    assert_call(
+        rt,
+        "FollowMeter::new",
+        matches!(&made, Ok(_) | Err(AllocError)),
+    );
+    let meter = FollowMeter::new(alloc).expect(rt, "memory");
+    meter.turn("Moved");
+    begin(rt, alloc);
+    let read = end(rt, alloc, meter.read(alloc, "n0"));
+    assert_call(
+        rt,
+        "FollowMeter::read",
+        match &read {
+            Ok(followed) => followed.node == "n0" && followed.turns.len() == 11,
+            Err(AllocError) => true,
+        },
+    );
+    let followed = [meter.read(alloc, "n0").expect(rt, "memory")];
+    begin(rt, alloc);
+    let families = end(rt, alloc, broker_families(alloc, "b", &followed));
+    assert_call(rt, "broker_families", has_count(&families, 5));
+}
+
+fn texts(rt: &impl Abort, alloc: Global, readings: &Readings) {
+    let families = server_families(alloc, "n0", readings).expect(rt, "memory");
+    let histograms = [server_histogram(alloc, "n0", readings).expect(rt, "memory")];
+    let whole = render(alloc, &families, &histograms).expect(rt, "memory");
+    begin(rt, alloc);
+    let text = end(rt, alloc, render(alloc, &families, &histograms));
+    assert_call(rt, "render", has_count(&text, whole.len()));
+    let whole = metrics_response(alloc, b"a 1\n").expect(rt, "memory");
+    begin(rt, alloc);
+    let response = end(rt, alloc, metrics_response(alloc, b"a 1\n"));
+    assert_call(rt, "metrics_response", has_count(&response, whole.len()));
+}
+
+fn lines(rt: &impl Abort, alloc: Global) {
+    let at = Instant::parse("2024-05-02").expect(rt, "an instant");
+    let event = Event::Loaded { file: "a.seg" };
+    begin(rt, alloc);
+    let line = end(rt, alloc, line_of(alloc, Level::Info, at, "n0", &event));
+    assert_call(
+        rt,
+        "line_of",
+        match &line {
+            Ok(line) => line.is_some(),
+            Err(AllocError) => true,
+        },
+    );
+    let mut refusals = Refusals::new(alloc);
+    begin(rt, alloc);
+    let logged = end(rt, alloc, refusals.refuse("a.seg", "N2: F4"));
+    let noted = refusals.refuse("a.seg", "N2: F4").expect(rt, "memory");
+    assert_call(
+        rt,
+        "Refusals::refuse",
+        match logged {
+            Ok(logged) => logged && !noted,
+            Err(AllocError) => noted,
+        },
+    );
+}
+
+#[test]
+fn of_metrics(rt: HostRuntime) {
+    let alloc = rt.alloc();
+    counts(&rt, alloc);
+    meters(&rt, alloc);
+    let readings = counted(&rt, alloc).read(alloc).expect(&rt, "memory");
+    of_a_server(&rt, alloc, &readings);
+    of_nodes(&rt, alloc);
+    texts(&rt, alloc, &readings);
+}
+
+#[test]
+fn of_a_log(rt: HostRuntime) {
+    lines(&rt, rt.alloc());
+}
