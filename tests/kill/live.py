@@ -80,15 +80,25 @@ def incarnations(cluster):
     return [json.loads(exchange(port, 'GET', ASK)[1])['counter']['hash'] for port in cluster.nodes]
 
 
+def has_settled(cluster, is_there):
+    """Whether the second node serves what its folder has, and the broker stands at that node's mark."""
+    node = json.loads(exchange(cluster.nodes[1], 'GET', ASK)[1])
+    status, body = exchange(cluster.broker, 'GET', '/druid-internal/v1/inventory/1')
+    return status == 200 and len(node['requests']) == is_there and json.loads(body)['counter'] == node['counter']
+
+
 def wait_for(cluster, wanted, within=10):
-    """Waits until the answer is that and stays: one from before the last moves may be the same, and those between still to come."""
-    end, same = time.monotonic() + within, 0
-    while same < 20:
-        count = count_of(cluster)
-        same = same + 1 if count == wanted else 0
+    """Waits until the broker knows the last move: from then on the answer has to be that, and to stay. Before, one from before the last
+    moves may be the same, with others still to come."""
+    end = time.monotonic() + within
+    while not has_settled(cluster, wanted == OF_NEW):
         if time.monotonic() > end:
-            raise SystemExit(f'after {within} s the count is {count}, and that of the files {wanted}')
+            raise SystemExit(f'after {within} s the broker does not know the last move')
         time.sleep(.005)
+    for _ in range(20):
+        count = count_of(cluster)
+        if count != wanted:
+            raise SystemExit(f'the count is {count}, that of the files {wanted}, and the broker knows them')
 
 
 def live_and_die(cluster, folder, seed, seen):
