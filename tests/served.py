@@ -51,9 +51,9 @@ def write_segments(folder, segments, by_columns=False):
 
 class Cluster:
     """Nodes over folders and one broker that follows them, in one process; it answers until it is ended. With `every` it goes on, and its
-    nodes look at their folders each `watch` milliseconds."""
+    nodes look at their folders each `watch` milliseconds. `front` is how many front threads each server has."""
 
-    def __init__(self, folder, held, workers=2, broker_workers=4, turns=1, environment=None, prefix=(), every=None, watch=None):
+    def __init__(self, folder, held, workers=2, broker_workers=4, turns=1, environment=None, prefix=(), every=None, watch=None, front=None):
         self.folder, self.process = folder, None
         self.errors = subprocess.DEVNULL if every else None
         self.broker, *self.nodes = free_ports(1 + len(held))
@@ -63,6 +63,8 @@ class Cluster:
                  for number, port in enumerate(self.nodes)]
         config = {'brokers': [{'address': f'127.0.0.1:{self.broker}', 'workers': broker_workers}], 'connections': 1_000_000, 'kept': 100,
                   'nodes': nodes, 'queries': [], 'turns': turns}
+        for server in [*nodes, *config['brokers']]:
+            server.update({'front': front} if front else {})
         if every:
             del config['connections']
             config['every'] = every

@@ -258,7 +258,7 @@ fn recovers<
         && has_counts(health, 1, 61, 0)
 }
 
-// Both hang: a query that says 50 milliseconds is answered by then, without what they serve.
+// Both hang: a query that says 50 milliseconds is answered by then, without what they serve, and neither ails for that.
 fn hurries<
     R: Net<Listener = TcpListener, Stream = TcpStream>
         + Clock
@@ -275,7 +275,9 @@ fn hurries<
     let start = monotonic_millis(&rt);
     let answer = answered(rt, alloc, view, &mut links, &replicas.health, 0, HURRIED);
     let waited = passed(&rt, start);
-    answer.as_str() == SHORT && 50 <= waited && waited < LIMIT * 50
+    let health = &*replicas.health;
+    let are_well = health.ails(0) == Some(false) && health.ails(1) == Some(false);
+    answer.as_str() == SHORT && 50 <= waited && waited < LIMIT * 50 && are_well
 }
 
 // Whether it recovers, once the first replica is served as well.

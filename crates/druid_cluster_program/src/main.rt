@@ -2,7 +2,7 @@
 //! serves the cluster of a config.
 #![tactic(auto)]
 
-use druid_program::{Exit, asks_for_explanation, run};
+use druid_program::{Environment, Exit, asks_for_explanation, run, start_log};
 use std::io::{BufReader, BufWriter};
 use std::process::ExitCode;
 use std::{env, io};
@@ -26,22 +26,34 @@ fn explains(rt: &HostRuntime) -> bool {
     }
 }
 
+// How much the environment asks to log.
+fn level(rt: &HostRuntime) -> String {
+    env::var(rt, "DRUID_CLUSTER_LOG").unwrap_or(String::new(rt.alloc()))
+}
+
+// The part of a cluster that the environment names, if it names one.
+fn part(rt: &HostRuntime) -> Option<String> {
+    env::var(rt, "DRUID_CLUSTER_PART").ok()
+}
+
 fn main(rt: HostRuntime) -> ExitCode {
     let mut errors = rt.stderr();
     let reader = BufReader::new(rt.alloc(), rt.reader());
     let writer = BufWriter::new(rt.alloc(), io::writer(&rt));
-    let (Ok(mut reader), Ok(mut writer)) = (reader, writer) else {
+    let log = start_log(&rt, rt.alloc(), level(&rt).as_str(), rt.stderr());
+    let (Ok(mut reader), Ok(mut writer), Ok(log)) = (reader, writer, log) else {
         return ExitCode::from(Exit::Device.status());
     };
+    let environment = Environment::new(explains(&rt), part(&rt), log);
     let words = words(&rt);
     let ending = run(
         &rt,
         rt.alloc(),
         words,
+        &environment,
         &mut reader,
         &mut writer,
         &mut errors,
-        explains(&rt),
     );
     ExitCode::from(ending.status)
 }

@@ -4,3 +4,4 @@ pub mod FormLemmas
 pub mod LimitLemmas
 pub mod PartLemmas
 pub mod BadLemmas
+pub mod WordLemmas

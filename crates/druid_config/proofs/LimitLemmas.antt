@@ -12,9 +12,9 @@ use Rattle.druid_base.proofs.StepLemmas.{stepped}
 use Rattle.druid_base.specs.Each.{each_of}
 use Rattle.druid_base.proofs.EachLemmas.{each_sound}
 use Rattle.druid_segid.specs.Names.{is_name}
-use Rattle.druid_config.specs.Limits.{max_servers, max_workers, max_kept, max_count, max_rest, max_patience, usual_patience}
+use Rattle.druid_config.specs.Limits.{max_servers, max_workers, max_kept, max_count, max_rest, max_patience, usual_patience, max_front}
 use Rattle.druid_base.specs.Fields.{list_at, text_at, number_at}
-use Rattle.druid_config.specs.Configs.{IsObject, Node, Broker, Asked, Posted, Reported, asked_of, is_address, name_at, address_at, status_of, status_at, some_at, count_at, rest_of, rest_at, patience_of, patience_at, is_endless, connections_at, node_at, broker_at, query_at, are_few, names_of, nodes_in, brokers_in, config_at, IsRest, IsPatience, IsAddress, IsNode, IsBroker, IsWithinLimits}
+use Rattle.druid_config.specs.Configs.{IsObject, Node, Broker, Asked, Posted, Reported, asked_of, is_address, name_at, address_at, status_of, status_at, some_at, count_at, rest_of, rest_at, patience_of, front_of, front_at, patience_at, is_endless, connections_at, node_at, broker_at, query_at, are_few, names_of, nodes_in, brokers_in, config_at, IsRest, IsPatience, IsAddress, IsNode, IsBroker, IsWithinLimits}
 use Rattle.druid_base.specs.Distinct.{AreDistinct, are_distinct}
 use Rattle.druid_config.proofs.PartLemmas.{node_parts, broker_parts, query_parts, config_parts}
 
@@ -89,6 +89,13 @@ patience_so d (Some there) n e =
 patience_is : (d : Data) (n : ℕ) → patience_at d ≡ Some n → IsPatience n
 patience_is d n e = patience_so d (get (codes "patience") d) n e
 
+front_so : (d : Data) (o : Option Data) (n : ℕ) → front_of d o ≡ Some n → n ≤ max_front
+front_so d None n e = let none = same_Some 0 n e in omega (arith, none)
+front_so d (Some there) n e = leb-true n max_front (passed (λ n. nat_le n max_front) (number_at (codes "front") d) n e)
+
+pub front_is : (d : Data) (n : ℕ) → front_at d ≡ Some n → n ≤ max_front
+front_is d n e = front_so d (get (codes "front") d) n e
+
 rest_given : (o : Option ℕ) (rest : Option ℕ) → option_map Some o ≡ Some rest → IsSome rest
 rest_given None rest e = absurd cc
 rest_given (Some n) rest e = subst (λ r. IsSome r) (same_Some (Some n) rest e) refl
@@ -118,6 +125,7 @@ node_is d node read =
       few_workers = workers.below;
       rest = rest_is (codes "watch") d node.watch parts.watch;
       status = status_is d node.status parts.status;
+      few_front = front_is d node.front parts.front;
     }
 
 broker_is : (d : Data) (broker : Broker) → broker_at d ≡ Some broker → IsBroker broker
@@ -129,6 +137,7 @@ broker_is d broker read =
       some_workers = workers.above;
       few_workers = workers.below;
       status = status_is d broker.status parts.status;
+      few_front = front_is d broker.front parts.front;
     }
 
 query_is : (brokers : ℕ) (d : Data) (asked : Asked) → query_at brokers d ≡ Some asked → asked.broker < brokers

@@ -8,7 +8,7 @@ use Rattle.druid_base.specs.Options.{◌>>=◌}
 use Rattle.druid_segid.specs.Identifier.{Identifier}
 use Rattle.druid_base.specs.Fields.{text_at}
 use Rattle.druid_config.specs.Limits.{max_workers, max_kept}
-use Rattle.druid_config.specs.Configs.{Node, Broker, Asked, Reported, node_of, broker_of, reported_by, name_at, address_at, status_at, some_at, count_at, rest_at, patience_at, is_endless, connections_at, loads_at, tombstones_at, place_at, object_at, node_at, broker_at, query_at, nodes_at, brokers_at, queries_at, config_at}
+use Rattle.druid_config.specs.Configs.{Node, Broker, Asked, Reported, node_of, broker_of, reported_by, name_at, address_at, status_at, front_at, some_at, count_at, rest_at, patience_at, is_endless, connections_at, loads_at, tombstones_at, place_at, object_at, node_at, broker_at, query_at, nodes_at, brokers_at, queries_at, config_at}
 
 pub some_of : {A : Type 0} (o : Option A) → IsSome o → (x : A) × (o ≡ Some x)
 some_of None some = absurd cc
@@ -28,14 +28,19 @@ pub record NodeParts (d : Data) (node : Node) : Type 0 where
   pub workers : some_at max_workers (codes "workers") d ≡ Some node.workers
   pub watch : rest_at (codes "watch") d ≡ Some node.watch
   pub status : status_at d ≡ Some node.status
+  pub front : front_at d ≡ Some node.front
 
-abbrev node_last : Data → List ℕ → List ℕ → List ℕ → List (List ℕ) → List Identifier → ℕ → Option ℕ → Option Node
-node_last d name address folder loads tombstones workers watch =
-    status_at d >>= λ status. Some (node_of name address folder loads tombstones workers watch status)
+abbrev node_last : Data → List ℕ → List ℕ → List ℕ → List (List ℕ) → List Identifier → ℕ → Option ℕ → Option (List ℕ) → Option Node
+node_last d name address folder loads tombstones workers watch status =
+    front_at d >>= λ front. Some (node_of name address folder loads tombstones workers watch status front)
+
+abbrev node_eighth : Data → List ℕ → List ℕ → List ℕ → List (List ℕ) → List Identifier → ℕ → Option ℕ → Option Node
+node_eighth d name address folder loads tombstones workers watch =
+    status_at d >>= node_last d name address folder loads tombstones workers watch
 
 abbrev node_seventh : Data → List ℕ → List ℕ → List ℕ → List (List ℕ) → List Identifier → ℕ → Option Node
 node_seventh d name address folder loads tombstones workers =
-    rest_at (codes "watch") d >>= node_last d name address folder loads tombstones workers
+    rest_at (codes "watch") d >>= node_eighth d name address folder loads tombstones workers
 
 abbrev node_sixth : Data → List ℕ → List ℕ → List ℕ → List (List ℕ) → List Identifier → Option Node
 node_sixth d name address folder loads tombstones =
@@ -62,10 +67,11 @@ node_parts d =
     (λ folder h. each_next (NodeParts d) (loads_at d) (node_fifth d name address folder)
     (λ loads i. each_next (NodeParts d) (tombstones_at d) (node_sixth d name address folder loads)
     (λ tombstones k. each_next (NodeParts d) (some_at max_workers (codes "workers") d) (node_seventh d name address folder loads tombstones)
-    (λ workers j. each_next (NodeParts d) (rest_at (codes "watch") d) (node_last d name address folder loads tombstones workers)
-    (λ watch w. each_next (NodeParts d) (status_at d) (λ status. Some (node_of name address folder loads tombstones workers watch status))
-    (λ status s. given_so (NodeParts d) (node_of name address folder loads tombstones workers watch status)
-    (record { name = a; address = b; folder = h; loads = i; tombstones = k; workers = j; watch = w; status = s })))))))))
+    (λ workers j. each_next (NodeParts d) (rest_at (codes "watch") d) (node_eighth d name address folder loads tombstones workers)
+    (λ watch w. each_next (NodeParts d) (status_at d) (node_last d name address folder loads tombstones workers watch)
+    (λ status s. each_next (NodeParts d) (front_at d) (λ front. Some (node_of name address folder loads tombstones workers watch status front))
+    (λ front f. given_so (NodeParts d) (node_of name address folder loads tombstones workers watch status front)
+    (record { name = a; address = b; folder = h; loads = i; tombstones = k; workers = j; watch = w; status = s; front = f }))))))))))
 
 -- ---- brokers
 
@@ -73,20 +79,25 @@ pub record BrokerParts (d : Data) (broker : Broker) : Type 0 where
   pub address : address_at (codes "address") d ≡ Some broker.address
   pub workers : some_at max_workers (codes "workers") d ≡ Some broker.workers
   pub status : status_at d ≡ Some broker.status
+  pub front : front_at d ≡ Some broker.front
 
-abbrev broker_last : Data → List ℕ → ℕ → Option Broker
-broker_last d address workers = status_at d >>= λ status. Some (broker_of address workers status)
+abbrev broker_last : Data → List ℕ → ℕ → Option (List ℕ) → Option Broker
+broker_last d address workers status = front_at d >>= λ front. Some (broker_of address workers status front)
+
+abbrev broker_third : Data → List ℕ → ℕ → Option Broker
+broker_third d address workers = status_at d >>= broker_last d address workers
 
 abbrev broker_second : Data → List ℕ → Option Broker
-broker_second d address = some_at max_workers (codes "workers") d >>= broker_last d address
+broker_second d address = some_at max_workers (codes "workers") d >>= broker_third d address
 
 pub broker_parts : (d : Data) (broker : Broker) → broker_at d ≡ Some broker → BrokerParts d broker
 unfolding broker_at
 broker_parts d =
     each_next (BrokerParts d) (address_at (codes "address") d) (broker_second d)
-    (λ address a. each_next (BrokerParts d) (some_at max_workers (codes "workers") d) (broker_last d address)
-    (λ workers b. each_next (BrokerParts d) (status_at d) (λ status. Some (broker_of address workers status))
-    (λ status s. given_so (BrokerParts d) (broker_of address workers status) (record { address = a; workers = b; status = s }))))
+    (λ address a. each_next (BrokerParts d) (some_at max_workers (codes "workers") d) (broker_third d address)
+    (λ workers b. each_next (BrokerParts d) (status_at d) (broker_last d address workers)
+    (λ status s. each_next (BrokerParts d) (front_at d) (λ front. Some (broker_of address workers status front))
+    (λ front f. given_so (BrokerParts d) (broker_of address workers status front) (record { address = a; workers = b; status = s; front = f })))))
 
 -- ---- queries
 

@@ -6,7 +6,7 @@ use Rattle.serde_json.specs.Data.{Data, Items}
 use Rattle.serde_json.specs.Find.{get_item}
 use Rattle.druid_base.specs.Each.{each_of}
 use Rattle.druid_base.specs.Fields.{list_at, text_at}
-use Rattle.druid_config.specs.Configs.{Node, Broker, name_at, address_at, loads_at, tombstones_at, some_at, count_at, rest_at, status_at, patience_at, connections_at, place_at, object_at, node_at, broker_at, brokers_at, names_of, are_few}
+use Rattle.druid_config.specs.Configs.{Node, Broker, name_at, address_at, loads_at, tombstones_at, some_at, count_at, rest_at, status_at, front_at, patience_at, connections_at, place_at, object_at, node_at, broker_at, brokers_at, names_of, are_few}
 use Rattle.druid_config.specs.Limits.{max_workers, max_kept}
 use Rattle.druid_config.specs.declared.bad_field.BadField.{BadField}
 use Rattle.druid_config.specs.declared.bad_field.BadField.TheVariants as bad
@@ -44,11 +44,13 @@ BreaksNode items place node.Tombstones = Lacks tombstones_at items place
 BreaksNode items place node.Workers = Lacks (some_at max_workers (codes "workers")) items place
 BreaksNode items place node.Watch = Lacks (rest_at (codes "watch")) items place
 BreaksNode items place node.Status = Lacks status_at items place
+BreaksNode items place node.Front = Lacks front_at items place
 
 abbrev pub BreaksBroker : Items → ℕ → BrokerRule → Type 0
 BreaksBroker items place broker.Address = Lacks (address_at (codes "address")) items place
 BreaksBroker items place broker.Workers = Lacks (some_at max_workers (codes "workers")) items place
 BreaksBroker items place broker.Status = Lacks status_at items place
+BreaksBroker items place broker.Front = Lacks front_at items place
 
 -- the same of queries to so many brokers
 abbrev pub BreaksQuery : ℕ → Items → ℕ → QueryRule → Type 0

@@ -13,13 +13,13 @@ use Rattle.druid_base.specs.Distinct.{AreDistinct, are_distinct}
 use Rattle.druid_base.specs.Fields.{list_at, text_at, number_at}
 use Rattle.druid_shard_text.specs.Json.{source_at, interval_at, version_at}
 use Rattle.druid_base.specs.Each.{each_of}
-use Rattle.druid_config.specs.Limits.{max_servers, max_workers, max_kept, max_count, max_rest, max_patience, usual_patience, max_port}
+use Rattle.druid_config.specs.Limits.{max_servers, max_workers, max_kept, max_count, max_rest, max_patience, usual_patience, max_front, max_port}
 
 -- ---- what a config tells
 
 -- a data node: its name, where it listens, the path of its folder, the files that it loads, the tombstones that it places,
--- how many threads answer, after how many milliseconds each it looks at its folder, if it does, and where it answers how it is,
--- if it does
+-- how many threads answer, after how many milliseconds each it looks at its folder, if it does, where it answers how it is, if it
+-- does, and how many front threads it has
 pub record Node : Type 0 where
   pub name : List ℕ
   pub address : List ℕ
@@ -29,9 +29,10 @@ pub record Node : Type 0 where
   pub workers : ℕ
   pub watch : Option ℕ
   pub status : Option (List ℕ)
+  pub front : ℕ
 
-abbrev pub node_of : List ℕ → List ℕ → List ℕ → List (List ℕ) → List Identifier → ℕ → Option ℕ → Option (List ℕ) → Node
-node_of name address folder loads tombstones workers watch status = record {
+abbrev pub node_of : List ℕ → List ℕ → List ℕ → List (List ℕ) → List Identifier → ℕ → Option ℕ → Option (List ℕ) → ℕ → Node
+node_of name address folder loads tombstones workers watch status front = record {
   name = name;
   address = address;
   folder = folder;
@@ -40,16 +41,18 @@ node_of name address folder loads tombstones workers watch status = record {
   workers = workers;
   watch = watch;
   status = status;
+  front = front;
 }
 
--- a broker: where it listens, how many threads answer, and where it answers how it is, if it does
+-- a broker: where it listens, how many threads answer, where it answers how it is, if it does, and how many front threads it has
 pub record Broker : Type 0 where
   pub address : List ℕ
   pub workers : ℕ
   pub status : Option (List ℕ)
+  pub front : ℕ
 
-abbrev pub broker_of : List ℕ → ℕ → Option (List ℕ) → Broker
-broker_of address workers status = record { address = address; workers = workers; status = status }
+abbrev pub broker_of : List ℕ → ℕ → Option (List ℕ) → ℕ → Broker
+broker_of address workers status front = record { address = address; workers = workers; status = status; front = front }
 
 -- a query as it is posted: the place of the broker that is asked, and its text
 pub record Posted : Type 0 where
@@ -191,6 +194,14 @@ patience_of d (Some there) = some_at max_patience (codes "patience") d
 abbrev pub patience_at : Data → Option ℕ
 patience_at d = patience_of d (get (codes "patience") d)
 
+-- how many front threads a server has: none where there is no such key
+abbrev pub front_of : Data → Option Data → Option ℕ
+front_of d None = Some 0
+front_of d (Some there) = option_and_then (λ n. if nat_le n max_front then Some n else None) (number_at (codes "front") d)
+
+abbrev pub front_at : Data → Option ℕ
+front_at d = front_of d (get (codes "front") d)
+
 -- the cluster does not end: `every` is there, and no `connections`
 abbrev pub is_endless : Data → Bool
 is_endless d = is_none (get (codes "connections") d) && is_some (get (codes "every") d)
@@ -231,14 +242,16 @@ node_at d = do
   workers ← some_at max_workers (codes "workers") d
   watch ← rest_at (codes "watch") d
   status ← status_at d
-  Some (node_of name address folder loads tombstones workers watch status)
+  front ← front_at d
+  Some (node_of name address folder loads tombstones workers watch status front)
 
 unfoldable pub broker_at : Data → Option Broker
 broker_at d = do
   address ← address_at (codes "address") d
   workers ← some_at max_workers (codes "workers") d
   status ← status_at d
-  Some (broker_of address workers status)
+  front ← front_at d
+  Some (broker_of address workers status front)
 
 -- the place of one of so many brokers
 abbrev pub place_at : ℕ → Data → Option ℕ
@@ -312,7 +325,7 @@ pub record IsPatience (n : ℕ) : Type 0 where
 abbrev pub IsAddress : List ℕ → Type 0
 IsAddress text = IsTrue (is_address text)
 
--- a node of that name, which listens on this machine, and has 1 to 16 workers
+-- a node of that name, which listens on this machine, and has 1 to 16 workers and at most 256 front threads
 pub record IsNode (node : Node) : Type 0 where
   pub name : IsTrue (is_name node.name)
   pub address : IsTrue (is_address node.address)
@@ -320,13 +333,15 @@ pub record IsNode (node : Node) : Type 0 where
   pub few_workers : node.workers ≤ max_workers
   pub rest : IfSome node.watch IsRest
   pub status : IfSome node.status IsAddress
+  pub few_front : node.front ≤ max_front
 
--- a broker that listens on this machine, and has 1 to 16 workers
+-- a broker that listens on this machine, and has 1 to 16 workers and at most 256 front threads
 pub record IsBroker (broker : Broker) : Type 0 where
   pub address : IsTrue (is_address broker.address)
   pub some_workers : 1 ≤ broker.workers
   pub few_workers : broker.workers ≤ max_workers
   pub status : IfSome broker.status IsAddress
+  pub few_front : broker.front ≤ max_front
 
 -- the query is an object
 abbrev pub IsObject : Asked → Type 0

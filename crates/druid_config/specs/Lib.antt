@@ -5,3 +5,4 @@ pub mod Read
 pub mod BadFields
 -- words of private contracts
 pub mod Borrowed
+pub mod Parts

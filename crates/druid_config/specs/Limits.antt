@@ -29,6 +29,10 @@ max_patience = 3600000
 abbrev pub usual_patience : ℕ
 usual_patience = 30000
 
+-- the most front threads of a server
+abbrev pub max_front : ℕ
+max_front = 256
+
 -- the greatest port
 abbrev pub max_port : ℕ
 max_port = 65535

@@ -86,6 +86,9 @@ pub enum NodeRule {
     /// `status` is absent, or an address of this machine.
     #[error("status: not 127.0.0.1: and a port from 1 to 65535")]
     Status,
+    /// `front` is absent, or such a number.
+    #[error("front: not a number from 0 to 256")]
+    Front,
 }
 
 /// What a field of a broker has to be, and is not.
@@ -100,6 +103,9 @@ pub enum BrokerRule {
     /// `status` is absent, or an address of this machine.
     #[error("status: not 127.0.0.1: and a port from 1 to 65535")]
     Status,
+    /// `front` is absent, or such a number.
+    #[error("front: not a number from 0 to 256")]
+    Front,
 }
 
 /// What a field of a query has to be, and is not.

@@ -8,8 +8,8 @@ ghost use Rattle.druid_base.specs.Each.{each_of};
 ghost use Rattle.druid_config.specs.Configs.{asked_of, reported_of, name_at, loads_at, tombstone_at, tombstones_at, node_at, broker_at, query_at, nodes_at, brokers_at, queries_at, config_at};
 
 use crate::fields::{
-    address_field, chunk_field, connections_field, count_field, is_endless, name_field,
-    object_field, patience_field, place_field, rest_field, some_field, status_field,
+    address_field, chunk_field, connections_field, count_field, front_field, is_endless,
+    name_field, object_field, patience_field, place_field, rest_field, some_field, status_field,
 };
 use crate::limits::{MAX_KEPT, MAX_WORKERS};
 use crate::{BrokerConfig, Config, NodeConfig, QueryConfig};
@@ -136,11 +136,14 @@ fn node_of(alloc: Global, value: &Value) -> Result<NodeConfig, AllocError>
     let Some(status) = status_field(value) else {
         unreachable!()
     };
+    let Some(front) = front_field(value) else {
+        unreachable!()
+    };
     let address = String::from_str(alloc, address)?;
     let folder = String::from_str(alloc, folder)?;
     let status = copied(alloc, status)?;
     Ok(NodeConfig::new(
-        name, address, folder, loads, tombstones, workers, watch, status,
+        name, address, folder, loads, tombstones, workers, watch, status, front,
     ))
 }
 
@@ -159,9 +162,12 @@ fn broker_of(alloc: Global, value: &Value) -> Result<BrokerConfig, AllocError>
     let Some(status) = status_field(value) else {
         unreachable!()
     };
+    let Some(front) = front_field(value) else {
+        unreachable!()
+    };
     let address = String::from_str(alloc, address)?;
     let status = copied(alloc, status)?;
-    Ok(BrokerConfig::new(address, workers, status))
+    Ok(BrokerConfig::new(address, workers, status, front))
 }
 
 // A query to one of so many brokers.

@@ -17,6 +17,7 @@ pub struct NodeConfig {
     workers: u16,
     watch: Option<u64>,
     status: Option<String>,
+    front: u16,
 }
 
 impl Model for NodeConfig {
@@ -25,9 +26,9 @@ impl Model for NodeConfig {
 
     ghost Value = { Node };
 
-    ghost view = { λ a. node_of a.name (string_bytes a.address) (string_bytes a.folder) (map string_bytes a.loads.items) a.tombstones.items a.workers a.watch (option_map string_bytes a.status) };
+    ghost view = { λ a. node_of a.name (string_bytes a.address) (string_bytes a.folder) (map string_bytes a.loads.items) a.tombstones.items a.workers a.watch (option_map string_bytes a.status) a.front };
 
-    ghost invariant = { λ a. IsNode (node_of a.name (string_bytes a.address) (string_bytes a.folder) (map string_bytes a.loads.items) a.tombstones.items a.workers a.watch (option_map string_bytes a.status)) };
+    ghost invariant = { λ a. IsNode (node_of a.name (string_bytes a.address) (string_bytes a.folder) (map string_bytes a.loads.items) a.tombstones.items a.workers a.watch (option_map string_bytes a.status) a.front) };
 }
 
 impl NodeConfig {
@@ -41,9 +42,10 @@ impl NodeConfig {
         workers: u16,
         watch: Option<u64>,
         status: Option<String>,
+        front: u16,
     ) -> NodeConfig
-        requires { IsNode (node_of name (string_bytes address) (string_bytes folder) (map string_bytes loads.items) tombstones.items workers watch (option_map string_bytes status)) }
-        ensures { result ≡ node_of name (string_bytes address) (string_bytes folder) (map string_bytes loads.items) tombstones.items workers watch (option_map string_bytes status) }
+        requires { IsNode (node_of name (string_bytes address) (string_bytes folder) (map string_bytes loads.items) tombstones.items workers watch (option_map string_bytes status) front) }
+        ensures { result ≡ node_of name (string_bytes address) (string_bytes folder) (map string_bytes loads.items) tombstones.items workers watch (option_map string_bytes status) front }
     {
         NodeConfig {
             name,
@@ -54,6 +56,7 @@ impl NodeConfig {
             workers,
             watch,
             status,
+            front,
         }
     }
 
@@ -120,6 +123,14 @@ impl NodeConfig {
             None => None,
         }
     }
+
+    /// How many front threads wait for its clients, at most 256; 0 where its workers do.
+    pub fn front(&self) -> u16
+        ensures value { result ≡ self.now.front }
+        ensures valid { IsNode self.now }
+    {
+        self.front
+    }
 }
 
 /// A broker.
@@ -128,6 +139,7 @@ pub struct BrokerConfig {
     address: String,
     workers: u16,
     status: Option<String>,
+    front: u16,
 }
 
 impl Model for BrokerConfig {
@@ -136,21 +148,27 @@ impl Model for BrokerConfig {
 
     ghost Value = { Broker };
 
-    ghost view = { λ a. broker_of (string_bytes a.address) a.workers (option_map string_bytes a.status) };
+    ghost view = { λ a. broker_of (string_bytes a.address) a.workers (option_map string_bytes a.status) a.front };
 
-    ghost invariant = { λ a. IsBroker (broker_of (string_bytes a.address) a.workers (option_map string_bytes a.status)) };
+    ghost invariant = { λ a. IsBroker (broker_of (string_bytes a.address) a.workers (option_map string_bytes a.status) a.front) };
 }
 
 impl BrokerConfig {
     // The broker of these parts.
-    pub(crate) fn new(address: String, workers: u16, status: Option<String>) -> BrokerConfig
-        requires { IsBroker (broker_of (string_bytes address) workers (option_map string_bytes status)) }
-        ensures { result ≡ broker_of (string_bytes address) workers (option_map string_bytes status) }
+    pub(crate) fn new(
+        address: String,
+        workers: u16,
+        status: Option<String>,
+        front: u16,
+    ) -> BrokerConfig
+        requires { IsBroker (broker_of (string_bytes address) workers (option_map string_bytes status) front) }
+        ensures { result ≡ broker_of (string_bytes address) workers (option_map string_bytes status) front }
     {
         BrokerConfig {
             address,
             workers,
             status,
+            front,
         }
     }
 
@@ -179,6 +197,14 @@ impl BrokerConfig {
             Some(status) => Some(status.as_str()),
             None => None,
         }
+    }
+
+    /// How many front threads wait for its clients, at most 256; 0 where its workers do.
+    pub fn front(&self) -> u16
+        ensures value { result ≡ self.now.front }
+        ensures valid { IsBroker self.now }
+    {
+        self.front
     }
 }
 

@@ -3,10 +3,11 @@ ghost use Rattle.std.specs.Prelude.{◌≡◌, ◌≤◌, IsTrue, IfSome, codes,
 ghost use Rattle.serde_json.specs.View.{view};
 ghost use Rattle.druid_segid.specs.Names.{is_name};
 ghost use Rattle.druid_base.specs.Numbers as numbers;
-ghost use Rattle.druid_config.specs.Configs.{is_port, is_address, address_at, status_at, name_at, tombstone_at, some_at, count_at, rest_at, patience_at, is_endless, connections_at, place_at, object_at, IsRest, IsPatience, IsAddress};
+ghost use Rattle.druid_config.specs.Configs.{is_port, is_address, address_at, status_at, name_at, tombstone_at, some_at, count_at, rest_at, patience_at, front_at, is_endless, connections_at, place_at, object_at, IsRest, IsPatience, IsAddress};
+ghost use Rattle.druid_config.specs.Limits.{max_front};
 ghost use Rattle.druid_shard_text.specs.Json.{source_at, interval_at, version_at};
 
-use crate::limits::{MAX_COUNT, MAX_PATIENCE, MAX_PORT, MAX_REST, USUAL_PATIENCE};
+use crate::limits::{MAX_COUNT, MAX_FRONT, MAX_PATIENCE, MAX_PORT, MAX_REST, USUAL_PATIENCE};
 use druid_base::{number_field, number_of, text_field};
 use druid_segid::{Name, Version};
 use druid_time::Interval;
@@ -187,6 +188,22 @@ pub(crate) fn patience_field(value: &Value) -> Option<u64>
     let patience = number_field(value, "patience")?;
     if 1 <= patience && patience <= MAX_PATIENCE {
         Some(patience)
+    } else {
+        None
+    }
+}
+
+// How many front threads a server has, at most 256, 0 where there is no such key.
+pub(crate) fn front_field(value: &Value) -> Option<u16>
+    ensures value { result ≡ front_at (view value.now) }
+    ensures few { IfSome result (λ n. n ≤ max_front) }
+{
+    let Some(_) = value.get("front") else {
+        return Some(0);
+    };
+    let front = number_field(value, "front")?;
+    if front <= MAX_FRONT as u64 {
+        Some(front as u16)
     } else {
         None
     }

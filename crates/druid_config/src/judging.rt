@@ -12,8 +12,8 @@ ghost use Rattle.druid_config.specs.Borrowed.{text_or, names_in};
 
 use crate::bad_field::{BadField, BrokerRule, NodeRule, QueryRule, WholeRule};
 use crate::fields::{
-    address_field, chunk_field, connections_field, count_field, name_field, object_field,
-    patience_field, place_field, rest_field, some_field, status_field,
+    address_field, chunk_field, connections_field, count_field, front_field, name_field,
+    object_field, patience_field, place_field, rest_field, some_field, status_field,
 };
 use crate::limits::{MAX_KEPT, MAX_SERVERS, MAX_WORKERS};
 use druid_base::{TextList, are_texts, doubled_text, list_field, text_field};
@@ -82,6 +82,9 @@ fn node_rule(value: &Value) -> Option<NodeRule>
     if status_field(value).is_none() {
         return Some(NodeRule::Status);
     }
+    if front_field(value).is_none() {
+        return Some(NodeRule::Front);
+    }
     None
 }
 
@@ -100,6 +103,9 @@ fn broker_rule(value: &Value) -> Option<BrokerRule>
     }
     if status_field(value).is_none() {
         return Some(BrokerRule::Status);
+    }
+    if front_field(value).is_none() {
+        return Some(BrokerRule::Front);
     }
     None
 }

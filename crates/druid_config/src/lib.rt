@@ -9,6 +9,7 @@ mod fields;
 mod judging;
 mod laws;
 mod limits;
+mod part;
 mod reading;
 
 pub use bad_field::{BadField, BrokerRule, NodeRule, QueryRule, WholeRule};
@@ -19,4 +20,5 @@ pub use laws::{addresses_name_ports, configs_are_within_limits};
 pub use limits::{
     MAX_COUNT, MAX_KEPT, MAX_PATIENCE, MAX_PORT, MAX_REST, MAX_SERVERS, MAX_WORKERS, USUAL_PATIENCE,
 };
+pub use part::Part;
 pub use reading::{bad_field_in, config_of, read_config};

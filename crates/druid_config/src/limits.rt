@@ -21,5 +21,8 @@ pub const MAX_PATIENCE: u64 = 3_600_000;
 /// The patience of a config that names none, in milliseconds.
 pub const USUAL_PATIENCE: u64 = 30_000;
 
+/// The most front threads of a server.
+pub const MAX_FRONT: u16 = 256;
+
 /// The last port.
 pub const MAX_PORT: u64 = 65_535;

@@ -19,12 +19,16 @@ fn three_nodes(rt: &impl Abort, alloc: Global) -> Health {
 enum Step {
     // An exchange with a node ended so at that time.
     Ends(Asker, u16, Result<(), WireFault>, u64),
+    // A query's own deadline cut an exchange with a node short.
+    Cut(u16),
     // A query sees at that time that these ail, and tries those.
     Sees(u64, u64, u64),
     // So does a query that asks no node.
     SeesAlone(u64, u64, u64),
     // So does a query whose exchange with the node fails at that time.
     SeesFailing(u64, u64, u64, u16),
+    // So does a query whose own deadline cuts its exchange with the node short.
+    SeesCut(u64, u64, u64, u16),
 }
 
 fn is_seen(snapshot: &Snapshot, ailing: u64, tried: u64) -> bool {
@@ -38,6 +42,10 @@ fn take(health: &Health, step: Step) -> bool {
             health.note(node, asker, ended, now);
             true
         }
+        Step::Cut(node) => {
+            health.note_cut(node, Err(WireFault::Read));
+            true
+        }
         Step::Sees(now, ailing, tried) => is_seen(&health.snapshot(now), ailing, tried),
         Step::SeesAlone(now, ailing, tried) => {
             let snapshot = health.snapshot(now);
@@ -49,6 +57,13 @@ fn take(health: &Health, step: Step) -> bool {
             let snapshot = health.snapshot(now);
             let seen = is_seen(&snapshot, ailing, tried);
             health.note(node, Asker::Query, Err(WireFault::Read), now);
+            health.release(snapshot);
+            seen
+        }
+        Step::SeesCut(now, ailing, tried, node) => {
+            let snapshot = health.snapshot(now);
+            let seen = is_seen(&snapshot, ailing, tried);
+            health.note_cut(node, Err(WireFault::Read));
             health.release(snapshot);
             seen
         }
@@ -124,6 +139,23 @@ const OTHERS: [Step; 9] = [
     Step::Ends(QUERY, 0, Err(WireFault::BodyTooLong), 50),
     Step::Sees(50, 0, 0),
 ];
+
+// What a query's own deadline cut short says nothing of a node. But where that query was to try it, the node rests then.
+const CUTS: [Step; 8] = [
+    Step::Cut(0),
+    Step::Sees(10, 0, 0),
+    Step::Ends(QUERY, 0, Err(WireFault::Read), 20),
+    Step::Cut(0),
+    Step::Sees(1_019, 1, 0),
+    Step::SeesCut(1_020, 0, 1, 0),
+    Step::Sees(2_019, 1, 0),
+    Step::Sees(2_020, 0, 1),
+];
+
+#[test]
+fn cut_exchanges_say_nothing(rt: HostRuntime) {
+    assert_steps(&rt, rt.alloc(), &CUTS);
+}
 
 #[test]
 fn ailing_nodes_are_tried(rt: HostRuntime) {
@@ -221,6 +253,42 @@ fn exchanges_are_noted(rt: HostRuntime) {
     let mut worker = monitored(&rt, rt.alloc(), &rt, QUERY, &health);
     let _ = worker.exchange(rt.alloc(), REQUEST);
     assert!(rt; health.ails(1) == Some(false), "nobody cleared it");
+}
+
+// A link without replies, each of whose exchanges is X2, and which is hastened before.
+fn fails_hastened<C: Clock + Drop>(
+    rt: &impl Abort,
+    alloc: Global,
+    clock: C,
+    health: &Arc<Health, Global>,
+    millis: Option<u64>,
+) {
+    let mut link = monitored(rt, alloc, clock, QUERY, health);
+    for _ in 0..2 {
+        let _ = link.exchange(alloc, REQUEST);
+    }
+    link.hasten(Some(0));
+    link.hasten(millis);
+    let _ = link.exchange(alloc, REQUEST);
+}
+
+// An exchange that fails once its query's deadline is over is counted, and says nothing; one that fails before it, or of a query
+// that says no time, is the node's failure.
+#[test]
+fn hastened_exchanges(rt: HostRuntime) {
+    let health = Arc::new(rt.alloc(), three_nodes(&rt, rt.alloc()))
+        .ok()
+        .expect(&rt, "memory");
+    fails_hastened(&rt, rt.alloc(), &rt, &health, Some(0));
+    assert!(rt; health.ails(1) == Some(false), "the deadline was over");
+    fails_hastened(&rt, rt.alloc(), &rt, &health, Some(60_000));
+    assert!(rt; health.ails(1) == Some(true), "the deadline was far");
+    let again = Arc::new(rt.alloc(), three_nodes(&rt, rt.alloc()))
+        .ok()
+        .expect(&rt, "memory");
+    fails_hastened(&rt, rt.alloc(), &rt, &again, None);
+    assert!(rt; again.ails(1) == Some(true), "no deadline");
+    assert!(rt; health.counts(1) == Some(counts(4, 2)), "other counts");
 }
 
 // ---- threads

@@ -1,5 +1,5 @@
 -- The numbers of faults.
-use Rattle.std.specs.Prelude.{ℕ}
+use Rattle.std.specs.Prelude.{ℕ, Result, Ok, Err}
 use Rattle.druid_message.specs.declared.fault.WireFault.{WireFault}
 use Rattle.druid_message.specs.declared.fault.WireFault.TheVariants.{Cut, Read, Write, BadHead, HeadTooLong, NoLength, BodyTooLong, Connect, Memory}
 
@@ -14,3 +14,8 @@ number_of NoLength = 6
 number_of BodyTooLong = 7
 number_of Connect = 8
 number_of Memory = 9
+
+-- of the ways in which an exchange ends: 0 where it succeeds, and else the fault's
+abbrev pub way_of : {A : Type 0} → Result A WireFault → ℕ
+way_of (Ok done) = 0
+way_of (Err fault) = number_of fault

@@ -5,3 +5,4 @@ pub mod Snapshots
 -- words of private contracts
 pub mod Marks
 pub mod Faults
+pub mod Spans

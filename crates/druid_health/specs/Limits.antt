@@ -12,3 +12,7 @@ last_milli = 2 ^ 61 - 1
 -- for so long an ailing node rests between two tries: a second at least, and no less than an exchange may take
 abbrev pub pause_of : ℕ → ℕ
 pause_of patience = max patience 1000
+
+-- an exchange succeeds, or fails with one of nine faults
+abbrev pub ways : ℕ
+ways = 10

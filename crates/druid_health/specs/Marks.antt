@@ -55,6 +55,10 @@ abbrev pub after : {A : Type 0} → Asker → Result A WireFault → ℕ → Mar
 after asker (Ok bytes) now m = after_success asker m
 after asker (Err fault) now m = after_fault asker fault now m
 
+-- a query's own deadline cut the exchange short: that says nothing of the node, but a query that was to try it did
+abbrev pub after_cut : Mark → Mark
+after_cut m = record m { tried = false }
+
 -- ---- before a query
 
 -- an ailing node is due once the pause is over since its last failure, or its last try

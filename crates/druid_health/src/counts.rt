@@ -1,12 +1,16 @@
 //! How often exchanges with a node ended in each way.
-ghost use Rattle.std.specs.Prelude.{◌≡◌, ◌+◌, ◌<◌};
-ghost use Rattle.druid_health.specs.Faults.{number_of};
+ghost use Rattle.std.specs.Prelude.{◌≡◌, ◌<◌, length};
+ghost use Rattle.druid_health.specs.Faults.{number_of, way_of};
+ghost use Rattle.druid_health.specs.Limits.{ways};
 
 use crossbeam_utils::atomic::AtomicCell;
 use druid_message::WireFault;
 
 /// How many faults there are, X1 to X9.
 pub const FAULTS: usize = 9;
+
+/// In how many ways an exchange ends: it succeeds, or fails with one of the faults.
+pub(crate) const WAYS: usize = FAULTS + 1;
 
 /// How many exchanges with a node succeeded, and how many failed with each fault: with X1 at place 0, up to X9 at place 8. After
 /// 2^64 - 1 a count begins anew.
@@ -18,74 +22,44 @@ pub struct Counts {
     pub failed: [u64; FAULTS],
 }
 
-// The place of a fault: its number, less one.
-fn place_of(fault: WireFault) -> usize
-    ensures number { result + 1 ≡ number_of fault }
-    ensures place { result < 9 }
+// The number of a fault.
+fn number_of(fault: WireFault) -> usize
+    ensures { result ≡ number_of fault }
 {
     match fault {
-        WireFault::Cut => 0,
-        WireFault::Read => 1,
-        WireFault::Write => 2,
-        WireFault::BadHead => 3,
-        WireFault::HeadTooLong => 4,
-        WireFault::NoLength => 5,
-        WireFault::BodyTooLong => 6,
-        WireFault::Connect => 7,
-        WireFault::Memory => 8,
+        WireFault::Cut => 1,
+        WireFault::Read => 2,
+        WireFault::Write => 3,
+        WireFault::BadHead => 4,
+        WireFault::HeadTooLong => 5,
+        WireFault::NoLength => 6,
+        WireFault::BodyTooLong => 7,
+        WireFault::Connect => 8,
+        WireFault::Memory => 9,
     }
 }
 
-// The counts of a node, which threads share.
-#[derive(Drop)]
-pub(crate) struct Counters {
-    succeeded: AtomicCell<u64>,
-    failed: [AtomicCell<u64>; FAULTS],
+// The way in which an exchange ended.
+pub(crate) fn way_of(ended: Result<(), WireFault>) -> usize
+    ensures number { result ≡ way_of ended }
+    ensures bound { result < ways }
+{
+    match ended {
+        Ok(()) => 0,
+        Err(fault) => number_of(fault),
+    }
 }
 
-fn zero() -> AtomicCell<u64> {
-    AtomicCell::new(0)
-}
-
-impl Counters {
-    pub(crate) fn new() -> Counters {
-        Counters {
-            succeeded: zero(),
-            failed: [
-                zero(),
-                zero(),
-                zero(),
-                zero(),
-                zero(),
-                zero(),
-                zero(),
-                zero(),
-                zero(),
-            ],
-        }
+// What the counters of a node say by now, each read on its own.
+pub(crate) fn counts_of(counters: &[AtomicCell<u64>]) -> Counts
+    requires { length counters.now ≡ ways }
+{
+    let mut failed = [0; FAULTS];
+    for place in 0..FAULTS {
+        failed[place] = counters[place + 1].load();
     }
-
-    // One exchange more that ended so.
-    pub(crate) fn add(&self, ended: Result<(), WireFault>) {
-        match ended {
-            Ok(()) => {
-                self.succeeded.fetch_add(1);
-            }
-            Err(fault) => {
-                self.failed[place_of(fault)].fetch_add(1);
-            }
-        }
-    }
-
-    // The counts by now, each read on its own.
-    pub(crate) fn counts(&self) -> Counts {
-        let mut failed = [0; FAULTS];
-        for place in 0..FAULTS {
-            failed[place] = self.failed[place].load();
-        }
-        Counts {
-            succeeded: self.succeeded.load(),
-            failed,
-        }
+    Counts {
+        succeeded: counters[0].load(),
+        failed,
     }
 }

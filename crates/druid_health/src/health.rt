@@ -1,8 +1,8 @@
 //! What the threads of a broker remember of its nodes.
-ghost use Rattle.std.specs.Prelude.{◌≡◌, ◌≤◌, ◌<◌, IfOk};
+ghost use Rattle.std.specs.Prelude.{◌≡◌, ◌≤◌, IfOk, vec_len};
 ghost use Rattle.druid_health.specs.Limits.{max_nodes, pause_of};
 
-use crate::counts::{Counters, Counts};
+use crate::counts::{Counts, WAYS, counts_of, way_of};
 use crate::mark::Mark;
 use crate::{Asker, Standing};
 use crossbeam_utils::atomic::AtomicCell;
@@ -16,54 +16,26 @@ pub const MAX_NODES: u16 = 64;
 /// The least pause between two tries of a node that ails, in milliseconds.
 pub const LEAST_PAUSE: u64 = 1_000;
 
-// What is remembered of one node.
-#[derive(Drop)]
-struct NodeHealth {
-    // The word of its mark. (As a number: a cell of the kit for another type may be shared, but not sent.)
-    mark: AtomicCell<u64>,
-    counters: Counters,
+// How a node with that mark stands for a query. `Due` is given to one query, which tries the node then.
+fn stand(mark: &AtomicCell<u64>, pause: u64, now: u64) -> Standing {
+    let word = mark.load();
+    let seen = Mark::from_word(word);
+    let standing = seen.standing(pause, now);
+    match standing {
+        Standing::Due => match mark.compare_exchange(word, seen.after_try(now).to_word()) {
+            Ok(_) => Standing::Due,
+            Err(_) => Standing::Ailing,
+        },
+        Standing::Well | Standing::Ailing => standing,
+    }
 }
 
-impl NodeHealth {
-    fn new() -> NodeHealth {
-        NodeHealth {
-            mark: AtomicCell::new(Mark::well().to_word()),
-            counters: Counters::new(),
-        }
-    }
-
-    // An exchange ended so at that time.
-    fn note(&self, asker: Asker, ended: Result<(), WireFault>, now: u64) {
-        self.counters.add(ended);
-        let _ = self.mark.fetch_update(|word: u64| {
-            Some(Mark::from_word(word).after(asker, ended, now).to_word())
-        });
-    }
-
-    // How the node stands for a query. `Due` is given to one query, which tries it then.
-    fn stand(&self, pause: u64, now: u64) -> Standing {
-        let word = self.mark.load();
-        let mark = Mark::from_word(word);
-        let standing = mark.standing(pause, now);
-        match standing {
-            Standing::Due => match self
-                .mark
-                .compare_exchange(word, mark.after_try(now).to_word())
-            {
-                Ok(_) => Standing::Due,
-                Err(_) => Standing::Ailing,
-            },
-            Standing::Well | Standing::Ailing => standing,
-        }
-    }
-
-    // The query whose try began then did without the node: where no exchange was noted since, it is due again.
-    fn release(&self, began: u64) {
-        let word = self.mark.load();
-        let mark = Mark::from_word(word);
-        if mark.is_tried_since(began) {
-            let _ = self.mark.compare_exchange(word, mark.untried().to_word());
-        }
+// The query whose try began then did without the node with that mark: where no exchange was noted since, it is due again.
+fn release(mark: &AtomicCell<u64>, began: u64) {
+    let word = mark.load();
+    let seen = Mark::from_word(word);
+    if seen.is_tried_since(began) {
+        let _ = mark.compare_exchange(word, seen.untried().to_word());
     }
 }
 
@@ -106,44 +78,87 @@ impl Snapshot {
 /// syncer's exchange noted, a syncer's that succeeds clears too. While it ails, one query is let to try it after each pause.
 #[derive(Drop)]
 pub struct Health {
-    nodes: Vec<NodeHealth>,
+    // Of each node the word of its mark. (As a number: a cell of the kit for another type may be shared, but not sent.)
+    marks: Vec<AtomicCell<u64>>,
+    // Of each node the counters of its `WAYS`, one node's after another's.
+    counters: Vec<AtomicCell<u64>>,
+    patience: u64,
     pause: u64,
 }
 
 impl Model for Health {
-    ghost use Rattle.std.specs.Prelude.{◌≤◌, vec_len};
+    ghost use Rattle.std.specs.Prelude.{◌≡◌, ◌≤◌, ◌*◌, vec_len};
     ghost use Rattle.druid_health.specs.Snapshots.{HealthValue};
-    ghost use Rattle.druid_health.specs.Limits.{max_nodes};
+    ghost use Rattle.druid_health.specs.Limits.{max_nodes, ways};
 
     ghost Value = { HealthValue };
 
-    ghost view = { λ a. record { nodes = vec_len a.nodes; pause = a.pause } };
+    ghost view = { λ a. record { nodes = vec_len a.marks; patience = a.patience; pause = a.pause } };
 
-    ghost invariant = { λ a. vec_len a.nodes ≤ max_nodes };
+    ghost invariant = { λ a. (vec_len a.marks ≤ max_nodes) × (vec_len a.counters ≡ vec_len a.marks * ways) };
+}
+
+// So many cells with that word.
+fn cells(alloc: Global, count: usize, word: u64) -> Result<Vec<AtomicCell<u64>>, AllocError>
+    ensures { IfOk result (λ cells. vec_len cells ≡ count) }
+{
+    let mut cells = Vec::with_capacity(alloc, count)?;
+    for _ in 0..count {
+        cells.push(AtomicCell::new(word))?;
+    }
+    Ok(cells)
 }
 
 impl Health {
-    /// Of nodes 0 to `nodes` less one, all well. The pause between two tries of one that ails is as long as an exchange may
-    /// take, which is said in milliseconds, and a second at least.
+    /// Of nodes 0 to `nodes` less one, all well, with which an exchange may take so many milliseconds. The pause between two tries
+    /// of one that ails is as long, and a second at least.
     pub fn new(alloc: Global, nodes: u16, patience: u64) -> Result<Health, AllocError>
         requires { nodes ≤ max_nodes }
-        ensures { IfOk result (λ health. health ≡ record { nodes = nodes; pause = pause_of patience }) }
+        ensures { IfOk result (λ health. health ≡ record { nodes = nodes; patience = patience; pause = pause_of patience }) }
     {
-        let mut all = Vec::with_capacity(alloc, nodes as usize)?;
-        for _ in 0..nodes {
-            all.push(NodeHealth::new())?;
-        }
+        let count = nodes as usize;
         Ok(Health {
-            nodes: all,
+            marks: cells(alloc, count, Mark::well().to_word())?,
+            counters: cells(alloc, count * WAYS, 0)?,
+            patience,
             pause: patience.max(LEAST_PAUSE),
         })
+    }
+
+    /// How many milliseconds an exchange may take.
+    pub fn patience(&self) -> u64
+        ensures { result ≡ self.now.patience }
+    {
+        self.patience
+    }
+
+    // An exchange with a node ended so.
+    fn count(&self, node: u16, ended: Result<(), WireFault>) {
+        let place = node as usize * WAYS + way_of(ended);
+        if let Some(counter) = self.counters.get(place) {
+            counter.fetch_add(1);
+        }
     }
 
     /// An exchange with a node ended so at that time. It is counted, and changes whether the node ails. A node that is not
     /// remembered is passed over.
     pub fn note(&self, node: u16, asker: Asker, ended: Result<(), WireFault>, now: u64) {
-        if let Some(health) = self.nodes.get(node as usize) {
-            health.note(asker, ended, now);
+        self.count(node, ended);
+        if let Some(mark) = self.marks.get(node as usize) {
+            let _ = mark.fetch_update(|word: u64| {
+                Some(Mark::from_word(word).after(asker, ended, now).to_word())
+            });
+        }
+    }
+
+    /// An exchange with a node ended so, since its query's own deadline cut it short. It is counted, and says nothing of the node;
+    /// but where a query was to try it, that was done.
+    pub fn note_cut(&self, node: u16, ended: Result<(), WireFault>) {
+        self.count(node, ended);
+        if let Some(mark) = self.marks.get(node as usize) {
+            let _ = mark.fetch_update(|word: u64| Some(
+                Mark::from_word(word).after_cut().to_word(),
+            ));
         }
     }
 
@@ -154,8 +169,8 @@ impl Health {
     {
         let mut ailing = 0u64;
         let mut tried = 0u64;
-        for node in 0..self.nodes.len() {
-            match self.nodes[node].stand(self.pause, now) {
+        for node in 0..self.marks.len() {
+            match stand(&self.marks[node], self.pause, now) {
                 Standing::Well => {}
                 Standing::Ailing => ailing |= 1 << node,
                 Standing::Due => tried |= 1 << node,
@@ -175,21 +190,25 @@ impl Health {
             tried,
             at,
         } = snapshot;
-        for node in 0..self.nodes.len() {
+        for node in 0..self.marks.len() {
             if (tried >> node) % 2 == 1 {
-                self.nodes[node].release(at);
+                release(&self.marks[node], at);
             }
         }
     }
 
     /// Whether a node ails. `None` of one that is not remembered.
     pub fn ails(&self, node: u16) -> Option<bool> {
-        let word = self.nodes.get(node as usize)?.mark.load();
+        let word = self.marks.get(node as usize)?.load();
         Some(Mark::from_word(word).ails())
     }
 
     /// How the exchanges with a node ended so far. `None` of one that is not remembered.
     pub fn counts(&self, node: u16) -> Option<Counts> {
-        Some(self.nodes.get(node as usize)?.counters.counts())
+        let node = node as usize;
+        if self.marks.len() <= node {
+            return None;
+        }
+        Some(counts_of(&self.counters[node * WAYS..(node + 1) * WAYS]))
     }
 }

@@ -6,6 +6,7 @@ mod counts;
 mod health;
 mod mark;
 mod monitored_link;
+mod span;
 mod standing;
 
 pub use clock::monotonic_millis;

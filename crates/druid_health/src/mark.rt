@@ -1,6 +1,6 @@
 //! What is remembered of the exchanges with a node, as a value.
 ghost use Rattle.std.specs.Prelude.{◌≡◌, ◌≤◌, ◌<◌, ◌^◌, ◌/◌, ◌%◌, IsTrue, ◌↔◌};
-ghost use Rattle.druid_health.specs.Marks.{Mark, well, ails, capped, after, after_fault, after_failure, after_success, standing, after_try, is_tried_since, untried, word_of, digit};
+ghost use Rattle.druid_health.specs.Marks.{Mark, well, ails, capped, after, after_fault, after_failure, after_success, after_cut, standing, after_try, is_tried_since, untried, word_of, digit};
 ghost use Rattle.druid_health.specs.Limits.{last_milli};
 
 use crate::{Asker, Standing};
@@ -123,6 +123,18 @@ impl Mark {
                 | WireFault::NoLength
                 | WireFault::BodyTooLong,
             ) => self.after_success(asker),
+        }
+    }
+
+    // After an exchange that its query's own deadline cut short.
+    pub(crate) fn after_cut(self) -> Mark
+        ensures { result ≡ after_cut self }
+    {
+        Mark {
+            by_query: self.by_query,
+            by_syncer: self.by_syncer,
+            tried: false,
+            at: self.at,
         }
     }
 

@@ -1,6 +1,7 @@
 //! Links whose exchanges are noted.
 ghost use Rattle.std.specs.Prelude.{◌≡◌};
 
+use crate::span::{Span, is_late};
 use crate::{Asker, Health, monotonic_millis};
 use druid_link::Link;
 use druid_message::WireFault;
@@ -9,13 +10,16 @@ use std::marker::Model;
 use std::sync::Arc;
 use std::time::Clock;
 
-/// A link to a node, which notes how each of its exchanges ended. Its exchanges are those of the link inside.
+/// A link to a node, which notes how each of its exchanges ended. Its exchanges are those of the link inside, which may take as long
+/// as the health's patience. One that the deadline of a hastened link cut short is counted, and says nothing of the node.
 #[derive(Drop)]
 pub struct MonitoredLink<L: Link, C: Clock> {
     link: L,
     clock: C,
     node: u16,
     asker: Asker,
+    // By when the exchanges are to end, in the clock's milliseconds, where the link was hastened.
+    deadline: Option<u64>,
     health: Arc<Health, Global>,
 }
 
@@ -43,6 +47,7 @@ impl<L: Link, C: Clock> MonitoredLink<L, C> {
             clock,
             node,
             asker,
+            deadline: None,
             health,
         }
     }
@@ -52,6 +57,15 @@ impl<L: Link, C: Clock> MonitoredLink<L, C> {
         ensures { result.now ≡ self.now.link }
     {
         &self.link
+    }
+
+    // Notes an exchange that began and ended then.
+    fn note(&self, ended: Result<(), WireFault>, span: Span) {
+        if is_late(ended) && span.is_cut(self.health.patience()) {
+            self.health.note_cut(self.node, ended);
+        } else {
+            self.health.note(self.node, self.asker, ended, span.ended);
+        }
     }
 }
 
@@ -69,17 +83,22 @@ impl<L: Link, C: Clock> Link for MonitoredLink<L, C> {
     ghost faults = { λ link. L.faults link.link };
 
     fn exchange(&mut self, alloc: Global, request: &[u8]) -> Result<Vec<u8>, WireFault> {
+        let began = monotonic_millis(&self.clock);
         let came = self.link.exchange(alloc, request);
-        self.health.note(
-            self.node,
-            self.asker,
-            ended(&came),
-            monotonic_millis(&self.clock),
-        );
+        let span = Span {
+            began,
+            ended: monotonic_millis(&self.clock),
+            deadline: self.deadline,
+        };
+        self.note(ended(&came), span);
         came
     }
 
     fn hasten(&mut self, millis: Option<u64>) {
+        self.deadline = match millis {
+            Some(millis) => Some(monotonic_millis(&self.clock).saturating_add(millis)),
+            None => None,
+        };
         self.link.hasten(millis);
     }
 

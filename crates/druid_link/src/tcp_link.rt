@@ -10,11 +10,11 @@ ghost use Rattle.druid_link.specs.Links.{IsLinkFault, faults_at};
 ghost use Rattle.druid_link.specs.TcpLinks.{IsExchanged, fresh_tcp_link, limited};
 
 use crate::log::{Log, Note};
+use crate::timed::{Timer, receive_some, send_all};
 use crate::{Link, MAX_EXCHANGE};
 use druid_message::WireFault;
-use druid_stream::{MAX_TRIES, is_interrupted};
 use std::alloc::Global;
-use std::io::{Error, ErrorKind, Read, Write};
+use std::io::{Read, Write};
 use std::marker::Model;
 use std::net::{Net, OpenStream, SocketAddr, TcpStream};
 use std::time::{Clock, Duration, Instant};
@@ -184,24 +184,6 @@ fn longer(a: Duration, b: Duration) -> Duration
     }
 }
 
-// The time that an exchange has, from its start.
-#[derive(Clone, Copy)]
-struct Timer {
-    start: Instant,
-    limit: Duration,
-}
-
-impl Timer {
-    // What is left of it, which is not zero. `None` once it is over, or where the clock cannot be read.
-    fn time_left<C: Clock>(&self, clock: &C) -> Option<Duration> {
-        let Ok(elapsed) = self.start.elapsed(clock) else {
-            return None;
-        };
-        let left = self.limit.checked_sub(elapsed)?;
-        if left.is_zero() { None } else { Some(left) }
-    }
-}
-
 // One exchange.
 fn ask<N: Net + Clock>(
     alloc: Global,
@@ -216,10 +198,7 @@ fn ask<N: Net + Clock>(
     let Ok(start) = Instant::now(net) else {
         return Err(WireFault::Connect);
     };
-    let timer = Timer {
-        start,
-        limit: time.from(start),
-    };
+    let timer = Timer::new(start, time.from(start));
     let Some(mut stream) = connect(net, &timer, address) else {
         return Err(WireFault::Connect);
     };
@@ -253,108 +232,6 @@ fn exchange_over<C: Clock, S: Read + Write + OpenStream>(
         Err(fault) => return Err(fault),
     }
     receive_all(alloc, clock, timer, stream)
-}
-
-// What a failed write tells: `Read` where it waited until its timeout was over, since the exchange took too long then, and
-// `Write` where it failed for anything else.
-fn send_fault(error: &Error) -> WireFault
-    ensures late { (result ≡ WireFault.Read) ↔
-        ((error_kind error.now ≡ ErrorKind.TimedOut) ⊎ (error_kind error.now ≡ ErrorKind.WouldBlock)) }
-    ensures fault { (result ≡ WireFault.Read) ⊎ (result ≡ WireFault.Write) }
-{
-    match error.kind() {
-        ErrorKind::TimedOut | ErrorKind::WouldBlock => WireFault::Read,
-        _ => WireFault::Write,
-    }
-}
-
-// Writes a front of a text, of one byte at least, within the time, and gives its length. `Read` where the time is over.
-#[tactic(auto, using(druid_stream::proofs::WriteLemmas::kept_twice, druid_stream::proofs::WriteLemmas::kept_appends))]
-fn send_some<C: Clock, S: Write + OpenStream>(
-    clock: &C,
-    timer: &Timer,
-    stream: &mut S,
-    text: &[u8],
-) -> Result<usize, WireFault>
-    ensures bound { IfOk result (λ n. n ≤ length text.now) }
-    ensures progress { IfOk result (λ n. 1 ≤ n) }
-    ensures ok { IfOk result
-        (λ n. Appends (S.contents stream.old) (S.contents stream.new) (take n text.now)) }
-    ensures err { IfErr result (λ fault. (fault ≡ WireFault.Read) ⊎ (fault ≡ WireFault.Write)) }
-{
-    for _ in 0..MAX_TRIES {
-        let Some(left) = timer.time_left(clock) else {
-            return Err(WireFault::Read);
-        };
-        if stream.set_write_timeout(Some(left)).is_err() {
-            return Err(WireFault::Write);
-        }
-        match stream.write(text) {
-            Ok(0) => return Err(WireFault::Write),
-            Ok(written) => return Ok(written),
-            Err(error) => {
-                if !is_interrupted(&error) {
-                    return Err(send_fault(&error));
-                }
-            }
-        }
-    }
-    Err(WireFault::Write)
-}
-
-// Writes a text within the time. `Read` where the time is over before it is written whole.
-fn send_all<C: Clock, S: Write + OpenStream>(
-    clock: &C,
-    timer: &Timer,
-    stream: &mut S,
-    text: &[u8],
-) -> Result<(), WireFault>
-    ensures ok { OnOk result (Appends (S.contents stream.old) (S.contents stream.new) text.now) }
-    ensures err { IfErr result (λ fault. (fault ≡ WireFault.Read) ⊎ (fault ≡ WireFault.Write)) }
-{
-    let mut rest = text;
-    while !rest.is_empty() {
-        let written = match send_some(clock, timer, stream, rest) {
-            Ok(written) => written,
-            Err(fault) => return Err(fault),
-        };
-        let (_, left) = rest.split_at(written);
-        rest = left;
-    }
-    Ok(())
-}
-
-// Reads what comes next, within the time: no bytes where the other side closed.
-fn receive_some<C: Clock, S: Read + OpenStream>(
-    clock: &C,
-    timer: &Timer,
-    stream: &mut S,
-    part: &mut [u8],
-) -> Result<usize, WireFault>
-    ensures ok { IfOk result (λ n. n ≤ length part.new) }
-    ensures room { length part.new ≡ length part.old }
-    ensures taken { IfOk result
-        (λ n. Consumes (S.remaining stream.old) (S.remaining stream.new) (take n part.new)) }
-    ensures end { IfOk result (λ n. n ≡ 0 → 0 < length part.old → IsAtEnd (S.remaining stream.new)) }
-    ensures err { IfErr result (λ fault. fault ≡ WireFault.Read) }
-{
-    for _ in 0..MAX_TRIES {
-        let Some(left) = timer.time_left(clock) else {
-            return Err(WireFault::Read);
-        };
-        if stream.set_read_timeout(Some(left)).is_err() {
-            return Err(WireFault::Read);
-        }
-        match stream.read(part) {
-            Ok(count) => return Ok(count),
-            Err(error) => {
-                if !is_interrupted(&error) {
-                    return Err(WireFault::Read);
-                }
-            }
-        }
-    }
-    Err(WireFault::Read)
 }
 
 // Reads all bytes until the other side closes, within the time. Each turn reads one byte at least.

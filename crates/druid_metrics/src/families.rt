@@ -263,7 +263,7 @@ fn push_ends<'a>(
 fn turns_family<'a>(
     alloc: Global,
     server: &'a str,
-    nodes: &'a [Followed<'a>],
+    nodes: &[Followed<'a>],
 ) -> Result<Family<'a>, AllocError> {
     let mut samples = Vec::new(alloc);
     for node in nodes {
@@ -288,7 +288,7 @@ fn turns_family<'a>(
 fn exchanges_family<'a>(
     alloc: Global,
     server: &'a str,
-    nodes: &'a [Followed<'a>],
+    nodes: &[Followed<'a>],
 ) -> Result<Family<'a>, AllocError> {
     let mut samples = Vec::new(alloc);
     for node in nodes {
@@ -328,7 +328,7 @@ fn gauge_of<'a>(
 fn incarnations<'a>(
     alloc: Global,
     server: &'a str,
-    nodes: &'a [Followed<'a>],
+    nodes: &[Followed<'a>],
 ) -> Result<Family<'a>, AllocError> {
     let mut rows = Vec::new(alloc);
     for node in nodes {
@@ -347,7 +347,7 @@ fn incarnations<'a>(
 fn changes<'a>(
     alloc: Global,
     server: &'a str,
-    nodes: &'a [Followed<'a>],
+    nodes: &[Followed<'a>],
 ) -> Result<Family<'a>, AllocError> {
     let mut rows = Vec::new(alloc);
     for node in nodes {
@@ -366,7 +366,7 @@ fn changes<'a>(
 fn heard<'a>(
     alloc: Global,
     server: &'a str,
-    nodes: &'a [Followed<'a>],
+    nodes: &[Followed<'a>],
 ) -> Result<Family<'a>, AllocError> {
     let mut rows = Vec::new(alloc);
     for node in nodes {
@@ -387,7 +387,7 @@ fn heard<'a>(
 pub fn broker_families<'a>(
     alloc: Global,
     server: &'a str,
-    nodes: &'a [Followed<'a>],
+    nodes: &[Followed<'a>],
 ) -> Result<Vec<Family<'a>>, AllocError> {
     let mut families = Vec::new(alloc);
     families.push(turns_family(alloc, server, nodes)?)?;

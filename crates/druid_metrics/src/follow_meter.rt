@@ -1,7 +1,7 @@
 //! What a broker counts of a node that it follows.
 ghost use Rattle.std.specs.Prelude.{◌≡◌, ◌<◌, IfSome, length};
 
-use crate::families::{EXCHANGE_ENDS, Followed, TURN_ENDS};
+use crate::families::{Followed, TURN_ENDS};
 use crate::meter::Counts;
 use std::alloc::{AllocError, Global};
 
@@ -23,7 +23,6 @@ pub fn end_place(ends: &[&str], end: &str) -> Option<usize>
 #[derive(Drop)]
 pub struct FollowMeter {
     turns: Counts,
-    exchanges: Counts,
     held: Counts,
 }
 
@@ -32,7 +31,6 @@ impl FollowMeter {
     pub fn new(alloc: Global) -> Result<FollowMeter, AllocError> {
         Ok(FollowMeter {
             turns: Counts::new(alloc, TURN_ENDS.len())?,
-            exchanges: Counts::new(alloc, EXCHANGE_ENDS.len())?,
             held: Counts::new(alloc, 3)?,
         })
     }
@@ -41,13 +39,6 @@ impl FollowMeter {
     pub fn turn(&self, end: &str) {
         if let Some(place) = end_place(&TURN_ENDS, end) {
             self.turns.add(place, 1);
-        }
-    }
-
-    /// Counts an exchange by its end, one of `EXCHANGE_ENDS`; another is not counted.
-    pub fn exchange(&self, end: &str) {
-        if let Some(place) = end_place(&EXCHANGE_ENDS, end) {
-            self.exchanges.add(place, 1);
         }
     }
 
@@ -62,17 +53,26 @@ impl FollowMeter {
         self.held.set(HEARD, at);
     }
 
-    /// What was counted so far of the node of that name: each number is one that it had while this was called.
-    pub fn read<'a>(&self, alloc: Global, node: &'a str) -> Result<Followed<'a>, AllocError> {
-        let held = self.held.read(alloc)?;
-        let number = |place: usize| held.get(place).copied().unwrap_or(0);
+    /// Whether the mark that is held is of an incarnation of the node, and so the node was synced.
+    pub fn is_synced(&self) -> bool {
+        self.held.number(INCARNATION) > 0
+    }
+
+    /// What was counted so far of the node of that name, with how its exchanges ended, in the order of `EXCHANGE_ENDS`: each number
+    /// is one that it had while this was called.
+    pub fn read<'a>(
+        &self,
+        alloc: Global,
+        node: &'a str,
+        exchanges: Vec<u64>,
+    ) -> Result<Followed<'a>, AllocError> {
         Ok(Followed {
             node,
-            incarnation: number(INCARNATION),
-            changes: number(CHANGES),
-            heard: number(HEARD),
+            incarnation: self.held.number(INCARNATION),
+            changes: self.held.number(CHANGES),
+            heard: self.held.number(HEARD),
             turns: self.turns.read(alloc)?,
-            exchanges: self.exchanges.read(alloc)?,
+            exchanges,
         })
     }
 }

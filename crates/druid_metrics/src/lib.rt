@@ -6,6 +6,7 @@ mod families;
 mod family;
 mod follow_meter;
 mod meter;
+mod node_meter;
 mod response;
 mod route;
 mod text;
@@ -18,6 +19,7 @@ pub use families::{
 pub use family::{Bucket, Family, Histogram, Kind, Label, Number, Sample, Spread};
 pub use follow_meter::{FollowMeter, end_place};
 pub use meter::{BOUNDS, Counts, Meter, Readings, bucket_of, cell_of};
+pub use node_meter::NodeMeter;
 pub use response::metrics_response;
 pub use route::{ROUTES, Route, STATUSES, route_of_head, status_at, status_place};
 pub use text::render;

@@ -51,6 +51,14 @@ impl Counts {
         }
     }
 
+    /// The number at a place, 0 where there is none.
+    pub fn number(&self, place: usize) -> u64 {
+        match self.cells.get(place) {
+            Some(cell) => cell.load(Ordering::SeqCst),
+            None => 0,
+        }
+    }
+
     /// The numbers, one read after another.
     pub fn read(&self, alloc: Global) -> Result<Vec<u64>, AllocError>
         ensures { IfOk result (λ numbers. vec_len numbers ≡ vec_len self.now.cells) }

@@ -38,41 +38,41 @@ fn counted(rt: &impl Abort, alloc: Global) -> Meter {
 // (tests/metrics/promtool.py reads this text, and has promtool look at it.)
 const OF_A_SERVER: &str = "# HELP druid_cluster_connections_total Connections that were taken.
 # TYPE druid_cluster_connections_total counter
-druid_cluster_connections_total{server=\"brokers[0]\"} 3
+druid_cluster_connections_total{server=\"broker:0\"} 3
 # HELP druid_cluster_answers_total Connections that ended, by route and by the status that was written.
 # TYPE druid_cluster_answers_total counter
-druid_cluster_answers_total{server=\"brokers[0]\",route=\"query\",status=\"200\"} 1
-druid_cluster_answers_total{server=\"brokers[0]\",route=\"query\",status=\"503\"} 1
-druid_cluster_answers_total{server=\"brokers[0]\",route=\"other\",status=\"none\"} 1
+druid_cluster_answers_total{server=\"broker:0\",route=\"query\",status=\"200\"} 1
+druid_cluster_answers_total{server=\"broker:0\",route=\"query\",status=\"503\"} 1
+druid_cluster_answers_total{server=\"broker:0\",route=\"other\",status=\"none\"} 1
 # HELP druid_cluster_written_bytes_total Bytes that were written to connections.
 # TYPE druid_cluster_written_bytes_total counter
-druid_cluster_written_bytes_total{server=\"brokers[0]\"} 127
+druid_cluster_written_bytes_total{server=\"broker:0\"} 127
 # HELP druid_cluster_answer_seconds How long connections took, from their first byte to their last.
 # TYPE druid_cluster_answer_seconds histogram
-druid_cluster_answer_seconds_bucket{server=\"brokers[0]\",le=\"0.001000\"} 1
-druid_cluster_answer_seconds_bucket{server=\"brokers[0]\",le=\"0.005000\"} 2
-druid_cluster_answer_seconds_bucket{server=\"brokers[0]\",le=\"0.010000\"} 2
-druid_cluster_answer_seconds_bucket{server=\"brokers[0]\",le=\"0.025000\"} 2
-druid_cluster_answer_seconds_bucket{server=\"brokers[0]\",le=\"0.050000\"} 2
-druid_cluster_answer_seconds_bucket{server=\"brokers[0]\",le=\"0.100000\"} 2
-druid_cluster_answer_seconds_bucket{server=\"brokers[0]\",le=\"0.250000\"} 2
-druid_cluster_answer_seconds_bucket{server=\"brokers[0]\",le=\"0.500000\"} 2
-druid_cluster_answer_seconds_bucket{server=\"brokers[0]\",le=\"1.000000\"} 2
-druid_cluster_answer_seconds_bucket{server=\"brokers[0]\",le=\"2.500000\"} 2
-druid_cluster_answer_seconds_bucket{server=\"brokers[0]\",le=\"5.000000\"} 2
-druid_cluster_answer_seconds_bucket{server=\"brokers[0]\",le=\"10.000000\"} 2
-druid_cluster_answer_seconds_bucket{server=\"brokers[0]\",le=\"30.000000\"} 2
-druid_cluster_answer_seconds_bucket{server=\"brokers[0]\",le=\"+Inf\"} 3
-druid_cluster_answer_seconds_sum{server=\"brokers[0]\"} 30.005001
-druid_cluster_answer_seconds_count{server=\"brokers[0]\"} 3
+druid_cluster_answer_seconds_bucket{server=\"broker:0\",le=\"0.001000\"} 1
+druid_cluster_answer_seconds_bucket{server=\"broker:0\",le=\"0.005000\"} 2
+druid_cluster_answer_seconds_bucket{server=\"broker:0\",le=\"0.010000\"} 2
+druid_cluster_answer_seconds_bucket{server=\"broker:0\",le=\"0.025000\"} 2
+druid_cluster_answer_seconds_bucket{server=\"broker:0\",le=\"0.050000\"} 2
+druid_cluster_answer_seconds_bucket{server=\"broker:0\",le=\"0.100000\"} 2
+druid_cluster_answer_seconds_bucket{server=\"broker:0\",le=\"0.250000\"} 2
+druid_cluster_answer_seconds_bucket{server=\"broker:0\",le=\"0.500000\"} 2
+druid_cluster_answer_seconds_bucket{server=\"broker:0\",le=\"1.000000\"} 2
+druid_cluster_answer_seconds_bucket{server=\"broker:0\",le=\"2.500000\"} 2
+druid_cluster_answer_seconds_bucket{server=\"broker:0\",le=\"5.000000\"} 2
+druid_cluster_answer_seconds_bucket{server=\"broker:0\",le=\"10.000000\"} 2
+druid_cluster_answer_seconds_bucket{server=\"broker:0\",le=\"30.000000\"} 2
+druid_cluster_answer_seconds_bucket{server=\"broker:0\",le=\"+Inf\"} 3
+druid_cluster_answer_seconds_sum{server=\"broker:0\"} 30.005001
+druid_cluster_answer_seconds_count{server=\"broker:0\"} 3
 ";
 
 #[test]
 fn page_of_a_server(rt: HostRuntime) {
     let alloc = rt.alloc();
     let readings = counted(&rt, alloc).read(alloc).expect(&rt, "memory");
-    let families = server_families(alloc, "brokers[0]", &readings).expect(&rt, "memory");
-    let histogram = server_histogram(alloc, "brokers[0]", &readings).expect(&rt, "memory");
+    let families = server_families(alloc, "broker:0", &readings).expect(&rt, "memory");
+    let histogram = server_histogram(alloc, "broker:0", &readings).expect(&rt, "memory");
     assert_page(&rt, alloc, &families, &[histogram], OF_A_SERVER);
 }
 
@@ -111,20 +111,20 @@ fn page_of_a_node(rt: HostRuntime) {
 const OF_A_BROKER: &str =
     "# HELP druid_cluster_turns_total Turns with a node that is followed, by how they ended.
 # TYPE druid_cluster_turns_total counter
-druid_cluster_turns_total{server=\"brokers[0]\",node=\"n0\",end=\"Moved\"} 5
-druid_cluster_turns_total{server=\"brokers[0]\",node=\"n0\",end=\"K9\"} 1
+druid_cluster_turns_total{server=\"broker:0\",node=\"n0\",end=\"Moved\"} 5
+druid_cluster_turns_total{server=\"broker:0\",node=\"n0\",end=\"K9\"} 1
 # HELP druid_cluster_exchanges_total Exchanges with a node, of turns and of queries, by how they ended.
 # TYPE druid_cluster_exchanges_total counter
-druid_cluster_exchanges_total{server=\"brokers[0]\",node=\"n0\",end=\"X8\"} 2
+druid_cluster_exchanges_total{server=\"broker:0\",node=\"n0\",end=\"X8\"} 2
 # HELP druid_cluster_followed_incarnation The incarnation of the mark that is held of a node, 0 where it was never synced.
 # TYPE druid_cluster_followed_incarnation gauge
-druid_cluster_followed_incarnation{server=\"brokers[0]\",node=\"n0\"} 3
+druid_cluster_followed_incarnation{server=\"broker:0\",node=\"n0\"} 3
 # HELP druid_cluster_followed_changes The count of the mark that is held of a node.
 # TYPE druid_cluster_followed_changes gauge
-druid_cluster_followed_changes{server=\"brokers[0]\",node=\"n0\"} 12
+druid_cluster_followed_changes{server=\"broker:0\",node=\"n0\"} 12
 # HELP druid_cluster_followed_heard_timestamp_seconds When a turn with a node last did not fail, in seconds since 1970; 0 where none has.
 # TYPE druid_cluster_followed_heard_timestamp_seconds gauge
-druid_cluster_followed_heard_timestamp_seconds{server=\"brokers[0]\",node=\"n0\"} 1714642200.250000
+druid_cluster_followed_heard_timestamp_seconds{server=\"broker:0\",node=\"n0\"} 1714642200.250000
 ";
 
 #[test]
@@ -136,14 +136,15 @@ fn page_of_a_broker(rt: HostRuntime) {
     ] {
         meter.turn(end);
     }
-    for end in ["X8", "X8", "Moved"] {
-        meter.exchange(end);
-    }
     meter.hold(2, 40);
     meter.hold(3, 12);
     meter.hear(1_714_642_200_250);
-    let followed = [meter.read(alloc, "n0").expect(&rt, "memory")];
-    let families = broker_families(alloc, "brokers[0]", &followed).expect(&rt, "memory");
+    let mut exchanges = Vec::new(alloc);
+    for count in [0, 0, 0, 0, 0, 0, 0, 0, 2, 0] {
+        exchanges.push(count).expect(&rt, "memory");
+    }
+    let followed = [meter.read(alloc, "n0", exchanges).expect(&rt, "memory")];
+    let families = broker_families(alloc, "broker:0", &followed).expect(&rt, "memory");
     assert_page(&rt, alloc, &families, &[], OF_A_BROKER);
 }
 

@@ -49,7 +49,7 @@ fn watched<R: Abort + Wait + Clock + Copy + Drop>(
     let (log, lines) = open(alloc, Level::Info).expect(rt, "memory");
     let log = Arc::new(alloc, log).expect(rt, "memory");
     let meter = Arc::try_clone(meter).expect(rt, "memory");
-    let (server, node) = (text_of(rt, alloc, "brokers[0]"), text_of(rt, alloc, "n1"));
+    let (server, node) = (text_of(rt, alloc, "broker:0"), text_of(rt, alloc, "n1"));
     let mut watcher = TurnWatcher::new(*rt, alloc, server, node, log, meter);
     for letter in turns.chars() {
         watcher.turn(&turned(letter));
@@ -77,14 +77,16 @@ fn turns(rt: HostRuntime) {
     let meter = FollowMeter::new(alloc).expect(&rt, "memory");
     let meter = Arc::new(alloc, meter).expect(&rt, "memory");
     let out = watched(&rt, alloc, "xxxmxx4sffsf", &meter);
-    let wanted = "\"code\":\"K1: X8\",\"event\":\"lost\",\"node\":\"n1\",\"server\":\"brokers[0]\"}
-\"event\":\"found\",\"failed\":3,\"node\":\"n1\",\"server\":\"brokers[0]\"}
-\"code\":\"K1: X8\",\"event\":\"lost\",\"node\":\"n1\",\"server\":\"brokers[0]\"}
-\"event\":\"found\",\"failed\":3,\"node\":\"n1\",\"server\":\"brokers[0]\"}
-\"event\":\"fell\",\"held\":{\"counter\":3,\"hash\":5},\"node\":\"n1\",\"server\":\"brokers[0]\",\"shown\":{\"counter\":1,\"hash\":1}}
-\"event\":\"fell\",\"held\":{\"counter\":3,\"hash\":5},\"node\":\"n1\",\"server\":\"brokers[0]\",\"shown\":{\"counter\":1,\"hash\":1}}";
+    let wanted = "\"code\":\"K1: X8\",\"event\":\"lost\",\"node\":\"n1\",\"server\":\"broker:0\"}
+\"event\":\"found\",\"failed\":3,\"node\":\"n1\",\"server\":\"broker:0\"}
+\"code\":\"K1: X8\",\"event\":\"lost\",\"node\":\"n1\",\"server\":\"broker:0\"}
+\"event\":\"found\",\"failed\":3,\"node\":\"n1\",\"server\":\"broker:0\"}
+\"event\":\"fell\",\"held\":{\"counter\":3,\"hash\":5},\"node\":\"n1\",\"server\":\"broker:0\",\"shown\":{\"counter\":1,\"hash\":1}}
+\"event\":\"fell\",\"held\":{\"counter\":3,\"hash\":5},\"node\":\"n1\",\"server\":\"broker:0\",\"shown\":{\"counter\":1,\"hash\":1}}";
     assert_lines(&rt, &out, wanted);
-    let followed = meter.read(alloc, "n1").expect(&rt, "memory");
+    let followed = meter
+        .read(alloc, "n1", Vec::new(alloc))
+        .expect(&rt, "memory");
     assert!(&rt; followed.incarnation == 5 && followed.changes == 3 && followed.heard > 0);
     let counts = Vec::from_slice(alloc, &[1u64, 5, 0, 0, 5, 0, 0, 1, 0, 0, 0]);
     let counts = counts.expect(&rt, "memory");

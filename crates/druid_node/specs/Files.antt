@@ -1,5 +1,5 @@
 -- What a file gives a node.
-use Rattle.std.specs.Prelude.{◌≡◌, ◌++◌, ⊤, ℕ, List, codes, bytes_eq, Option, Some, None, Result, Ok, Err, IsOk, if◌then◌else◌}
+use Rattle.std.specs.Prelude.{◌≡◌, ◌++◌, ⊤, ℕ, List, codes, length, bytes_eq, Option, Some, None, Result, Ok, Err, IsOk, if◌then◌else◌}
 use Rattle.druid_segid.specs.Identifier.{Identifier, identifier_text}
 use Rattle.druid_rows.specs.Segment.{Segment}
 use Rattle.druid_shard.specs.Mark.{Point}
@@ -25,6 +25,17 @@ named name (Ok s) = if bytes_eq name (file_name s.descriptor.id) then Ok s else 
 abbrev pub file_at : List ℕ → Option (List ℕ) → Result Segment NodeFault
 file_at name None = Err faults.NoFile
 file_at name (Some bytes) = named name (segment_at bytes)
+
+-- how many bytes a file has: none where there is none
+abbrev pub size_of : Option (List ℕ) → ℕ
+size_of None = 0
+size_of (Some bytes) = length bytes
+
+-- what was loaded of a file: the identifier of its segment, how many rows that has, and how many bytes the file
+pub record Loaded : Type 0 where
+  pub id : Identifier
+  pub rows : ℕ
+  pub bytes : ℕ
 
 -- why a file was not loaded into a node of that incarnation, of which that mark was seen: what it gives, or why the node does not take its segment;
 -- the device and memory are no matter of the file

@@ -1,5 +1,5 @@
 -- What a request asks of a node's state, and what an answer is made of. Only proofs and private functions use this.
-use Rattle.std.specs.Prelude.{◌≡◌, ◌⊎◌, ⊤, ℕ, List, Option, Some, None}
+use Rattle.std.specs.Prelude.{◌≡◌, ◌⊎◌, ℕ, List, Some}
 use Rattle.std.specs.Arc.{arc_value}
 use Rattle.druid_shard.specs.Mark.{Point}
 use Rattle.druid_sync.specs.Back.{IsReadBack}
@@ -33,18 +33,16 @@ IsMadeOf (rests.Held held sub) status body = AnswersSub (arc_value held) sub sta
 abbrev pub IsBasisOf : State → State → Question → Basis → Type 0
 IsBasisOf old new question basis = (status : ℕ) (body : List ℕ) → IsMadeOf basis status body → Gives old new question status body
 
--- the same where memory may run out for the question, or for what its answer is made of
-abbrev pub IsBasisInTurn : State → State → Option Question → Option Basis → Type 0
-IsBasisInTurn old new question None = ⊤
-IsBasisInTurn old new None (Some basis) = ⊥
-IsBasisInTurn old new (Some question) (Some basis) = IsBasisOf old new question basis
+-- the same, where out of memory may stand in the place of the answer
+abbrev pub IsBasisInTurn : State → State → Question → Basis → Type 0
+IsBasisInTurn old new question basis =
+    (status : ℕ) (body : List ℕ) → IsMadeOf basis status body → Gives old new question status body ⊎ IsOutOfMemory status body
 
 -- a state of that incarnation gave this, whose mark is the second and not below the first
-abbrev pub IsBasisFrom : ℕ → Point → Point → Option Question → Option Basis → Type 0
+abbrev pub IsBasisFrom : ℕ → Point → Point → Question → Basis → Type 0
 IsBasisFrom incarnation before after question basis =
     (state next : State) × AreAtMark incarnation before after state next × IsBasisInTurn state next question basis
 
 -- the answer that is made of this, where out of memory may stand in its place
-abbrev pub IsMadeInTurn : Option Basis → ℕ → List ℕ → Type 0
-IsMadeInTurn None status body = IsOutOfMemory status body
-IsMadeInTurn (Some basis) status body = IsMadeOf basis status body ⊎ IsOutOfMemory status body
+abbrev pub IsMadeInTurn : Basis → ℕ → List ℕ → Type 0
+IsMadeInTurn basis status body = IsMadeOf basis status body ⊎ IsOutOfMemory status body

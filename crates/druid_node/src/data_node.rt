@@ -1,22 +1,24 @@
-ghost use Rattle.std.specs.Prelude.{◌≡◌, ◌⊎◌, Some, Ok, IfOk, IfErr, OnOk, OnErr, bytes_eq};
+ghost use Rattle.std.specs.Prelude.{◌≡◌, ◌⊎◌, Some, Ok, IfOk, IfErr, OnOk, OnErr, bytes_eq, length};
 ghost use Rattle.std.specs.declared.cmp.Ordering.TheVariants.{Less};
 ghost use Rattle.druid_shard.specs.Mark.{Point, mark_cmp};
 ghost use Rattle.druid_rows.specs.Segment.{Segment};
 ghost use Rattle.druid_folder.specs.Folder.{IsOwnFault, read_part, bytes_read};
 ghost use Rattle.druid_segfile.specs.Reading.{segment_at};
-ghost use Rattle.druid_node.specs.Files.{file_name, named, file_at, reported_as, RefusesFile, IsOfFile, RefusesBytes, RefusesFound, faults_after_load};
+ghost use Rattle.druid_node.specs.Files.{file_name, named, file_at, reported_as, RefusesFile, IsOfFile, size_of, RefusesBytes, RefusesFound, faults_after_load};
 ghost use Rattle.druid_node.specs.Seen.{IsStale, RefusesLoad, RefusesDrop, RefusesTombstone, AnswersFrom};
-ghost use Rattle.druid_node.specs.Questions.{IsBasisFrom};
+ghost use Rattle.druid_node.specs.Routes.{RespondsInTurn};
+ghost use Rattle.druid_node.specs.Questions.{Asks, IsBasisFrom};
 
 use crate::question::{Question, question_of};
 use crate::seen::{Answered, Based, StateIn, answer_for};
-use crate::{Incarnation, NodeFault, NodeState};
+use crate::{Incarnation, LoadedFile, NodeFault, NodeState};
 use druid_folder::{Folder, StoreFault};
 use druid_message::Request;
 use druid_rows::Segment;
 use druid_segfile::{FileFault, segment_of};
 use druid_segid::SegmentId;
 use druid_shard::Mark;
+use druid_wire::Response;
 use std::alloc::{AllocError, Global};
 use std::sync::{Mutex, Wait};
 
@@ -63,6 +65,16 @@ fn file_fault(fault: FileFault) -> NodeFault
     }
 }
 
+// What the request asks of a state. Where memory runs out for that, each state answers out of memory.
+fn question_in_turn(alloc: Global, request: &Request) -> Question
+    ensures { Asks result (λ old new. RespondsInTurn old new request.now) }
+{
+    match question_of(alloc, request) {
+        Ok(question) => question,
+        Err(_) => Question::Settled(Response::out_of_memory()),
+    }
+}
+
 // Whether a file of that name is the one of the segment with that identifier.
 fn is_file_of(alloc: Global, id: &SegmentId, name: &str) -> Result<bool, AllocError>
     ensures { IfOk result (λ same. same ≡ bytes_eq name.now (file_name id.now)) }
@@ -85,6 +97,16 @@ fn segment_in(alloc: Global, name: &str, bytes: &[u8]) -> Result<Segment, NodeFa
         Ok(true) => Ok(segment),
         Ok(false) => Err(NodeFault::NameDiffers),
         Err(_) => Err(NodeFault::Memory),
+    }
+}
+
+// How many bytes a folder gave.
+fn size_of(found: &Option<Vec<u8>>) -> usize
+    ensures { result ≡ size_of (bytes_read found.now) }
+{
+    match found {
+        Some(bytes) => bytes.len(),
+        None => 0,
     }
 }
 
@@ -117,12 +139,7 @@ impl<I: Incarnation> DataNode<I> {
 
     // What its state gives for the answer to a question, and the state's mark. The lock is held for this alone: for copies of
     // what is replied, and, where an ask freezes what is served, for one of that.
-    fn basis_of(
-        &self,
-        rt: &impl Wait,
-        question: Option<Question>,
-        seen: Mark,
-    ) -> Result<Based, NodeFault>
+    fn basis_of(&self, rt: &impl Wait, question: Question, seen: Mark) -> Result<Based, NodeFault>
         ensures ok { IfOk result (λ b. IsBasisFrom I.number seen b.mark question b.basis) }
         ensures err { IfErr result (λ fault. (found : Point) × IsStale I.number found seen × (fault ≡ NodeFault.Behind found)) }
     {
@@ -140,21 +157,21 @@ impl<I: Incarnation> DataNode<I> {
         ensures ok { IfOk result (λ a. AnswersFrom I.number seen a.mark request.now a.response.status a.response.body) }
         ensures err { IfErr result (λ fault. (found : Point) × IsStale I.number found seen × (fault ≡ NodeFault.Behind found)) }
     {
-        let question = question_of(self.alloc, request).ok();
-        match self.basis_of(rt, question, seen) {
-            Ok(based) => Ok(answer_for(self.alloc, based)),
-            Err(fault) => Err(fault),
-        }
+        let question = question_in_turn(self.alloc, request);
+        let based = self.basis_of(rt, question, seen)?;
+        Ok(answer_for(self.alloc, based))
     }
 
-    // Loads a segment, and gives its identifier: copied before, so that nothing fails after the load.
+    // Loads the segment of a file of so many bytes. Its identifier is copied before, so that nothing fails after the load.
     fn load(
         &self,
         rt: &impl Wait,
         segment: Segment,
+        bytes: usize,
         seen: &mut Mark,
-    ) -> Result<SegmentId, NodeFault>
-        ensures id { IfOk result (λ id. id ≡ segment.descriptor.id) }
+    ) -> Result<LoadedFile, NodeFault>
+        ensures loaded { IfOk result (λ loaded. (loaded.id ≡ segment.descriptor.id) × (loaded.rows ≡ length segment.rows)) }
+        ensures bytes { IfOk result (λ loaded. loaded.bytes ≡ bytes) }
         ensures raised { OnOk result (mark_cmp seen.old seen.new ≡ Less) }
         ensures own { OnOk result (seen.new.incarnation ≡ I.number) }
         ensures err { IfErr result (RefusesLoad I.number seen.old) }
@@ -163,10 +180,11 @@ impl<I: Incarnation> DataNode<I> {
         let Ok(id) = segment.descriptor().id().clone() else {
             return Err(NodeFault::Memory);
         };
+        let rows = segment.len();
         if let Err(fault) = self.state.lock(rt).load(segment, seen) {
             return Err(fault);
         }
-        Ok(id)
+        Ok(LoadedFile::new(id, rows, bytes))
     }
 
     /// Loads the segment of the file of that name, of which a folder gives no more than 16 MiB and a byte, and sees the mark
@@ -198,19 +216,21 @@ impl<I: Incarnation> DataNode<I> {
         Ok(())
     }
 
-    /// Loads the segment of the file of that name as `load_file` does, and gives its identifier, by which it is dropped: that
-    /// whose text and `.seg` the name is.
+    /// Loads the segment of the file of that name as `load_file` does, and gives its identifier, by which it is dropped, that
+    /// whose text and `.seg` the name is, and how large it is.
     pub fn load_identified<F: Folder>(
         &self,
         rt: &impl Wait,
         folder: &mut F,
         name: &str,
         seen: &mut Mark,
-    ) -> Result<SegmentId, NodeFault>
+    ) -> Result<LoadedFile, NodeFault>
         ensures ok { F.is_honest folder.new
-            → IfOk result (λ id. (s : Segment) × (file_at name.now (read_part (F.content folder.old name.now)) ≡ Ok s)
-            × (id ≡ s.descriptor.id)) }
-        ensures id { IfOk result (λ id. name.now ≡ file_name id) }
+            → IfOk result (λ loaded. (s : Segment) × (file_at name.now (read_part (F.content folder.old name.now)) ≡ Ok s)
+            × (loaded.id ≡ s.descriptor.id) × (loaded.rows ≡ length s.rows)) }
+        ensures bytes { F.is_honest folder.new
+            → IfOk result (λ loaded. loaded.bytes ≡ size_of (read_part (F.content folder.old name.now))) }
+        ensures id { IfOk result (λ loaded. name.now ≡ file_name loaded.id) }
         ensures raised { OnOk result (mark_cmp seen.old seen.new ≡ Less) }
         ensures own { OnOk result (seen.new.incarnation ≡ I.number) }
         ensures err { F.is_honest folder.new
@@ -226,8 +246,9 @@ impl<I: Incarnation> DataNode<I> {
             Ok(found) => found,
             Err(fault) => return Err(read_fault(fault)),
         };
+        let bytes = size_of(&found);
         match found_segment(self.alloc, name, found) {
-            Ok(segment) => self.load(rt, segment, seen),
+            Ok(segment) => self.load(rt, segment, bytes, seen),
             Err(fault) => Err(fault),
         }
     }

@@ -22,8 +22,7 @@ use std::marker::{Model, PhantomData};
 // What a state gave for an answer, and its mark.
 #[derive(Drop)]
 pub(crate) struct Based {
-    // None where memory ran out.
-    pub(crate) basis: Option<Basis>,
+    pub(crate) basis: Basis,
     pub(crate) mark: Mark,
 }
 
@@ -88,17 +87,10 @@ impl<I: Incarnation> StateIn<I> {
         ensures unchanged { OnErr result (self.new ≡ self.old) }
         ensures unseen { OnErr result (seen.new ≡ seen.old) }
     {
-        match self.mark_as_seen(*seen) {
-            Ok(_) => {}
-            Err(fault) => return Err(fault),
-        }
-        match self.state.load(segment) {
-            Ok(()) => {
-                *seen = self.state.mark();
-                Ok(())
-            }
-            Err(fault) => Err(fault),
-        }
+        self.mark_as_seen(*seen)?;
+        self.state.load(segment)?;
+        *seen = self.state.mark();
+        Ok(())
     }
 
     // Places a tombstone, where it is not older than what was seen, and sees that.
@@ -114,17 +106,10 @@ impl<I: Incarnation> StateIn<I> {
         ensures unchanged { OnErr result (self.new ≡ self.old) }
         ensures unseen { OnErr result (seen.new ≡ seen.old) }
     {
-        match self.mark_as_seen(*seen) {
-            Ok(_) => {}
-            Err(fault) => return Err(fault),
-        }
-        match self.state.place_tombstone(id) {
-            Ok(()) => {
-                *seen = self.state.mark();
-                Ok(())
-            }
-            Err(fault) => Err(fault),
-        }
+        self.mark_as_seen(*seen)?;
+        self.state.place_tombstone(id)?;
+        *seen = self.state.mark();
+        Ok(())
     }
 
     // Drops a segment or a tombstone, where it is not older than what was seen, and sees that.
@@ -137,36 +122,15 @@ impl<I: Incarnation> StateIn<I> {
         ensures unchanged { OnErr result (self.new ≡ self.old) }
         ensures unseen { OnErr result (seen.new ≡ seen.old) }
     {
-        match self.mark_as_seen(*seen) {
-            Ok(_) => {}
-            Err(fault) => return Err(fault),
-        }
-        match self.state.drop_segment(id) {
-            Ok(()) => {
-                *seen = self.state.mark();
-                Ok(())
-            }
-            Err(fault) => Err(fault),
-        }
+        self.mark_as_seen(*seen)?;
+        self.state.drop_segment(id)?;
+        *seen = self.state.mark();
+        Ok(())
     }
 
-    fn basis_in_turn(&mut self, question: Option<Question>) -> Option<Basis>
-        ensures basis { IsBasisInTurn self.old self.new question result }
-        ensures stays { Freezes self.old self.new }
-    {
-        let question = question?;
-        match self.state.basis_of(question) {
-            Ok(basis) => Some(basis),
-            Err(_) => None,
-        }
-    }
-
-    // What its answer to a question is made of, where it is not older than what was seen, and its mark.
-    pub(crate) fn basis_of(
-        &mut self,
-        question: Option<Question>,
-        seen: Mark,
-    ) -> Result<Based, NodeFault>
+    // What its answer to a question is made of, where it is not older than what was seen, and its mark. Where memory runs out for
+    // that, its answer is out of memory.
+    pub(crate) fn basis_of(&mut self, question: Question, seen: Mark) -> Result<Based, NodeFault>
         ensures ok { IfOk result (λ b. IsAtLeast (mark_of self.old) seen × (b.mark ≡ mark_of self.old)
             × IsBasisInTurn self.old self.new question b.basis) }
         ensures stays { Freezes self.old self.new }
@@ -174,23 +138,12 @@ impl<I: Incarnation> StateIn<I> {
         ensures err { IfErr result (λ fault. IsStale I.number (mark_of self.old) seen × (fault ≡ NodeFault.Behind (mark_of self.old))) }
         ensures unchanged { OnErr result (self.new ≡ self.old) }
     {
-        let mark = match self.mark_as_seen(seen) {
-            Ok(mark) => mark,
-            Err(fault) => return Err(fault),
+        let mark = self.mark_as_seen(seen)?;
+        let basis = match self.state.basis_of(question) {
+            Ok(basis) => basis,
+            Err(_) => Basis::Settled(Response::out_of_memory()),
         };
-        Ok(Based {
-            basis: self.basis_in_turn(question),
-            mark,
-        })
-    }
-}
-
-fn answer_in_turn(alloc: Global, basis: Option<Basis>) -> Result<Response, NodeFault>
-    ensures { IfOk result (λ r. IsMadeInTurn basis r.status r.body) }
-{
-    match basis {
-        Some(basis) => answer_from(alloc, basis),
-        None => Err(NodeFault::Memory),
+        Ok(Based { basis, mark })
     }
 }
 
@@ -200,7 +153,7 @@ pub(crate) fn answer_for(alloc: Global, based: Based) -> Answered
     ensures made { IsMadeInTurn based.basis result.response.status result.response.body }
 {
     let mark = based.mark;
-    let response = match answer_in_turn(alloc, based.basis) {
+    let response = match answer_from(alloc, based.basis) {
         Ok(response) => response,
         Err(_) => Response::out_of_memory(),
     };

@@ -3,3 +3,4 @@ pub mod Exits
 pub mod Words
 pub mod Reasons
 pub mod Ends
+pub mod Asked

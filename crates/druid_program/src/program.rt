@@ -14,7 +14,7 @@ ghost use Rattle.druid_program.specs.Words.{AsksForReplay, AsksForServe};
 
 use crate::config_file::config_bytes;
 use crate::report::report;
-use crate::{Ending, Exit, asks_for_replay, asks_for_serve};
+use crate::{Ending, Environment, Exit, asks_for_replay, asks_for_serve};
 use druid_cluster::{Reason, ReplayFault, replay_explained};
 use druid_serve::serve;
 use druid_server::{Host, ServeFault, Stop};
@@ -112,8 +112,9 @@ fn report_stop<E: Write>(
 }
 
 /// Serves the cluster of a config, prints the answers to its queries, and ends once each broker answered the connections from
-/// outside that the config asks for; a cluster without an end does not return (`druid_serve::serve`). It ends with status 0, or
-/// with that of the fault that it reports on the error writer; where `explain` is set, what kept the cluster stands below it, in a
+/// outside that the config asks for; a cluster without an end does not return (`druid_serve::serve`). Where the environment names a part
+/// of the cluster, that is served. It ends with status 0, or
+/// with that of the fault that it reports on the error writer; where the environment asks for it, what kept the cluster stands below it, in a
 /// line that is indented, unless memory ran out for it. Status 0 only where the bytes are a config, and of each of its queries
 /// something was printed; where they are none, nothing is printed.
 pub fn serve_config<
@@ -127,18 +128,26 @@ pub fn serve_config<
         + 'static,
     W: Write,
     E: Write,
->(rt: &R, alloc: Global, config: &[u8], out: &mut W, errors: &mut E, explain: bool) -> Ending
+>(
+    rt: &R,
+    alloc: Global,
+    config: &[u8],
+    environment: &Environment,
+    out: &mut W,
+    errors: &mut E,
+) -> Ending
 where
     R::Dir: Send,
-    ensures served { (end : Result ⊤ ServeFault) × ServesAs config.now end
+    ensures served { (end : Result ⊤ ServeFault) × ServesAs config.now environment.now.part end
         × (result.status ≡ serve_status end)
-        × OnOk result.reported (Reports explain (E.contents errors.old) (E.contents errors.new) (serve_line end)) }
-    ensures printed { (result.status ≡ 0) → IsServed config.now (W.contents out.old) (W.contents out.new) }
-    ensures nothing { (IsConfig config.now → ⊥) → W.contents out.new ≡ W.contents out.old }
+        × OnOk result.reported (Reports environment.now.explain (E.contents errors.old) (E.contents errors.new) (serve_line end)) }
+    ensures printed { (result.status ≡ 0) → IsServed config.now environment.now.part (W.contents out.old) (W.contents out.new) }
+    ensures nothing { (IsConfig config.now environment.now.part → ⊥) → W.contents out.new ≡ W.contents out.old }
 {
-    match serve(rt, alloc, config, out, errors) {
+    let (part, log) = (environment.part(), environment.log());
+    match serve(rt, alloc, config, part, log, out, errors) {
         Ok(()) => done(),
-        Err(stop) => report_stop(alloc, errors, stop, explain),
+        Err(stop) => report_stop(alloc, errors, stop, environment.explains()),
     }
 }
 
@@ -154,21 +163,28 @@ fn serve_file<
         + 'static,
     W: Write,
     E: Write,
->(rt: &R, alloc: Global, path: &str, writer: &mut W, errors: &mut E, explain: bool) -> Ending
+>(
+    rt: &R,
+    alloc: Global,
+    path: &str,
+    environment: &Environment,
+    writer: &mut W,
+    errors: &mut E,
+) -> Ending
 where
     R::Dir: Send,
     ensures { (end : Result ⊤ ServeFault) × (result.status ≡ serve_status end)
-        × OnOk result.reported (Reports explain (E.contents errors.old) (E.contents errors.new) (serve_line end)) }
+        × OnOk result.reported (Reports environment.now.explain (E.contents errors.old) (E.contents errors.new) (serve_line end)) }
 {
     match config_bytes(rt, alloc, path) {
-        Ok(config) => serve_config(rt, alloc, &config, writer, errors, explain),
-        Err(stop) => report_stop(alloc, errors, stop, explain),
+        Ok(config) => serve_config(rt, alloc, &config, environment, writer, errors),
+        Err(stop) => report_stop(alloc, errors, stop, environment.explains()),
     }
 }
 
-/// The whole program, over its arguments, standard input, standard output and standard error. `replay` alone answers the commands
+/// The whole program, over its arguments, what the environment asks, standard input, standard output and standard error. `replay` alone answers the commands
 /// of the input, and `serve CONFIG` serves the cluster of the config at that path; each reports a fault on the error writer, and
-/// below it, where `explain` is set, what ended the run or kept the cluster, in a line that is indented, unless memory ran out for
+/// below it, where the environment asks for it, what ended the run or kept the cluster, in a line that is indented, unless memory ran out for
 /// it. Any other words get the usage line there, with status 2, and arguments that could not be read end with status 3 as a device
 /// that fails at line 1: then nothing is read or written.
 pub fn run<
@@ -187,10 +203,10 @@ pub fn run<
     rt: &R,
     alloc: Global,
     words: io::Result<Vec<String>>,
+    environment: &Environment,
     reader: &mut I,
     writer: &mut W,
     errors: &mut E,
-    explain: bool,
 ) -> Ending
 where
     R::Dir: Send,
@@ -206,21 +222,21 @@ where
         × OnOk result.reported (Appends (E.contents errors.old) (E.contents errors.new) usage_line)) }
     ensures served { IfOk words (λ list. AsksForServe (map string_bytes list.items)
         → (end : Result ⊤ ServeFault) × (result.status ≡ serve_status end)
-        × OnOk result.reported (Reports explain (E.contents errors.old) (E.contents errors.new) (serve_line end))) }
+        × OnOk result.reported (Reports environment.now.explain (E.contents errors.old) (E.contents errors.new) (serve_line end))) }
     ensures replayed { IfOk words (λ list. AsksForReplay (map string_bytes list.items)
         → (end : Result ⊤ ReplayFault)
         × Replays (I.remaining reader.old) (W.contents writer.old) (W.contents writer.new) end
         × (result.status ≡ replay_status end)
-        × OnOk result.reported (Reports explain (E.contents errors.old) (E.contents errors.new) (replay_line end))) }
+        × OnOk result.reported (Reports environment.now.explain (E.contents errors.old) (E.contents errors.new) (replay_line end))) }
 {
     let Ok(words) = words else {
         return report_unread(alloc, errors);
     };
     if asks_for_replay(&words) {
-        return replay_all(alloc, reader, writer, errors, explain);
+        return replay_all(alloc, reader, writer, errors, environment.explains());
     }
     if asks_for_serve(&words) {
-        return serve_file(rt, alloc, words[1].as_str(), writer, errors, explain);
+        return serve_file(rt, alloc, words[1].as_str(), environment, writer, errors);
     }
     report_usage(errors)
 }

@@ -1,6 +1,6 @@
 //! Configs of clusters.
 use crate::marks::{assert_call, begin, end};
-use druid_config::{ConfigFault, bad_field_in, names_in, read_config};
+use druid_config::{ConfigFault, Part, bad_field_in, names_in, read_config};
 use std::alloc::Global;
 use std::process::Abort;
 
@@ -41,7 +41,23 @@ fn configs(rt: &impl Abort, alloc: Global) {
     );
 }
 
+fn parts(rt: &impl Abort, alloc: Global) {
+    let config = read_config(alloc, CONFIG).expect(rt, "a config");
+    begin(rt, alloc);
+    let part = end(rt, alloc, Part::named(alloc, &config, "n0,broker:0"));
+    assert_call(
+        rt,
+        "Part::named",
+        match &part {
+            Ok(Some(part)) => part.has_broker(0) && !part.has_broker(1),
+            Ok(None) => false,
+            Err(_) => true,
+        },
+    );
+}
+
 #[test]
 fn of_configs(rt: HostRuntime) {
     configs(&rt, rt.alloc());
+    parts(&rt, rt.alloc());
 }

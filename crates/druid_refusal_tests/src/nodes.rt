@@ -3,17 +3,22 @@ use crate::data::segment;
 use crate::marks::{assert_call, begin, end};
 use crate::texts::{subquery, text_of};
 use crate::values::segment as segment_id;
-use druid_folder::Folder;
+use druid_folder::{Folder, StoreFault};
+use druid_log::{Level, open};
 use druid_message::{Request, WireFault};
+use druid_metrics::NodeMeter;
 use druid_node::{DataNode, Incarnation, NodeFault, NodeState};
 use druid_segfile::write_segment;
 use druid_segid::SegmentId;
+use druid_serve_node::{Known, Reporter, Watch};
+use druid_server::Telemetry;
 use druid_shard::{Ask, Mark};
 use druid_store::MemoryFolder;
 use http::Method;
-use std::alloc::Global;
+use std::alloc::{AllocError, Global};
 use std::process::Abort;
-use std::sync::Wait;
+use std::sync::{Arc, Wait};
+use std::time::Clock;
 
 // The incarnation of the nodes here.
 struct First;
@@ -158,6 +163,107 @@ fn serves<R: Abort + Wait>(rt: &R, alloc: Global, node: &DataNode<First>) {
     );
 }
 
+// Tries the file at a look, and at the next what memory was refused for.
+fn tries<R: Abort + Wait + Clock>(
+    rt: &R,
+    alloc: Global,
+    node: &DataNode<First>,
+    folder: &mut MemoryFolder,
+    watch: &mut Watch,
+    reporter: &mut Reporter,
+) {
+    let names = vec![in alloc; text_of(rt, alloc, FILE)].expect(rt, "memory");
+    begin(rt, alloc);
+    let tried = end(
+        rt,
+        alloc,
+        watch.try_due(rt, node, folder, 1, &names, reporter),
+    );
+    let seen = watch.seen();
+    let again = watch.try_due(rt, node, folder, 2, &names, reporter);
+    assert_call(
+        rt,
+        "Watch::try_due",
+        again.is_ok()
+            && watch.seen() == Mark::new(1, 1)
+            && match tried {
+                Ok(()) => seen == Mark::new(1, 0) || seen == Mark::new(1, 1),
+                Err(AllocError) => seen == Mark::new(1, 0),
+            },
+    );
+}
+
+// Looks, and once more, which does what memory was refused for: then the node is at that count.
+fn look_at<R: Abort + Wait + Clock>(
+    rt: &R,
+    alloc: Global,
+    node: &DataNode<First>,
+    folder: &mut MemoryFolder,
+    watch: &mut Watch,
+    reporter: &mut Reporter,
+    look: u64,
+    count: u64,
+) {
+    let before = watch.seen();
+    begin(rt, alloc);
+    let looked = end(
+        rt,
+        alloc,
+        watch.look(rt, alloc, node, folder, look, reporter),
+    );
+    let seen = watch.seen();
+    let again = watch.look(rt, alloc, node, folder, look.saturating_add(1), reporter);
+    assert_call(
+        rt,
+        "Watch::look",
+        again.is_ok()
+            && watch.seen() == Mark::new(1, count)
+            && match looked {
+                Ok(()) => seen == before || seen == Mark::new(1, count),
+                Err(fault) => fault == StoreFault::Memory && seen == before,
+            },
+    );
+}
+
+// A reporter of a node, whose log is quiet.
+fn reporter(rt: &impl Abort, alloc: Global) -> Reporter {
+    let (log, _lines) = open(alloc, Level::Off).expect(rt, "memory");
+    let log = Arc::new(alloc, log).expect(rt, "memory");
+    let telemetry = Telemetry::new(alloc, "n0", &log).expect(rt, "memory");
+    let meter = NodeMeter::new(alloc).expect(rt, "memory");
+    let meter = Arc::new(alloc, meter).expect(rt, "memory");
+    Reporter::new(alloc, telemetry, &meter).expect(rt, "memory")
+}
+
+// The file is there, is gone, and is there again.
+fn looks<R: Abort + Wait + Clock>(rt: &R, alloc: Global, node: &DataNode<First>) {
+    let mut folder = folder(rt, alloc);
+    let mut watch = Watch::new(Known::new(alloc), Mark::new(1, 0));
+    let mut reporter = reporter(rt, alloc);
+    tries(rt, alloc, node, &mut folder, &mut watch, &mut reporter);
+    folder.remove(FILE).expect(rt, "memory");
+    look_at(
+        rt,
+        alloc,
+        node,
+        &mut folder,
+        &mut watch,
+        &mut reporter,
+        3,
+        2,
+    );
+    look_at(
+        rt,
+        alloc,
+        node,
+        &mut self::folder(rt, alloc),
+        &mut watch,
+        &mut reporter,
+        5,
+        3,
+    );
+}
+
 fn of_state(rt: &impl Abort, alloc: Global, id: &SegmentId) {
     let mut state = NodeState::new(alloc, 1, 5).expect(rt, "a node");
     edits(rt, alloc, &mut state, id);
@@ -183,4 +289,10 @@ fn of_nodes(rt: HostRuntime) {
         &segment_id(&rt, rt.alloc(), "v1", 0),
     );
     serves(&rt, rt.alloc(), &node);
+}
+
+#[test]
+fn of_looks(rt: HostRuntime) {
+    let state = NodeState::new(rt.alloc(), 1, 5).expect(&rt, "a node");
+    looks(&rt, rt.alloc(), &DataNode::new(state));
 }

@@ -1,13 +1,21 @@
 //! What servers count and log.
+ghost use Rattle.std.specs.Prelude.{false};
+
 use crate::marks::{assert_call, begin, end};
-use druid_log::{Event, Level, Refusals, line_of};
+use druid_front::Seats;
+use druid_health::Health;
+use druid_log::{Event, Level, Log, Refusals, line_of, open};
+use druid_message::WireFault;
 use druid_metrics::{
-    Counts, FollowMeter, Meter, NodeState, Readings, Route, broker_families, metrics_response,
-    node_families, render, server_families, server_histogram,
+    Counts, FollowMeter, Meter, NodeMeter, NodeState, Readings, Route, broker_families,
+    metrics_response, node_families, render, server_families, server_histogram,
 };
+use druid_serve_node::Reporter;
+use druid_server::{Status, Telemetry, serve_status_one};
 use druid_time::Instant;
 use std::alloc::{AllocError, Global};
 use std::process::Abort;
+use std::sync::Arc;
 
 // Whether a call gave a list of so many, or was refused memory.
 fn has_count<T>(given: &Result<Vec<T>, AllocError>, count: usize) -> bool {
@@ -95,7 +103,7 @@ fn of_nodes(rt: &impl Abort, alloc: Global) {
     let meter = FollowMeter::new(alloc).expect(rt, "memory");
     meter.turn("Moved");
     begin(rt, alloc);
-    let read = end(rt, alloc, meter.read(alloc, "n0"));
+    let read = end(rt, alloc, meter.read(alloc, "n0", Vec::new(alloc)));
     assert_call(
         rt,
         "FollowMeter::read",
@@ -104,7 +112,11 @@ fn of_nodes(rt: &impl Abort, alloc: Global) {
             Err(AllocError) => true,
         },
     );
-    let followed = [meter.read(alloc, "n0").expect(rt, "memory")];
+    let followed = [
+        meter
+            .read(alloc, "n0", Vec::new(alloc))
+            .expect(rt, "memory"),
+    ];
     begin(rt, alloc);
     let families = end(rt, alloc, broker_families(alloc, "b", &followed));
     assert_call(rt, "broker_families", has_count(&families, 5));
@@ -159,6 +171,132 @@ fn of_metrics(rt: HostRuntime) {
     of_a_server(&rt, alloc, &readings);
     of_nodes(&rt, alloc);
     texts(&rt, alloc, &readings);
+}
+
+fn health(rt: &impl Abort, alloc: Global) {
+    begin(rt, alloc);
+    let made = end(rt, alloc, Health::new(alloc, 2, 30_000));
+    assert_call(
+        rt,
+        "Health::new",
+        match &made {
+            Ok(health) => health.ails(1) == Some(false) && health.ails(2).is_none(),
+            Err(AllocError) => true,
+        },
+    );
+}
+
+// A log of which nothing is written.
+fn quiet_log(rt: &impl Abort, alloc: Global) -> Arc<Log, Global> {
+    let (log, _lines) = open(alloc, Level::Off).expect(rt, "memory");
+    Arc::new(alloc, log).expect(rt, "memory")
+}
+
+// Whether a call gave telemetry of that name, or was refused memory.
+fn is_of(given: &Result<Telemetry, AllocError>, name: &str) -> bool {
+    match given {
+        Ok(telemetry) => telemetry.name() == name,
+        Err(AllocError) => true,
+    }
+}
+
+fn telemetry(rt: &impl Abort, alloc: Global) {
+    let log = quiet_log(rt, alloc);
+    begin(rt, alloc);
+    let made = end(rt, alloc, Telemetry::new(alloc, "n0", &log));
+    assert_call(rt, "Telemetry::new", is_of(&made, "n0"));
+    let telemetry = Telemetry::new(alloc, "n0", &log).expect(rt, "memory");
+    begin(rt, alloc);
+    let shared = end(rt, alloc, telemetry.share());
+    assert_call(rt, "Telemetry::share", is_of(&shared, "n0"));
+    begin(rt, alloc);
+    let read = end(rt, alloc, telemetry.read(alloc));
+    assert_call(
+        rt,
+        "Telemetry::read",
+        match &read {
+            Ok(readings) => readings.connections() == 0,
+            Err(AllocError) => true,
+        },
+    );
+    reports(rt, alloc, telemetry);
+}
+
+fn reports(rt: &impl Abort, alloc: Global, telemetry: Telemetry) {
+    begin(rt, alloc);
+    let made = end(rt, alloc, NodeMeter::new(alloc));
+    assert_call(
+        rt,
+        "NodeMeter::new",
+        match &made {
+            Ok(meter) => meter.read().segments == 0,
+            Err(AllocError) => true,
+        },
+    );
+    let meter = NodeMeter::new(alloc).expect(rt, "memory");
+    let meter = Arc::new(alloc, meter).expect(rt, "memory");
+    begin(rt, alloc);
+    let reporter = end(rt, alloc, Reporter::new(alloc, telemetry, &meter));
+    assert_call(
+        rt,
+        "Reporter::new",
+        matches!(&reporter, Ok(_) | Err(AllocError)),
+    );
+}
+
+// A server without metrics, which follows no nodes.
+struct Silent;
+
+impl Status for Silent {
+    ghost follows = { false };
+
+    fn metrics(&self, alloc: Global) -> Result<Vec<u8>, AllocError> {
+        Ok(Vec::new(alloc))
+    }
+
+    fn is_loaded(&self) -> Option<bool> {
+        None
+    }
+}
+
+fn statuses(rt: &impl Abort, alloc: Global) {
+    let mut written = Vec::with_capacity(alloc, 1_000).expect(rt, "memory");
+    let mut reader = b"GET /metrics HTTP/1.1\r\n\r\n".as_slice();
+    begin(rt, alloc);
+    let served = end(
+        rt,
+        alloc,
+        serve_status_one(alloc, &Silent, &mut reader, &mut written),
+    );
+    assert_call(
+        rt,
+        "serve_status_one",
+        match served {
+            Ok(status) => status == 200,
+            Err(fault) => fault == WireFault::Memory,
+        },
+    );
+    begin(rt, alloc);
+    let seats = end(rt, alloc, Seats::new(alloc, 3));
+    assert_call(
+        rt,
+        "Seats::new",
+        match &seats {
+            Ok(seats) => seats.at(2).is_some(),
+            Err(AllocError) => true,
+        },
+    );
+}
+
+#[test]
+fn of_servers(rt: HostRuntime) {
+    telemetry(&rt, rt.alloc());
+    statuses(&rt, rt.alloc());
+}
+
+#[test]
+fn of_health(rt: HostRuntime) {
+    health(&rt, rt.alloc());
 }
 
 #[test]

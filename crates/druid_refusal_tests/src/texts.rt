@@ -1,6 +1,7 @@
 //! Queries, subqueries and answers of nodes, and their texts.
 use crate::marks::{assert_call, begin, copy_of, end};
 use druid_asked_text::{asked_value, asked_values, read_asked};
+use druid_context::timeout_of;
 use druid_partial::Partial;
 use druid_partial_text::{
     NodeAnswer, PartialFault, answer_of, node_answer_text, read_node_answer, read_partial,
@@ -13,7 +14,7 @@ use druid_query_text::{
 use druid_wire::Response;
 use http::StatusCode;
 use serde_json::Value;
-use std::alloc::Global;
+use std::alloc::{AllocError, Global};
 use std::process::Abort;
 
 /// A text of one's own.
@@ -253,8 +254,26 @@ fn partials_read(rt: &impl Abort, alloc: Global, sub: &SubQuery, answer: &NodeAn
     );
 }
 
+fn contexts(rt: &impl Abort, alloc: Global) {
+    begin(rt, alloc);
+    let timeout = end(
+        rt,
+        alloc,
+        timeout_of(alloc, b"{\"context\":{\"timeout\":250}}"),
+    );
+    assert_call(
+        rt,
+        "timeout_of",
+        match timeout {
+            Ok(timeout) => timeout == Some(250),
+            Err(AllocError) => true,
+        },
+    );
+}
+
 #[test]
 fn of_queries(rt: HostRuntime) {
+    contexts(&rt, rt.alloc());
     parts(&rt, rt.alloc());
     queries_read(&rt, rt.alloc(), &value(&rt, rt.alloc(), QUERY));
     queries_written(&rt, rt.alloc(), &asked_query(&rt, rt.alloc()));

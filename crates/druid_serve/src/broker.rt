@@ -1,5 +1,6 @@
 //! A broker: the threads that follow the nodes, and those that answer.
 ghost use Rattle.std.specs.Prelude.{◌≡◌, ◌<◌, ◌≤◌, ◌+◌, ◌-◌, ◌^◌, List, min, if◌then◌else◌, IfOk, OnOk, length, vec_len};
+ghost use Rattle.std.specs.Arc.{arc_value};
 ghost use Rattle.druid_config.specs.Configs.{Node};
 ghost use Rattle.druid_config.specs.Limits.{max_workers};
 ghost use Rattle.druid_inventory.specs.Entry.{max_nodes};
@@ -7,22 +8,29 @@ ghost use Rattle.druid_follow.specs.Turns.{Turn, MakesTurns, count_of};
 ghost use Rattle.druid_serve.specs.Links.{IsLinkAt, LeadTo, opening_of};
 ghost use mathlib.Core.List.{IsPrefix};
 
-use crate::links::{NodeList, link_to, links_to};
+use crate::links::{NodeLink, NodeList, link_to, links_to};
+use crate::status::{BrokerStatus, FollowedNode};
 use druid_broker::{Routes, serve_one};
 use druid_config::NodeConfig;
-use druid_follow::{TurnCount, follow, follow_on};
+use druid_follow::{TurnCount, follow_observed, follow_on_observed};
+use druid_front::close_answered;
+use druid_health::{Asker, Health, monotonic_millis};
 use druid_inventory::Inventory;
-use druid_link::{Link, TcpLink};
+use druid_link::Link;
+use druid_log::Log;
+use druid_metrics::{CountedWriter, FollowMeter};
 use druid_published::{Opened, Publication, Publisher, View, open};
-use druid_scatter::Rotate;
-use druid_server::{DeviceFailed, Gate, Handover, answer_each, close_answered, limit};
+use druid_scatter::AilingLast;
+use druid_server::{
+    DeviceFailed, Gate, Handover, Host, Telemetry, answer_each, limit, start_status,
+};
 use druid_shard::NodeNo;
-use std::alloc::Global;
-use std::io::{BufReader, BufWriter, Write};
+use druid_watcher::TurnWatcher;
+use std::alloc::{AllocError, Global};
+use std::io::{BufRead, BufReader, BufWriter, Write};
 use std::net::{Net, TcpListener, TcpStream};
 use std::sync::{Arc, Mutex, Wait};
 use std::thread;
-use std::thread::Threads;
 use std::time::Clock;
 
 /// A broker that stands.
@@ -57,9 +65,10 @@ type Shared<J, R> = Arc<Mutex<Publisher<J, R>>, Global>;
 // What a worker answers with.
 #[derive(Drop)]
 struct Worker<R: Net + Clock + Wait + Drop, J: Publication> {
-    routes: Routes,
     view: View<J>,
-    links: Vec<TcpLink<R>>,
+    links: Vec<NodeLink<R>>,
+    // Where its links note how exchanges end.
+    health: Arc<Health, Global>,
     // The connections that were answered.
     turn: u64,
     // Views end with their publisher, so each worker holds it.
@@ -69,16 +78,17 @@ struct Worker<R: Net + Clock + Wait + Drop, J: Publication> {
 
 // What follows a node.
 #[derive(Drop)]
-struct Syncer<R: Wait + Drop, J: Publication, L: Link> {
+struct Syncer<R: Wait + Clock + Drop, J: Publication, L: Link> {
     node: NodeNo,
     view: View<J>,
     link: L,
+    watcher: TurnWatcher<R>,
     publisher: Shared<J, R>,
     ghost there: { node < length J.opening },
 }
 
 // Makes the first turns of a syncer.
-fn first_turns<R: Wait + Drop, J: Publication, L: Link>(
+fn first_turns<R: Wait + Clock + Drop, J: Publication, L: Link>(
     rt: &R,
     alloc: Global,
     turns: u64,
@@ -91,10 +101,11 @@ fn first_turns<R: Wait + Drop, J: Publication, L: Link>(
         node,
         view,
         link,
+        watcher,
         publisher,
     } = syncer;
     EndOfTurns {
-        count: follow(rt, alloc, *node, turns, view, link, publisher),
+        count: follow_observed(rt, alloc, *node, turns, view, link, publisher, watcher),
     }
 }
 
@@ -111,9 +122,20 @@ fn later_turns<R: Wait + Clock + Drop, J: Publication, L: Link>(
         node,
         view,
         link,
+        watcher,
         publisher,
     } = syncer;
-    follow_on(rt, alloc, *node, every, view, link, publisher, || false);
+    follow_on_observed(
+        rt,
+        alloc,
+        *node,
+        every,
+        view,
+        link,
+        publisher,
+        watcher,
+        || false,
+    );
 }
 
 // Follows a node: makes the first turns, hands over what they gave, and goes on where the cluster does.
@@ -133,21 +155,14 @@ fn follow_node<R: Wait + Clock + Drop, J: Publication, L: Link + Drop>(
 
 // Starts the thread that follows a node of a cluster, over the link to that node.
 fn start_syncer<
-    R: Net<Listener = TcpListener, Stream = TcpStream>
-        + Wait
-        + Threads
-        + Clock
-        + Copy
-        + Send
-        + Sync
-        + 'static,
+    R: Net<Listener = TcpListener, Stream = TcpStream> + Host + Copy + Send + Sync + 'static,
     J: Publication + Send + Sync + 'static,
     C: NodeList,
 >(
     rt: &R,
     alloc: Global,
     pace: Pace,
-    syncer: Syncer<R, J, TcpLink<R>>,
+    syncer: Syncer<R, J, NodeLink<R>>,
 ) -> Result<Arc<Handover<EndOfTurns>, Global>, DeviceFailed>
     requires own { IsLinkAt pace.patience C.nodes syncer.node syncer.link }
 {
@@ -163,42 +178,38 @@ fn start_syncer<
     }
 }
 
-// Answers one connection, and gives the status that was written, if an answer was.
+// Answers a request and sends all of the answer, and gives the status that was written, if it was.
 #[tactic(auto, using(crate::proofs::LinkLemmas::answered_lead))]
-fn answer<
-    R: Net<Listener = TcpListener, Stream = TcpStream>
-        + Wait
-        + Threads
-        + Clock
-        + Copy
-        + Send
-        + Sync,
+fn send<
+    R: Net<Listener = TcpListener, Stream = TcpStream> + Host + Copy + Send + Sync,
     J: Publication,
->(rt: &R, alloc: Global, worker: &mut Worker<R, J>, stream: &TcpStream) -> Option<u16>
+    B: BufRead,
+    W: Write,
+>(
+    rt: &R,
+    alloc: Global,
+    routes: &Routes,
+    worker: &mut Worker<R, J>,
+    reader: &mut B,
+    writer: &mut W,
+) -> Option<u16>
     ensures view { IsPrefix worker.old.view worker.new.view }
     ensures turn { worker.new.turn ≡ worker.old.turn }
     ensures leads { (nodes : List Node) → LeadTo nodes worker.old.links.items → LeadTo nodes worker.new.links.items }
 {
-    if !limit(stream) {
-        return None;
-    }
-    let Ok(mut reader) = BufReader::new(alloc, stream) else {
-        return None;
-    };
-    let Ok(mut writer) = BufWriter::new(alloc, stream) else {
-        return None;
-    };
+    let nodes = worker.health.snapshot(monotonic_millis(rt));
     let served = serve_one(
         rt,
         alloc,
-        &worker.routes,
-        &mut reader,
-        &mut writer,
+        routes,
+        reader,
+        writer,
         &mut worker.view,
         worker.turn,
-        &Rotate,
+        &AilingLast::new(nodes.ailing()),
         &mut worker.links,
     );
+    worker.health.release(nodes);
     let Ok(status) = served else {
         return None;
     };
@@ -209,23 +220,58 @@ fn answer<
     }
 }
 
+// Answers one connection, and gives the status that was written, if an answer was.
+fn answer<
+    R: Net<Listener = TcpListener, Stream = TcpStream> + Host + Copy + Send + Sync,
+    J: Publication,
+>(
+    rt: &R,
+    alloc: Global,
+    routes: &Routes,
+    telemetry: &Telemetry,
+    worker: &mut Worker<R, J>,
+    stream: &TcpStream,
+) -> Option<u16>
+    ensures view { IsPrefix worker.old.view worker.new.view }
+    ensures turn { worker.new.turn ≡ worker.old.turn }
+    ensures leads { (nodes : List Node) → LeadTo nodes worker.old.links.items → LeadTo nodes worker.new.links.items }
+{
+    if !limit(stream) {
+        return None;
+    }
+    let Ok(mut reader) = BufReader::new(alloc, stream) else {
+        return None;
+    };
+    let Ok(mut writer) = BufWriter::new(alloc, CountedWriter::new(stream)) else {
+        return None;
+    };
+    let Some(taken) = telemetry.take(rt, &mut reader) else {
+        return None;
+    };
+    let status = send(rt, alloc, routes, worker, &mut reader, &mut writer);
+    telemetry.end(rt, alloc, &taken, status, writer.get_ref().written());
+    status
+}
+
 // Answers a connection, counts it once it is closed, and tells whether it was answered: then the next has the next turn.
 fn take<
-    R: Net<Listener = TcpListener, Stream = TcpStream>
-        + Wait
-        + Threads
-        + Clock
-        + Copy
-        + Send
-        + Sync,
+    R: Net<Listener = TcpListener, Stream = TcpStream> + Host + Copy + Send + Sync,
     J: Publication,
->(rt: &R, alloc: Global, worker: &mut Worker<R, J>, gate: &Gate, stream: TcpStream) -> bool
+>(
+    rt: &R,
+    alloc: Global,
+    routes: &Routes,
+    telemetry: &Telemetry,
+    worker: &mut Worker<R, J>,
+    gate: &Gate,
+    stream: TcpStream,
+) -> bool
     ensures view { IsPrefix worker.old.view worker.new.view }
     ensures leads { (nodes : List Node) → LeadTo nodes worker.old.links.items → LeadTo nodes worker.new.links.items }
     ensures turn { worker.new.turn ≡ (if result then min (worker.old.turn + 1) (2 ^ 64 - 1) else worker.old.turn) }
 {
     let counts = gate.is_open(rt);
-    let Some(status) = answer(rt, alloc, worker, &stream) else {
+    let Some(status) = answer(rt, alloc, routes, telemetry, worker, &stream) else {
         return false;
     };
     worker.turn = worker.turn.saturating_add(1);
@@ -238,15 +284,17 @@ fn take<
 
 // Answers connections, and gives the worker as it is by then.
 fn work<
-    R: Net<Listener = TcpListener, Stream = TcpStream>
-        + Wait
-        + Threads
-        + Clock
-        + Copy
-        + Send
-        + Sync,
+    R: Net<Listener = TcpListener, Stream = TcpStream> + Host + Copy + Send + Sync,
     J: Publication,
->(rt: &R, alloc: Global, worker: Worker<R, J>, gate: &Gate, listener: &TcpListener) -> Worker<R, J>
+>(
+    rt: &R,
+    alloc: Global,
+    routes: &Routes,
+    telemetry: &Telemetry,
+    worker: Worker<R, J>,
+    gate: &Gate,
+    listener: &TcpListener,
+) -> Worker<R, J>
     ensures view { IsPrefix worker.view result.view }
     ensures leads { (nodes : List Node) → LeadTo nodes worker.links.items → LeadTo nodes result.links.items }
 {
@@ -259,38 +307,59 @@ fn work<
                 × ((nodes : List Node) → LeadTo nodes worker.links.items → LeadTo nodes result.links.items) }
         {
             let mut worker = worker;
-            take(rt, alloc, &mut worker, gate, stream);
+            take(rt, alloc, routes, telemetry, &mut worker, gate, stream);
             worker
         },
     )
 }
 
+// What a worker is made from. (A thread has it as a type parameter: that a worker may go to it is not found beside the routes, and is
+// alone.)
+trait IntoWorker<R: Net + Clock + Wait + Drop, J: Publication> {
+    ghost use Rattle.std.specs.Prelude.{◌≡◌, List};
+    ghost use Rattle.druid_serve.specs.Links.{NodeLinkValue};
+
+    // The worker's links.
+    ghost links: { Self → List NodeLinkValue };
+
+    fn into_worker(self) -> Worker<R, J>
+        ensures { result.links.items ≡ links self };
+}
+
+impl<R: Net + Clock + Wait + Drop, J: Publication> IntoWorker<R, J> for Worker<R, J> {
+    ghost links = { λ worker. worker.links.items };
+
+    fn into_worker(self) -> Worker<R, J> {
+        self
+    }
+}
+
 // Starts a thread that answers connections.
 fn start_worker<
-    R: Net<Listener = TcpListener, Stream = TcpStream>
-        + Wait
-        + Threads
-        + Clock
-        + Copy
-        + Send
-        + Sync
-        + 'static,
+    R: Net<Listener = TcpListener, Stream = TcpStream> + Host + Copy + Send + Sync + 'static,
     J: Publication + Send + Sync + 'static,
     C: NodeList,
+    A: IntoWorker<R, J> + Drop + Send + 'static,
 >(
     rt: &R,
     alloc: Global,
-    worker: Worker<R, J>,
+    worker: A,
+    telemetry: &Telemetry,
     gate: &Arc<Gate, Global>,
     listener: &Arc<TcpListener, Global>,
 ) -> Result<(), DeviceFailed>
-    requires leads { LeadTo C.nodes worker.links.items }
+    requires leads { LeadTo C.nodes (A.links worker) }
 {
     let rt = *rt;
+    let Ok(routes) = Routes::new(alloc) else {
+        return Err(DeviceFailed);
+    };
+    let telemetry = telemetry.share()?;
     let gate = Arc::try_clone(gate)?;
     let listener = Arc::try_clone(listener)?;
     let job = move || {
-        drop(work(&rt, alloc, worker, &gate, &listener));
+        let worker = worker.into_worker();
+        drop(work(&rt, alloc, &routes, &telemetry, worker, &gate, &listener));
     };
     match thread::spawn(&rt, job) {
         Ok(thread) => {
@@ -302,28 +371,27 @@ fn start_worker<
 }
 
 // What a worker answers with.
+#[tactic(auto, using(crate::proofs::LinkLemmas::leads_from))]
 fn worker_of<R: Net + Clock + Wait + Copy, J: Publication>(
     rt: &R,
     alloc: Global,
     view: View<J>,
-    patience: u64,
+    health: &Arc<Health, Global>,
     nodes: &[NodeConfig],
     publisher: &Shared<J, R>,
 ) -> Result<Worker<R, J>, DeviceFailed>
+    requires nodes { length nodes.now ≤ max_nodes }
     requires there { length nodes.now ≡ length J.opening }
     ensures { IfOk result (λ worker. LeadTo nodes.now worker.links.items) }
 {
-    let links = links_to(rt, alloc, patience, nodes)?;
-    match Routes::new(alloc) {
-        Ok(routes) => Ok(Worker {
-            routes,
-            view,
-            links,
-            turn: 0,
-            publisher: Arc::try_clone(publisher)?,
-        }),
-        Err(_) => Err(DeviceFailed),
-    }
+    let links = links_to(rt, alloc, health, nodes)?;
+    Ok(Worker {
+        view,
+        links,
+        health: Arc::try_clone(health)?,
+        turn: 0,
+        publisher: Arc::try_clone(publisher)?,
+    })
 }
 
 /// What a broker is made of.
@@ -337,6 +405,11 @@ pub(crate) struct BrokerParts {
     pub(crate) workers: u16,
     /// How its syncers make their turns.
     pub(crate) pace: Pace,
+    /// What it tells of itself, and where.
+    pub(crate) telemetry: Telemetry,
+    pub(crate) log: Arc<Log, Global>,
+    /// Where it answers how it is, if it does.
+    pub(crate) status: Option<TcpListener>,
     ghost some: { 1 ≤ workers },
     ghost few: { workers ≤ max_workers },
 }
@@ -363,31 +436,70 @@ fn open_views<J: Publication, C: NodeList, R: Wait + Drop + Copy>(
     }
 }
 
+// What is told of a broker's turns with nodes: the broker's name, where it is logged, and the nodes with what is counted of each.
+#[derive(Drop)]
+struct Told<'a> {
+    server: &'a str,
+    log: &'a Arc<Log, Global>,
+    nodes: &'a [FollowedNode],
+}
+
+// The nodes that a broker follows, of which nothing was counted.
+fn followed_nodes(alloc: Global, nodes: &[NodeConfig]) -> Result<Vec<FollowedNode>, AllocError>
+    ensures { IfOk result (λ followed. vec_len followed ≡ length nodes.now) }
+{
+    let mut followed = Vec::with_capacity(alloc, nodes.len())?;
+    for place in 0..nodes.len() {
+        followed.push(FollowedNode {
+            name: String::from_str(alloc, nodes[place].name().as_str())?,
+            meter: Arc::new(alloc, FollowMeter::new(alloc)?)?,
+        })?;
+    }
+    Ok(followed)
+}
+
+// What sees the turns with the node of that number.
+fn watcher_of<R: Wait + Clock + Copy + Drop>(
+    rt: &R,
+    alloc: Global,
+    told: &Told<'_>,
+    node: usize,
+) -> Result<TurnWatcher<R>, AllocError>
+    requires { node < length told.now.nodes.now }
+{
+    let followed = &told.nodes[node];
+    Ok(TurnWatcher::new(
+        *rt,
+        alloc,
+        String::from_str(alloc, told.server)?,
+        followed.name.clone()?,
+        Arc::try_clone(told.log)?,
+        Arc::try_clone(&followed.meter)?,
+    ))
+}
+
 // Starts a syncer for each node, which takes a view.
 #[tactic(auto, using(crate::proofs::LinkLemmas::link_at))]
 fn start_syncers<
-    R: Net<Listener = TcpListener, Stream = TcpStream>
-        + Wait
-        + Threads
-        + Clock
-        + Copy
-        + Send
-        + Sync
-        + 'static,
+    R: Net<Listener = TcpListener, Stream = TcpStream> + Host + Copy + Send + Sync + 'static,
     J: Publication + Send + Sync + 'static,
     C: NodeList,
 >(
     rt: &R,
     alloc: Global,
     pace: Pace,
+    health: &Arc<Health, Global>,
+    told: &Told<'_>,
     nodes: &[NodeConfig],
     publisher: &Shared<J, R>,
     views: &mut Vec<View<J>>,
 ) -> Result<Vec<Arc<Handover<EndOfTurns>, Global>>, DeviceFailed>
+    requires patience { (arc_value health.now).patience ≡ pace.patience }
     requires cluster { nodes.now ≡ C.nodes }
     requires nodes { length nodes.now ≤ max_nodes }
     requires there { length nodes.now ≡ length J.opening }
     requires views { length nodes.now ≤ vec_len views.old }
+    requires told { length told.now.nodes.now ≡ length nodes.now }
     ensures views { OnOk result (length nodes.now + vec_len views.new ≡ vec_len views.old) }
     ensures each { IfOk result (λ syncers. vec_len syncers ≡ length nodes.now) }
 {
@@ -399,7 +511,15 @@ fn start_syncers<
         let syncer = Syncer {
             node: node as NodeNo,
             view,
-            link: link_to(rt, alloc, pace.patience, &nodes[node])?,
+            link: link_to(
+                rt,
+                alloc,
+                health,
+                node as NodeNo,
+                &nodes[node],
+                Asker::Syncer,
+            )?,
+            watcher: watcher_of(rt, alloc, told, node)?,
             publisher: Arc::try_clone(publisher)?,
         };
         syncers.push(start_syncer::<R, J, C>(rt, alloc, pace, syncer)?)?;
@@ -409,14 +529,7 @@ fn start_syncers<
 
 /// Starts the threads of a broker: one that follows each node, and its workers.
 pub(crate) fn start_broker<
-    R: Net<Listener = TcpListener, Stream = TcpStream>
-        + Wait
-        + Threads
-        + Clock
-        + Copy
-        + Send
-        + Sync
-        + 'static,
+    R: Net<Listener = TcpListener, Stream = TcpStream> + Host + Copy + Send + Sync + 'static,
     J: Publication + Send + Sync + 'static,
     C: NodeList,
 >(
@@ -433,18 +546,39 @@ pub(crate) fn start_broker<
     requires nodes { length nodes.now ≡ length parts.inventory }
     ensures { IfOk result (λ broker. vec_len broker.syncers ≡ length nodes.now) }
 {
+    let count = parts.inventory.node_count();
     let BrokerParts {
         inventory,
         listener,
         workers,
         pace,
+        telemetry,
+        log,
+        status,
     } = parts;
     let gate = Arc::new(alloc, Gate::new())?;
+    let health = Arc::new(alloc, Health::new(alloc, count, pace.patience)?)?;
     let (publisher, mut views) = open_views::<J, C, R>(rt, alloc, list, inventory, workers)?;
-    let syncers = start_syncers::<R, J, C>(rt, alloc, pace, nodes, &publisher, &mut views)?;
+    let followed = followed_nodes(alloc, nodes)?;
+    let told = Told {
+        server: telemetry.name(),
+        log: &log,
+        nodes: &followed,
+    };
+    let syncers = start_syncers::<R, J, C>(
+        rt, alloc, pace, &health, &told, nodes, &publisher, &mut views,
+    )?;
     for view in views {
-        let worker = worker_of(rt, alloc, view, pace.patience, nodes, &publisher)?;
-        start_worker::<R, J, C>(rt, alloc, worker, &gate, &listener)?;
+        let worker = worker_of(rt, alloc, view, &health, nodes, &publisher)?;
+        start_worker::<R, J, C, Worker<R, J>>(rt, alloc, worker, &telemetry, &gate, &listener)?;
+    }
+    if let Some(listener) = status {
+        let status = BrokerStatus {
+            telemetry,
+            nodes: followed,
+            health,
+        };
+        start_status(rt, alloc, listener, status)?;
     }
     Ok(Broker { gate, syncers })
 }

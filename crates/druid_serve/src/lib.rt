@@ -5,6 +5,7 @@ mod broker;
 mod links;
 mod live;
 mod serving;
+mod status;
 
 pub use druid_server::{PEER_SECONDS, ServeFault};
 pub use serving::serve;

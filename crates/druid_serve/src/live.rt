@@ -1,7 +1,7 @@
 //! A cluster without an end.
 ghost use Rattle.std.specs.Prelude.{◌≡◌, OnOk};
 
-use druid_config::{BrokerConfig, Config, NodeConfig};
+use druid_config::{BrokerConfig, Config, NodeConfig, Part};
 use druid_server::{ClusterFault, Stop};
 use std::alloc::Global;
 use std::io::Write;
@@ -27,26 +27,35 @@ fn say_broker<E: Write>(broker: &BrokerConfig, nodes: usize, errors: &mut E) -> 
     writeln!(errors, "broker: listens on {address}, asks {nodes} nodes")
 }
 
-// Says it of each node.
-fn say_nodes<E: Write>(nodes: &[NodeConfig], errors: &mut E) -> io::Result<()> {
+// Says it of each node of a part.
+fn say_nodes<E: Write>(nodes: &[NodeConfig], part: &Part<'_>, errors: &mut E) -> io::Result<()> {
     for node in nodes {
-        say_node(node, errors)?;
+        if part.has_node(node) {
+            say_node(node, errors)?;
+        }
     }
     Ok(())
 }
 
-// Says it of each broker, all of which ask so many nodes.
-fn say_brokers<E: Write>(brokers: &[BrokerConfig], nodes: usize, errors: &mut E) -> io::Result<()> {
-    for broker in brokers {
-        say_broker(broker, nodes, errors)?;
+// Says it of each broker of a part, all of which ask so many nodes.
+fn say_brokers<E: Write>(
+    brokers: &[BrokerConfig],
+    part: &Part<'_>,
+    nodes: usize,
+    errors: &mut E,
+) -> io::Result<()> {
+    for place in 0..brokers.len() {
+        if part.has_broker(place) {
+            say_broker(&brokers[place], nodes, errors)?;
+        }
     }
     Ok(())
 }
 
-// Says where the servers of a cluster listen and what they serve, a line each.
-fn say_all<E: Write>(config: &Config, errors: &mut E) -> io::Result<()> {
-    say_nodes(config.nodes(), errors)?;
-    say_brokers(config.brokers(), config.nodes().len(), errors)?;
+// Says where the servers of a part listen and what they serve, a line each.
+fn say_all<E: Write>(config: &Config, part: &Part<'_>, errors: &mut E) -> io::Result<()> {
+    say_nodes(config.nodes(), part, errors)?;
+    say_brokers(config.brokers(), part, config.nodes().len(), errors)?;
     errors.flush()
 }
 
@@ -60,12 +69,13 @@ fn rest_for_ever<R: Wait + Clock>(rt: &R)
     unreachable!()
 }
 
-/// Says where a cluster without an end listens, once what was printed is there, and serves it until the program is ended: so it
+/// Says where a part of a cluster that does not end listens, once what was printed is there, and serves it until the program is ended: so it
 /// returns only where the output is not flushed, and then nothing was said.
 pub(crate) fn serve_on<R: Wait + Clock, W: Write, E: Write>(
     rt: &R,
     alloc: Global,
     config: &Config,
+    part: &Part<'_>,
     out: &mut W,
     errors: &mut E,
 ) -> Result<(), Stop<ClusterFault>>
@@ -76,7 +86,7 @@ pub(crate) fn serve_on<R: Wait + Clock, W: Write, E: Write>(
         return Err(Stop::at_output(alloc, &error));
     }
     // A cluster serves whether or not anybody reads where it listens.
-    drop(say_all(config, errors));
+    drop(say_all(config, part, errors));
     rest_for_ever(rt);
     unreachable!()
 }

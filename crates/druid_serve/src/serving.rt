@@ -1,21 +1,26 @@
 //! A cluster, from its config to its end.
-ghost use Rattle.std.specs.Prelude.{◌≡◌, ◌<◌, ◌≤◌, ℕ, List, Err, All, IfOk, IfErr, OnOk, length, vec_len};
+ghost use Rattle.std.specs.Prelude.{◌≡◌, ◌<◌, ◌≤◌, ℕ, List, Err, All, IfOk, IfErr, OnOk, length, vec_len, map, filter, count_by, option_map};
+ghost use Rattle.std.specs.List.{range_with_len};
 ghost use Rattle.std.specs.Io.KnownBytes.{Appends, Keeps};
 ghost use Rattle.druid_shard.specs.Reply.{max_changes};
 ghost use Rattle.druid_inventory.specs.Entry.{max_nodes};
 ghost use Rattle.druid_serve.specs.Links.{opening_of};
 ghost use Rattle.druid_server.specs.Printed.{ArePrinted};
-ghost use Rattle.druid_serve.specs.Served.{IsConfig, IsServed, ServesAs};
+ghost use Rattle.druid_config.specs.Configs.{reported_of};
+ghost use Rattle.druid_config.specs.Limits.{max_workers};
+ghost use Rattle.druid_config.specs.Parts.{has_node, has_broker};
+ghost use Rattle.druid_serve.specs.Served.{named, IsPart, RefusesPart, IsConfig, IsServed, PrintsIf, ServesAs};
 
 use crate::broker::{Broker, BrokerParts, EndOfTurns, Pace, start_broker};
 use crate::links::NodeList;
 use crate::live::serve_on;
-use druid_config::{BrokerConfig, Config, NodeConfig, QueryConfig, names_in, read_config};
+use druid_config::{BrokerConfig, Config, NodeConfig, Part, QueryConfig, names_in, read_config};
 use druid_inventory::Inventory;
+use druid_log::Log;
 use druid_published::Opened;
 use druid_serve_node::{EndOfLoads, Loading, start_node, start_owner};
 use druid_server::{
-    ClusterFault, DeviceFailed, Gate, Handover, Host, ServeFault, Stop, ask, listen,
+    ClusterFault, DeviceFailed, Gate, Handover, Host, ServeFault, Stop, Telemetry, ask, listen,
 };
 use std::alloc::{AllocError, Global};
 use std::fs::File;
@@ -26,8 +31,8 @@ use std::rt::Files;
 use std::sync::{Arc, Wait};
 use std::time::Clock;
 
-// Starts the nodes, one after another, and gives what tells when each has loaded what comes later. Where the cluster goes on, a
-// node owns its address before it raises its incarnation.
+// Starts the nodes of a part, one after another, and gives what tells when each has loaded what comes later. Where the cluster goes
+// on, a node owns its address before it raises its incarnation.
 fn start_nodes<
     R: Files<File = File>
         + Net<Listener = TcpListener, Stream = TcpStream>
@@ -41,48 +46,90 @@ fn start_nodes<
     rt: &R,
     alloc: Global,
     nodes: &[NodeConfig],
+    part: &Part<'_>,
     kept: usize,
     goes_on: bool,
+    log: &Arc<Log, Global>,
 ) -> Result<Vec<Loading>, Stop<ClusterFault>>
 where
     R::Dir: Send,
     requires some { 1 ≤ kept }
     requires few { kept ≤ max_changes }
-    ensures { IfOk result (λ loaders. vec_len loaders ≡ length nodes.now) }
+    ensures { IfOk result (λ loaders. vec_len loaders ≡ count_by (has_node part.now) nodes.now) }
 {
-    let mut loaders = Vec::with_capacity(alloc, nodes.len())?;
+    let mut loaders = Vec::new(alloc);
     for place in 0..nodes.len() {
         let node = &nodes[place];
-        let started = if goes_on {
-            start_owner::<R, Brand, Brand>(rt, alloc, node, kept)
-        } else {
-            start_node::<R, Brand, Brand>(rt, alloc, node, kept)
-        };
-        match started {
-            Ok(loader) => loaders.push(loader)?,
-            Err(start) => return Err(Stop::at_node(alloc, place, node, start)),
+        if part.has_node(node) {
+            let started = if goes_on {
+                start_owner::<R, Brand, Brand>(rt, alloc, node, kept, log)
+            } else {
+                start_node::<R, Brand, Brand>(rt, alloc, node, kept, log)
+            };
+            match started {
+                Ok(loader) => loaders.push(loader)?,
+                Err(start) => return Err(Stop::at_node(alloc, place, node, start)),
+            }
         }
     }
     Ok(loaders)
 }
 
-// The listeners of the brokers.
+// A broker of a config that listens: its place among them, and where it listens.
+#[derive(Drop)]
+struct Listening {
+    place: usize,
+    listener: Arc<TcpListener, Global>,
+    // Where it answers how it is, if it does.
+    status: Option<TcpListener>,
+    workers: u16,
+    ghost some: { 1 ≤ workers },
+    ghost few: { workers ≤ max_workers },
+}
+
+// Where the broker at a place answers how it is, if it does.
+fn status_listener<R: Net<Listener = TcpListener, Stream = TcpStream>>(
+    rt: &R,
+    alloc: Global,
+    place: usize,
+    broker: &BrokerConfig,
+) -> Result<Option<TcpListener>, Stop<ClusterFault>> {
+    let Some(address) = broker.status() else {
+        return Ok(None);
+    };
+    match listen(rt, address) {
+        Ok(listener) => Ok(Some(listener)),
+        Err(_) => Err(Stop::at_broker_status(alloc, place, address)),
+    }
+}
+
+// The listeners of the brokers of a part.
+
 fn listen_all<R: Net<Listener = TcpListener, Stream = TcpStream>>(
     rt: &R,
     alloc: Global,
     brokers: &[BrokerConfig],
-) -> Result<Vec<Arc<TcpListener, Global>>, Stop<ClusterFault>>
-    ensures { IfOk result (λ listeners. vec_len listeners ≡ length brokers.now) }
+    part: &Part<'_>,
+) -> Result<Vec<Listening>, Stop<ClusterFault>>
+    ensures { IfOk result (λ listening. map (λ l. l.place) listening.items
+        ≡ filter (has_broker part.now) (range_with_len 0 (length brokers.now))) }
 {
-    let mut listeners = Vec::with_capacity(alloc, brokers.len())?;
+    let mut listening = Vec::new(alloc);
     for place in 0..brokers.len() {
         let broker = &brokers[place];
-        let Ok(listener) = listen(rt, broker.address()) else {
-            return Err(Stop::at_broker(alloc, place, broker));
-        };
-        listeners.push(Arc::new(alloc, listener)?)?;
+        if part.has_broker(place) {
+            let Ok(listener) = listen(rt, broker.address()) else {
+                return Err(Stop::at_broker(alloc, place, broker));
+            };
+            listening.push(Listening {
+                place,
+                listener: Arc::new(alloc, listener)?,
+                status: status_listener(rt, alloc, place, broker)?,
+                workers: broker.workers(),
+            })?;
+        }
     }
-    Ok(listeners)
+    Ok(listening)
 }
 
 // What a broker knows first of the nodes.
@@ -119,7 +166,18 @@ fn start_one<
     start_broker::<R, Brand, C>(rt, alloc, list, parts, nodes)
 }
 
-// Starts the brokers of a cluster after their listeners: all of them over its one list of nodes.
+// What the broker at a place tells of itself.
+fn telemetry_of(
+    alloc: Global,
+    place: usize,
+    log: &Arc<Log, Global>,
+) -> Result<Telemetry, AllocError> {
+    let name = format!(in alloc; "broker:{place}")?;
+    Telemetry::new(alloc, name.as_str(), log)
+}
+
+// Starts the brokers of a part after their listeners: all of them over the cluster's one list of nodes.
+#[tactic(auto, using(crate::proofs::PartLemmas::many))]
 fn start_brokers<
     R: Net<Listener = TcpListener, Stream = TcpStream> + Host + Copy + Send + Sync + 'static,
     C: NodeList,
@@ -127,23 +185,36 @@ fn start_brokers<
     rt: &R,
     alloc: Global,
     brokers: &[BrokerConfig],
+    part: &Part<'_>,
     pace: Pace,
     nodes: &[NodeConfig],
+    log: &Arc<Log, Global>,
 ) -> Result<Vec<Broker>, Stop<ClusterFault>>
     requires cluster { nodes.now ≡ C.nodes }
     requires some { 1 ≤ length nodes.now }
     requires few { length nodes.now ≤ max_nodes }
-    ensures { IfOk result (λ standing. vec_len standing ≡ length brokers.now) }
+    ensures { IfOk result (λ standing. vec_len standing
+        ≡ length (filter (has_broker part.now) (range_with_len 0 (length brokers.now)))) }
 {
-    let listeners = listen_all(rt, alloc, brokers)?;
-    let mut standing = Vec::with_capacity(alloc, brokers.len())?;
-    for place in 0..brokers.len() {
-        let inventory = fresh(alloc, nodes)?;
+    let listening = listen_all(rt, alloc, brokers, part)?;
+    let mut standing = Vec::with_capacity(alloc, listening.len())?;
+    let mut listening = listening;
+    // The last broker first; what is started is the same.
+    while let Some(last) = listening.pop() {
+        let Listening {
+            place,
+            listener,
+            status,
+            workers,
+        } = last;
         let parts = BrokerParts {
-            inventory,
-            listener: Arc::try_clone(&listeners[place])?,
-            workers: brokers[place].workers(),
+            inventory: fresh(alloc, nodes)?,
+            listener,
+            workers,
             pace,
+            telemetry: telemetry_of(alloc, place, log)?,
+            log: Arc::try_clone(log)?,
+            status,
         };
         standing.push(start_one::<R, C>(rt, alloc, Opened::new(), parts, nodes)?)?;
     }
@@ -219,26 +290,46 @@ fn settle<R: Wait>(
     })
 }
 
-// Posts the queries to a cluster whose nodes have loaded, and prints their answers.
+// Posts a query and prints its answer, where its broker is of the part.
+fn ask_one<R: Net + Clock + Copy, W: Write>(
+    rt: &R,
+    alloc: Global,
+    config: &Config,
+    part: &Part<'_>,
+    query: &QueryConfig,
+    out: &mut W,
+) -> Result<(), Stop<ClusterFault>>
+    requires there { query.now.broker < length config.now.brokers }
+    ensures { OnOk result (PrintsIf (has_broker part.now query.now.broker) (W.contents out.old) (W.contents out.new)) }
+{
+    if !part.has_broker(query.broker()) {
+        return Ok(());
+    }
+    let broker = &config.brokers()[query.broker()];
+    match ask(rt, alloc, query.text(), broker.address(), out) {
+        Ok(()) => Ok(()),
+        Err(error) => Err(Stop::at_output(alloc, &error)),
+    }
+}
+
+// Posts the queries to brokers of a part to a cluster whose nodes have loaded, and prints their answers.
 fn ask_all<R: Net + Clock + Copy, W: Write>(
     rt: &R,
     alloc: Global,
     config: &Config,
+    part: &Part<'_>,
     settled: &Settled,
     out: &mut W,
 ) -> Result<(), Stop<ClusterFault>>
-    requires loads { vec_len settled.now.loads ≡ length config.now.nodes }
-    requires turns { vec_len settled.now.turns ≡ length config.now.brokers }
-    ensures { OnOk result ((text : List ℕ) × ArePrinted (length config.now.queries) text
+    requires loads { vec_len settled.now.loads ≡ count_by (has_node part.now) config.now.nodes }
+    requires turns { vec_len settled.now.turns
+        ≡ length (filter (has_broker part.now) (range_with_len 0 (length config.now.brokers))) }
+    ensures { OnOk result ((text : List ℕ) × ArePrinted (count_by (λ q. has_broker part.now q.broker) config.now.queries) text
         × Appends (W.contents out.old) (W.contents out.new) text) }
 {
     let queries = config.queries();
     for place in 0..queries.len() {
-        let query = &queries[place];
-        let broker = &config.brokers()[query.broker()];
-        if let Err(error) = ask(rt, alloc, query.text(), broker.address(), out) {
-            return Err(Stop::at_output(alloc, &error));
-        }
+        ask_one(rt, alloc, config, part, &queries[place], out)?;
     }
     Ok(())
 }
@@ -276,9 +367,9 @@ fn pace_of(config: &Config) -> Pace
     }
 }
 
-// Serves a cluster to its end. One without an end says where it listens once its queries are answered, and then serves until the
-// program is ended.
-fn serve_cluster<
+// Serves a part of a cluster to its end. One without an end, or without brokers, says where it listens once its queries are answered,
+// and then serves until the program is ended.
+fn serve_part<
     R: Files<File = File>
         + Net<Listener = TcpListener, Stream = TcpStream>
         + AllocGlobal
@@ -293,30 +384,53 @@ fn serve_cluster<
     rt: &R,
     alloc: Global,
     config: &Config,
+    part: &Part<'_>,
+    log: &Arc<Log, Global>,
     out: &mut W,
     errors: &mut E,
 ) -> Result<(), Stop<ClusterFault>>
 where
     R::Dir: Send,
     ensures quiet { E.contents errors.new ≡ E.contents errors.old }
-    ensures printed { OnOk result ((text : List ℕ) × ArePrinted (length config.now.queries) text
+    ensures printed { OnOk result ((text : List ℕ) × ArePrinted (count_by (λ q. has_broker part.now q.broker) config.now.queries) text
         × Appends (W.contents out.old) (W.contents out.new) text) }
 {
     let (nodes, pace) = (config.nodes(), pace_of(config));
-    let loaders = start_nodes(rt, alloc, nodes, config.kept(), pace.every.is_some())?;
-    let standing = start_brokers::<R, Brand>(rt, alloc, config.brokers(), pace, nodes)?;
+    let goes_on = pace.every.is_some();
+    let loaders = start_nodes(rt, alloc, nodes, part, config.kept(), goes_on, log)?;
+    let standing = start_brokers::<R, Brand>(rt, alloc, config.brokers(), part, pace, nodes, log)?;
     let settled = settle(rt, alloc, loaders, standing)?;
-    ask_all(rt, alloc, config, &settled, out)?;
-    if config.is_endless() {
-        return serve_on(rt, alloc, config, out, errors);
+    ask_all(rt, alloc, config, part, &settled, out)?;
+    if config.is_endless() || settled.gates.is_empty() {
+        return serve_on(rt, alloc, config, part, out, errors);
     }
     wait_for_others(rt, alloc, &settled.gates, config.connections(), out)
 }
 
-/// Serves the cluster of a config, prints the answers to its queries, and ends once each broker answered the connections from
-/// outside that the config asks for. A cluster without an end then says on the error writer, in a line a server, where it listens
-/// and what it serves, and does not return. The threads that still wait for connections are left. Ok only where the bytes are a
-/// config, and of each of its queries something was printed, in their order; where they are none, nothing is printed.
+// The part of a cluster that a text names: all of it where there is no text.
+fn part_in<'a>(
+    alloc: Global,
+    config: &Config,
+    text: Option<&'a str>,
+) -> Result<Part<'a>, Stop<ServeFault>>
+    ensures ok { IfOk result (λ part. (part ≡ named (option_map (λ t. t.now) text.entry)) × IsPart (reported_of config.now) (option_map (λ t. t.now) text.entry)) }
+    ensures err { IfErr result (λ stop. RefusesPart stop.fault (reported_of config.now) (option_map (λ t. t.now) text.entry)) }
+{
+    let Some(text) = text else {
+        return Ok(Part::whole());
+    };
+    match Part::named(alloc, config, text) {
+        Ok(Some(part)) => Ok(part),
+        Ok(None) => Err(Stop::at_part(alloc, text)),
+        Err(_) => Err(Stop::new(alloc, ServeFault::Device, "the part: out of memory")),
+    }
+}
+
+/// Serves the cluster of a config, or the part of it that a text names, prints the answers to the queries whose brokers are of the
+/// part, and ends once each of its brokers answered the connections from outside that the config asks for. A cluster without an end,
+/// or a part without brokers, then says on the error writer, in a line a server, where it listens and what it serves, and does not
+/// return. The threads that still wait for connections are left. Events go to the log. Ok only where the bytes are a config and the text is a part of it,
+/// and of each of these queries something was printed, in their order; where they are none, nothing is printed.
 pub fn serve<
     R: Files<File = File>
         + Net<Listener = TcpListener, Stream = TcpStream>
@@ -328,19 +442,31 @@ pub fn serve<
         + 'static,
     W: Write,
     E: Write,
->(rt: &R, alloc: Global, config: &[u8], out: &mut W, errors: &mut E) -> Result<(), Stop<ServeFault>>
+>(
+    rt: &R,
+    alloc: Global,
+    config: &[u8],
+    part: Option<&str>,
+    log: &Arc<Log, Global>,
+    out: &mut W,
+    errors: &mut E,
+) -> Result<(), Stop<ServeFault>>
 where
     R::Dir: Send,
     ensures quiet { E.contents errors.new ≡ E.contents errors.old }
-    ensures ok { OnOk result (IsServed config.now (W.contents out.old) (W.contents out.new)) }
-    ensures err { IfErr result (λ stop. ServesAs config.now (Err stop.fault)) }
-    ensures nothing { (IsConfig config.now → ⊥) → W.contents out.new ≡ W.contents out.old }
+    ensures ok { OnOk result (IsServed config.now (option_map (λ t. t.now) part.entry) (W.contents out.old) (W.contents out.new)) }
+    ensures err { IfErr result (λ stop. ServesAs config.now (option_map (λ t. t.now) part.entry) (Err stop.fault)) }
+    ensures nothing { (IsConfig config.now (option_map (λ t. t.now) part.entry) → ⊥) → W.contents out.new ≡ W.contents out.old }
 {
     let cluster = match read_config(alloc, config) {
         Ok(cluster) => cluster,
         Err(fault) => return Err(Stop::at_config(alloc, config, fault)),
     };
-    match serve_cluster(rt, alloc, &cluster, out, errors) {
+    let part = match part_in(alloc, &cluster, part) {
+        Ok(part) => part,
+        Err(stop) => return Err(stop),
+    };
+    match serve_part(rt, alloc, &cluster, &part, log, out, errors) {
         Ok(()) => Ok(()),
         Err(stop) => Err(stop.into()),
     }

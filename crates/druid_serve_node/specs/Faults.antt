@@ -14,6 +14,7 @@ IsOfRaise found (cause.Incarnation fault) = found ≡ of_store fault
 IsOfRaise found (cause.Names fault) = ⊥
 IsOfRaise found (cause.Tombstone place fault) = ⊥
 IsOfRaise found cause.Listener = ⊥
+IsOfRaise found cause.Status = ⊥
 IsOfRaise found cause.Memory = found ≡ Device
 
 -- what is named of the fault of a load of all segment files: one of these, or the list of names
@@ -23,6 +24,7 @@ IsOfLoad found (cause.Incarnation fault) = ⊥
 IsOfLoad found (cause.Names fault) = found ≡ of_store fault
 IsOfLoad found (cause.Tombstone place fault) = ⊥
 IsOfLoad found cause.Listener = ⊥
+IsOfLoad found cause.Status = ⊥
 IsOfLoad found cause.Memory = ⊥
 
 -- what is named of the fault of placing tombstones: the place of one in their list, and its fault
@@ -32,4 +34,5 @@ IsOfPlacing count found (cause.Incarnation fault) = ⊥
 IsOfPlacing count found (cause.Names fault) = ⊥
 IsOfPlacing count found (cause.Tombstone place fault) = (place < count) × (found ≡ of_node fault)
 IsOfPlacing count found cause.Listener = ⊥
+IsOfPlacing count found cause.Status = ⊥
 IsOfPlacing count found cause.Memory = found ≡ Device

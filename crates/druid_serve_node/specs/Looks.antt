@@ -2,8 +2,8 @@
 use Rattle.std.specs.Prelude.{◌≡◌, ◌⊎◌, ◌&&◌, ℕ, ◌+◌, ◌-◌, ◌^◌, min, nat_le, Bool, true, false, List, [], ◌∷◌, map, not, bytes_eq, Option, Some, None, if◌then◌else◌}
 use Rattle.std.specs.List.{filter, list_any, FoldsTo}
 use Rattle.std.specs.declared.cmp.Ordering.TheVariants.{Less}
-use Rattle.druid_segid.specs.Identifier.{Identifier}
 use Rattle.druid_shard.specs.Mark.{Point, mark_cmp}
+use Rattle.druid_node.specs.Files as files
 use Rattle.druid_node.specs.Files.{file_name}
 use Rattle.druid_serve_node.specs.Files.{is_segment_file}
 use Rattle.druid_serve_node.specs.declared.known.FileState.{FileState}
@@ -24,10 +24,10 @@ state_of (f ∷ files) name = if bytes_eq name f.name then Some f.state else sta
 abbrev pub known_names : List File → List (List ℕ)
 known_names files = map (λ f. f.name) files
 
--- the identifier of the segment that is loaded of a file
-abbrev pub segment_of : Option FileState → Option Identifier
-segment_of (Some (Loaded id)) = Some id
-segment_of other = None
+-- what is loaded of a file, if its segment is
+abbrev pub loaded_of : Option FileState → Option files.Loaded
+loaded_of (Some (Loaded file)) = Some file
+loaded_of other = None
 
 -- of that name is known this, and of each other what was
 abbrev pub Notes : List ℕ → Option FileState → List File → List File → Type 0
@@ -38,7 +38,7 @@ Notes name state old new = (other : List ℕ) → state_of new other ≡ (if byt
 -- a file is tried that is not known, and one that was refused once its look has come
 abbrev pub is_due : ℕ → Option FileState → Bool
 is_due look None = true
-is_due look (Some (Loaded id)) = false
+is_due look (Some (Loaded file)) = false
 is_due look (Some (Refused next rest)) = nat_le next look
 
 -- the names of the files that a look tries, among those that it finds
@@ -85,9 +85,9 @@ pub record IsRefused (look : ℕ) (old : Watched) (name : List ℕ) (new : Watch
 
 -- the segment of a file was loaded, which has the file's name
 pub record IsLoaded (incarnation : ℕ) (old : Watched) (name : List ℕ) (new : Watched) : Type 0 where
-  pub id : Identifier
-  pub named : name ≡ file_name id
-  pub known : Notes name (Some (Loaded id)) old.known new.known
+  pub file : files.Loaded
+  pub named : name ≡ file_name file.id
+  pub known : Notes name (Some (Loaded file)) old.known new.known
   pub rose : HasRisen incarnation old.seen new.seen
 
 -- a try of a file
@@ -95,13 +95,13 @@ abbrev pub IsTried : ℕ → ℕ → Watched → List ℕ → Watched → Type 0
 IsTried incarnation look old name new = IsRefused look old name new ⊎ IsLoaded incarnation old name new
 
 -- a file is forgotten: where its segment is loaded, with a drop, unless that is refused, and then all is as it was
-abbrev pub IsForgotten : ℕ → Option Identifier → Watched → List ℕ → Watched → Type 0
+abbrev pub IsForgotten : ℕ → Option files.Loaded → Watched → List ℕ → Watched → Type 0
 IsForgotten incarnation None old name new = Notes name None old.known new.known × (new.seen ≡ old.seen)
-IsForgotten incarnation (Some id) old name new = (Notes name None old.known new.known × HasRisen incarnation old.seen new.seen) ⊎ (new ≡ old)
+IsForgotten incarnation (Some file) old name new = (Notes name None old.known new.known × HasRisen incarnation old.seen new.seen) ⊎ (new ≡ old)
 
 -- a file that is gone is let go of
 abbrev pub IsGone : ℕ → Watched → List ℕ → Watched → Type 0
-IsGone incarnation old name new = IsForgotten incarnation (segment_of (state_of old.known name)) old name new
+IsGone incarnation old name new = IsForgotten incarnation (loaded_of (state_of old.known name)) old name new
 
 -- a look that found these names: it tried exactly the files that are due, and then let go of exactly those that are gone
 pub record IsLook (incarnation look : ℕ) (found : List (List ℕ)) (old new : Watched) : Type 0 where

@@ -3,10 +3,10 @@ ghost use Rattle.std.specs.Prelude.{◌≡◌, ◌≤◌, [], None, Some, IfOk, 
 ghost use Rattle.std.specs.List.{list_any};
 ghost use Rattle.std.specs.Option.{option_copied};
 ghost use Rattle.druid_folder.specs.Folder.{AreInOrder, names_of};
-ghost use Rattle.druid_serve_node.specs.Looks.{Notes, state_of, segment_of, is_due, due_names, gone_names, rest_after, refused_at};
+ghost use Rattle.druid_serve_node.specs.Looks.{Notes, state_of, loaded_of, is_due, due_names, gone_names, rest_after, refused_at};
 
 use crate::node::is_segment_file;
-use druid_segid::SegmentId;
+use druid_node::LoadedFile;
 use std::alloc::{AllocError, Global};
 use std::collections::BTreeMap;
 use std::marker::Model;
@@ -17,8 +17,8 @@ const MAX_REST: u64 = 64;
 /// What became of a file when it was tried last.
 #[derive(Debug, Drop)]
 pub enum FileState {
-    /// Its segment is loaded, which has that identifier.
-    Loaded(SegmentId),
+    /// Its segment is loaded.
+    Loaded(LoadedFile),
     /// It was refused: the look at which it is tried again, and how many looks lie between.
     Refused(u64, u64),
 }
@@ -112,11 +112,11 @@ impl Known {
     }
 
     /// Knows the file of that name as one that is loaded.
-    pub(crate) fn load(&mut self, name: &str, id: SegmentId) -> Result<(), AllocError>
-        ensures noted { OnOk result (Notes name.now (Some (FileState.Loaded id)) self.old self.new) }
+    pub(crate) fn load(&mut self, name: &str, file: LoadedFile) -> Result<(), AllocError>
+        ensures noted { OnOk result (Notes name.now (Some (FileState.Loaded file)) self.old self.new) }
         ensures unchanged { OnErr result (self.new ≡ self.old) }
     {
-        self.note(name, FileState::Loaded(id))
+        self.note(name, FileState::Loaded(file))
     }
 
     /// Knows the file of that name as one that is refused at a look. Then there is room to know it as loaded.
@@ -129,22 +129,22 @@ impl Known {
     }
 
     /// Knows the file of that name, which is known, as one that is loaded. Does not allocate.
-    pub(crate) fn take(&mut self, name: &str, id: SegmentId)
+    pub(crate) fn take(&mut self, name: &str, file: LoadedFile)
         requires { IsSome (state_of self.old name.now) }
-        ensures { Notes name.now (Some (FileState.Loaded id)) self.old self.new }
+        ensures { Notes name.now (Some (FileState.Loaded file)) self.old self.new }
     {
         match self.files.get_mut(name) {
-            Some(state) => *state = FileState::Loaded(id),
+            Some(state) => *state = FileState::Loaded(file),
             None => unreachable!(),
         }
     }
 
-    /// The identifier of the segment of the file of that name, if it is loaded.
-    pub(crate) fn loaded(&self, name: &str) -> Option<&SegmentId>
-        ensures { option_copied result ≡ segment_of (state_of self.now name.now) }
+    /// What was loaded of the file of that name, if its segment is loaded.
+    pub(crate) fn loaded(&self, name: &str) -> Option<&LoadedFile>
+        ensures { option_copied result ≡ loaded_of (state_of self.now name.now) }
     {
         match self.state(name)? {
-            FileState::Loaded(id) => Some(id),
+            FileState::Loaded(file) => Some(file),
             FileState::Refused(_, _) => None,
         }
     }

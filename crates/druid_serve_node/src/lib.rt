@@ -5,10 +5,13 @@ mod known;
 mod latest;
 mod loader;
 mod node;
+mod reporter;
+mod status;
 mod watch;
 mod worker;
 
 pub use known::{FileState, Known};
-pub use loader::{EndOfLoads, Loading, load_later};
+pub use loader::{EndOfLoads, Loading};
 pub use node::{start_node, start_owner};
+pub use reporter::Reporter;
 pub use watch::Watch;

@@ -4,11 +4,11 @@ ghost use Rattle.std.specs.declared.cmp.Ordering.TheVariants.{Greater};
 ghost use Rattle.druid_shard.specs.Mark.{mark_cmp};
 
 use crate::latest::{Begun, Latest};
+use crate::reporter::Reporter;
 use crate::watch::Watch;
 use druid_folder::Folder;
 use druid_node::{DataNode, Incarnation};
 use druid_server::{DeviceFailed, Handover, Host};
-use druid_shard::Mark;
 use druid_store::{Device, DiskFolder};
 use std::alloc::Global;
 use std::fs::File;
@@ -39,39 +39,6 @@ impl Loading {
     }
 }
 
-/// Loads files of a folder that a node serves from, one after another; one that is refused is passed over.
-pub fn load_later<R: Wait, F: Folder, I: Incarnation>(
-    rt: &R,
-    node: &DataNode<I>,
-    folder: &mut F,
-    names: &[String],
-    seen: &mut Mark,
-) -> EndOfLoads
-    ensures risen { mark_cmp seen.old seen.new ≢ Greater }
-    ensures own { seen.old.incarnation ≡ I.number → seen.new.incarnation ≡ I.number }
-{
-    for name in names {
-        drop(node.load_file(rt, folder, name.as_str(), seen));
-    }
-    EndOfLoads(())
-}
-
-// Loads files as a look does: one that the start has loaded is passed over, and stays known as loaded. Where memory runs out, the
-// files that are left are found by the next look.
-fn load_known<R: Wait, F: Folder, I: Incarnation>(
-    rt: &R,
-    node: &DataNode<I>,
-    folder: &mut F,
-    names: &[String],
-    watch: &mut Watch,
-) -> EndOfLoads
-    ensures risen { mark_cmp watch.old.seen watch.new.seen ≢ Greater }
-    ensures own { watch.old.seen.incarnation ≡ I.number → watch.new.seen.incarnation ≡ I.number }
-{
-    drop(watch.try_due(rt, node, folder, 0, names));
-    EndOfLoads(())
-}
-
 // Looks at the folder for ever, after a rest of so many milliseconds each time, and notes the node's mark after each look. What
 // fails at a look is done at a later one.
 fn look_on<R: Wait + Clock, F: Folder, I: Incarnation, J: Begun>(
@@ -81,6 +48,7 @@ fn look_on<R: Wait + Clock, F: Folder, I: Incarnation, J: Begun>(
     latest: &Latest<J>,
     folder: &mut F,
     watch: &mut Watch,
+    reporter: &mut Reporter,
     rest: u64,
 )
     requires begun { J.mark.incarnation ≡ I.number }
@@ -91,8 +59,9 @@ fn look_on<R: Wait + Clock, F: Folder, I: Incarnation, J: Begun>(
     for _ in rt.forever() {
         thread::sleep(rt, Duration::from_millis(rest));
         look = look.saturating_add(1);
-        drop(watch.look(rt, alloc, node, folder, look));
+        drop(watch.look(rt, alloc, node, folder, look, reporter));
         latest.note(rt, watch.seen());
+        reporter.note(watch.seen());
     }
 }
 
@@ -108,12 +77,13 @@ pub(crate) struct Loader<I: Incarnation, J: Begun> {
     // How long it rests before each look at the folder, in milliseconds, if it looks.
     pub(crate) rest: Option<u64>,
     pub(crate) watch: Watch,
+    pub(crate) reporter: Reporter,
     // Where it tells that the files were tried that are loaded first.
     pub(crate) end: Arc<Handover<EndOfLoads>, Global>,
 }
 
-// What the loading thread of a node does: it loads the files that come first, tells that it did, and then looks at the folder for
-// ever, where the node watches it. Without a watch nothing is known of the files: one that the start has loaded is refused.
+// What the loading thread of a node does: it tries the files that come first as a look does, so that one that the start has loaded
+// is passed over; tells that it did; and then looks at the folder for ever, where the node watches it.
 fn load_from<
     R: Files<File = File> + AllocGlobal + Wait + Clock + Copy,
     L: Device,
@@ -131,21 +101,29 @@ fn load_from<
         names,
         rest,
         watch,
+        reporter,
         end,
     } = loader;
     let mut folder: DiskFolder<R, L> = DiskFolder::new(*rt, path);
     let mut watch = watch;
-    let Some(rest) = rest else {
-        let mut seen = watch.seen();
-        let loaded = load_later(rt, &node, &mut folder, &names, &mut seen);
-        latest.note(rt, seen);
-        end.give(rt, loaded);
-        return;
-    };
-    let loaded = load_known(rt, &node, &mut folder, &names, &mut watch);
+    let mut reporter = reporter;
+    // One that memory runs out for is passed over, as one that is refused.
+    drop(watch.try_due(rt, &node, &mut folder, 0, &names, &mut reporter));
     latest.note(rt, watch.seen());
-    end.give(rt, loaded);
-    look_on(rt, alloc, &node, &latest, &mut folder, &mut watch, rest);
+    reporter.note(watch.seen());
+    end.give(rt, EndOfLoads(()));
+    if let Some(rest) = rest {
+        look_on(
+            rt,
+            alloc,
+            &node,
+            &latest,
+            &mut folder,
+            &mut watch,
+            &mut reporter,
+            rest,
+        );
+    }
 }
 
 // Starts the loading thread of a node.

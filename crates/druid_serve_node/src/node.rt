@@ -14,15 +14,19 @@ ghost use Rattle.druid_serve_node.specs.Files.{is_segment_file, IsTaken, HoldsSe
 use crate::known::Known;
 use crate::latest::{Begun, Latest};
 use crate::loader::{Loader, Loading, start_loader};
+use crate::reporter::Reporter;
+use crate::status::NodeStatus;
 use crate::watch::Watch;
 use crate::worker::start_worker;
 use druid_changes::HistoryFault;
 use druid_config::NodeConfig;
 use druid_folder::{Folder, StoreFault};
 use druid_incarnation::next_incarnation;
+use druid_log::Log;
+use druid_metrics::NodeMeter;
 use druid_node::{DataNode, Incarnation, NodeFault, NodeState};
 use druid_segid::SegmentId;
-use druid_server::{Cause, Handover, Host, StartFault, listen};
+use druid_server::{Cause, Handover, Host, StartFault, Telemetry, listen, start_status};
 use druid_shard::Mark;
 use druid_store::{Device, DiskFolder};
 use std::alloc::{AllocError, Global};
@@ -31,6 +35,7 @@ use std::marker::Brand;
 use std::net::{Net, TcpListener, TcpStream};
 use std::rt::Files;
 use std::sync::{Arc, Wait};
+use std::time::Clock;
 
 // The end of the name of a segment file.
 const SEGMENT_END: &[u8] = b".seg";
@@ -54,13 +59,14 @@ pub(crate) fn is_segment_file(name: &str) -> bool
 }
 
 // Loads a segment file, and knows it as loaded.
-fn load_one<R: Wait, F: Folder, I: Incarnation>(
+fn load_one<R: Wait + Clock, F: Folder, I: Incarnation>(
     rt: &R,
     alloc: Global,
     node: &DataNode<I>,
     folder: &mut F,
     name: &str,
     known: &mut Known,
+    reporter: &mut Reporter,
     seen: &mut Mark,
 ) -> Result<(), StartFault>
     ensures ok { F.is_honest folder.new
@@ -70,24 +76,29 @@ fn load_one<R: Wait, F: Folder, I: Incarnation>(
     ensures own { OnOk result (seen.new.incarnation ≡ I.number) }
     ensures cause { IfErr result (λ start. (why : Refusal) × (start.fault ≡ of_node why) × IfSome start.cause (NamesFile name.now why)) }
 {
-    let id = match node.load_identified(rt, folder, name, seen) {
-        Ok(id) => id,
-        Err(fault) => return Err(StartFault::of_file(alloc, name, &fault)),
+    let file = match node.load_identified(rt, folder, name, seen) {
+        Ok(file) => file,
+        Err(fault) => {
+            reporter.refuse(rt, name, &fault);
+            return Err(StartFault::of_file(alloc, name, &fault));
+        }
     };
-    if known.load(name, id).is_err() {
+    reporter.load(rt, name, &file);
+    if known.load(name, file).is_err() {
         return Err(StartFault::of_file(alloc, name, &NodeFault::Memory));
     }
     Ok(())
 }
 
 // Loads the segment files among these.
-fn load_named<R: Wait, F: Folder, I: Incarnation>(
+fn load_named<R: Wait + Clock, F: Folder, I: Incarnation>(
     rt: &R,
     alloc: Global,
     node: &DataNode<I>,
     folder: &mut F,
     names: &[String],
     known: &mut Known,
+    reporter: &mut Reporter,
     seen: &mut Mark,
 ) -> Result<(), StartFault>
     ensures ok { F.is_honest folder.new → OnOk result (All (IsTaken (F.content folder.old)) (names_of names.now)) }
@@ -98,19 +109,29 @@ fn load_named<R: Wait, F: Folder, I: Incarnation>(
 {
     for name in names {
         if is_segment_file(name.as_str()) {
-            load_one(rt, alloc, node, folder, name.as_str(), known, seen)?;
+            load_one(
+                rt,
+                alloc,
+                node,
+                folder,
+                name.as_str(),
+                known,
+                reporter,
+                seen,
+            )?;
         }
     }
     Ok(())
 }
 
 // Loads the segment files of a folder, in the order of their names.
-fn load_files<R: Wait, F: Folder, I: Incarnation>(
+fn load_files<R: Wait + Clock, F: Folder, I: Incarnation>(
     rt: &R,
     alloc: Global,
     node: &DataNode<I>,
     folder: &mut F,
     known: &mut Known,
+    reporter: &mut Reporter,
     seen: &mut Mark,
 ) -> Result<(), StartFault>
     ensures ok { F.is_honest folder.new → OnOk result (HoldsSegments (F.content folder.new)) }
@@ -121,7 +142,7 @@ fn load_files<R: Wait, F: Folder, I: Incarnation>(
         Ok(names) => names,
         Err(fault) => return Err(StartFault::of_store(fault, Cause::Names(fault))),
     };
-    load_named(rt, alloc, node, folder, &names, known, seen)
+    load_named(rt, alloc, node, folder, &names, known, reporter, seen)
 }
 
 // Places a tombstone; one that is served already is passed over.
@@ -194,11 +215,12 @@ fn first_state<F: Folder>(
 }
 
 // A node that goes on from that state, with the segments of a folder, of which it knows the files.
-fn load_node<R: Wait, F: Folder, I: Incarnation>(
+fn load_node<R: Wait + Clock, F: Folder, I: Incarnation>(
     rt: &R,
     alloc: Global,
     folder: &mut F,
     state: NodeState,
+    reporter: &mut Reporter,
 ) -> Result<LoadedNode<I>, StartFault>
     requires { state.history.incarnation ≡ I.number }
     ensures ok { F.is_honest folder.new → OnOk result (HoldsSegments (F.content folder.new)) }
@@ -208,7 +230,7 @@ fn load_node<R: Wait, F: Folder, I: Incarnation>(
     let mut seen = state.mark();
     let mut known = Known::new(alloc);
     let node = DataNode::new(state);
-    load_files(rt, alloc, &node, folder, &mut known, &mut seen)?;
+    load_files(rt, alloc, &node, folder, &mut known, reporter, &mut seen)?;
     Ok(LoadedNode { node, known, seen })
 }
 
@@ -226,6 +248,7 @@ struct ReadyNode<I: Incarnation> {
     node: Arc<DataNode<I>, Global>,
     listener: Arc<TcpListener, Global>,
     watch: Watch,
+    reporter: Reporter,
 }
 
 // Starts the threads of a node that is ready: the one that loads what comes later, and its workers, which answer from the mark on
@@ -242,7 +265,13 @@ fn start_threads<
     L: Device + Send + Sync + 'static,
     I: Incarnation + Send + Sync + 'static,
     J: Begun + Send + Sync + 'static,
->(rt: &R, alloc: Global, config: &NodeConfig, ready: ReadyNode<I>) -> Result<Loading, StartFault>
+>(
+    rt: &R,
+    alloc: Global,
+    config: &NodeConfig,
+    telemetry: &Telemetry,
+    ready: ReadyNode<I>,
+) -> Result<Loading, StartFault>
 where
     R::Dir: Send,
     requires begun { ready.watch.seen ≡ J.mark }
@@ -252,6 +281,7 @@ where
         node,
         listener,
         watch,
+        reporter,
     } = ready;
     let latest: Arc<Latest<J>, Global> = Arc::new(alloc, Latest::new(watch.seen()))?;
     let end = Arc::new(alloc, Handover::new())?;
@@ -262,11 +292,12 @@ where
         names: copies_of(alloc, config.loads())?,
         rest: config.watch(),
         watch,
+        reporter,
         end: Arc::try_clone(&end)?,
     };
     start_loader::<R, L, I, J>(*rt, alloc, loader)?;
     for _ in 0..config.workers() {
-        start_worker(rt, alloc, &node, &latest, &listener)?;
+        start_worker(rt, alloc, &node, &latest, telemetry, &listener)?;
     }
     Ok(Loading::new(end))
 }
@@ -289,6 +320,7 @@ fn start_from<
     rt: &R,
     alloc: Global,
     config: &NodeConfig,
+    log: &Arc<Log, Global>,
     folder: &mut F,
     state: NodeState,
     listener: Option<TcpListener>,
@@ -298,10 +330,14 @@ where
     requires own { state.history.incarnation ≡ I.number }
     requires has { F.is_honest folder.old → F.content folder.old number_file ≡ Some (number_text state.history.incarnation) }
 {
-    let loaded: LoadedNode<I> = load_node(rt, alloc, folder, state)?;
+    let telemetry = Telemetry::new(alloc, config.name().as_str(), log)?;
+    let meter = Arc::new(alloc, NodeMeter::new(alloc)?)?;
+    let mut reporter = Reporter::new(alloc, telemetry.share()?, &meter)?;
+    let loaded: LoadedNode<I> = load_node(rt, alloc, folder, state, &mut reporter)?;
     let LoadedNode { node, known, seen } = loaded;
     let mut seen = seen;
     place_tombstones(rt, &node, config.tombstones(), &mut seen)?;
+    reporter.note(seen);
     let listener = match listener {
         Some(listener) => listener,
         None => listener_of(rt, config)?,
@@ -310,8 +346,30 @@ where
         node: Arc::new(alloc, node)?,
         listener: Arc::new(alloc, listener)?,
         watch: Watch::new(known, seen),
+        reporter,
     };
-    start_threads::<R, L, I, Brand>(rt, alloc, config, ready)
+    start_status_of(rt, alloc, config, telemetry.share()?, meter)?;
+    start_threads::<R, L, I, Brand>(rt, alloc, config, &telemetry, ready)
+}
+
+// Starts the thread that answers at a node's status address, where it has one.
+fn start_status_of<
+    R: Net<Listener = TcpListener, Stream = TcpStream> + Host + Copy + Send + Sync + 'static,
+>(
+    rt: &R,
+    alloc: Global,
+    config: &NodeConfig,
+    telemetry: Telemetry,
+    meter: Arc<NodeMeter, Global>,
+) -> Result<(), StartFault> {
+    let Some(address) = config.status() else {
+        return Ok(());
+    };
+    let Ok(listener) = listen(rt, address) else {
+        return Err(StartFault::device(Cause::Status));
+    };
+    start_status(rt, alloc, listener, NodeStatus { telemetry, meter })?;
+    Ok(())
 }
 
 // Where a node listens.
@@ -342,6 +400,7 @@ fn start_over<
     alloc: Global,
     config: &NodeConfig,
     kept: usize,
+    log: &Arc<Log, Global>,
     listener: Option<TcpListener>,
 ) -> Result<Loading, StartFault>
 where
@@ -352,14 +411,23 @@ where
     let path = String::from_str(alloc, config.folder())?;
     let mut folder: DiskFolder<R, D> = DiskFolder::new(*rt, path);
     let state = first_state(alloc, &mut folder, kept)?;
-    start_from::<R, DiskFolder<R, D>, L, Brand>(rt, alloc, config, &mut folder, state, listener)
+    start_from::<R, DiskFolder<R, D>, L, Brand>(
+        rt,
+        alloc,
+        config,
+        log,
+        &mut folder,
+        state,
+        listener,
+    )
 }
 
 /// Starts a data node: raises its incarnation, loads the segment files of its folder, places the config's tombstones, but for
 /// those of what is served already, listens, and starts its threads. It gives what tells when the files are tried that come later.
 /// A node that watches its folder goes on from then, until the program ends: it loads the segment files that come, and drops the
 /// segments whose files are gone. The device `D` is the one under the folder that it makes, and `L` the one under the folder that
-/// the thread makes at the same path: the call picks both.
+/// the thread makes at the same path: the call picks both. What happens to files and connections goes to the log, and where the config
+/// names a status address, a thread answers there.
 pub fn start_node<
     R: Files<File = File>
         + Net<Listener = TcpListener, Stream = TcpStream>
@@ -371,13 +439,19 @@ pub fn start_node<
         + 'static,
     D: Device,
     L: Device + Send + Sync + 'static,
->(rt: &R, alloc: Global, config: &NodeConfig, kept: usize) -> Result<Loading, StartFault>
+>(
+    rt: &R,
+    alloc: Global,
+    config: &NodeConfig,
+    kept: usize,
+    log: &Arc<Log, Global>,
+) -> Result<Loading, StartFault>
 where
     R::Dir: Send,
     requires some { 1 ≤ kept }
     requires few { kept ≤ max_changes }
 {
-    start_over::<R, D, L>(rt, alloc, config, kept, None)
+    start_over::<R, D, L>(rt, alloc, config, kept, log, None)
 }
 
 /// Starts a data node as `start_node` does, but that it listens before all else: so of two programs over one config the second
@@ -393,12 +467,18 @@ pub fn start_owner<
         + 'static,
     D: Device,
     L: Device + Send + Sync + 'static,
->(rt: &R, alloc: Global, config: &NodeConfig, kept: usize) -> Result<Loading, StartFault>
+>(
+    rt: &R,
+    alloc: Global,
+    config: &NodeConfig,
+    kept: usize,
+    log: &Arc<Log, Global>,
+) -> Result<Loading, StartFault>
 where
     R::Dir: Send,
     requires some { 1 ≤ kept }
     requires few { kept ≤ max_changes }
 {
     let listener = listener_of(rt, config)?;
-    start_over::<R, D, L>(rt, alloc, config, kept, Some(listener))
+    start_over::<R, D, L>(rt, alloc, config, kept, log, Some(listener))
 }

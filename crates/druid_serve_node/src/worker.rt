@@ -5,8 +5,10 @@ ghost use Rattle.druid_shard.specs.Mark.{Point, mark_cmp};
 ghost use Rattle.druid_node.specs.Seen.{IsServedAsSeen};
 
 use crate::latest::{Begun, Latest};
+use druid_front::close_answered;
+use druid_metrics::CountedWriter;
 use druid_node::{DataNode, Incarnation, NodeFault};
-use druid_server::{DeviceFailed, Host, answer_each, close_answered, limit};
+use druid_server::{DeviceFailed, Host, Telemetry, answer_each, limit};
 use druid_shard::Mark;
 use std::alloc::Global;
 use std::io::{BufRead, BufReader, BufWriter, Write};
@@ -36,12 +38,29 @@ fn serve_since<R: Wait, I: Incarnation, J: Begun, B: BufRead, W: Write>(
     node.serve_one(rt, reader, writer, seen)
 }
 
+// Answers a request and sends all of the answer, and gives the status that was written, if it was.
+fn send<R: Wait, I: Incarnation, J: Begun, B: BufRead, W: Write>(
+    rt: &R,
+    node: &DataNode<I>,
+    latest: &Latest<J>,
+    reader: &mut B,
+    writer: &mut W,
+    seen: &mut Mark,
+) -> Option<u16>
+    ensures { mark_cmp seen.old seen.new ≢ Greater }
+{
+    let status = serve_since(rt, node, latest, reader, writer, seen).ok()?;
+    writer.flush().ok()?;
+    Some(status)
+}
+
 // Answers one connection, and gives the status that was written, if an answer was.
-fn answer<R: Wait, I: Incarnation, J: Begun>(
+fn answer<R: Wait + Clock, I: Incarnation, J: Begun>(
     rt: &R,
     alloc: Global,
     node: &DataNode<I>,
     latest: &Latest<J>,
+    telemetry: &Telemetry,
     stream: &TcpStream,
     seen: &mut Mark,
 ) -> Option<u16>
@@ -53,17 +72,15 @@ fn answer<R: Wait, I: Incarnation, J: Begun>(
     let Ok(mut reader) = BufReader::new(alloc, stream) else {
         return None;
     };
-    let Ok(mut writer) = BufWriter::new(alloc, stream) else {
+    let Ok(mut writer) = BufWriter::new(alloc, CountedWriter::new(stream)) else {
         return None;
     };
-    let Ok(status) = serve_since(rt, node, latest, &mut reader, &mut writer, seen) else {
+    let Some(taken) = telemetry.take(rt, &mut reader) else {
         return None;
     };
-    if writer.flush().is_ok() {
-        Some(status)
-    } else {
-        None
-    }
+    let status = send(rt, node, latest, &mut reader, &mut writer, seen);
+    telemetry.end(rt, alloc, &taken, status, writer.get_ref().written());
+    status
 }
 
 // Answers connections, and gives the mark of what was seen of the node by then.
@@ -72,6 +89,7 @@ fn work<R: Wait + Clock, I: Incarnation, J: Begun>(
     alloc: Global,
     node: &DataNode<I>,
     latest: &Latest<J>,
+    telemetry: &Telemetry,
     listener: &TcpListener,
 ) -> Mark
     ensures { mark_cmp J.mark result ≢ Greater }
@@ -84,7 +102,7 @@ fn work<R: Wait + Clock, I: Incarnation, J: Begun>(
             ensures { mark_cmp seen result ≢ Greater }
         {
             let mut seen = seen;
-            if let Some(status) = answer(rt, alloc, node, latest, &stream, &mut seen) {
+            if let Some(status) = answer(rt, alloc, node, latest, telemetry, &stream, &mut seen) {
                 close_answered(rt, status, stream);
             }
             seen
@@ -102,13 +120,15 @@ pub(crate) fn start_worker<
     alloc: Global,
     node: &Arc<DataNode<I>, Global>,
     latest: &Arc<Latest<J>, Global>,
+    telemetry: &Telemetry,
     listener: &Arc<TcpListener, Global>,
 ) -> Result<(), DeviceFailed> {
     let rt = *rt;
     let node = Arc::try_clone(node)?;
     let latest = Arc::try_clone(latest)?;
+    let telemetry = telemetry.share()?;
     let listener = Arc::try_clone(listener)?;
-    let job = move || work(&rt, alloc, &node, &latest, &listener);
+    let job = move || work(&rt, alloc, &node, &latest, &telemetry, &listener);
     match thread::spawn(&rt, job) {
         Ok(worker) => {
             drop(worker);

@@ -282,3 +282,42 @@ fn statuses(rt: HostRuntime) {
     let text = changed(&rt, alloc, "\"kept\"", "\"patience\":250,\"kept\"");
     assert_statuses(&rt, alloc, text.as_str(), "- - 250");
 }
+
+// With front threads of a server.
+#[test]
+fn taken_fronts(rt: HostRuntime) {
+    let rows = "\"workers\":1} = \"workers\":1,\"front\":0}
+\"workers\":1} = \"workers\":1,\"front\":256}
+\"workers\":16} = \"workers\":16,\"front\":1}";
+    assert_reported(&rt, rt.alloc(), rows, "taken");
+}
+
+#[test]
+fn refused_fronts(rt: HostRuntime) {
+    let rows = "\"workers\":1} = \"workers\":1,\"front\":257}
+\"workers\":1} = \"workers\":1,\"front\":null}
+\"workers\":16} = \"workers\":16,\"front\":\"8\"}
+\"workers\":16} = \"workers\":16,\"front\":1.5}";
+    assert_reported(&rt, rt.alloc(), rows, "bad config");
+}
+
+// How many front threads the first node and the first broker of a config have.
+fn fronts_of(rt: &impl Abort, alloc: Global, text: &str) -> (u16, u16) {
+    let config = read_config(alloc, text.as_bytes()).expect(rt, "a config");
+    (config.nodes()[0].front(), config.brokers()[0].front())
+}
+
+#[test]
+fn fronts(rt: HostRuntime) {
+    let alloc = rt.alloc();
+    assert!(rt; fronts_of(&rt, alloc, whole()) == (0, 0));
+    let text = changed(&rt, alloc, "\"workers\":1}", "\"workers\":1,\"front\":64}");
+    assert!(rt; fronts_of(&rt, alloc, text.as_str()) == (64, 0));
+    let text = changed(
+        &rt,
+        alloc,
+        "\"workers\":16}",
+        "\"workers\":16,\"front\":256}",
+    );
+    assert!(rt; fronts_of(&rt, alloc, text.as_str()) == (0, 256));
+}

@@ -1,7 +1,7 @@
 //! What is said of a cluster that is not served, below its fault.
 use crate::config::{changed, halves, with_doubled};
 use crate::folders::put;
-use crate::host::Host;
+use crate::host::{Host, environment};
 use crate::serve::{Full, Place, clear, config, place_of};
 use druid_config::bad_field_in;
 use druid_program::{run, serve_config};
@@ -85,6 +85,10 @@ fn fields_of_statuses(rt: HostRuntime) {
 \"workers\":1} = \"workers\":1,\"watch\":0,\"status\":0} -> nodes[0].watch: not a number from 1 to 3600000
 \"workers\":16} = \"workers\":16,\"status\":null} -> brokers[0].status: not 127.0.0.1: and a port from 1 to 65535
 \"workers\":16} = \"workers\":17,\"status\":null} -> brokers[0].workers: not a number from 1 to 16
+\"workers\":1} = \"workers\":1,\"front\":257} -> nodes[0].front: not a number from 0 to 256
+\"workers\":1} = \"workers\":1,\"front\":257,\"status\":0} -> nodes[0].status: not 127.0.0.1: and a port from 1 to 65535
+\"workers\":16} = \"workers\":16,\"front\":null} -> brokers[0].front: not a number from 0 to 256
+\"workers\":16} = \"workers\":16,\"front\":-1,\"status\":0} -> brokers[0].status: not 127.0.0.1: and a port from 1 to 65535
 \"kept\" = \"patience\":30000,\"kept\" -> ";
     for row in rows.lines() {
         assert_field(&rt, rt.alloc(), row);
@@ -115,7 +119,8 @@ fn report_of<R: Host + Net<Listener = TcpListener, Stream = TcpStream>>(
 ) -> String {
     let (mut out, mut errors) = (Vec::new(alloc), Vec::new(alloc));
     let bytes = config.as_bytes();
-    let ending = serve_config(rt, alloc, bytes, &mut out, &mut errors, explain);
+    let environment = environment(rt, alloc, explain);
+    let ending = serve_config(rt, alloc, bytes, &environment, &mut out, &mut errors);
     assert!(rt; ending.reported.is_ok());
     let status = ending.status;
     let reported = str::from_utf8(&errors).expect(rt, "a text");
@@ -245,7 +250,8 @@ fn outputs(rt: HostRuntime) {
     let config = config(&rt, rt.alloc(), &place, 0);
     let (mut out, mut errors) = (Full { takes: false }, Vec::new(rt.alloc()));
     let bytes = config.as_bytes();
-    let ending = serve_config(&rt, rt.alloc(), bytes, &mut out, &mut errors, true);
+    let environment = environment(&rt, rt.alloc(), true);
+    let ending = serve_config(&rt, rt.alloc(), bytes, &environment, &mut out, &mut errors);
     clear(&rt, &place);
     let wanted = b"device\n  standard output: a write failed\n".as_slice();
     assert!(rt; ending.status == 3 && errors.as_slice() == wanted);
@@ -266,10 +272,10 @@ fn paths(rt: HostRuntime) {
         &rt,
         alloc,
         Ok(words),
+        &environment(&rt, alloc, true),
         &mut input,
         &mut out,
         &mut errors,
-        true,
     );
     let wanted = b"device\n  no folder/none: not read\n".as_slice();
     assert!(&rt; ending.status == 3 && errors.as_slice() == wanted);

@@ -1,10 +1,15 @@
 //! What tests ask of the machine that they run on, and addresses of it.
+use druid_log::{Level, Log, open};
+use druid_metrics::NodeMeter;
+use druid_program::Environment;
+use druid_serve_node::Reporter;
+use druid_server::Telemetry;
 use std::alloc::Global;
 use std::fs::File;
 use std::net::{Net, TcpListener, TcpStream};
 use std::process::Abort;
 use std::rt::{Env, Files};
-use std::sync::Wait;
+use std::sync::{Arc, Wait};
 use std::thread::Threads;
 use std::time::Clock;
 
@@ -55,4 +60,23 @@ pub(crate) fn free_address<R: Net<Listener = TcpListener, Stream = TcpStream> + 
     alloc: Global,
 ) -> String {
     address_of(rt, alloc, &listener(rt))
+}
+
+/// A log of which nothing is written.
+pub(crate) fn quiet_log(rt: &impl Abort, alloc: Global) -> Arc<Log, Global> {
+    let (log, _lines) = open(alloc, Level::Off).expect(rt, "memory");
+    Arc::new(alloc, log).expect(rt, "memory")
+}
+
+/// An environment that asks for nothing but explanations, where it does.
+pub(crate) fn environment(rt: &impl Abort, alloc: Global, explain: bool) -> Environment {
+    Environment::new(explain, None, quiet_log(rt, alloc))
+}
+
+/// A reporter of a node, whose log is quiet.
+pub(crate) fn reporter(rt: &impl Abort, alloc: Global) -> Reporter {
+    let telemetry = Telemetry::new(alloc, "n0", &quiet_log(rt, alloc)).expect(rt, "memory");
+    let meter = NodeMeter::new(alloc).expect(rt, "memory");
+    let meter = Arc::new(alloc, meter).expect(rt, "memory");
+    Reporter::new(alloc, telemetry, &meter).expect(rt, "memory")
 }

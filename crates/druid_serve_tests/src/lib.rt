@@ -15,6 +15,8 @@ mod live;
 #[cfg(test)]
 mod loading;
 #[cfg(test)]
+mod operating;
+#[cfg(test)]
 mod serve;
 #[cfg(test)]
 mod serve_node;

@@ -1,6 +1,6 @@
 //! Clusters that go on: files come and go while clients ask.
 use crate::folders::NEWER_FILE;
-use crate::host::{Host, address_of, listener};
+use crate::host::{Host, address_of, environment, listener};
 use crate::serve::{Place, assert_served, clear, config, place_of, served};
 use druid_link::{Link, TcpLink};
 use druid_program::serve_config;
@@ -16,11 +16,11 @@ use std::{fs, str, thread};
 // How often a file goes and comes.
 const CYCLES: u64 = 200;
 
-// How often a client looks for what is to come, 2 milliseconds apart, before it gives up.
-const MAX_LOOKS: u64 = 20_000;
+/// How often a client looks for what is to come, 2 milliseconds apart, before it gives up.
+pub(crate) const MAX_LOOKS: u64 = 20_000;
 
-// The config of a place, whose nodes look at their folders and whose brokers ask them each 5 milliseconds.
-fn live_config(rt: &impl Abort, alloc: Global, place: &Place) -> String {
+/// The config of a place, whose nodes look at their folders and whose brokers ask them each 5 milliseconds.
+pub(crate) fn live_config(rt: &impl Abort, alloc: Global, place: &Place) -> String {
     let text = config(rt, alloc, place, 0);
     let text = text
         .replace(alloc, "\"loads\":", "\"watch\":5,\"loads\":")
@@ -29,28 +29,38 @@ fn live_config(rt: &impl Abort, alloc: Global, place: &Place) -> String {
         .expect(rt, "memory")
 }
 
-// A request of the row's query: of the older segment's rows four are visible where the newer one is not served, and else two, and
-// the three of that.
-const ASK: &[u8] =
+/// A request of the row's query: of the older segment's rows four are visible where the newer one is not served, and else two, and
+/// the three of that.
+pub(crate) const ASK: &[u8] =
     b"POST /druid/v2 HTTP/1.1\r\ncontent-length: 147\r\n\r\n{\"aggregations\":[{\"name\":\"n\",\"type\":\"count\"}],\"dataSource\":\"wiki\",\"granularity\":\"all\",\"intervals\":\"2024-01-01/2024-01-02\",\"queryType\":\"timeseries\"}";
 
 const OLDER: &str = "[{\"result\":{\"n\":4},\"timestamp\":\"2024-01-01T00:00:00.000Z\"}]";
 
-const NEWER: &str = "[{\"result\":{\"n\":5},\"timestamp\":\"2024-01-01T00:00:00.000Z\"}]";
+pub(crate) const NEWER: &str =
+    "[{\"result\":{\"n\":5},\"timestamp\":\"2024-01-01T00:00:00.000Z\"}]";
 
-// What a link answers.
-fn answered<L: Link>(rt: &impl Abort, alloc: Global, link: &mut L, request: &[u8]) -> String {
+/// What a link answers.
+pub(crate) fn answered<L: Link>(
+    rt: &impl Abort,
+    alloc: Global,
+    link: &mut L,
+    request: &[u8],
+) -> String {
     let answer = link.exchange(alloc, request).expect(rt, "an answer");
     let text = str::from_utf8(&answer).expect(rt, "a text");
     String::from_str(alloc, text).expect(rt, "memory")
 }
 
-fn link_to<R: Net + Clock + Copy + Abort>(rt: &R, alloc: Global, address: &str) -> TcpLink<R> {
+pub(crate) fn link_to<R: Net + Clock + Copy + Abort>(
+    rt: &R,
+    alloc: Global,
+    address: &str,
+) -> TcpLink<R> {
     TcpLink::new(*rt, String::from_str(alloc, address).expect(rt, "memory"))
 }
 
-// Asks until the answer ends with that text.
-fn wait_for<R: Net + Clock + Copy + Abort>(
+/// Asks until the answer ends with that text.
+pub(crate) fn wait_for<R: Net + Clock + Copy + Abort>(
     rt: &R,
     alloc: Global,
     address: &str,
@@ -183,8 +193,8 @@ fn a_version_comes_and_goes(rt: HostRuntime) {
     clear(&rt, &place);
 }
 
-// A connection to a listener, and its other end.
-fn pair<R: Net<Listener = TcpListener, Stream = TcpStream> + Abort>(
+/// A connection to a listener, and its other end.
+pub(crate) fn pair<R: Net<Listener = TcpListener, Stream = TcpStream> + Abort>(
     rt: &R,
     alloc: Global,
 ) -> (TcpStream, TcpStream) {
@@ -205,8 +215,8 @@ fn lines_of(rt: &impl Abort, alloc: Global, place: &Place) -> String {
     ).expect(rt, "memory")
 }
 
-// The lines that come over a connection, as many as that.
-fn read_lines(rt: &impl Abort, alloc: Global, stream: &TcpStream, count: u64) -> String {
+/// The lines that come over a connection, as many as that.
+pub(crate) fn read_lines(rt: &impl Abort, alloc: Global, stream: &TcpStream, count: u64) -> String {
     let mut reader = BufReader::new(alloc, stream).expect(rt, "memory");
     let mut text = String::new(alloc);
     for _ in 0..count {
@@ -226,9 +236,11 @@ fn a_cluster_without_an_end(rt: HostRuntime) {
         .expect(&rt, "memory");
     let config = String::from_str(alloc, text.as_str()).expect(&rt, "memory");
     let (mut errors, other_end) = pair(&rt, alloc);
+    let environment = environment(&rt, alloc, false);
     let serving = move || {
         let mut out = Vec::new(alloc);
-        let ending = serve_config(&rt, alloc, config.as_bytes(), &mut out, &mut errors, false);
+        let bytes = config.as_bytes();
+        let ending = serve_config(&rt, alloc, bytes, &environment, &mut out, &mut errors);
         ending.status
     };
     thread::spawn(&rt, serving).expect(&rt, "a thread");

@@ -1,7 +1,8 @@
 //! Files that a node loads once it stands, and those that it finds by looks at its folder.
+use crate::host::reporter;
 use druid_folder::Folder;
 use druid_node::{DataNode, Incarnation, NodeState};
-use druid_serve_node::{Known, Watch, load_later};
+use druid_serve_node::{Known, Watch};
 use druid_shard::Mark;
 use druid_store::MemoryFolder;
 use std::alloc::Global;
@@ -64,7 +65,11 @@ fn loads_later(rt: HostRuntime) {
     let node = node(&rt, rt.alloc());
     let names = names(&rt, rt.alloc());
     let mut folder = folder(&rt, rt.alloc());
-    load_later(&rt, &node, &mut folder, &names, &mut Mark::never());
+    let mut watch = Watch::new(Known::new(rt.alloc()), Mark::new(1, 0));
+    let mut reporter = reporter(&rt, rt.alloc());
+    let tried = watch.try_due(&rt, &node, &mut folder, 0, &names, &mut reporter);
+    assert!(&rt; tried.is_ok());
+    assert!(&rt; watch.seen() == Mark::new(1, 1));
     let reported = reported(&rt, rt.alloc(), &node);
     assert!(rt; reported.as_str().ends_with(SERVED), "{reported}");
 }
@@ -105,12 +110,13 @@ whole -> 3 served";
     let mut folder = MemoryFolder::new(alloc);
     folder.write("other", FILE).expect(&rt, "a file");
     let mut watch = Watch::new(Known::new(alloc), Mark::new(1, 0));
+    let mut reporter = reporter(&rt, alloc);
     let mut look = 0_u64;
     for row in rows.lines() {
         look = look.saturating_add(1);
         let (word, wanted) = row.split_once(" -> ").expect(&rt, "no row");
         change(&rt, &mut folder, word);
-        let looked = watch.look(&rt, alloc, &node, &mut folder, look);
+        let looked = watch.look(&rt, alloc, &node, &mut folder, look, &mut reporter);
         assert!(&rt; looked.is_ok());
         let reported = reported(&rt, alloc, &node);
         assert!(&rt;

@@ -2,7 +2,7 @@
 use crate::folders::{
     LATER_FILE, NEWER_FILE, OLDER_FILE, fewer_bytes, file_bytes, fresh_folder, put,
 };
-use crate::host::{Host, address_of, listener};
+use crate::host::{Host, address_of, environment, listener};
 use druid_link::{Link, TcpLink};
 use druid_program::{run, serve_config};
 use std::alloc::Global;
@@ -93,7 +93,9 @@ pub(crate) fn served<R: Host + Net<Listener = TcpListener, Stream = TcpStream>>(
 ) -> String {
     let mut out = Vec::new(alloc);
     let mut errors = Vec::new(alloc);
-    let ending = serve_config(rt, alloc, config.as_bytes(), &mut out, &mut errors, false);
+    let environment = environment(rt, alloc, false);
+    let bytes = config.as_bytes();
+    let ending = serve_config(rt, alloc, bytes, &environment, &mut out, &mut errors);
     assert!(rt; ending.reported.is_ok());
     let status = ending.status;
     let printed = str::from_utf8(&out).expect(rt, "a text");
@@ -227,10 +229,10 @@ fn run_with<R: Host + Net<Listener = TcpListener, Stream = TcpStream>>(
         rt,
         alloc,
         Ok(words),
+        &environment(rt, alloc, false),
         &mut input,
         &mut out,
         &mut errors,
-        false,
     );
     let status = ending.status;
     let printed = str::from_utf8(&out).expect(rt, "a text");
@@ -299,9 +301,9 @@ fn full_output(rt: HostRuntime) {
             &rt,
             rt.alloc(),
             config.as_bytes(),
+            &environment(&rt, rt.alloc(), false),
             &mut out,
             &mut errors,
-            false,
         );
         assert!(rt; ending.status == 3 && errors.as_slice() == b"device\n".as_slice());
         clear(&rt, &place);
@@ -534,7 +536,9 @@ fn status_of<R: Host + Net<Listener = TcpListener, Stream = TcpStream>>(
 ) -> u8 {
     let mut out = Flagged { flushed };
     let mut errors = Vec::new(alloc);
-    serve_config(rt, alloc, config.as_bytes(), &mut out, &mut errors, false).status
+    let environment = environment(rt, alloc, false);
+    let bytes = config.as_bytes();
+    serve_config(rt, alloc, bytes, &environment, &mut out, &mut errors).status
 }
 
 // Asks each broker five times, once connections are counted.

@@ -2,7 +2,7 @@
 ghost use Rattle.std.specs.Prelude.{◌≤◌};
 
 use crate::folders::{LATER_FILE, OLDER_FILE, file_bytes, fresh_folder, put, put_parts};
-use crate::host::{Host, free_address};
+use crate::host::{Host, free_address, quiet_log};
 use druid_config::{Config, read_config};
 use druid_link::{Link, TcpLink};
 use druid_serve_node::{start_node, start_owner};
@@ -82,7 +82,8 @@ fn reported_over<R: Host + Net<Listener = TcpListener, Stream = TcpStream>>(
         workers,
     );
     let node = config.nodes().first().expect(rt, "a node");
-    let loader = start_node::<R, Brand, Brand>(rt, alloc, node, kept).expect(
+    let log = quiet_log(rt, alloc);
+    let loader = start_node::<R, Brand, Brand>(rt, alloc, node, kept, &log).expect(
         rt,
         "a node that starts",
     );
@@ -236,7 +237,8 @@ fn assert_watched<R: Host + Net<Listener = TcpListener, Stream = TcpStream>>(
     let address = free_address(rt, alloc);
     let config = watching_config(rt, alloc, address.as_str(), folder.as_str());
     let node = config.nodes().first().expect(rt, "a node");
-    let loader = start_node::<R, Brand, Brand>(rt, alloc, node, 10).expect(
+    let log = quiet_log(rt, alloc);
+    let loader = start_node::<R, Brand, Brand>(rt, alloc, node, 10, &log).expect(
         rt,
         "a node that starts",
     );
@@ -264,14 +266,15 @@ fn assert_owned<R: Host + Net<Listener = TcpListener, Stream = TcpStream>>(rt: &
     let address = free_address(rt, alloc);
     let config = config(rt, alloc, address.as_str(), folder.as_str(), "", 0, 1);
     let node = config.nodes().first().expect(rt, "a node");
-    let first = start_owner::<R, Brand, Brand>(rt, alloc, node, 10).expect(
+    let log = quiet_log(rt, alloc);
+    let first = start_owner::<R, Brand, Brand>(rt, alloc, node, 10, &log).expect(
         rt,
         "a node that starts",
     );
     first.join(rt);
-    assert!(rt; start_owner::<R, Brand, Brand>(rt, alloc, node, 10).is_err());
+    assert!(rt; start_owner::<R, Brand, Brand>(rt, alloc, node, 10, &log).is_err());
     assert!(rt; incarnation(rt, alloc, folder.as_str()).as_slice() == b"1\n".as_slice());
-    assert!(rt; start_node::<R, Brand, Brand>(rt, alloc, node, 10).is_err());
+    assert!(rt; start_node::<R, Brand, Brand>(rt, alloc, node, 10, &log).is_err());
     assert!(rt; incarnation(rt, alloc, folder.as_str()).as_slice() == b"2\n".as_slice());
     fs::remove_dir_all(rt, folder.as_str()).expect(rt, "a folder");
 }

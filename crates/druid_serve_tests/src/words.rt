@@ -1,5 +1,5 @@
 //! What the program does with its words, and what it reports of its end.
-use crate::host::Host;
+use crate::host::{Host, environment};
 use druid_program::{Ending, run};
 use std::alloc::Global;
 use std::io::{ErrorKind, Write};
@@ -29,7 +29,16 @@ fn ended<R: Host + Net<Listener = TcpListener, Stream = TcpStream>, E: Write>(
 ) -> (Ending, Vec<u8>) {
     let words = words_of(rt, alloc, words);
     let mut out = Vec::new(alloc);
-    let ending = run(rt, alloc, Ok(words), &mut input, &mut out, errors, explain);
+    let environment = environment(rt, alloc, explain);
+    let ending = run(
+        rt,
+        alloc,
+        Ok(words),
+        &environment,
+        &mut input,
+        &mut out,
+        errors,
+    );
     (ending, out)
 }
 
@@ -78,7 +87,16 @@ fn unread_words(rt: HostRuntime) {
     let (alloc, unread) = (rt.alloc(), Err(ErrorKind::Other.into()));
     let (mut out, mut errors) = (Vec::new(alloc), Vec::new(alloc));
     let mut input = b"x".as_slice();
-    let ending = run(&rt, alloc, unread, &mut input, &mut out, &mut errors, true);
+    let environment = environment(&rt, alloc, true);
+    let ending = run(
+        &rt,
+        alloc,
+        unread,
+        &environment,
+        &mut input,
+        &mut out,
+        &mut errors,
+    );
     assert!(rt; ending.status == 3 && out.is_empty());
     assert!(rt; errors.as_slice() == b"line 1: device\n".as_slice());
 }

@@ -36,4 +36,5 @@ NamesFile name why (cause.Incarnation fault) = ⊥
 NamesFile name why (cause.Names fault) = ⊥
 NamesFile name why (cause.Tombstone place fault) = ⊥
 NamesFile name why cause.Listener = ⊥
+NamesFile name why cause.Status = ⊥
 NamesFile name why cause.Memory = ⊥

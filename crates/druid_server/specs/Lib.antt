@@ -2,4 +2,4 @@
 pub mod Faults
 pub mod Ends
 pub mod Printed
-pub mod Closing
+pub mod StatusAnswers

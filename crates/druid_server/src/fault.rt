@@ -102,6 +102,8 @@ pub enum Cause {
     Tombstone(usize, NodeFault),
     /// The socket that listens.
     Listener,
+    /// The socket of the status address.
+    Status,
     /// Memory, or a thread.
     Memory,
 }

@@ -2,21 +2,25 @@
 #![tactic(auto)]
 
 mod asking;
-mod closing;
 mod fault;
 mod gate;
 mod handover;
 mod host;
 mod outside;
 mod serve_fault;
+mod status;
 mod stop;
+mod telemetry;
 
 pub use asking::ask;
-pub use closing::{CLOSING_SECONDS, MAX_CLOSING, close_answered};
 pub use fault::{Cause, ClusterFault, DeviceFailed, StartFault};
 pub use gate::Gate;
 pub use handover::Handover;
 pub use host::Host;
 pub use outside::{PEER_SECONDS, answer_each, limit, listen};
 pub use serve_fault::ServeFault;
+pub use status::{
+    STATUS_SECONDS, Status, StatusAnswer, answer_status, serve_status_one, start_status,
+};
 pub use stop::Stop;
+pub use telemetry::{Taken, Telemetry};

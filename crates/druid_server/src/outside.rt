@@ -30,10 +30,15 @@ pub fn listen<R: Net<Listener = TcpListener, Stream = TcpStream>>(
     }
 }
 
+// Limits how long one read or one write of a connection waits, and tells whether that could be done.
+pub(crate) fn limit_to(stream: &TcpStream, limit: Duration) -> bool {
+    let limit = Some(limit);
+    stream.set_read_timeout(limit).is_ok() && stream.set_write_timeout(limit).is_ok()
+}
+
 /// Limits how long a connection waits, and tells whether that could be done.
 pub fn limit(stream: &TcpStream) -> bool {
-    let limit = Some(Duration::from_secs(PEER_SECONDS));
-    stream.set_read_timeout(limit).is_ok() && stream.set_write_timeout(limit).is_ok()
+    limit_to(stream, Duration::from_secs(PEER_SECONDS))
 }
 
 /// Answers the connections of a listener, one after another, by a worker that each answer takes and gives back; it rests where none

@@ -2,6 +2,7 @@
 ghost use Rattle.std.specs.Prelude.{◌≡◌};
 ghost use Rattle.druid_server.specs.Ends.{of_cluster, of_config};
 ghost use Rattle.druid_server.specs.declared.fault.ClusterFault.TheVariants.{Device};
+ghost use Rattle.druid_server.specs.declared.serve_fault.ServeFault.TheVariants.{BadConfig};
 
 use crate::{Cause, ClusterFault, DeviceFailed, ServeFault, StartFault};
 use druid_config::{BrokerConfig, ConfigFault, NodeConfig, bad_field_in};
@@ -56,6 +57,13 @@ impl Stop<ClusterFault> {
         Stop::device(format!(in alloc; "brokers[{place}].address: listening on {address}").ok())
     }
 
+    /// The broker at a place does not listen at its status address.
+    pub fn at_broker_status(alloc: Global, place: usize, address: &str) -> Stop<ClusterFault>
+        ensures { result.fault ≡ Device }
+    {
+        Stop::device(format!(in alloc; "brokers[{place}].status: listening on {address}").ok())
+    }
+
     /// The output was not written or flushed.
     pub fn at_output(alloc: Global, error: &io::Error) -> Stop<ClusterFault>
         ensures { result.fault ≡ Device }
@@ -84,6 +92,10 @@ fn node_reason(alloc: Global, place: usize, node: &NodeConfig, cause: &Cause) ->
             "nodes[{place}].tombstones[{at}]: {fault}"
         ),
         Cause::Listener => format!(in alloc; "nodes[{place}].address: listening on {address}"),
+        Cause::Status => format!(in alloc;
+            "nodes[{place}].status: listening on {}",
+            node.status().unwrap_or("")
+        ),
         Cause::Memory => format!(in alloc; "nodes[{place}]: out of memory, or no thread"),
     };
     text.ok()
@@ -121,6 +133,18 @@ impl Stop<ServeFault> {
         Stop {
             fault,
             reason: String::from_str(alloc, text).ok(),
+        }
+    }
+
+    /// Of a text that names no part of a cluster.
+    pub fn at_part(alloc: Global, text: &str) -> Stop<ServeFault>
+        ensures { result.fault ≡ BadConfig }
+    {
+        Stop {
+            fault: ServeFault::BadConfig,
+            reason: format!(in alloc;
+                "DRUID_CLUSTER_PART: {text}: names of nodes and broker:N, with commas between"
+            ).ok(),
         }
     }
 

@@ -15,3 +15,4 @@ pub mod OnceLemmas
 pub mod ResponseLemmas
 pub mod DecimalLemmas
 pub mod BackLemmas
+pub mod MissingLemmas

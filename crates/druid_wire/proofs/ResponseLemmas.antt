@@ -55,7 +55,7 @@ of_response bytes f says =
           ]
     ]
 
-of_request : (bytes : List ℕ) (f : WireFault) → RequestSays bytes (Err f) → IsOfHead f
+pub of_request : (bytes : List ℕ) (f : WireFault) → RequestSays bytes (Err f) → IsOfHead f
 of_request bytes f says =
     elim says [
       | inl bad ↦ subst IsOfHead (sym bad.0) tt
@@ -69,7 +69,7 @@ of_request bytes f says =
 -- ---- faults of the whole
 
 -- a fault of its own head is one of the input
-head_faulty : (Says : List ℕ → Result ℕ WireFault → Type 0) (input head rest : List ℕ) (f : WireFault) → IsFramed input head rest → Says head (Err f) → IsOfHead f
+pub head_faulty : (Says : List ℕ → Result ℕ WireFault → Type 0) (input head rest : List ℕ) (f : WireFault) → IsFramed input head rest → Says head (Err f) → IsOfHead f
     → HasFault Says input f
 head_faulty Says input head rest Cut framed says is = absurd is
 head_faulty Says input head rest Read framed says is = absurd is

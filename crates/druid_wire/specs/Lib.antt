@@ -7,6 +7,7 @@ pub mod Grammar
 pub mod Written
 pub mod Response
 pub mod Served
+pub mod Missing
 -- words of private contracts
 pub mod Parts
 pub mod Bodies

@@ -8,6 +8,7 @@ mod head;
 mod laws;
 mod length;
 mod limits;
+mod missing;
 mod reading;
 mod response;
 mod serving;
@@ -19,6 +20,7 @@ pub use laws::{
     responses_have_no_fault,
 };
 pub use limits::{MAX_BODY, MAX_FIELDS, MAX_HEAD};
+pub use missing::{Missing, missing_of};
 pub use reading::{read_request, read_response, response_of};
 pub use response::Response;
 pub use serving::{refuse_request, send_response};

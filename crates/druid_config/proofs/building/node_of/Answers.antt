@@ -12,4 +12,5 @@ new-requires c = record {
   few_workers = c.in-Some-some_field.ensures.few;
   rest = c.in-Some-rest_field.ensures.rest;
   status = subst (λ s. IfSome s IsAddress) (sym c.in_ok-status.ensures) c.in-Some-status_field.ensures.valid;
+  few_front = c.in-Some-front_field.ensures.few;
 }

@@ -1,4 +1,5 @@
-use Rattle.std.proofs.Common.{◌≡◌, vec_len}
+use Rattle.std.proofs.Common.{◌≡◌, vec_len, take, count_by}
+use Rattle.druid_config.specs.Parts.{has_node}
 use Rattle.druid_serve.proofs.serving.start_nodes.Given as goal
 use Rattle.druid_store.specs.Unknown.{unknown_content, unknown_left, unknown_during}
 
@@ -18,4 +19,4 @@ ghosts-start_node-L-Device g a = record {
 }
 
 abbrev pub invariant-loop-place : goal.invariant-loop-place
-invariant-loop-place g l = vec_len l.loaders ≡ l.place
+invariant-loop-place g l = vec_len l.loaders ≡ count_by (has_node l.part) (take l.place l.nodes)

@@ -1,7 +1,7 @@
 use Rattle.std.proofs.Common.{ap, sym, ◌∙◌}
 use Rattle.std.proofs.lemmas.Result.{IfErr-weaker, IfOk-weaker}
 use Rattle.druid_folder.specs.Folder.{bytes_read, read_part}
-use Rattle.druid_node.specs.Files.{file_at, file_name}
+use Rattle.druid_node.specs.Files.{file_at, file_name, size_of}
 use Rattle.druid_node.proofs.FileLemmas.{found_refuse, found_own, found_uncounted, load_refuses, load_own, load_uncounted, read_refuses, read_own, read_counted, file_named}
 use Rattle.druid_node.proofs.data_node.DataNode.load_identified.Goals as goal
 
@@ -30,12 +30,16 @@ returns-in-Err-found_segment-clause-counted g c =
 pub returns-in-Ok-found_segment-clause-ok : goal.returns-in-Ok-found_segment-clause-ok
 returns-in-Ok-found_segment-clause-ok g c honest =
     let given = ap (file_at c.args.name.now) (sym (c.in-Ok.ensures.found honest)) ∙ c.in-Ok-found_segment.ensures.ok in
-    IfOk-weaker c.load.result _ _ (λ id is. (c.in-Ok-found_segment.segment, given, is)) c.load.ensures.id
+    IfOk-weaker c.load.result _ _ (λ loaded is. (c.in-Ok-found_segment.segment, given, is.0, is.1)) c.load.ensures.loaded
+
+pub returns-in-Ok-found_segment-clause-bytes : goal.returns-in-Ok-found_segment-clause-bytes
+returns-in-Ok-found_segment-clause-bytes g c honest =
+    IfOk-weaker c.load.result _ _ (λ loaded is. is ∙ c.size_of-bytes.ensures ∙ ap size_of (c.in-Ok.ensures.found honest)) c.load.ensures.bytes
 
 pub returns-in-Ok-found_segment-clause-id : goal.returns-in-Ok-found_segment-clause-id
 returns-in-Ok-found_segment-clause-id g c =
     let s = c.in-Ok-found_segment.segment in
-    IfOk-weaker c.load.result _ _ (λ id is. file_named c.args.name.now (bytes_read c.in-Ok.found) s c.in-Ok-found_segment.ensures.ok ∙ ap file_name (sym is)) c.load.ensures.id
+    IfOk-weaker c.load.result _ _ (λ loaded is. file_named c.args.name.now (bytes_read c.in-Ok.found) s c.in-Ok-found_segment.ensures.ok ∙ ap file_name (sym is.0)) c.load.ensures.loaded
 
 pub returns-in-Ok-found_segment-clause-err : goal.returns-in-Ok-found_segment-clause-err
 returns-in-Ok-found_segment-clause-err g c honest =

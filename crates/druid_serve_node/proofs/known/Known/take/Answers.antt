@@ -10,6 +10,6 @@ unreachable-requires c =
 
 pub returns : goal.returns
 returns c =
-    let state = Loaded c.args.id in
+    let state = Loaded c.args.file in
     noted_as c.args.name.now c.args.name.now c.args.self.now c.self.inside.files (c.get_mut.follows.lender state) (Some state) refl c.self.view_is
     ((c.get_mut.follows.holds state).3 (ap is_some (sym c.get_mut.ensures.value ∙ ap option_copied_mut c.in-Some.is)))

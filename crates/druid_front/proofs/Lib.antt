@@ -1,0 +1,3 @@
+pub mod SeatLemmas
+pub mod ReadLemmas
+pub mod AnswerLemmas

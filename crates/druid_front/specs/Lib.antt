@@ -1,0 +1,6 @@
+-- what public contracts rest on
+pub mod Seats
+pub mod Answers
+-- words of private contracts
+pub mod Closing
+pub mod Reading

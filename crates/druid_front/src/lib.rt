@@ -1,0 +1,14 @@
+//! What stands between a server and those who connect to it: threads that wait for clients, so that a worker never does.
+#![tactic(auto)]
+
+mod closing;
+mod front;
+mod jobs;
+mod reading;
+mod seats;
+
+pub use closing::{CLOSING_SECONDS, MAX_CLOSING, close_answered};
+pub use front::{Connection, Front, Place, open};
+pub use jobs::{Job, Jobs, answer_jobs};
+pub use reading::{ANSWER_SECONDS, HEAD_SECONDS, REQUEST_SECONDS};
+pub use seats::{GRACE, Seat, Seats};

@@ -1,0 +1,41 @@
+//! The log of the program, and the thread that writes it.
+use druid_log::{Level, Lines, Log, open, write_lines};
+use druid_server::DeviceFailed;
+use std::alloc::Global;
+use std::io::Write;
+use std::sync::{Arc, Wait};
+use std::thread;
+use std::thread::Threads;
+use std::time::Clock;
+
+// Starts the thread that writes lines.
+fn start_writer<
+    R: Wait + Threads + Clock + Copy + Send + Sync + 'static,
+    E: Write + Drop + Send + 'static,
+>(rt: &R, alloc: Global, lines: Lines, out: E) -> Result<(), DeviceFailed> {
+    let rt = *rt;
+    let job = move || {
+        let mut out = out;
+        write_lines(&rt, alloc, &lines, &mut out);
+    };
+    match thread::spawn(&rt, job) {
+        Ok(thread) => {
+            drop(thread);
+            Ok(())
+        }
+        Err(_) => Err(DeviceFailed),
+    }
+}
+
+/// A log of the level that a text names, `info` or `debug`, whose lines a thread writes to the writer as they come; of any other text
+/// nothing is logged, and there is no thread.
+pub fn start_log<
+    R: Wait + Threads + Clock + Copy + Send + Sync + 'static,
+    E: Write + Drop + Send + 'static,
+>(rt: &R, alloc: Global, level: &str, out: E) -> Result<Arc<Log, Global>, DeviceFailed> {
+    let (log, lines) = open(alloc, Level::of_text(level))?;
+    if let Some(lines) = lines {
+        start_writer(rt, alloc, lines, out)?;
+    }
+    Ok(Arc::new(alloc, log)?)
+}
