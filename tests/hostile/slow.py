@@ -9,7 +9,6 @@ where a query has another answer than at the start or none; where one takes long
 second; or where the program has at the end, after the slow clients are gone, a thread more than after its first tenth, or another open
 file; or where it had at any time more open files than docs/FORMATS.md lets it have: two for each front thread, and one for the connection
 that waits, beside those that it stands with; or more memory than it stood with and 32 MiB and 16 KiB and a stack for each front thread.
-It needs a program whose servers start the front threads of their configs.
 """
 import json
 import os

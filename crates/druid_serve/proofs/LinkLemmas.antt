@@ -3,8 +3,7 @@ use Rattle.std.proofs.Common.{◌++◌, ◌≡◌, ◌≢◌, ◌<◌, ◌≤◌
 use Rattle.std.proofs.lemmas.Option.{slice_get_within, slice_get-get_or, slice_get-map}
 use Rattle.std.proofs.lemmas.List.{length-map}
 use Rattle.druid_config.specs.Configs.{Node, names_of}
-use Rattle.druid_link.specs.Links.{Came}
-use Rattle.druid_link.specs.TcpLinks.{TcpLinkValue, ExchangesOverTcp}
+use Rattle.druid_link.specs.TcpLinks.{TcpLinkValue}
 use Rattle.druid_message.specs.Requests.{RequestValue, path_of}
 use Rattle.druid_message.specs.declared.fault.WireFault.{WireFault}
 use Rattle.druid_query.specs.Query.{Query}
@@ -14,12 +13,10 @@ use Rattle.druid_scatter.specs.Gathered.{Exchange, AreMade, Leads}
 use Rattle.druid_wire.specs.Served.{Serves, IsServed, FailsToServe}
 use Rattle.druid_broker.specs.Queries.{AnswersQuery, WantsMemory}
 use Rattle.druid_broker.specs.Routes.{Route, health, query, sources, load_status, entry, nowhere, route_of, AnswersPost, AnswersAt}
-use Rattle.druid_broker.specs.Views.{RespondsAt, RespondsBy}
+use Rattle.druid_broker.specs.Views.{RespondsAt}
+use Rattle.druid_scatter.specs.Order.{turned, ailing_last}
+use Rattle.druid_serve.specs.Answers.{Over, Responds, IsServedBy}
 use Rattle.druid_serve.specs.Links.{NodeLinkValue, LeadTo, IsLinkAt, IsFresh, AreFresh, opening_of}
-
--- the exchanges of a link that is noted
-abbrev Over : NodeLinkValue → List ℕ → Came → NodeLinkValue → Type 0
-Over before request came after = ExchangesOverTcp before.link request came after.link
 
 -- exchanges keep the address
 same_address : (asked : Query) (node : ℕ) (exchanges : List Exchange) (old new : NodeLinkValue) → Leads Over asked node exchanges old new
@@ -79,9 +76,6 @@ responds_lead nodes order opening route seen now old new request status body (in
 responds_lead nodes order opening route seen now old new request status body (inr (inl (takes, answers, is, same))) lead = stays nodes old new same lead
 responds_lead nodes order opening route seen now old new request status body (inr (inr (takes, answers, is, same))) lead = stays nodes old new same lead
 
-abbrev Responds : (List ℕ → List ℕ) → List Entry → Published → Published → List NodeLinkValue → List NodeLinkValue → RequestValue → ℕ → List ℕ → Type 0
-Responds order opening seen now old new = RespondsBy Over order opening seen now old new
-
 serves_lead : (nodes : List Node) (order : List ℕ → List ℕ) (opening : List Entry) (seen now : Published) (old new : List NodeLinkValue) (before after : Option (List ℕ)) (status : ℕ) (body : List ℕ)
     → Serves (Responds order opening seen now old new) ((now ≡ seen) × (new ≡ old)) before after status body → LeadTo nodes old → LeadTo nodes new
 serves_lead nodes order opening seen now old new before after status body (inl answered) lead =
@@ -98,6 +92,17 @@ answered_lead nodes order opening seen now old new before after had has (Ok stat
 answered_lead nodes order opening seen now old new before after had has (Err fault) served (inl (unread, stayed)) lead = stays nodes old new stayed.1 lead
 answered_lead nodes order opening seen now old new before after had has (Err fault) served (inr unsent) lead =
     serves_lead nodes order opening seen now old new before after unsent.status unsent.body unsent.served lead
+
+-- what was served over links that the worker has
+pub served_by : (opening : List Entry) (turn last : ℕ) (seen now : Published) (old new began ended : List NodeLinkValue) (before after had has : Option (List ℕ)) (result : Result ℕ WireFault)
+    → old ≡ began → new ≡ ended
+    → IfOk result (IsServed (Responds (λ nodes. ailing_last last (turned turn nodes)) opening seen now old new) ((now ≡ seen) × (new ≡ old)) before after had has)
+    → IfOk result (IsServedBy opening turn seen now began ended before after had has)
+served_by opening turn last seen now old new began ended before after had has (Ok sent) start end served =
+    let order : List ℕ → List ℕ = λ nodes. ailing_last last (turned turn nodes) in
+    (last, subst (λ (l : List NodeLinkValue). IsServed (Responds order opening seen now l ended) ((now ≡ seen) × (ended ≡ l)) before after had has sent) start
+    (subst (λ (l : List NodeLinkValue). IsServed (Responds order opening seen now old l) ((now ≡ seen) × (l ≡ old)) before after had has sent) end served))
+served_by opening turn last seen now old new began ended before after had has (Err fault) start end served = served
 
 -- ---- where they lead first
 

@@ -2,3 +2,4 @@
 pub mod Served
 -- words of private contracts
 pub mod Links
+pub mod Answers

@@ -1,33 +1,26 @@
-//! A broker: the threads that follow the nodes, and those that answer.
-ghost use Rattle.std.specs.Prelude.{◌≡◌, ◌<◌, ◌≤◌, ◌+◌, ◌-◌, ◌^◌, List, min, if◌then◌else◌, IfOk, OnOk, length, vec_len};
+//! A broker, and the threads of it that follow the nodes.
+ghost use Rattle.std.specs.Prelude.{◌≡◌, ◌<◌, ◌≤◌, ◌+◌, List, IfOk, OnOk, length, vec_len};
 ghost use Rattle.std.specs.Arc.{arc_value};
-ghost use Rattle.druid_config.specs.Configs.{Node};
 ghost use Rattle.druid_config.specs.Limits.{max_workers};
 ghost use Rattle.druid_inventory.specs.Entry.{max_nodes};
 ghost use Rattle.druid_follow.specs.Turns.{Turn, MakesTurns, count_of};
-ghost use Rattle.druid_serve.specs.Links.{IsLinkAt, LeadTo, opening_of};
-ghost use mathlib.Core.List.{IsPrefix};
+ghost use Rattle.druid_serve.specs.Links.{IsLinkAt, opening_of};
 
-use crate::links::{NodeLink, NodeList, link_to, links_to};
+use crate::links::{NodeLink, NodeList, link_to};
 use crate::status::{BrokerStatus, FollowedNode};
-use druid_broker::{Routes, serve_one};
+use crate::worker::{Shared, Worker, start_worker, worker_of};
 use druid_config::NodeConfig;
 use druid_follow::{TurnCount, follow_observed, follow_on_observed};
-use druid_front::close_answered;
-use druid_health::{Asker, Health, monotonic_millis};
+use druid_health::{Asker, Health};
 use druid_inventory::Inventory;
 use druid_link::Link;
 use druid_log::Log;
-use druid_metrics::{CountedWriter, FollowMeter};
-use druid_published::{Opened, Publication, Publisher, View, open};
-use druid_scatter::AilingLast;
-use druid_server::{
-    DeviceFailed, Gate, Handover, Host, Telemetry, answer_each, limit, start_status,
-};
+use druid_metrics::FollowMeter;
+use druid_published::{Opened, Publication, View, open};
+use druid_server::{DeviceFailed, Gate, Handover, Host, Source, Telemetry, start_status};
 use druid_shard::NodeNo;
 use druid_watcher::TurnWatcher;
 use std::alloc::{AllocError, Global};
-use std::io::{BufRead, BufReader, BufWriter, Write};
 use std::net::{Net, TcpListener, TcpStream};
 use std::sync::{Arc, Mutex, Wait};
 use std::thread;
@@ -57,23 +50,6 @@ pub(crate) struct Pace {
     pub(crate) every: Option<u64>,
     /// How many milliseconds an exchange with a node may take.
     pub(crate) patience: u64,
-}
-
-// The publisher, which threads share.
-type Shared<J, R> = Arc<Mutex<Publisher<J, R>>, Global>;
-
-// What a worker answers with.
-#[derive(Drop)]
-struct Worker<R: Net + Clock + Wait + Drop, J: Publication> {
-    view: View<J>,
-    links: Vec<NodeLink<R>>,
-    // Where its links note how exchanges end.
-    health: Arc<Health, Global>,
-    // The connections that were answered.
-    turn: u64,
-    // Views end with their publisher, so each worker holds it.
-    publisher: Shared<J, R>,
-    ghost linked: { length J.opening ≤ vec_len links },
 }
 
 // What follows a node.
@@ -178,222 +154,6 @@ fn start_syncer<
     }
 }
 
-// Answers a request and sends all of the answer, and gives the status that was written, if it was.
-#[tactic(auto, using(crate::proofs::LinkLemmas::answered_lead))]
-fn send<
-    R: Net<Listener = TcpListener, Stream = TcpStream> + Host + Copy + Send + Sync,
-    J: Publication,
-    B: BufRead,
-    W: Write,
->(
-    rt: &R,
-    alloc: Global,
-    routes: &Routes,
-    worker: &mut Worker<R, J>,
-    reader: &mut B,
-    writer: &mut W,
-) -> Option<u16>
-    ensures view { IsPrefix worker.old.view worker.new.view }
-    ensures turn { worker.new.turn ≡ worker.old.turn }
-    ensures leads { (nodes : List Node) → LeadTo nodes worker.old.links.items → LeadTo nodes worker.new.links.items }
-{
-    let nodes = worker.health.snapshot(monotonic_millis(rt));
-    let served = serve_one(
-        rt,
-        alloc,
-        routes,
-        reader,
-        writer,
-        &mut worker.view,
-        worker.turn,
-        &AilingLast::new(nodes.ailing()),
-        &mut worker.links,
-    );
-    worker.health.release(nodes);
-    let Ok(status) = served else {
-        return None;
-    };
-    if writer.flush().is_ok() {
-        Some(status)
-    } else {
-        None
-    }
-}
-
-// Answers one connection, and gives the status that was written, if an answer was.
-fn answer<
-    R: Net<Listener = TcpListener, Stream = TcpStream> + Host + Copy + Send + Sync,
-    J: Publication,
->(
-    rt: &R,
-    alloc: Global,
-    routes: &Routes,
-    telemetry: &Telemetry,
-    worker: &mut Worker<R, J>,
-    stream: &TcpStream,
-) -> Option<u16>
-    ensures view { IsPrefix worker.old.view worker.new.view }
-    ensures turn { worker.new.turn ≡ worker.old.turn }
-    ensures leads { (nodes : List Node) → LeadTo nodes worker.old.links.items → LeadTo nodes worker.new.links.items }
-{
-    if !limit(stream) {
-        return None;
-    }
-    let Ok(mut reader) = BufReader::new(alloc, stream) else {
-        return None;
-    };
-    let Ok(mut writer) = BufWriter::new(alloc, CountedWriter::new(stream)) else {
-        return None;
-    };
-    let Some(taken) = telemetry.take(rt, &mut reader) else {
-        return None;
-    };
-    let status = send(rt, alloc, routes, worker, &mut reader, &mut writer);
-    telemetry.end(rt, alloc, &taken, status, writer.get_ref().written());
-    status
-}
-
-// Answers a connection, counts it once it is closed, and tells whether it was answered: then the next has the next turn.
-fn take<
-    R: Net<Listener = TcpListener, Stream = TcpStream> + Host + Copy + Send + Sync,
-    J: Publication,
->(
-    rt: &R,
-    alloc: Global,
-    routes: &Routes,
-    telemetry: &Telemetry,
-    worker: &mut Worker<R, J>,
-    gate: &Gate,
-    stream: TcpStream,
-) -> bool
-    ensures view { IsPrefix worker.old.view worker.new.view }
-    ensures leads { (nodes : List Node) → LeadTo nodes worker.old.links.items → LeadTo nodes worker.new.links.items }
-    ensures turn { worker.new.turn ≡ (if result then min (worker.old.turn + 1) (2 ^ 64 - 1) else worker.old.turn) }
-{
-    let counts = gate.is_open(rt);
-    let Some(status) = answer(rt, alloc, routes, telemetry, worker, &stream) else {
-        return false;
-    };
-    worker.turn = worker.turn.saturating_add(1);
-    close_answered(rt, status, stream);
-    if counts {
-        gate.add(rt);
-    }
-    true
-}
-
-// Answers connections, and gives the worker as it is by then.
-fn work<
-    R: Net<Listener = TcpListener, Stream = TcpStream> + Host + Copy + Send + Sync,
-    J: Publication,
->(
-    rt: &R,
-    alloc: Global,
-    routes: &Routes,
-    telemetry: &Telemetry,
-    worker: Worker<R, J>,
-    gate: &Gate,
-    listener: &TcpListener,
-) -> Worker<R, J>
-    ensures view { IsPrefix worker.view result.view }
-    ensures leads { (nodes : List Node) → LeadTo nodes worker.links.items → LeadTo nodes result.links.items }
-{
-    answer_each(
-        rt,
-        listener,
-        worker,
-        |worker: Worker<R, J>, stream: TcpStream|
-            ensures { IsPrefix worker.view result.view
-                × ((nodes : List Node) → LeadTo nodes worker.links.items → LeadTo nodes result.links.items) }
-        {
-            let mut worker = worker;
-            take(rt, alloc, routes, telemetry, &mut worker, gate, stream);
-            worker
-        },
-    )
-}
-
-// What a worker is made from. (A thread has it as a type parameter: that a worker may go to it is not found beside the routes, and is
-// alone.)
-trait IntoWorker<R: Net + Clock + Wait + Drop, J: Publication> {
-    ghost use Rattle.std.specs.Prelude.{◌≡◌, List};
-    ghost use Rattle.druid_serve.specs.Links.{NodeLinkValue};
-
-    // The worker's links.
-    ghost links: { Self → List NodeLinkValue };
-
-    fn into_worker(self) -> Worker<R, J>
-        ensures { result.links.items ≡ links self };
-}
-
-impl<R: Net + Clock + Wait + Drop, J: Publication> IntoWorker<R, J> for Worker<R, J> {
-    ghost links = { λ worker. worker.links.items };
-
-    fn into_worker(self) -> Worker<R, J> {
-        self
-    }
-}
-
-// Starts a thread that answers connections.
-fn start_worker<
-    R: Net<Listener = TcpListener, Stream = TcpStream> + Host + Copy + Send + Sync + 'static,
-    J: Publication + Send + Sync + 'static,
-    C: NodeList,
-    A: IntoWorker<R, J> + Drop + Send + 'static,
->(
-    rt: &R,
-    alloc: Global,
-    worker: A,
-    telemetry: &Telemetry,
-    gate: &Arc<Gate, Global>,
-    listener: &Arc<TcpListener, Global>,
-) -> Result<(), DeviceFailed>
-    requires leads { LeadTo C.nodes (A.links worker) }
-{
-    let rt = *rt;
-    let Ok(routes) = Routes::new(alloc) else {
-        return Err(DeviceFailed);
-    };
-    let telemetry = telemetry.share()?;
-    let gate = Arc::try_clone(gate)?;
-    let listener = Arc::try_clone(listener)?;
-    let job = move || {
-        let worker = worker.into_worker();
-        drop(work(&rt, alloc, &routes, &telemetry, worker, &gate, &listener));
-    };
-    match thread::spawn(&rt, job) {
-        Ok(thread) => {
-            drop(thread);
-            Ok(())
-        }
-        Err(_) => Err(DeviceFailed),
-    }
-}
-
-// What a worker answers with.
-#[tactic(auto, using(crate::proofs::LinkLemmas::leads_from))]
-fn worker_of<R: Net + Clock + Wait + Copy, J: Publication>(
-    rt: &R,
-    alloc: Global,
-    view: View<J>,
-    health: &Arc<Health, Global>,
-    nodes: &[NodeConfig],
-    publisher: &Shared<J, R>,
-) -> Result<Worker<R, J>, DeviceFailed>
-    requires nodes { length nodes.now ≤ max_nodes }
-    requires there { length nodes.now ≡ length J.opening }
-    ensures { IfOk result (λ worker. LeadTo nodes.now worker.links.items) }
-{
-    let links = links_to(rt, alloc, health, nodes)?;
-    Ok(Worker {
-        view,
-        links,
-        health: Arc::try_clone(health)?,
-        turn: 0,
-        publisher: Arc::try_clone(publisher)?,
-    })
-}
-
 /// What a broker is made of.
 #[derive(Drop)]
 pub(crate) struct BrokerParts {
@@ -403,6 +163,8 @@ pub(crate) struct BrokerParts {
     pub(crate) listener: Arc<TcpListener, Global>,
     /// How many threads answer, 1 to 16.
     pub(crate) workers: u16,
+    /// How many front threads wait for its clients: 0 where its workers do.
+    pub(crate) front: u16,
     /// How its syncers make their turns.
     pub(crate) pace: Pace,
     /// What it tells of itself, and where.
@@ -527,7 +289,7 @@ fn start_syncers<
     Ok(syncers)
 }
 
-/// Starts the threads of a broker: one that follows each node, and its workers.
+/// Starts the threads of a broker: one that follows each node, its front, where it has one, and its workers.
 pub(crate) fn start_broker<
     R: Net<Listener = TcpListener, Stream = TcpStream> + Host + Copy + Send + Sync + 'static,
     J: Publication + Send + Sync + 'static,
@@ -551,6 +313,7 @@ pub(crate) fn start_broker<
         inventory,
         listener,
         workers,
+        front,
         pace,
         telemetry,
         log,
@@ -568,9 +331,10 @@ pub(crate) fn start_broker<
     let syncers = start_syncers::<R, J, C>(
         rt, alloc, pace, &health, &told, nodes, &publisher, &mut views,
     )?;
+    let source = Source::open(rt, alloc, front, listener, &gate)?;
     for view in views {
         let worker = worker_of(rt, alloc, view, &health, nodes, &publisher)?;
-        start_worker::<R, J, C, Worker<R, J>>(rt, alloc, worker, &telemetry, &gate, &listener)?;
+        start_worker::<R, J, C, Worker<R, J>>(rt, alloc, worker, &telemetry, &gate, &source)?;
     }
     if let Some(listener) = status {
         let status = BrokerStatus {

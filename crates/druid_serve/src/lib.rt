@@ -6,6 +6,7 @@ mod links;
 mod live;
 mod serving;
 mod status;
+mod worker;
 
 pub use druid_server::{PEER_SECONDS, ServeFault};
 pub use serving::serve;

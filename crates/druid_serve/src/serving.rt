@@ -83,6 +83,8 @@ struct Listening {
     // Where it answers how it is, if it does.
     status: Option<TcpListener>,
     workers: u16,
+    // How many front threads wait for its clients.
+    front: u16,
     ghost some: { 1 ≤ workers },
     ghost few: { workers ≤ max_workers },
 }
@@ -104,7 +106,6 @@ fn status_listener<R: Net<Listener = TcpListener, Stream = TcpStream>>(
 }
 
 // The listeners of the brokers of a part.
-
 fn listen_all<R: Net<Listener = TcpListener, Stream = TcpStream>>(
     rt: &R,
     alloc: Global,
@@ -126,6 +127,7 @@ fn listen_all<R: Net<Listener = TcpListener, Stream = TcpStream>>(
                 listener: Arc::new(alloc, listener)?,
                 status: status_listener(rt, alloc, place, broker)?,
                 workers: broker.workers(),
+                front: broker.front(),
             })?;
         }
     }
@@ -206,11 +208,13 @@ fn start_brokers<
             listener,
             status,
             workers,
+            front,
         } = last;
         let parts = BrokerParts {
             inventory: fresh(alloc, nodes)?,
             listener,
             workers,
+            front,
             pace,
             telemetry: telemetry_of(alloc, place, log)?,
             log: Arc::try_clone(log)?,

@@ -26,7 +26,9 @@ use druid_log::Log;
 use druid_metrics::NodeMeter;
 use druid_node::{DataNode, Incarnation, NodeFault, NodeState};
 use druid_segid::SegmentId;
-use druid_server::{Cause, Handover, Host, StartFault, Telemetry, listen, start_status};
+use druid_server::{
+    Cause, Gate, Handover, Host, Source, StartFault, Telemetry, listen, start_status,
+};
 use druid_shard::Mark;
 use druid_store::{Device, DiskFolder};
 use std::alloc::{AllocError, Global};
@@ -251,8 +253,8 @@ struct ReadyNode<I: Incarnation> {
     reporter: Reporter,
 }
 
-// Starts the threads of a node that is ready: the one that loads what comes later, and its workers, which answer from the mark on
-// that the node has now.
+// Starts the threads of a node that is ready: the one that loads what comes later, its front, where it has one, and its workers,
+// which answer from the mark on that the node has now.
 fn start_threads<
     R: Files<File = File>
         + Net<Listener = TcpListener, Stream = TcpStream>
@@ -296,8 +298,11 @@ where
         end: Arc::try_clone(&end)?,
     };
     start_loader::<R, L, I, J>(*rt, alloc, loader)?;
+    // Nobody waits for what a node answered.
+    let gate = Arc::new(alloc, Gate::new())?;
+    let source = Source::open(rt, alloc, config.front(), listener, &gate)?;
     for _ in 0..config.workers() {
-        start_worker(rt, alloc, &node, &latest, telemetry, &listener)?;
+        start_worker(rt, alloc, &node, &latest, telemetry, &source)?;
     }
     Ok(Loading::new(end))
 }

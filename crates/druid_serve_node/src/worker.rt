@@ -1,14 +1,15 @@
 //! The threads of a node that answer.
-ghost use Rattle.std.specs.Prelude.{◌≡◌, ◌≢◌, IfOk};
+ghost use Rattle.std.specs.Prelude.{◌≡◌, ◌≢◌, ℕ, List, [], Some, IfOk, IfSome};
 ghost use Rattle.std.specs.declared.cmp.Ordering.TheVariants.{Greater};
 ghost use Rattle.druid_shard.specs.Mark.{Point, mark_cmp};
 ghost use Rattle.druid_node.specs.Seen.{IsServedAsSeen};
+ghost use Rattle.druid_front.specs.Answers.{IsAnswer};
 
 use crate::latest::{Begun, Latest};
-use druid_front::close_answered;
+use druid_front::{Job, Jobs, answer_jobs, close_answered};
 use druid_metrics::CountedWriter;
 use druid_node::{DataNode, Incarnation, NodeFault};
-use druid_server::{DeviceFailed, Host, Telemetry, answer_each, limit};
+use druid_server::{DeviceFailed, Host, Source, Telemetry, answer_each, limit};
 use druid_shard::Mark;
 use std::alloc::Global;
 use std::io::{BufRead, BufReader, BufWriter, Write};
@@ -84,7 +85,7 @@ fn answer<R: Wait + Clock, I: Incarnation, J: Begun>(
 }
 
 // Answers connections, and gives the mark of what was seen of the node by then.
-fn work<R: Wait + Clock, I: Incarnation, J: Begun>(
+fn answer_connections<R: Wait + Clock, I: Incarnation, J: Begun>(
     rt: &R,
     alloc: Global,
     node: &DataNode<I>,
@@ -110,7 +111,87 @@ fn work<R: Wait + Clock, I: Incarnation, J: Begun>(
     )
 }
 
-// Starts a thread that answers connections.
+// Answers the bytes of a request that a front thread read: the status of the answer, and its text. None where memory runs out before
+// the answer stands.
+#[tactic(auto, using(druid_front::proofs::AnswerLemmas::served_is_answer))]
+fn answer_bytes<R: Wait + Clock, I: Incarnation, J: Begun>(
+    rt: &R,
+    alloc: Global,
+    node: &DataNode<I>,
+    latest: &Latest<J>,
+    telemetry: &Telemetry,
+    request: &[u8],
+    seen: &mut Mark,
+) -> Option<(u16, Vec<u8>)>
+    ensures served { IfSome result (λ sent. (from : Point) × (rest : List ℕ) × (mark_cmp seen.old from ≢ Greater) × (mark_cmp J.mark from ≢ Greater)
+        × IsServedAsSeen I.number from seen.new (Some request.now) (Some rest) (Some []) (Some sent.1.items) sent.0) }
+    ensures answer { IfSome result (λ sent. IsAnswer sent.0 sent.1.items) }
+    ensures risen { mark_cmp seen.old seen.new ≢ Greater }
+{
+    let taken = telemetry.take_whole(rt, request);
+    let mut reader = request;
+    let mut bytes = Vec::new(alloc);
+    match serve_since(rt, node, latest, &mut reader, &mut bytes, seen) {
+        Ok(status) => {
+            telemetry.end(rt, alloc, &taken, Some(status), bytes.len() as u64);
+            Some((status, bytes))
+        }
+        Err(_) => {
+            telemetry.end(rt, alloc, &taken, None, 0);
+            None
+        }
+    }
+}
+
+// Answers the jobs of a front, and gives the mark of what was seen of the node by then.
+fn answer_front<R: Wait + Clock, I: Incarnation, J: Begun>(
+    rt: &R,
+    alloc: Global,
+    node: &DataNode<I>,
+    latest: &Latest<J>,
+    telemetry: &Telemetry,
+    jobs: &Jobs,
+) -> Mark
+    ensures { mark_cmp J.mark result ≢ Greater }
+{
+    answer_jobs(
+        rt,
+        jobs,
+        latest.mark(rt),
+        |seen: Mark, job: Job|
+            ensures { mark_cmp seen result ≢ Greater }
+        {
+            let mut seen = seen;
+            let request = job.request();
+            let answer = answer_bytes(rt, alloc, node, latest, telemetry, request, &mut seen);
+            if let Some((status, bytes)) = answer {
+                job.answer(rt, status, bytes);
+            }
+            seen
+        },
+    )
+}
+
+// Answers what comes, and gives the mark of what was seen of the node by then.
+fn work<R: Wait + Clock, I: Incarnation, J: Begun>(
+    rt: &R,
+    alloc: Global,
+    node: &DataNode<I>,
+    latest: &Latest<J>,
+    telemetry: &Telemetry,
+    source: &Source,
+) -> Mark
+    ensures { mark_cmp J.mark result ≢ Greater }
+{
+    match source {
+        Source::Connections(listener) => answer_connections(
+            rt, alloc, node, latest, telemetry, listener,
+        ),
+        Source::Front(jobs) => answer_front(rt, alloc, node, latest, telemetry, jobs),
+    }
+}
+
+// Starts a thread that answers what comes.
 pub(crate) fn start_worker<
     R: Host + Copy + Send + Sync + 'static,
     I: Incarnation + Send + Sync + 'static,
@@ -121,14 +202,14 @@ pub(crate) fn start_worker<
     node: &Arc<DataNode<I>, Global>,
     latest: &Arc<Latest<J>, Global>,
     telemetry: &Telemetry,
-    listener: &Arc<TcpListener, Global>,
+    source: &Source,
 ) -> Result<(), DeviceFailed> {
     let rt = *rt;
     let node = Arc::try_clone(node)?;
     let latest = Arc::try_clone(latest)?;
     let telemetry = telemetry.share()?;
-    let listener = Arc::try_clone(listener)?;
-    let job = move || work(&rt, alloc, &node, &latest, &telemetry, &listener);
+    let source = source.share()?;
+    let job = move || work(&rt, alloc, &node, &latest, &telemetry, &source);
     match thread::spawn(&rt, job) {
         Ok(worker) => {
             drop(worker);

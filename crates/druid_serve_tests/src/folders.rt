@@ -101,6 +101,38 @@ pub(crate) fn fewer_bytes(rt: &impl Abort, alloc: Global) -> Vec<u8> {
     )
 }
 
+/// The file of a segment of another day, whose rows all have the same text of a thousand bytes.
+pub(crate) const LONG_FILE: &str = "wiki_2024-02-01T00:00:00.000Z_2024-02-02T00:00:00.000Z_v1.seg";
+
+// What stands in it before its rows, by columns: one dimension `d`, and as many rows as that.
+const LONG_HEAD: &[u8] =
+    b"DSG2\x04wiki\0\0\x01\x8d\x61\xf7\x18\0\0\0\x01\x8d\x67\x1d\x74\0\x02v1\0\0\0\x01\0\0\0\0\0\0\0\0\x01\x01d\0\0\0\x17\x70";
+
+const LONG_ROWS: u64 = 6_000;
+
+// The start of its interval, in milliseconds.
+const LONG_START: u64 = 1_706_745_600_000;
+
+/// The bytes of the file of long texts: a row at each second from the start, so that an answer by the second is of 6 MB.
+pub(crate) fn long_bytes(rt: &impl Abort, alloc: Global) -> Vec<u8> {
+    let mut bytes = Vec::new(alloc);
+    let mut codes = Vec::new(alloc);
+    bytes.extend_from_slice(LONG_HEAD).expect(rt, "memory");
+    let mut time = LONG_START;
+    for _ in 0..LONG_ROWS {
+        bytes
+            .extend_from_slice(&time.to_be_bytes())
+            .expect(rt, "memory");
+        codes.extend_from_slice(&[0, 0, 0, 1]).expect(rt, "memory");
+        time = time.saturating_add(1_000);
+    }
+    let text = "x".repeat(alloc, 1_000).expect(rt, "memory");
+    for part in [&[0, 0, 0, 1, 3, 232], text.as_bytes(), codes.as_slice()] {
+        bytes.extend_from_slice(part).expect(rt, "memory");
+    }
+    bytes
+}
+
 /// Puts a file into a folder.
 pub(crate) fn put<R: Files + Abort>(rt: &R, alloc: Global, folder: &str, name: &str, bytes: &[u8]) {
     let path = Path::new(folder).join(alloc, name).expect(rt, "memory");

@@ -9,6 +9,8 @@ mod explaining;
 #[cfg(test)]
 mod folders;
 #[cfg(test)]
+mod fronts;
+#[cfg(test)]
 mod host;
 #[cfg(test)]
 mod live;

@@ -3,3 +3,4 @@ pub mod Faults
 pub mod Ends
 pub mod Printed
 pub mod StatusAnswers
+pub mod Sources

@@ -3,6 +3,7 @@
 
 mod asking;
 mod fault;
+mod front;
 mod gate;
 mod handover;
 mod host;
@@ -14,6 +15,7 @@ mod telemetry;
 
 pub use asking::ask;
 pub use fault::{Cause, ClusterFault, DeviceFailed, StartFault};
+pub use front::Source;
 pub use gate::Gate;
 pub use handover::Handover;
 pub use host::Host;

@@ -16,6 +16,16 @@ pub struct Taken {
     since: Option<Instant>,
 }
 
+impl Taken {
+    // One whose first bytes are these, which came now.
+    fn new<C: Clock>(clock: &C, head: &[u8]) -> Taken {
+        Taken {
+            route: route_of_head(head),
+            since: Instant::now(clock).ok(),
+        }
+    }
+}
+
 /// What a server tells of itself: the name that it has in the log and in its metrics, what it counts, and where it logs. Threads
 /// count and log by it without waiting for each other. Cells and queues are not values, so of what is counted or logged no
 /// contract speaks.
@@ -86,17 +96,19 @@ impl Telemetry {
     /// reader fails before they come, as where the client keeps silent: that is counted as one that was not answered.
     pub fn take<C: Clock, B: BufRead>(&self, clock: &C, reader: &mut B) -> Option<Taken> {
         self.meter.take();
-        let route = match reader.fill_buf() {
-            Ok(head) => route_of_head(head),
+        match reader.fill_buf() {
+            Ok(head) => Some(Taken::new(clock, head)),
             Err(_) => {
                 self.meter.answer(Route::Other, None, 0, 0);
-                return None;
+                None
             }
-        };
-        Some(Taken {
-            route,
-            since: Instant::now(clock).ok(),
-        })
+        }
+    }
+
+    /// Counts a connection whose request was read whole, and notes when that came to a worker and what it asks for.
+    pub fn take_whole<C: Clock>(&self, clock: &C, request: &[u8]) -> Taken {
+        self.meter.take();
+        Taken::new(clock, request)
     }
 
     /// Counts and tells what became of a connection: the status that was written, if an answer was, and how many bytes were.

@@ -4,7 +4,7 @@ use Rattle.druid_config.specs.Configs.{Node}
 use Rattle.druid_published.proofs.Beginnings.{prefix_self, prefix_trans}
 use Rattle.druid_server.proofs.FoldLemmas.{folds_keep}
 use Rattle.druid_serve.specs.Links.{LeadTo}
-use Rattle.druid_serve.proofs.broker.work.Goals as goal
+use Rattle.druid_serve.proofs.worker.answer_connections.Goals as goal
 
 pub returns-clause-view : goal.returns-clause-view
 returns-clause-view g c =
