@@ -377,7 +377,7 @@ fn listener_of<R: Net<Listener = TcpListener, Stream = TcpStream>>(
     rt: &R,
     config: &NodeConfig,
 ) -> Result<TcpListener, StartFault> {
-    match listen(rt, config.address()) {
+    match listen(rt, config.listen()) {
         Ok(listener) => Ok(listener),
         Err(_) => Err(StartFault::device(Cause::Listener)),
     }
