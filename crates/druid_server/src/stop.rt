@@ -97,6 +97,7 @@ fn node_reason(alloc: Global, place: usize, node: &NodeConfig, cause: &Cause) ->
         Cause::Tombstone(at, fault) => format!(in alloc;
             "nodes[{place}].tombstones[{at}]: {fault}"
         ),
+        Cause::Owner => format!(in alloc; "nodes[{place}].folder: {folder}: another server has it"),
         Cause::Listener => format!(in alloc; "nodes[{place}].{key}: listening on {listen}"),
         Cause::Status => format!(in alloc;
             "nodes[{place}].status: listening on {}",
