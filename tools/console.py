@@ -67,7 +67,7 @@ def servers_of(config, key):
 
 
 def read_config(path):
-    """The brokers and nodes of a config. Addresses on loopback alone, as `serve` takes them."""
+    """The brokers and nodes of a config. Addresses on loopback alone: a config of a network is not taken."""
     try:
         with open(path, 'rb') as file:
             config = json.loads(file.read(MAX_CONFIG))
