@@ -1,5 +1,5 @@
 -- What is wrong with lists of servers and of queries.
-use Rattle.std.proofs.Common.{◌≡◌, ℕ, zero, suc, ◌+◌, ◌<◌, List, [], ◌∷◌, length, drop, get_or, slice_index_or, Option, Some, is_some, true, false, sym, ap, ◌∙◌, arith}
+use Rattle.std.proofs.Common.{◌≡◌, ℕ, Bool, zero, suc, ◌+◌, ◌<◌, List, [], ◌∷◌, length, drop, get_or, slice_index_or, Option, Some, is_some, true, false, sym, ap, ◌∙◌, arith}
 use Rattle.std.specs.List.{list_all, list_any}
 use Rattle.std.specs.Str.{bytes_eq}
 use Rattle.serde_json.specs.Data.{Data}
@@ -21,14 +21,14 @@ item_there (w ∷ vs) (suc i) v below is = item_there vs i v (omega (arith, belo
 counted : {A : Type 0} (f : Data → Option A) (vs : List Value) → list_all (λ v. is_some (f (view v))) vs ≡ true → are_few (length vs) ≡ false → HasOtherCount f (items_view vs)
 counted f vs all many = let read = all_read f vs all in (read.0, read.1, ap are_few (each_of_length f vs read.0 read.1) ∙ many)
 
-pub nodes_counted : (vs : List Value) → list_all (λ v. is_some (node_at (view v))) vs ≡ true → are_few (length vs) ≡ false → HasOtherCount node_at (items_view vs)
-nodes_counted vs all many = counted node_at vs all many
+pub nodes_counted : (network : Bool) (vs : List Value) → list_all (λ v. is_some (node_at network (view v))) vs ≡ true → are_few (length vs) ≡ false → HasOtherCount (node_at network) (items_view vs)
+nodes_counted network vs all many = counted (node_at network) vs all many
 
-pub brokers_other : (vs : List Value) → list_all (λ v. is_some (broker_at (view v))) vs ≡ true → are_few (length vs) ≡ false → HasOtherCount broker_at (items_view vs)
-brokers_other vs all many = counted broker_at vs all many
+pub brokers_other : (network : Bool) (vs : List Value) → list_all (λ v. is_some (broker_at network (view v))) vs ≡ true → are_few (length vs) ≡ false → HasOtherCount (broker_at network) (items_view vs)
+brokers_other network vs all many = counted (broker_at network) vs all many
 
-pub name_twice : (vs : List Value) (place : ℕ) → list_all (λ v. is_some (node_at (view v))) vs ≡ true
-    → list_any (bytes_eq (slice_index_or (names_in vs) place [])) (drop (place + 1) (names_in vs)) ≡ true → HasNameTwice (items_view vs) place
-name_twice vs place all any =
-    let read = all_read node_at vs all in
-    (read.0, read.1, ap (λ names. list_any (bytes_eq (slice_index_or names place [])) (drop (place + 1) names)) (sym (names_back vs read.0 read.1)) ∙ any)
+pub name_twice : (network : Bool) (vs : List Value) (place : ℕ) → list_all (λ v. is_some (node_at network (view v))) vs ≡ true
+    → list_any (bytes_eq (slice_index_or (names_in vs) place [])) (drop (place + 1) (names_in vs)) ≡ true → HasNameTwice network (items_view vs) place
+name_twice network vs place all any =
+    let read = all_read (node_at network) vs all in
+    (read.0, read.1, ap (λ names. list_any (bytes_eq (slice_index_or names place [])) (drop (place + 1) names)) (sym (names_back network vs read.0 read.1)) ∙ any)

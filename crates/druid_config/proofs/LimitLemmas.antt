@@ -1,5 +1,5 @@
 -- What is read of a config is within its limits.
-use Rattle.std.proofs.Common.{◌≡◌, ℕ, ◌<◌, ◌≤◌, List, length, map, get_or, codes, All, IsSome, IfSome, is_some, is_none, Option, Some, None, option_map, option_and_then, Bool, true, false, ◌&&◌, cond, nat_le, nat_lt, IsTrue, lit≤, refl, subst, ◌∙◌, arith}
+use Rattle.std.proofs.Common.{◌≡◌, ℕ, ◌<◌, ◌≤◌, List, length, map, get_or, codes, All, IsSome, IfSome, is_some, is_none, Option, Some, None, unwrap_or, option_map, option_and_then, Bool, true, false, ◌&&◌, cond, nat_le, nat_lt, IsTrue, lit≤, refl, sym, subst, ◌∙◌, arith}
 use Rattle.std.proofs.lemmas.Bool.{leb-true, and_parts}
 use Rattle.std.proofs.lemmas.Bool.Decides.{nat_tests}
 use Rattle.std.proofs.lemmas.Option.{same_Some, cond_some}
@@ -14,9 +14,11 @@ use Rattle.druid_base.proofs.EachLemmas.{each_sound}
 use Rattle.druid_segid.specs.Names.{is_name}
 use Rattle.druid_config.specs.Limits.{max_servers, max_workers, max_kept, max_count, max_rest, max_patience, usual_patience, max_front}
 use Rattle.druid_base.specs.Fields.{list_at, text_at, number_at}
-use Rattle.druid_config.specs.Configs.{IsObject, Node, Broker, Asked, Posted, Reported, asked_of, is_address, name_at, address_at, status_of, status_at, some_at, count_at, rest_of, rest_at, patience_of, front_of, front_at, patience_at, is_endless, connections_at, node_at, broker_at, query_at, are_few, names_of, nodes_in, brokers_in, config_at, IsRest, IsPatience, IsAddress, IsNode, IsBroker, IsWithinLimits}
+use Rattle.druid_config.specs.Addresses.{is_address, IsAddress, IsLocal}
+use Rattle.druid_config.specs.Configs.{IsObject, Node, Broker, Asked, Posted, Settings, Reported, asked_of, reported_by, name_at, address_at, another_of, another_at, some_at, count_at, rest_of, rest_at, patience_of, front_of, front_at, patience_at, is_endless, connections_at, node_at, broker_at, query_at, are_few, names_of, nodes_in, brokers_in, config_at, IsRest, IsPatience, IsNode, IsBroker, AreLocal, IsLocalNode, IsLocalBroker, IsWithinLimits}
 use Rattle.druid_base.specs.Distinct.{AreDistinct, are_distinct}
-use Rattle.druid_config.proofs.PartLemmas.{node_parts, broker_parts, query_parts, config_parts}
+use Rattle.druid_config.proofs.AddressLemmas.{any_address, local_address}
+use Rattle.druid_config.proofs.PartLemmas.{SettingsParts, ServerParts, node_parts, broker_parts, query_parts, config_parts}
 
 -- ---- tests
 
@@ -64,21 +66,62 @@ rest_so key d (Some there) rest e = some_rest key d (some_at max_rest key d) res
 rest_is : (key : List ℕ) (d : Data) (rest : Option ℕ) → rest_at key d ≡ Some rest → IfSome rest IsRest
 rest_is key d rest e = rest_so key d (get key d) rest e
 
--- ---- statuses and patience
+-- ---- addresses and patience
 
-address_is : (key : List ℕ) (d : Data) (text : List ℕ) → address_at key d ≡ Some text → IsAddress text
-address_is key d text e = passed is_address (text_at key d) text e
+address_passes : (network : Bool) (key : List ℕ) (d : Data) (text : List ℕ) → address_at network key d ≡ Some text → is_address network text ≡ true
+address_passes network key d text e = passed (is_address network) (text_at key d) text e
 
-some_status : (d : Data) (o : Option (List ℕ)) (status : Option (List ℕ)) → address_at (codes "status") d ≡ o → option_map Some o ≡ Some status → IfSome status IsAddress
-some_status d None status is e = absurd cc
-some_status d (Some text) status is e = subst (λ s. IfSome s IsAddress) (same_Some (Some text) status e) (address_is (codes "status") d text is)
+-- where there is an address, it is an address
+abbrev Passes : Bool → Option (List ℕ) → Type 0
+Passes network o = IfSome o (λ text. is_address network text ≡ true)
 
-status_so : (d : Data) (o : Option Data) (status : Option (List ℕ)) → status_of d o ≡ Some status → IfSome status IsAddress
-status_so d None status e = subst (λ s. IfSome s IsAddress) (same_Some None status e) tt
-status_so d (Some there) status e = some_status d (address_at (codes "status") d) status refl e
+some_passes : (network : Bool) (key : List ℕ) (d : Data) (o : Option (List ℕ)) (found : Option (List ℕ)) → address_at network key d ≡ o → option_map Some o ≡ Some found → Passes network found
+some_passes network key d None found is e = absurd cc
+some_passes network key d (Some text) found is e = subst (Passes network) (same_Some (Some text) found e) (address_passes network key d text is)
 
-status_is : (d : Data) (status : Option (List ℕ)) → status_at d ≡ Some status → IfSome status IsAddress
-status_is d status e = status_so d (get (codes "status") d) status e
+another_so : (network : Bool) (key : List ℕ) (d : Data) (o : Option Data) (found : Option (List ℕ)) → another_of network key d o ≡ Some found → Passes network found
+another_so network key d None found e = subst (Passes network) (same_Some None found e) tt
+another_so network key d (Some there) found e = some_passes network key d (address_at network key d) found refl e
+
+another_passes : (network : Bool) (key : List ℕ) (d : Data) (found : Option (List ℕ)) → another_at network key d ≡ Some found → Passes network found
+another_passes network key d found e = another_so network key d (get key d) found e
+
+listen_so : (network : Bool) (asked : Option (List ℕ)) (address listen : List ℕ) → is_address network address ≡ true → Passes network asked → unwrap_or asked address ≡ listen
+    → is_address network listen ≡ true
+listen_so network None address listen own asked is = subst (λ t. is_address network t ≡ true) is own
+listen_so network (Some text) address listen own asked is = subst (λ t. is_address network t ≡ true) is asked
+
+-- the addresses of a server pass
+record Addressed (network : Bool) (address listen : List ℕ) (status : Option (List ℕ)) : Type 0 where
+  address_passes : is_address network address ≡ true
+  listen_passes : is_address network listen ≡ true
+  status_passes : Passes network status
+
+addressed : (network : Bool) (d : Data) (address listen : List ℕ) (asked status : Option (List ℕ))
+    → address_at network (codes "address") d ≡ Some address → another_at network (codes "listen") d ≡ Some asked → unwrap_or asked address ≡ listen
+    → another_at network (codes "status") d ≡ Some status → Addressed network address listen status
+addressed network d address listen asked status a l is s =
+    let own = address_passes network (codes "address") d address a in
+    record {
+      address_passes = own;
+      listen_passes = listen_so network asked address listen own (another_passes network (codes "listen") d asked l) is;
+      status_passes = another_passes network (codes "status") d status s;
+    }
+
+status_any : (network : Bool) (status : Option (List ℕ)) → Passes network status → IfSome status IsAddress
+status_any network None h = tt
+status_any network (Some text) h = any_address network text h
+
+status_local : (network : Bool) (status : Option (List ℕ)) → network ≡ false → Passes network status → IfSome status IsLocal
+status_local network None none h = tt
+status_local network (Some text) none h = local_address network text none h
+
+addressed_local : (network : Bool) (address listen : List ℕ) (status : Option (List ℕ)) → network ≡ false → Addressed network address listen status → AreLocal address listen status
+addressed_local network address listen status none h = record {
+  address_local = local_address network address none h.address_passes;
+  listen_local = local_address network listen none h.listen_passes;
+  status_local = status_local network status none h.status_passes;
+}
 
 patience_so : (d : Data) (o : Option Data) (n : ℕ) → patience_of d o ≡ Some n → IsPatience n
 patience_so d None n e = subst IsPatience (same_Some usual_patience n e) (record { some = lit≤ tt; short = lit≤ tt })
@@ -114,31 +157,51 @@ endless_goes_on d every endless e =
 pub name_is : (d : Data) (name : List ℕ) → name_at d ≡ Some name → IsTrue (is_name name)
 name_is d name e = passed is_name (text_at (codes "name") d) name e
 
-node_is : (d : Data) (node : Node) → node_at d ≡ Some node → IsNode node
-node_is d node read =
-    let parts = node_parts d node read in
+node_addressed : (network : Bool) (d : Data) (node : Node) → node_at network d ≡ Some node → Addressed network node.address node.listen node.status
+node_addressed network d node read =
+    let parts = node_parts network d node read in
+    addressed network d node.address node.listen parts.asked node.status parts.address parts.asked_is parts.listen parts.status
+
+pub node_is : (network : Bool) (d : Data) (node : Node) → node_at network d ≡ Some node → IsNode node
+node_is network d node read =
+    let parts = node_parts network d node read in
     let workers = some_between max_workers (codes "workers") d node.workers parts.workers in
+    let there = node_addressed network d node read in
     record {
       name = name_is d node.name parts.name;
-      address = address_is (codes "address") d node.address parts.address;
+      address = any_address network node.address there.address_passes;
+      listen = any_address network node.listen there.listen_passes;
+      status = status_any network node.status there.status_passes;
       some_workers = workers.above;
       few_workers = workers.below;
       rest = rest_is (codes "watch") d node.watch parts.watch;
-      status = status_is d node.status parts.status;
       few_front = front_is d node.front parts.front;
     }
 
-broker_is : (d : Data) (broker : Broker) → broker_at d ≡ Some broker → IsBroker broker
-broker_is d broker read =
-    let parts = broker_parts d broker read in
+node_local : (network : Bool) → network ≡ false → (d : Data) (node : Node) → node_at network d ≡ Some node → IsLocalNode node
+node_local network none d node read = addressed_local network node.address node.listen node.status none (node_addressed network d node read)
+
+broker_addressed : (network : Bool) (d : Data) (broker : Broker) → broker_at network d ≡ Some broker → Addressed network broker.address broker.listen broker.status
+broker_addressed network d broker read =
+    let parts = broker_parts network d broker read in
+    addressed network d broker.address broker.listen parts.asked broker.status parts.address parts.asked_is parts.listen parts.status
+
+pub broker_is : (network : Bool) (d : Data) (broker : Broker) → broker_at network d ≡ Some broker → IsBroker broker
+broker_is network d broker read =
+    let parts = broker_parts network d broker read in
     let workers = some_between max_workers (codes "workers") d broker.workers parts.workers in
+    let there = broker_addressed network d broker read in
     record {
-      address = address_is (codes "address") d broker.address parts.address;
+      address = any_address network broker.address there.address_passes;
+      listen = any_address network broker.listen there.listen_passes;
+      status = status_any network broker.status there.status_passes;
       some_workers = workers.above;
       few_workers = workers.below;
-      status = status_is d broker.status parts.status;
       few_front = front_is d broker.front parts.front;
     }
+
+broker_local : (network : Bool) → network ≡ false → (d : Data) (broker : Broker) → broker_at network d ≡ Some broker → IsLocalBroker broker
+broker_local network none d broker read = addressed_local network broker.address broker.listen broker.status none (broker_addressed network d broker read)
 
 query_is : (brokers : ℕ) (d : Data) (asked : Asked) → query_at brokers d ≡ Some asked → asked.broker < brokers
 query_is brokers d asked read =
@@ -164,54 +227,58 @@ each_is P f one ds xs read k d below = each_sound P f one ds xs read (get_or xs 
 
 -- ---- lists of servers
 
-record NodeLimits (nodes : List Node) : Type 0 where
+record NodeLimits (network : Bool) (nodes : List Node) : Type 0 where
   count : Between 1 max_servers (length nodes)
   each : All IsNode nodes
+  here : network ≡ false → All IsLocalNode nodes
   own : AreDistinct (names_of nodes)
 
 abbrev nodes_if : List Node → Option (List Node)
 nodes_if nodes = cond (are_few (length nodes) && are_distinct (names_of nodes)) (Some nodes) None
 
-nodes_fit : (items : Items) (nodes : List Node) → nodes_in items ≡ Some nodes → NodeLimits nodes
+nodes_fit : (network : Bool) (items : Items) (nodes : List Node) → nodes_in network items ≡ Some nodes → NodeLimits network nodes
 unfolding nodes_in
-nodes_fit items nodes read =
-    let step = stepped nodes_if (each_of node_at items) nodes read in
+nodes_fit network items nodes read =
+    let step = stepped nodes_if (each_of (node_at network) items) nodes read in
     let kept = cond_some (are_few (length step.0) && are_distinct (names_of step.0)) step.0 nodes step.2 in
     let tests = and_parts (are_few (length step.0)) (are_distinct (names_of step.0)) kept.0 in
-    subst NodeLimits kept.1 (record {
+    subst (NodeLimits network) kept.1 (record {
       count = between 1 max_servers (length step.0) tests.0;
-      each = each_is IsNode node_at node_is items step.0 step.1;
+      each = each_is IsNode (node_at network) (node_is network) items step.0 step.1;
+      here = λ none. each_is IsLocalNode (node_at network) (node_local network none) items step.0 step.1;
       own = distinct_to (names_of step.0) tests.1;
     })
 
-record BrokerLimits (brokers : List Broker) : Type 0 where
+record BrokerLimits (network : Bool) (brokers : List Broker) : Type 0 where
   count : Between 1 max_servers (length brokers)
   each : All IsBroker brokers
+  here : network ≡ false → All IsLocalBroker brokers
 
 abbrev brokers_if : List Broker → Option (List Broker)
 brokers_if brokers = cond (are_few (length brokers)) (Some brokers) None
 
-brokers_fit : (items : Items) (brokers : List Broker) → brokers_in items ≡ Some brokers → BrokerLimits brokers
+brokers_fit : (network : Bool) (items : Items) (brokers : List Broker) → brokers_in network items ≡ Some brokers → BrokerLimits network brokers
 unfolding brokers_in
-brokers_fit items brokers read =
-    let step = stepped brokers_if (each_of broker_at items) brokers read in
+brokers_fit network items brokers read =
+    let step = stepped brokers_if (each_of (broker_at network) items) brokers read in
     let kept = cond_some (are_few (length step.0)) step.0 brokers step.2 in
-    subst BrokerLimits kept.1 (record {
+    subst (BrokerLimits network) kept.1 (record {
       count = between 1 max_servers (length step.0) kept.0;
-      each = each_is IsBroker broker_at broker_is items step.0 step.1;
+      each = each_is IsBroker (broker_at network) (broker_is network) items step.0 step.1;
+      here = λ none. each_is IsLocalBroker (broker_at network) (broker_local network none) items step.0 step.1;
     })
 
 -- ---- configs
 
-pub within : (d : Data) (reported : Reported) → config_at d ≡ Some reported → IsWithinLimits reported
-within d reported read =
-    let parts = config_parts d reported read in
-    let listed = chained nodes_in (list_at (codes "nodes") d) reported.nodes parts.nodes in
-    let nodes = nodes_fit listed.0 reported.nodes listed.2 in
-    let ranked = chained brokers_in (list_at (codes "brokers") d) reported.brokers parts.brokers in
-    let brokers = brokers_fit ranked.0 reported.brokers ranked.2 in
+servers_within : (settings : Settings) (d : Data) (reported : Reported) → SettingsParts d settings → ServerParts settings d reported
+    → IsWithinLimits (reported_by reported.nodes reported.brokers reported.queries settings)
+servers_within settings d reported settled parts =
+    let listed = chained (nodes_in settings.network) (list_at (codes "nodes") d) reported.nodes parts.nodes in
+    let nodes = nodes_fit settings.network listed.0 reported.nodes listed.2 in
+    let ranked = chained (brokers_in settings.network) (list_at (codes "brokers") d) reported.brokers parts.brokers in
+    let brokers = brokers_fit settings.network ranked.0 reported.brokers ranked.2 in
     let queued = chained (each_of (query_at (length reported.brokers))) (list_at (codes "queries") d) reported.queries parts.queries in
-    let kept = some_between max_kept (codes "kept") d reported.kept parts.kept in
+    let kept = some_between max_kept (codes "kept") d settings.kept settled.kept in
     record {
       some_nodes = nodes.count.above;
       few_nodes = nodes.count.below;
@@ -222,14 +289,21 @@ within d reported read =
       brokers = brokers.each;
       asked = each_is (λ q. q.broker < length reported.brokers) (query_at (length reported.brokers)) (query_is (length reported.brokers)) queued.0 reported.queries queued.2;
       objects = each_is IsObject (query_at (length reported.brokers)) (query_object (length reported.brokers)) queued.0 reported.queries queued.2;
-      few_connections = connections_below d reported.connections parts.connections;
+      few_connections = connections_below d settings.connections settled.connections;
       some_kept = kept.above;
       few_kept = kept.below;
-      few_turns = count_below (codes "turns") d reported.turns parts.turns;
-      rest = rest_is (codes "every") d reported.every parts.every;
-      patience = patience_is d reported.patience parts.patience;
-      goes_on = λ endless. endless_goes_on d reported.every (parts.endless ∙ endless) parts.every;
+      few_turns = count_below (codes "turns") d settings.turns settled.turns;
+      rest = rest_is (codes "every") d settings.every settled.every;
+      patience = patience_is d settings.patience settled.patience;
+      local_nodes = nodes.here;
+      local_brokers = brokers.here;
+      goes_on = λ endless. endless_goes_on d settings.every (settled.endless ∙ endless) settled.every;
     }
+
+pub within : (d : Data) (reported : Reported) → config_at d ≡ Some reported → IsWithinLimits reported
+within d reported read =
+    let parts = config_parts d reported read in
+    subst IsWithinLimits (sym parts.servers.is) (servers_within parts.settings d reported parts.settled parts.servers)
 
 -- what holds of queries as the config has them holds of them as they are posted
 pub posted_so : (P : Asked → Type 0) (queries : List Posted) → All P (map asked_of queries) → All (λ q. P (asked_of q)) queries

@@ -1,66 +1,105 @@
 -- Configs, read out of JSON. A text is its bytes.
-use Rattle.std.specs.Prelude.{◌≡◌, ℕ, ◌<◌, ◌≤◌, ◌&&◌, Bool, true, false, nat_le, nat_lt, IsTrue, IsSome, IfSome, is_some, is_none, All, List, [], ◌++◌, codes, decimal, length, map, take, drop, Option, Some, None, option_map, option_and_then, if◌then◌else◌}
-use Rattle.std.specs.Str.{bytes_eq}
+use Rattle.std.specs.Prelude.{◌≡◌, ℕ, ◌<◌, ◌≤◌, ◌&&◌, Bool, true, false, nat_le, nat_lt, IsTrue, IsSome, IfSome, is_some, is_none, All, List, [], codes, length, map, Option, Some, None, unwrap_or, option_map, option_and_then, if◌then◌else◌}
 use Rattle.serde_json.specs.Data.{Data, Items}
 use Rattle.serde_json.specs.Read.{read}
-use Rattle.serde_json.specs.Find.{get, as_array, as_object, as_str}
+use Rattle.serde_json.specs.Find.{get, as_array, as_bool, as_object, as_str}
 use Rattle.serde_json.specs.Written.{compact_text, has_float}
 use Rattle.druid_base.specs.Options.{◌>>=◌}
 use Rattle.druid_segid.specs.Names.{is_name}
 use Rattle.druid_segid.specs.Identifier.{Identifier}
-use Rattle.druid_base.specs.Numbers as numbers
 use Rattle.druid_base.specs.Distinct.{AreDistinct, are_distinct}
 use Rattle.druid_base.specs.Fields.{list_at, text_at, number_at}
 use Rattle.druid_shard_text.specs.Json.{source_at, interval_at, version_at}
 use Rattle.druid_base.specs.Each.{each_of}
-use Rattle.druid_config.specs.Limits.{max_servers, max_workers, max_kept, max_count, max_rest, max_patience, usual_patience, max_front, max_port}
+use Rattle.druid_config.specs.Addresses.{is_address, IsAddress, IsLocal}
+use Rattle.druid_config.specs.Limits.{max_servers, max_workers, max_kept, max_count, max_rest, max_patience, usual_patience, max_front}
 
 -- ---- what a config tells
 
--- a data node: its name, where it listens, the path of its folder, the files that it loads, the tombstones that it places,
--- how many threads answer, after how many milliseconds each it looks at its folder, if it does, where it answers how it is, if it
--- does, and how many front threads it has
+-- the addresses of a server: where others reach it, where it listens, and where it answers how it is, if it does
+pub record Addresses : Type 0 where
+  pub address : List ℕ
+  pub listen : List ℕ
+  pub status : Option (List ℕ)
+
+-- a server that does not say where it listens, listens at its address
+abbrev pub addresses_of : List ℕ → Option (List ℕ) → Option (List ℕ) → Addresses
+addresses_of address listen status = record { address = address; listen = unwrap_or listen address; status = status }
+
+-- a data node: its name, its addresses, the path of its folder, the files that it loads, the tombstones that it places, how many
+-- threads answer, after how many milliseconds each it looks at its folder, if it does, and how many front threads it has
 pub record Node : Type 0 where
   pub name : List ℕ
   pub address : List ℕ
+  pub listen : List ℕ
+  pub status : Option (List ℕ)
   pub folder : List ℕ
   pub loads : List (List ℕ)
   pub tombstones : List Identifier
   pub workers : ℕ
   pub watch : Option ℕ
-  pub status : Option (List ℕ)
   pub front : ℕ
 
-abbrev pub node_of : List ℕ → List ℕ → List ℕ → List (List ℕ) → List Identifier → ℕ → Option ℕ → Option (List ℕ) → ℕ → Node
-node_of name address folder loads tombstones workers watch status front = record {
+abbrev pub node_of : List ℕ → Addresses → List ℕ → List (List ℕ) → List Identifier → ℕ → Option ℕ → ℕ → Node
+node_of name addresses folder loads tombstones workers watch front = record {
   name = name;
-  address = address;
+  address = addresses.address;
+  listen = addresses.listen;
+  status = addresses.status;
   folder = folder;
   loads = loads;
   tombstones = tombstones;
   workers = workers;
   watch = watch;
-  status = status;
   front = front;
 }
 
--- a broker: where it listens, how many threads answer, where it answers how it is, if it does, and how many front threads it has
+-- a broker: its addresses, how many threads answer, and how many front threads it has
 pub record Broker : Type 0 where
   pub address : List ℕ
-  pub workers : ℕ
+  pub listen : List ℕ
   pub status : Option (List ℕ)
+  pub workers : ℕ
   pub front : ℕ
 
-abbrev pub broker_of : List ℕ → ℕ → Option (List ℕ) → ℕ → Broker
-broker_of address workers status front = record { address = address; workers = workers; status = status; front = front }
+abbrev pub broker_of : Addresses → ℕ → ℕ → Broker
+broker_of addresses workers front = record {
+  address = addresses.address;
+  listen = addresses.listen;
+  status = addresses.status;
+  workers = workers;
+  front = front;
+}
 
 -- a query as it is posted: the place of the broker that is asked, and its text
 pub record Posted : Type 0 where
   pub broker : ℕ
   pub text : List ℕ
 
--- every: after how many milliseconds each a syncer makes a turn once it has made its turns, if it goes on. An endless cluster has no
--- connections after which it ends. patience: how many milliseconds an exchange with a node may take
+-- what a cluster does. every: after how many milliseconds each a syncer makes a turn once it has made its turns, if it goes on.
+-- patience: how many milliseconds an exchange with a node may take. network: its addresses may be those of any machine. An endless
+-- cluster has no connections after which it ends
+pub record Settings : Type 0 where
+  pub connections : ℕ
+  pub kept : ℕ
+  pub turns : ℕ
+  pub every : Option ℕ
+  pub patience : ℕ
+  pub network : Bool
+  pub endless : Bool
+
+abbrev pub settings_of : ℕ → ℕ → ℕ → Option ℕ → ℕ → Bool → Bool → Settings
+settings_of connections kept turns every patience network endless = record {
+  connections = connections;
+  kept = kept;
+  turns = turns;
+  every = every;
+  patience = patience;
+  network = network;
+  endless = endless;
+}
+
+-- its servers, its queries, and what it does
 pub record Cluster : Type 0 where
   pub nodes : List Node
   pub brokers : List Broker
@@ -70,19 +109,21 @@ pub record Cluster : Type 0 where
   pub turns : ℕ
   pub every : Option ℕ
   pub patience : ℕ
+  pub network : Bool
   pub endless : Bool
 
-abbrev pub cluster_of : List Node → List Broker → List Posted → ℕ → ℕ → ℕ → Option ℕ → ℕ → Bool → Cluster
-cluster_of nodes brokers queries connections kept turns every patience endless = record {
+abbrev pub cluster_of : List Node → List Broker → List Posted → Settings → Cluster
+cluster_of nodes brokers queries settings = record {
   nodes = nodes;
   brokers = brokers;
   queries = queries;
-  connections = connections;
-  kept = kept;
-  turns = turns;
-  every = every;
-  patience = patience;
-  endless = endless;
+  connections = settings.connections;
+  kept = settings.kept;
+  turns = settings.turns;
+  every = settings.every;
+  patience = settings.patience;
+  network = settings.network;
+  endless = settings.endless;
 }
 
 -- a query of a config: the place of the broker that is asked, and the JSON that the text of the query reads as
@@ -100,22 +141,24 @@ pub record Reported : Type 0 where
   pub turns : ℕ
   pub every : Option ℕ
   pub patience : ℕ
+  pub network : Bool
   pub endless : Bool
 
 abbrev pub asked_of : Posted → Asked
 asked_of q = record { broker = q.broker; query = read q.text }
 
-abbrev pub reported_by : List Node → List Broker → List Asked → ℕ → ℕ → ℕ → Option ℕ → ℕ → Bool → Reported
-reported_by nodes brokers queries connections kept turns every patience endless = record {
+abbrev pub reported_by : List Node → List Broker → List Asked → Settings → Reported
+reported_by nodes brokers queries settings = record {
   nodes = nodes;
   brokers = brokers;
   queries = queries;
-  connections = connections;
-  kept = kept;
-  turns = turns;
-  every = every;
-  patience = patience;
-  endless = endless;
+  connections = settings.connections;
+  kept = settings.kept;
+  turns = settings.turns;
+  every = settings.every;
+  patience = settings.patience;
+  network = settings.network;
+  endless = settings.endless;
 }
 
 -- what a config tells of a cluster
@@ -129,6 +172,7 @@ reported_of c = record {
   turns = c.turns;
   every = c.every;
   patience = c.patience;
+  network = c.network;
   endless = c.endless;
 }
 
@@ -138,34 +182,25 @@ IsCompact text = (d : Data) → read text ≡ Some d → has_float d ≡ false �
 
 -- ---- fields
 
--- what stands before a port
-abbrev pub loopback : List ℕ
-loopback = codes "127.0.0.1:"
+-- whether addresses may be those of any machine: not where there is no such key
+abbrev pub network_of : Option Data → Option Bool
+network_of None = Some false
+network_of (Some there) = as_bool there
 
--- there is a number, and it is that of a port
-abbrev pub is_port : Option ℕ → Bool
-is_port None = false
-is_port (Some n) = nat_le 1 n && nat_le n max_port
-
--- the address of a port of this machine, the port in decimal digits
-abbrev pub is_address : List ℕ → Bool
-is_address text = bytes_eq (take 10 text) loopback && is_port (numbers.number_at (drop 10 text))
-
--- the same in words
-abbrev pub NamesPort : List ℕ → Type 0
-NamesPort text = (port : ℕ) × (1 ≤ port) × (port ≤ max_port) × (text ≡ loopback ++ decimal port)
+abbrev pub network_at : Data → Option Bool
+network_at d = network_of (get (codes "network") d)
 
 -- the address at a key
-abbrev pub address_at : List ℕ → Data → Option (List ℕ)
-address_at key d = option_and_then (λ s. if is_address s then Some s else None) (text_at key d)
+abbrev pub address_at : Bool → List ℕ → Data → Option (List ℕ)
+address_at network key d = option_and_then (λ s. if is_address network s then Some s else None) (text_at key d)
 
--- where a server answers how it is, where there is such a key
-abbrev pub status_of : Data → Option Data → Option (Option (List ℕ))
-status_of d None = Some None
-status_of d (Some there) = option_map Some (address_at (codes "status") d)
+-- another address of a server, where there is such a key
+abbrev pub another_of : Bool → List ℕ → Data → Option Data → Option (Option (List ℕ))
+another_of network key d None = Some None
+another_of network key d (Some there) = option_map Some (address_at network key d)
 
-abbrev pub status_at : Data → Option (Option (List ℕ))
-status_at d = status_of d (get (codes "status") d)
+abbrev pub another_at : Bool → List ℕ → Data → Option (Option (List ℕ))
+another_at network key d = another_of network key d (get key d)
 
 abbrev pub name_at : Data → Option (List ℕ)
 name_at d = option_and_then (λ s. if is_name s then Some s else None) (text_at (codes "name") d)
@@ -232,26 +267,28 @@ tombstones_in (Some d) = option_and_then (each_of tombstone_at) (as_array d)
 abbrev pub tombstones_at : Data → Option (List Identifier)
 tombstones_at d = tombstones_in (get (codes "tombstones") d)
 
-unfoldable pub node_at : Data → Option Node
-node_at d = do
+unfoldable pub node_at : Bool → Data → Option Node
+node_at network d = do
   name ← name_at d
-  address ← address_at (codes "address") d
+  address ← address_at network (codes "address") d
   folder ← text_at (codes "folder") d
   loads ← loads_at d
   tombstones ← tombstones_at d
   workers ← some_at max_workers (codes "workers") d
   watch ← rest_at (codes "watch") d
-  status ← status_at d
+  status ← another_at network (codes "status") d
   front ← front_at d
-  Some (node_of name address folder loads tombstones workers watch status front)
+  listen ← another_at network (codes "listen") d
+  Some (node_of name (addresses_of address listen status) folder loads tombstones workers watch front)
 
-unfoldable pub broker_at : Data → Option Broker
-broker_at d = do
-  address ← address_at (codes "address") d
+unfoldable pub broker_at : Bool → Data → Option Broker
+broker_at network d = do
+  address ← address_at network (codes "address") d
   workers ← some_at max_workers (codes "workers") d
-  status ← status_at d
+  status ← another_at network (codes "status") d
   front ← front_at d
-  Some (broker_of address workers status front)
+  listen ← another_at network (codes "listen") d
+  Some (broker_of (addresses_of address listen status) workers front)
 
 -- the place of one of so many brokers
 abbrev pub place_at : ℕ → Data → Option ℕ
@@ -275,39 +312,48 @@ are_few n = nat_le 1 n && nat_le n max_servers
 abbrev pub names_of : List Node → List (List ℕ)
 names_of nodes = map (λ n. n.name) nodes
 
-unfoldable pub nodes_in : Items → Option (List Node)
-nodes_in items = do
-  nodes ← each_of node_at items
+unfoldable pub nodes_in : Bool → Items → Option (List Node)
+nodes_in network items = do
+  nodes ← each_of (node_at network) items
   if are_few (length nodes) && are_distinct (names_of nodes) then Some nodes else None
 
-unfoldable pub brokers_in : Items → Option (List Broker)
-brokers_in items = do
-  brokers ← each_of broker_at items
+unfoldable pub brokers_in : Bool → Items → Option (List Broker)
+brokers_in network items = do
+  brokers ← each_of (broker_at network) items
   if are_few (length brokers) then Some brokers else None
 
-abbrev pub nodes_at : Data → Option (List Node)
-nodes_at d = option_and_then nodes_in (list_at (codes "nodes") d)
+abbrev pub nodes_at : Bool → Data → Option (List Node)
+nodes_at network d = option_and_then (nodes_in network) (list_at (codes "nodes") d)
 
-abbrev pub brokers_at : Data → Option (List Broker)
-brokers_at d = option_and_then brokers_in (list_at (codes "brokers") d)
+abbrev pub brokers_at : Bool → Data → Option (List Broker)
+brokers_at network d = option_and_then (brokers_in network) (list_at (codes "brokers") d)
 
 abbrev pub queries_at : ℕ → Data → Option (List Asked)
 queries_at brokers d = option_and_then (each_of (query_at brokers)) (list_at (codes "queries") d)
 
 -- ---- configs
 
--- what a config tells, if it is one
-unfoldable pub config_at : Data → Option Reported
-config_at d = do
+unfoldable pub settings_at : Data → Option Settings
+settings_at d = do
   connections ← connections_at d
   kept ← some_at max_kept (codes "kept") d
   turns ← count_at (codes "turns") d
   every ← rest_at (codes "every") d
   patience ← patience_at d
-  nodes ← nodes_at d
-  brokers ← brokers_at d
+  network ← network_at d
+  Some (settings_of connections kept turns every patience network (is_endless d))
+
+-- the servers and the queries of a cluster that does so
+unfoldable pub servers_at : Settings → Data → Option Reported
+servers_at settings d = do
+  nodes ← nodes_at settings.network d
+  brokers ← brokers_at settings.network d
   queries ← queries_at (length brokers) d
-  Some (reported_by nodes brokers queries connections kept turns every patience (is_endless d))
+  Some (reported_by nodes brokers queries settings)
+
+-- what a config tells, if it is one
+abbrev pub config_at : Data → Option Reported
+config_at d = option_and_then (λ settings. servers_at settings d) (settings_at d)
 
 -- ---- limits
 
@@ -321,33 +367,43 @@ pub record IsPatience (n : ℕ) : Type 0 where
   pub some : 1 ≤ n
   pub short : n ≤ max_patience
 
--- an address, as a fact
-abbrev pub IsAddress : List ℕ → Type 0
-IsAddress text = IsTrue (is_address text)
-
--- a node of that name, which listens on this machine, and has 1 to 16 workers and at most 256 front threads
+-- a node of that name, at addresses of ports, which has 1 to 16 workers and at most 256 front threads
 pub record IsNode (node : Node) : Type 0 where
   pub name : IsTrue (is_name node.name)
-  pub address : IsTrue (is_address node.address)
+  pub address : IsAddress node.address
+  pub listen : IsAddress node.listen
+  pub status : IfSome node.status IsAddress
   pub some_workers : 1 ≤ node.workers
   pub few_workers : node.workers ≤ max_workers
   pub rest : IfSome node.watch IsRest
-  pub status : IfSome node.status IsAddress
   pub few_front : node.front ≤ max_front
 
--- a broker that listens on this machine, and has 1 to 16 workers and at most 256 front threads
+-- a broker at addresses of ports, which has 1 to 16 workers and at most 256 front threads
 pub record IsBroker (broker : Broker) : Type 0 where
-  pub address : IsTrue (is_address broker.address)
+  pub address : IsAddress broker.address
+  pub listen : IsAddress broker.listen
+  pub status : IfSome broker.status IsAddress
   pub some_workers : 1 ≤ broker.workers
   pub few_workers : broker.workers ≤ max_workers
-  pub status : IfSome broker.status IsAddress
   pub few_front : broker.front ≤ max_front
+
+-- each address of a server is one of this machine
+pub record AreLocal (address listen : List ℕ) (status : Option (List ℕ)) : Type 0 where
+  pub address_local : IsLocal address
+  pub listen_local : IsLocal listen
+  pub status_local : IfSome status IsLocal
+
+abbrev pub IsLocalNode : Node → Type 0
+IsLocalNode node = AreLocal node.address node.listen node.status
+
+abbrev pub IsLocalBroker : Broker → Type 0
+IsLocalBroker broker = AreLocal broker.address broker.listen broker.status
 
 -- the query is an object
 abbrev pub IsObject : Asked → Type 0
 IsObject q = IsSome (option_and_then as_object q.query)
 
--- what a config tells is within its limits
+-- what a config tells is within its limits; of addresses it has other machines' only where it says so
 pub record IsWithinLimits (reported : Reported) : Type 0 where
   pub some_nodes : 1 ≤ length reported.nodes
   pub few_nodes : length reported.nodes ≤ max_servers
@@ -364,4 +420,6 @@ pub record IsWithinLimits (reported : Reported) : Type 0 where
   pub few_turns : reported.turns ≤ max_count
   pub rest : IfSome reported.every IsRest
   pub patience : IsPatience reported.patience
+  pub local_nodes : reported.network ≡ false → All IsLocalNode reported.nodes
+  pub local_brokers : reported.network ≡ false → All IsLocalBroker reported.brokers
   pub goes_on : reported.endless ≡ true → IsSome reported.every

@@ -1,5 +1,6 @@
 -- what public contracts rest on
 pub mod Limits
+pub mod Addresses
 pub mod Configs
 pub mod Read
 pub mod BadFields

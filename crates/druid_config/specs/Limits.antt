@@ -36,3 +36,7 @@ max_front = 256
 -- the greatest port
 abbrev pub max_port : ℕ
 max_port = 65535
+
+-- the greatest of the four numbers of an IPv4 address
+abbrev pub max_octet : ℕ
+max_octet = 255

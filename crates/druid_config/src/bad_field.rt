@@ -39,6 +39,9 @@ pub enum WholeRule {
     /// `patience` is absent, or such a number.
     #[error("patience: not a number from 1 to 3600000")]
     Patience,
+    /// `network` is absent, or a boolean.
+    #[error("network: not true or false")]
+    Network,
     /// `nodes` is a list.
     #[error("nodes: not a list")]
     Nodes,
@@ -56,6 +59,17 @@ pub enum WholeRule {
     Queries,
 }
 
+/// What an address has to be, and is not.
+#[derive(Clone, Copy, Debug, PartialEq, Eq, Drop, Error)]
+pub enum AddressRule {
+    /// One of this machine, where the config has no `"network": true`.
+    #[error("127.0.0.1: and a port from 1 to 65535")]
+    Local,
+    /// One of any machine.
+    #[error("an IPv4 address, a colon and a port from 1 to 65535")]
+    Network,
+}
+
 /// What a field of a node has to be, and is not.
 #[derive(Clone, Copy, Debug, PartialEq, Eq, Drop, Error)]
 pub enum NodeRule {
@@ -65,9 +79,9 @@ pub enum NodeRule {
     /// No later node has the name.
     #[error("name: a later node has it too")]
     OwnName,
-    /// `address` is one of this machine.
-    #[error("address: not 127.0.0.1: and a port from 1 to 65535")]
-    Address,
+    /// `address` is an address.
+    #[error("address: not {0}")]
+    Address(AddressRule),
     /// `folder` is a text.
     #[error("folder: not a text")]
     Folder,
@@ -83,29 +97,35 @@ pub enum NodeRule {
     /// `watch` is absent, or such a number.
     #[error("watch: not a number from 1 to 3600000")]
     Watch,
-    /// `status` is absent, or an address of this machine.
-    #[error("status: not 127.0.0.1: and a port from 1 to 65535")]
-    Status,
+    /// `status` is absent, or an address.
+    #[error("status: not {0}")]
+    Status(AddressRule),
     /// `front` is absent, or such a number.
     #[error("front: not a number from 0 to 256")]
     Front,
+    /// `listen` is absent, or an address.
+    #[error("listen: not {0}")]
+    Listen(AddressRule),
 }
 
 /// What a field of a broker has to be, and is not.
 #[derive(Clone, Copy, Debug, PartialEq, Eq, Drop, Error)]
 pub enum BrokerRule {
-    /// `address` is one of this machine.
-    #[error("address: not 127.0.0.1: and a port from 1 to 65535")]
-    Address,
+    /// `address` is an address.
+    #[error("address: not {0}")]
+    Address(AddressRule),
     /// `workers` is such a number.
     #[error("workers: not a number from 1 to 16")]
     Workers,
-    /// `status` is absent, or an address of this machine.
-    #[error("status: not 127.0.0.1: and a port from 1 to 65535")]
-    Status,
+    /// `status` is absent, or an address.
+    #[error("status: not {0}")]
+    Status(AddressRule),
     /// `front` is absent, or such a number.
     #[error("front: not a number from 0 to 256")]
     Front,
+    /// `listen` is absent, or an address.
+    #[error("listen: not {0}")]
+    Listen(AddressRule),
 }
 
 /// What a field of a query has to be, and is not.

@@ -5,11 +5,13 @@ ghost use Rattle.serde_json.specs.Find.{as_str};
 ghost use Rattle.serde_json.specs.Read.{max_depth};
 ghost use Rattle.serde_json.specs.View.{view, items_view};
 ghost use Rattle.druid_base.specs.Each.{each_of};
-ghost use Rattle.druid_config.specs.Configs.{asked_of, reported_of, name_at, loads_at, tombstone_at, tombstones_at, node_at, broker_at, query_at, nodes_at, brokers_at, queries_at, config_at};
+ghost use Rattle.druid_config.specs.Configs.{addresses_of, asked_of, reported_of, name_at, loads_at, tombstone_at, tombstones_at, node_at, broker_at, query_at, nodes_at, brokers_at, queries_at, settings_at, config_at};
 
+use crate::config::{Addresses, Settings};
 use crate::fields::{
-    address_field, chunk_field, connections_field, count_field, front_field, is_endless,
-    name_field, object_field, patience_field, place_field, rest_field, some_field, status_field,
+    address_field, another_field, chunk_field, connections_field, count_field, front_field,
+    is_endless, name_field, network_field, object_field, patience_field, place_field, rest_field,
+    some_field,
 };
 use crate::limits::{MAX_KEPT, MAX_WORKERS};
 use crate::{BrokerConfig, Config, NodeConfig, QueryConfig};
@@ -112,14 +114,33 @@ fn copied(alloc: Global, text: Option<&str>) -> Result<Option<String>, AllocErro
     }
 }
 
+// The addresses of a server, which listens at its address where it says no other.
+fn addresses_of(
+    alloc: Global,
+    address: &str,
+    listen: Option<&str>,
+    status: Option<&str>,
+) -> Result<Addresses, AllocError>
+    ensures { IfOk result (λ addresses. addresses ≡ addresses_of address.now (option_map (λ s. s.now) listen.entry) (option_map (λ s. s.now) status.entry)) }
+{
+    let listen = String::from_str(alloc, listen.unwrap_or(address))?;
+    let address = String::from_str(alloc, address)?;
+    let status = copied(alloc, status)?;
+    Ok(Addresses {
+        address,
+        listen,
+        status,
+    })
+}
+
 // A node.
-#[tactic(auto, using(crate::proofs::PartLemmas::name_reads, crate::proofs::PartLemmas::loads_read, crate::proofs::PartLemmas::tombstones_read, crate::proofs::PartLemmas::watch_read, crate::proofs::PartLemmas::status_read), unfolding(crate::specs::Configs::node_at))]
-fn node_of(alloc: Global, value: &Value) -> Result<NodeConfig, AllocError>
-    requires { IsSome (node_at (view value.now)) }
-    ensures { IfOk result (λ node. node_at (view value.now) ≡ Some node) }
+#[tactic(auto, using(crate::proofs::PartLemmas::name_reads, crate::proofs::PartLemmas::loads_read, crate::proofs::PartLemmas::tombstones_read, crate::proofs::PartLemmas::watch_read, crate::proofs::PartLemmas::status_read, crate::proofs::PartLemmas::listen_read), unfolding(crate::specs::Configs::node_at))]
+fn node_of(alloc: Global, value: &Value, network: bool) -> Result<NodeConfig, AllocError>
+    requires { IsSome (node_at network (view value.now)) }
+    ensures { IfOk result (λ node. node_at network (view value.now) ≡ Some node) }
 {
     let name = name_of(alloc, value)?;
-    let Some(address) = address_field(value) else {
+    let Some(address) = address_field(value, network) else {
         unreachable!()
     };
     let Some(folder) = text_field(value, "folder") else {
@@ -133,41 +154,45 @@ fn node_of(alloc: Global, value: &Value) -> Result<NodeConfig, AllocError>
     let Some(watch) = rest_field(value, "watch") else {
         unreachable!()
     };
-    let Some(status) = status_field(value) else {
+    let Some(status) = another_field(value, "status", network) else {
         unreachable!()
     };
     let Some(front) = front_field(value) else {
         unreachable!()
     };
-    let address = String::from_str(alloc, address)?;
+    let Some(listen) = another_field(value, "listen", network) else {
+        unreachable!()
+    };
+    let addresses = addresses_of(alloc, address, listen, status)?;
     let folder = String::from_str(alloc, folder)?;
-    let status = copied(alloc, status)?;
     Ok(NodeConfig::new(
-        name, address, folder, loads, tombstones, workers, watch, status, front,
+        name, addresses, folder, loads, tombstones, workers, watch, front,
     ))
 }
 
 // A broker.
 #[tactic(auto, unfolding(crate::specs::Configs::broker_at))]
-fn broker_of(alloc: Global, value: &Value) -> Result<BrokerConfig, AllocError>
-    requires { IsSome (broker_at (view value.now)) }
-    ensures { IfOk result (λ broker. broker_at (view value.now) ≡ Some broker) }
+fn broker_of(alloc: Global, value: &Value, network: bool) -> Result<BrokerConfig, AllocError>
+    requires { IsSome (broker_at network (view value.now)) }
+    ensures { IfOk result (λ broker. broker_at network (view value.now) ≡ Some broker) }
 {
-    let Some(address) = address_field(value) else {
+    let Some(address) = address_field(value, network) else {
         unreachable!()
     };
     let Some(workers) = some_field(value, "workers", MAX_WORKERS) else {
         unreachable!()
     };
-    let Some(status) = status_field(value) else {
+    let Some(status) = another_field(value, "status", network) else {
         unreachable!()
     };
     let Some(front) = front_field(value) else {
         unreachable!()
     };
-    let address = String::from_str(alloc, address)?;
-    let status = copied(alloc, status)?;
-    Ok(BrokerConfig::new(address, workers, status, front))
+    let Some(listen) = another_field(value, "listen", network) else {
+        unreachable!()
+    };
+    let addresses = addresses_of(alloc, address, listen, status)?;
+    Ok(BrokerConfig::new(addresses, workers, front))
 }
 
 // A query to one of so many brokers.
@@ -188,25 +213,29 @@ fn query_of(alloc: Global, value: &Value, brokers: usize) -> Result<QueryConfig,
 }
 
 // The nodes that values are.
-fn node_list(alloc: Global, values: &[Value]) -> Result<Vec<NodeConfig>, AllocError>
-    requires { IsSome (each_of node_at (items_view values.now)) }
-    ensures { IfOk result (λ nodes. each_of node_at (items_view values.now) ≡ Some nodes.items) }
+fn node_list(alloc: Global, values: &[Value], network: bool) -> Result<Vec<NodeConfig>, AllocError>
+    requires { IsSome (each_of (node_at network) (items_view values.now)) }
+    ensures { IfOk result (λ nodes. each_of (node_at network) (items_view values.now) ≡ Some nodes.items) }
 {
     let mut nodes = Vec::with_capacity(alloc, values.len())?;
     for value in values {
-        nodes.push(node_of(alloc, value)?)?;
+        nodes.push(node_of(alloc, value, network)?)?;
     }
     Ok(nodes)
 }
 
 // The brokers that values are.
-fn broker_list(alloc: Global, values: &[Value]) -> Result<Vec<BrokerConfig>, AllocError>
-    requires { IsSome (each_of broker_at (items_view values.now)) }
-    ensures { IfOk result (λ brokers. each_of broker_at (items_view values.now) ≡ Some brokers.items) }
+fn broker_list(
+    alloc: Global,
+    values: &[Value],
+    network: bool,
+) -> Result<Vec<BrokerConfig>, AllocError>
+    requires { IsSome (each_of (broker_at network) (items_view values.now)) }
+    ensures { IfOk result (λ brokers. each_of (broker_at network) (items_view values.now) ≡ Some brokers.items) }
 {
     let mut brokers = Vec::with_capacity(alloc, values.len())?;
     for value in values {
-        brokers.push(broker_of(alloc, value)?)?;
+        brokers.push(broker_of(alloc, value, network)?)?;
     }
     Ok(brokers)
 }
@@ -231,26 +260,26 @@ fn query_list(
 
 // The nodes.
 #[tactic(auto, using(crate::proofs::FormLemmas::nodes_listed, crate::proofs::FormLemmas::nodes_list_reads))]
-fn nodes_of(alloc: Global, value: &Value) -> Result<Vec<NodeConfig>, AllocError>
-    requires { IsSome (nodes_at (view value.now)) }
-    ensures { IfOk result (λ nodes. nodes_at (view value.now) ≡ Some nodes.items) }
+fn nodes_of(alloc: Global, value: &Value, network: bool) -> Result<Vec<NodeConfig>, AllocError>
+    requires { IsSome (nodes_at network (view value.now)) }
+    ensures { IfOk result (λ nodes. nodes_at network (view value.now) ≡ Some nodes.items) }
 {
     let Some(values) = list_field(value, "nodes") else {
         unreachable!()
     };
-    node_list(alloc, values)
+    node_list(alloc, values, network)
 }
 
 // The brokers.
 #[tactic(auto, using(crate::proofs::FormLemmas::brokers_listed, crate::proofs::FormLemmas::brokers_list_reads))]
-fn brokers_of(alloc: Global, value: &Value) -> Result<Vec<BrokerConfig>, AllocError>
-    requires { IsSome (brokers_at (view value.now)) }
-    ensures { IfOk result (λ brokers. brokers_at (view value.now) ≡ Some brokers.items) }
+fn brokers_of(alloc: Global, value: &Value, network: bool) -> Result<Vec<BrokerConfig>, AllocError>
+    requires { IsSome (brokers_at network (view value.now)) }
+    ensures { IfOk result (λ brokers. brokers_at network (view value.now) ≡ Some brokers.items) }
 {
     let Some(values) = list_field(value, "brokers") else {
         unreachable!()
     };
-    broker_list(alloc, values)
+    broker_list(alloc, values, network)
 }
 
 // The queries to so many brokers.
@@ -266,12 +295,11 @@ fn queries_of(alloc: Global, value: &Value, brokers: usize) -> Result<Vec<QueryC
     query_list(alloc, values, brokers)
 }
 
-// The config that a value is.
-#[tactic(auto, using(crate::proofs::PartLemmas::connections_read, crate::proofs::PartLemmas::kept_read, crate::proofs::PartLemmas::turns_read, crate::proofs::PartLemmas::every_read, crate::proofs::PartLemmas::patience_read, crate::proofs::PartLemmas::nodes_read, crate::proofs::PartLemmas::brokers_read, crate::proofs::PartLemmas::queries_read), unfolding(crate::specs::Configs::config_at))]
-pub(crate) fn build_config(alloc: Global, value: &Value) -> Result<Config, AllocError>
-    requires reads { IsSome (config_at (view value.now)) }
-    requires shallow { depth (view value.now) ≤ max_depth }
-    ensures { IfOk result (λ config. config_at (view value.now) ≡ Some (reported_of config)) }
+// What the cluster does.
+#[tactic(auto, using(crate::proofs::PartLemmas::connections_read, crate::proofs::PartLemmas::kept_read, crate::proofs::PartLemmas::turns_read, crate::proofs::PartLemmas::every_read, crate::proofs::PartLemmas::patience_read, crate::proofs::PartLemmas::network_read), unfolding(crate::specs::Configs::settings_at))]
+pub(crate) fn settings_of(value: &Value) -> Settings
+    requires { IsSome (settings_at (view value.now)) }
+    ensures { settings_at (view value.now) ≡ Some result }
 {
     let Some(connections) = connections_field(value) else {
         unreachable!()
@@ -288,18 +316,30 @@ pub(crate) fn build_config(alloc: Global, value: &Value) -> Result<Config, Alloc
     let Some(patience) = patience_field(value) else {
         unreachable!()
     };
-    let nodes = nodes_of(alloc, value)?;
-    let brokers = brokers_of(alloc, value)?;
-    let queries = queries_of(alloc, value, brokers.len())?;
-    Ok(Config::new(
-        nodes,
-        brokers,
-        queries,
+    let Some(network) = network_field(value) else {
+        unreachable!()
+    };
+    Settings {
         connections,
-        kept as usize,
+        kept,
         turns,
         every,
         patience,
-        is_endless(value),
-    ))
+        network,
+        endless: is_endless(value),
+    }
+}
+
+// The config that a value is.
+#[tactic(auto, using(crate::proofs::PartLemmas::settings_read, crate::proofs::PartLemmas::nodes_read, crate::proofs::PartLemmas::brokers_read, crate::proofs::PartLemmas::queries_read), unfolding(crate::specs::Configs::servers_at))]
+pub(crate) fn build_config(alloc: Global, value: &Value) -> Result<Config, AllocError>
+    requires reads { IsSome (config_at (view value.now)) }
+    requires shallow { depth (view value.now) ≤ max_depth }
+    ensures { IfOk result (λ config. config_at (view value.now) ≡ Some (reported_of config)) }
+{
+    let settings = settings_of(value);
+    let nodes = nodes_of(alloc, value, settings.network)?;
+    let brokers = brokers_of(alloc, value, settings.network)?;
+    let queries = queries_of(alloc, value, brokers.len())?;
+    Ok(Config::new(nodes, brokers, queries, settings))
 }

@@ -6,56 +6,70 @@ use druid_segid::{Name, SegmentId};
 use std::alloc::{AllocError, Global};
 use std::marker::Model;
 
+// The addresses of a server.
+#[derive(Drop)]
+pub(crate) struct Addresses {
+    pub(crate) address: String,
+    pub(crate) listen: String,
+    pub(crate) status: Option<String>,
+}
+
+impl Model for Addresses {
+    ghost use Rattle.std.specs.Prelude.{option_map, string_bytes};
+    ghost use Rattle.druid_config.specs.Configs.{Addresses};
+
+    ghost Value = { Addresses };
+
+    ghost view = { λ a. record { address = string_bytes a.address; listen = string_bytes a.listen; status = option_map string_bytes a.status } };
+}
+
 /// A data node.
 #[derive(Drop)]
 pub struct NodeConfig {
     name: Name,
-    address: String,
+    addresses: Addresses,
     folder: String,
     loads: Vec<String>,
     tombstones: Vec<SegmentId>,
     workers: u16,
     watch: Option<u64>,
-    status: Option<String>,
     front: u16,
 }
 
 impl Model for NodeConfig {
-    ghost use Rattle.std.specs.Prelude.{map, option_map, string_bytes};
+    ghost use Rattle.std.specs.Prelude.{map, string_bytes};
     ghost use Rattle.druid_config.specs.Configs.{Node, IsNode, node_of};
 
     ghost Value = { Node };
 
-    ghost view = { λ a. node_of a.name (string_bytes a.address) (string_bytes a.folder) (map string_bytes a.loads.items) a.tombstones.items a.workers a.watch (option_map string_bytes a.status) a.front };
+    ghost view = { λ a. node_of a.name a.addresses (string_bytes a.folder) (map string_bytes a.loads.items) a.tombstones.items a.workers a.watch a.front };
 
-    ghost invariant = { λ a. IsNode (node_of a.name (string_bytes a.address) (string_bytes a.folder) (map string_bytes a.loads.items) a.tombstones.items a.workers a.watch (option_map string_bytes a.status) a.front) };
+    ghost invariant = { λ a. IsNode (node_of a.name a.addresses (string_bytes a.folder) (map string_bytes a.loads.items) a.tombstones.items a.workers a.watch a.front) };
 }
 
 impl NodeConfig {
     // The node of these parts.
     pub(crate) fn new(
         name: Name,
-        address: String,
+        addresses: Addresses,
         folder: String,
         loads: Vec<String>,
         tombstones: Vec<SegmentId>,
         workers: u16,
         watch: Option<u64>,
-        status: Option<String>,
         front: u16,
     ) -> NodeConfig
-        requires { IsNode (node_of name (string_bytes address) (string_bytes folder) (map string_bytes loads.items) tombstones.items workers watch (option_map string_bytes status) front) }
-        ensures { result ≡ node_of name (string_bytes address) (string_bytes folder) (map string_bytes loads.items) tombstones.items workers watch (option_map string_bytes status) front }
+        requires { IsNode (node_of name addresses (string_bytes folder) (map string_bytes loads.items) tombstones.items workers watch front) }
+        ensures { result ≡ node_of name addresses (string_bytes folder) (map string_bytes loads.items) tombstones.items workers watch front }
     {
         NodeConfig {
             name,
-            address,
+            addresses,
             folder,
             loads,
             tombstones,
             workers,
             watch,
-            status,
             front,
         }
     }
@@ -68,12 +82,20 @@ impl NodeConfig {
         &self.name
     }
 
-    /// Where it listens: a port of this machine.
+    /// Where others reach it: an IPv4 address and a port, those of this machine where the config is of no network.
     pub fn address(&self) -> &str
         ensures value { result.now ≡ self.now.address }
         ensures valid { IsNode self.now }
     {
-        self.address.as_str()
+        self.addresses.address.as_str()
+    }
+
+    /// Where it listens, likewise: its address where the config says no other.
+    pub fn listen(&self) -> &str
+        ensures value { result.now ≡ self.now.listen }
+        ensures valid { IsNode self.now }
+    {
+        self.addresses.listen.as_str()
     }
 
     /// The path of its folder.
@@ -113,12 +135,12 @@ impl NodeConfig {
         self.watch
     }
 
-    /// Where it answers how it is: a port of this machine; None where it does not.
+    /// Where it answers how it is, likewise; None where it does not.
     pub fn status(&self) -> Option<&str>
         ensures value { option_map (λ s. s.now) result ≡ self.now.status }
         ensures valid { IsNode self.now }
     {
-        match &self.status {
+        match &self.addresses.status {
             Some(status) => Some(status.as_str()),
             None => None,
         }
@@ -136,48 +158,48 @@ impl NodeConfig {
 /// A broker.
 #[derive(Drop)]
 pub struct BrokerConfig {
-    address: String,
+    addresses: Addresses,
     workers: u16,
-    status: Option<String>,
     front: u16,
 }
 
 impl Model for BrokerConfig {
-    ghost use Rattle.std.specs.Prelude.{option_map, string_bytes};
     ghost use Rattle.druid_config.specs.Configs.{Broker, IsBroker, broker_of};
 
     ghost Value = { Broker };
 
-    ghost view = { λ a. broker_of (string_bytes a.address) a.workers (option_map string_bytes a.status) a.front };
+    ghost view = { λ a. broker_of a.addresses a.workers a.front };
 
-    ghost invariant = { λ a. IsBroker (broker_of (string_bytes a.address) a.workers (option_map string_bytes a.status) a.front) };
+    ghost invariant = { λ a. IsBroker (broker_of a.addresses a.workers a.front) };
 }
 
 impl BrokerConfig {
     // The broker of these parts.
-    pub(crate) fn new(
-        address: String,
-        workers: u16,
-        status: Option<String>,
-        front: u16,
-    ) -> BrokerConfig
-        requires { IsBroker (broker_of (string_bytes address) workers (option_map string_bytes status) front) }
-        ensures { result ≡ broker_of (string_bytes address) workers (option_map string_bytes status) front }
+    pub(crate) fn new(addresses: Addresses, workers: u16, front: u16) -> BrokerConfig
+        requires { IsBroker (broker_of addresses workers front) }
+        ensures { result ≡ broker_of addresses workers front }
     {
         BrokerConfig {
-            address,
+            addresses,
             workers,
-            status,
             front,
         }
     }
 
-    /// Where it listens: a port of this machine.
+    /// Where others reach it: an IPv4 address and a port, those of this machine where the config is of no network.
     pub fn address(&self) -> &str
         ensures value { result.now ≡ self.now.address }
         ensures valid { IsBroker self.now }
     {
-        self.address.as_str()
+        self.addresses.address.as_str()
+    }
+
+    /// Where it listens, likewise: its address where the config says no other.
+    pub fn listen(&self) -> &str
+        ensures value { result.now ≡ self.now.listen }
+        ensures valid { IsBroker self.now }
+    {
+        self.addresses.listen.as_str()
     }
 
     /// How many threads answer, 1 to 16.
@@ -188,12 +210,12 @@ impl BrokerConfig {
         self.workers
     }
 
-    /// Where it answers how it is: a port of this machine; None where it does not.
+    /// Where it answers how it is, likewise; None where it does not.
     pub fn status(&self) -> Option<&str>
         ensures value { option_map (λ s. s.now) result ≡ self.now.status }
         ensures valid { IsBroker self.now }
     {
-        match &self.status {
+        match &self.addresses.status {
             Some(status) => Some(status.as_str()),
             None => None,
         }
@@ -251,18 +273,33 @@ impl QueryConfig {
     }
 }
 
+// What a cluster does.
+#[derive(Drop)]
+pub(crate) struct Settings {
+    pub(crate) connections: u64,
+    pub(crate) kept: u16,
+    pub(crate) turns: u64,
+    pub(crate) every: Option<u64>,
+    pub(crate) patience: u64,
+    pub(crate) network: bool,
+    pub(crate) endless: bool,
+}
+
+impl Model for Settings {
+    ghost use Rattle.druid_config.specs.Configs.{Settings, settings_of};
+
+    ghost Value = { Settings };
+
+    ghost view = { λ a. settings_of a.connections a.kept a.turns a.every a.patience a.network a.endless };
+}
+
 /// A cluster, and what it does.
 #[derive(Drop)]
 pub struct Config {
     nodes: Vec<NodeConfig>,
     brokers: Vec<BrokerConfig>,
     queries: Vec<QueryConfig>,
-    connections: u64,
-    kept: usize,
-    turns: u64,
-    every: Option<u64>,
-    patience: u64,
-    endless: bool,
+    settings: Settings,
 }
 
 impl Model for Config {
@@ -270,9 +307,9 @@ impl Model for Config {
 
     ghost Value = { Cluster };
 
-    ghost view = { λ a. cluster_of a.nodes.items a.brokers.items a.queries.items a.connections a.kept a.turns a.every a.patience a.endless };
+    ghost view = { λ a. cluster_of a.nodes.items a.brokers.items a.queries.items a.settings };
 
-    ghost invariant = { λ a. IsWithinLimits (reported_of (cluster_of a.nodes.items a.brokers.items a.queries.items a.connections a.kept a.turns a.every a.patience a.endless)) };
+    ghost invariant = { λ a. IsWithinLimits (reported_of (cluster_of a.nodes.items a.brokers.items a.queries.items a.settings)) };
 }
 
 impl Config {
@@ -281,26 +318,16 @@ impl Config {
         nodes: Vec<NodeConfig>,
         brokers: Vec<BrokerConfig>,
         queries: Vec<QueryConfig>,
-        connections: u64,
-        kept: usize,
-        turns: u64,
-        every: Option<u64>,
-        patience: u64,
-        endless: bool,
+        settings: Settings,
     ) -> Config
-        requires { IsWithinLimits (reported_of (cluster_of nodes.items brokers.items queries.items connections kept turns every patience endless)) }
-        ensures { result ≡ cluster_of nodes.items brokers.items queries.items connections kept turns every patience endless }
+        requires { IsWithinLimits (reported_of (cluster_of nodes.items brokers.items queries.items settings)) }
+        ensures { result ≡ cluster_of nodes.items brokers.items queries.items settings }
     {
         Config {
             nodes,
             brokers,
             queries,
-            connections,
-            kept,
-            turns,
-            every,
-            patience,
-            endless,
+            settings,
         }
     }
 
@@ -335,7 +362,7 @@ impl Config {
         ensures value { result ≡ self.now.connections }
         ensures valid { IsWithinLimits (reported_of self.now) }
     {
-        self.connections
+        self.settings.connections
     }
 
     /// How many changes each node keeps, 1 to 1,000.
@@ -343,7 +370,7 @@ impl Config {
         ensures value { result ≡ self.now.kept }
         ensures valid { IsWithinLimits (reported_of self.now) }
     {
-        self.kept
+        self.settings.kept as usize
     }
 
     /// How many turns each syncer makes, at most 1,000,000.
@@ -351,7 +378,7 @@ impl Config {
         ensures value { result ≡ self.now.turns }
         ensures valid { IsWithinLimits (reported_of self.now) }
     {
-        self.turns
+        self.settings.turns
     }
 
     /// After how many milliseconds each a syncer makes a turn once it has made its turns, 1 to 3,600,000; None where it makes no
@@ -360,7 +387,7 @@ impl Config {
         ensures value { result ≡ self.now.every }
         ensures valid { IsWithinLimits (reported_of self.now) }
     {
-        self.every
+        self.settings.every
     }
 
     /// How many milliseconds an exchange with a node may take, 1 to 3,600,000; 30,000 where the config names none.
@@ -368,7 +395,7 @@ impl Config {
         ensures value { result ≡ self.now.patience }
         ensures valid { IsWithinLimits (reported_of self.now) }
     {
-        self.patience
+        self.settings.patience
     }
 
     /// Whether the program serves until it is ended: then `every` is there.
@@ -376,7 +403,7 @@ impl Config {
         ensures value { result ≡ self.now.endless }
         ensures valid { IsWithinLimits (reported_of self.now) }
     {
-        self.endless
+        self.settings.endless
     }
 }
 

@@ -2,64 +2,59 @@
 ghost use Rattle.std.specs.Prelude.{◌≡◌, ◌≤◌, IsTrue, IfSome, codes, option_map};
 ghost use Rattle.serde_json.specs.View.{view};
 ghost use Rattle.druid_segid.specs.Names.{is_name};
-ghost use Rattle.druid_base.specs.Numbers as numbers;
-ghost use Rattle.druid_config.specs.Configs.{is_port, is_address, address_at, status_at, name_at, tombstone_at, some_at, count_at, rest_at, patience_at, front_at, is_endless, connections_at, place_at, object_at, IsRest, IsPatience, IsAddress};
+ghost use Rattle.druid_config.specs.Configs.{network_at, address_at, another_at, name_at, tombstone_at, some_at, count_at, rest_at, patience_at, front_at, is_endless, connections_at, place_at, object_at, IsRest, IsPatience};
 ghost use Rattle.druid_config.specs.Limits.{max_front};
 ghost use Rattle.druid_shard_text.specs.Json.{source_at, interval_at, version_at};
 
-use crate::limits::{MAX_COUNT, MAX_FRONT, MAX_PATIENCE, MAX_PORT, MAX_REST, USUAL_PATIENCE};
-use druid_base::{number_field, number_of, text_field};
+use crate::address::is_address;
+use crate::limits::{MAX_COUNT, MAX_FRONT, MAX_PATIENCE, MAX_REST, USUAL_PATIENCE};
+use druid_base::{number_field, text_field};
 use druid_segid::{Name, Version};
 use druid_time::Interval;
 use serde_json::Value;
 use std::marker::Model;
 
-// Whether digits are those of a port.
-fn is_port(digits: &[u8]) -> bool
-    ensures { result ≡ is_port (numbers.number_at digits.now) }
+// Whether addresses may be those of any machine, false where there is no such key.
+pub(crate) fn network_field(value: &Value) -> Option<bool>
+    ensures { result ≡ network_at (view value.now) }
 {
-    match number_of(digits) {
-        Some(port) => 1 <= port && port <= MAX_PORT,
-        None => false,
+    match value.get("network") {
+        Some(there) => there.as_bool(),
+        None => Some(false),
     }
 }
 
-// Whether a text is the address of a port of this machine.
-fn is_address(text: &str) -> bool
-    ensures { result ≡ is_address text.now }
-{
-    match text.as_bytes().strip_prefix(b"127.0.0.1:") {
-        Some(digits) => is_port(digits),
-        None => false,
-    }
-}
-
-// The address at a key.
-fn address_at<'a>(value: &'a Value, key: &str) -> Option<&'a str>
-    ensures value { option_map (λ s. s.now) result ≡ address_at key.now (view value.now) }
-    ensures valid { IfSome result (λ s. IsAddress s.now) }
+// The address at a key: of this machine alone, or of any.
+fn address_at<'a>(value: &'a Value, key: &str, network: bool) -> Option<&'a str>
+    ensures { option_map (λ s. s.now) result ≡ address_at network key.now (view value.now) }
 {
     let text = text_field(value, key)?;
-    if is_address(text) { Some(text) } else { None }
+    if is_address(network, text) {
+        Some(text)
+    } else {
+        None
+    }
 }
 
 // The address of a server.
-pub(crate) fn address_field(value: &Value) -> Option<&str>
-    ensures value { option_map (λ s. s.now) result ≡ address_at (codes "address") (view value.now) }
-    ensures valid { IfSome result (λ s. IsAddress s.now) }
+pub(crate) fn address_field(value: &Value, network: bool) -> Option<&str>
+    ensures { option_map (λ s. s.now) result ≡ address_at network (codes "address") (view value.now) }
 {
-    address_at(value, "address")
+    address_at(value, "address", network)
 }
 
-// Where a server answers how it is, where there is such a key.
-pub(crate) fn status_field(value: &Value) -> Option<Option<&str>>
-    ensures value { option_map (λ o. option_map (λ s. s.now) o) result ≡ status_at (view value.now) }
-    ensures valid { IfSome result (λ o. IfSome (option_map (λ s. s.now) o) IsAddress) }
+// Another address of a server, where there is such a key.
+pub(crate) fn another_field<'a>(
+    value: &'a Value,
+    key: &str,
+    network: bool,
+) -> Option<Option<&'a str>>
+    ensures { option_map (λ o. option_map (λ s. s.now) o) result ≡ another_at network key.now (view value.now) }
 {
-    let Some(_) = value.get("status") else {
+    let Some(_) = value.get(key) else {
         return Some(None);
     };
-    let text = address_at(value, "status")?;
+    let text = address_at(value, key, network)?;
     Some(Some(text))
 }
 

@@ -6,14 +6,16 @@ ghost use Rattle.serde_json.specs.Data.{Data, Items};
 ghost use Rattle.serde_json.specs.View.{view, items_view};
 ghost use Rattle.serde_json.specs.Find.{get_item};
 ghost use Rattle.druid_base.specs.Fields.{list_at};
-ghost use Rattle.druid_config.specs.BadFields.{BreaksNode, BreaksBroker, BreaksQuery, IsWrong};
-ghost use Rattle.druid_config.specs.Configs.{Broker, name_at, loads_at, tombstone_at, tombstones_at, node_at, broker_at, query_at, are_few, nodes_in, brokers_in, nodes_at, brokers_at, queries_at, config_at};
+ghost use Rattle.druid_config.specs.BadFields.{BreaksNode, BreaksBroker, BreaksQuery, BreaksWhole, IsWrong, rule_of};
+ghost use Rattle.druid_config.specs.Configs.{Broker, name_at, loads_at, tombstone_at, tombstones_at, node_at, broker_at, query_at, are_few, nodes_in, brokers_in, nodes_at, brokers_at, queries_at, network_at, settings_at, servers_at, config_at};
 ghost use Rattle.druid_config.specs.Borrowed.{text_or, names_in};
 
-use crate::bad_field::{BadField, BrokerRule, NodeRule, QueryRule, WholeRule};
+use crate::bad_field::{AddressRule, BadField, BrokerRule, NodeRule, QueryRule, WholeRule};
+use crate::building::settings_of;
+use crate::config::Settings;
 use crate::fields::{
-    address_field, chunk_field, connections_field, count_field, front_field, name_field,
-    object_field, patience_field, place_field, rest_field, some_field, status_field,
+    address_field, another_field, chunk_field, connections_field, count_field, front_field,
+    name_field, network_field, object_field, patience_field, place_field, rest_field, some_field,
 };
 use crate::limits::{MAX_KEPT, MAX_SERVERS, MAX_WORKERS};
 use druid_base::{TextList, are_texts, doubled_text, list_field, text_field};
@@ -51,18 +53,29 @@ fn has_tombstones(value: &Value) -> bool
     }
 }
 
+// What an address has to be.
+fn rule_of(network: bool) -> AddressRule
+    ensures { result ≡ rule_of network }
+{
+    if network {
+        AddressRule::Network
+    } else {
+        AddressRule::Local
+    }
+}
+
 // The first field of a value that is no node's.
 #[tactic(auto, unfolding(crate::specs::Configs::node_at))]
-fn node_rule(value: &Value) -> Option<NodeRule>
-    ensures test { is_none result ≡ is_some (node_at (view value.now)) }
+fn node_rule(value: &Value, network: bool) -> Option<NodeRule>
+    ensures test { is_none result ≡ is_some (node_at network (view value.now)) }
     ensures broken { (items : Items) (place : ℕ) → get_item place items ≡ Some (view value.now)
-        → IfSome result (λ rule. BreaksNode items place rule) }
+        → IfSome result (λ rule. BreaksNode network items place rule) }
 {
     if name_field(value).is_none() {
         return Some(NodeRule::Name);
     }
-    if address_field(value).is_none() {
-        return Some(NodeRule::Address);
+    if address_field(value, network).is_none() {
+        return Some(NodeRule::Address(rule_of(network)));
     }
     if text_field(value, "folder").is_none() {
         return Some(NodeRule::Folder);
@@ -79,33 +92,39 @@ fn node_rule(value: &Value) -> Option<NodeRule>
     if rest_field(value, "watch").is_none() {
         return Some(NodeRule::Watch);
     }
-    if status_field(value).is_none() {
-        return Some(NodeRule::Status);
+    if another_field(value, "status", network).is_none() {
+        return Some(NodeRule::Status(rule_of(network)));
     }
     if front_field(value).is_none() {
         return Some(NodeRule::Front);
+    }
+    if another_field(value, "listen", network).is_none() {
+        return Some(NodeRule::Listen(rule_of(network)));
     }
     None
 }
 
 // The first field of a value that is no broker's.
 #[tactic(auto, unfolding(crate::specs::Configs::broker_at))]
-fn broker_rule(value: &Value) -> Option<BrokerRule>
-    ensures test { is_none result ≡ is_some (broker_at (view value.now)) }
+fn broker_rule(value: &Value, network: bool) -> Option<BrokerRule>
+    ensures test { is_none result ≡ is_some (broker_at network (view value.now)) }
     ensures broken { (items : Items) (place : ℕ) → get_item place items ≡ Some (view value.now)
-        → IfSome result (λ rule. BreaksBroker items place rule) }
+        → IfSome result (λ rule. BreaksBroker network items place rule) }
 {
-    if address_field(value).is_none() {
-        return Some(BrokerRule::Address);
+    if address_field(value, network).is_none() {
+        return Some(BrokerRule::Address(rule_of(network)));
     }
     if some_field(value, "workers", MAX_WORKERS).is_none() {
         return Some(BrokerRule::Workers);
     }
-    if status_field(value).is_none() {
-        return Some(BrokerRule::Status);
+    if another_field(value, "status", network).is_none() {
+        return Some(BrokerRule::Status(rule_of(network)));
     }
     if front_field(value).is_none() {
         return Some(BrokerRule::Front);
+    }
+    if another_field(value, "listen", network).is_none() {
+        return Some(BrokerRule::Listen(rule_of(network)));
     }
     None
 }
@@ -162,12 +181,12 @@ fn are_few(count: usize) -> bool
 }
 
 // The first value that is no node, and its first field that is not.
-fn bad_node(values: &[Value]) -> Option<(usize, NodeRule)>
-    ensures test { is_none result ≡ list_all (λ value. is_some (node_at (view value))) values.now }
-    ensures broken { IfSome result (λ r. BreaksNode (items_view values.now) r.0 r.1) }
+fn bad_node(values: &[Value], network: bool) -> Option<(usize, NodeRule)>
+    ensures test { is_none result ≡ list_all (λ value. is_some (node_at network (view value))) values.now }
+    ensures broken { IfSome result (λ r. BreaksNode network (items_view values.now) r.0 r.1) }
 {
     for place in 0..values.len() {
-        if let Some(rule) = node_rule(&values[place]) {
+        if let Some(rule) = node_rule(&values[place], network) {
             return Some((place, rule));
         }
     }
@@ -176,12 +195,12 @@ fn bad_node(values: &[Value]) -> Option<(usize, NodeRule)>
 
 // What is wrong with values that are not the nodes of a cluster.
 #[tactic(auto, using(crate::proofs::FormLemmas::nodes_none, crate::proofs::FormLemmas::nodes_many, crate::proofs::FormLemmas::nodes_few, crate::proofs::BadLemmas::nodes_counted, crate::proofs::BadLemmas::name_twice))]
-fn bad_in_nodes(values: &[Value]) -> Option<BadField>
-    ensures test { is_none result ≡ is_some (nodes_in (items_view values.now)) }
-    ensures wrong { (d : Data) → list_at (codes "nodes") d ≡ Some (items_view values.now)
+fn bad_in_nodes(values: &[Value], network: bool) -> Option<BadField>
+    ensures test { is_none result ≡ is_some (nodes_in network (items_view values.now)) }
+    ensures wrong { (d : Data) → network_at d ≡ Some network → list_at (codes "nodes") d ≡ Some (items_view values.now)
         → IfSome result (λ bad. IsWrong bad d) }
 {
-    if let Some((place, rule)) = bad_node(values) {
+    if let Some((place, rule)) = bad_node(values, network) {
         return Some(BadField::Node(place, rule));
     }
     if !are_few(values.len()) {
@@ -194,12 +213,12 @@ fn bad_in_nodes(values: &[Value]) -> Option<BadField>
 }
 
 // The first value that is no broker, and its first field that is not.
-fn bad_broker(values: &[Value]) -> Option<(usize, BrokerRule)>
-    ensures test { is_none result ≡ list_all (λ value. is_some (broker_at (view value))) values.now }
-    ensures broken { IfSome result (λ r. BreaksBroker (items_view values.now) r.0 r.1) }
+fn bad_broker(values: &[Value], network: bool) -> Option<(usize, BrokerRule)>
+    ensures test { is_none result ≡ list_all (λ value. is_some (broker_at network (view value))) values.now }
+    ensures broken { IfSome result (λ r. BreaksBroker network (items_view values.now) r.0 r.1) }
 {
     for place in 0..values.len() {
-        if let Some(rule) = broker_rule(&values[place]) {
+        if let Some(rule) = broker_rule(&values[place], network) {
             return Some((place, rule));
         }
     }
@@ -208,12 +227,12 @@ fn bad_broker(values: &[Value]) -> Option<(usize, BrokerRule)>
 
 // What is wrong with values that are not the brokers of a cluster.
 #[tactic(auto, using(crate::proofs::FormLemmas::brokers_none, crate::proofs::FormLemmas::brokers_some, crate::proofs::BadLemmas::brokers_other))]
-fn bad_in_brokers(values: &[Value]) -> Option<BadField>
-    ensures test { is_none result ≡ is_some (brokers_in (items_view values.now)) }
-    ensures wrong { (d : Data) → list_at (codes "brokers") d ≡ Some (items_view values.now)
+fn bad_in_brokers(values: &[Value], network: bool) -> Option<BadField>
+    ensures test { is_none result ≡ is_some (brokers_in network (items_view values.now)) }
+    ensures wrong { (d : Data) → network_at d ≡ Some network → list_at (codes "brokers") d ≡ Some (items_view values.now)
         → IfSome result (λ bad. IsWrong bad d) }
 {
-    if let Some((place, rule)) = bad_broker(values) {
+    if let Some((place, rule)) = bad_broker(values, network) {
         return Some(BadField::Broker(place, rule));
     }
     if !are_few(values.len()) {
@@ -236,20 +255,20 @@ fn bad_query(values: &[Value], brokers: usize) -> Option<(usize, QueryRule)>
 }
 
 // What is wrong with the nodes.
-fn wrong_nodes(value: &Value) -> Option<BadField>
-    ensures test { is_none result ≡ is_some (nodes_at (view value.now)) }
-    ensures wrong { IfSome result (λ bad. IsWrong bad (view value.now)) }
+fn wrong_nodes(value: &Value, network: bool) -> Option<BadField>
+    ensures test { is_none result ≡ is_some (nodes_at network (view value.now)) }
+    ensures wrong { network_at (view value.now) ≡ Some network → IfSome result (λ bad. IsWrong bad (view value.now)) }
 {
     match list_field(value, "nodes") {
-        Some(values) => bad_in_nodes(values),
+        Some(values) => bad_in_nodes(values, network),
         None => Some(BadField::Whole(WholeRule::Nodes)),
     }
 }
 
 // What is wrong with the queries to so many brokers.
-fn wrong_queries(value: &Value, brokers: usize) -> Option<BadField>
+fn wrong_queries(value: &Value, network: bool, brokers: usize) -> Option<BadField>
     ensures test { is_none result ≡ is_some (queries_at brokers (view value.now)) }
-    ensures wrong { option_map length (brokers_at (view value.now)) ≡ Some brokers
+    ensures wrong { network_at (view value.now) ≡ Some network → option_map length (brokers_at network (view value.now)) ≡ Some brokers
         → IfSome result (λ bad. IsWrong bad (view value.now)) }
 {
     let Some(values) = list_field(value, "queries") else {
@@ -263,46 +282,69 @@ fn wrong_queries(value: &Value, brokers: usize) -> Option<BadField>
 
 // How many brokers there are, or what is wrong with them.
 #[tactic(auto, using(crate::proofs::FormLemmas::brokers_counted, crate::proofs::FormLemmas::no_brokers_counted))]
-fn count_brokers(value: &Value) -> Result<usize, BadField>
-    ensures count { result_ok result ≡ option_map length (brokers_at (view value.now)) }
-    ensures wrong { IfErr result (λ bad. IsWrong bad (view value.now)) }
+fn count_brokers(value: &Value, network: bool) -> Result<usize, BadField>
+    ensures count { result_ok result ≡ option_map length (brokers_at network (view value.now)) }
+    ensures wrong { network_at (view value.now) ≡ Some network → IfErr result (λ bad. IsWrong bad (view value.now)) }
 {
     let Some(values) = list_field(value, "brokers") else {
         return Err(BadField::Whole(WholeRule::Brokers));
     };
-    match bad_in_brokers(values) {
+    match bad_in_brokers(values, network) {
         Some(bad) => Err(bad),
         None => Ok(values.len()),
     }
 }
 
-/// The first field of a value that is wrong, in the order `connections`, `kept`, `turns`, `every`, `patience`, `nodes`, `brokers`,
-/// `queries`: None exactly where the value is a config. Does not allocate.
-#[tactic(auto, unfolding(crate::specs::Configs::config_at))]
+// The first field that is wrong of what a cluster does.
+#[tactic(auto, unfolding(crate::specs::Configs::settings_at))]
+fn settings_rule(value: &Value) -> Option<WholeRule>
+    ensures test { is_none result ≡ is_some (settings_at (view value.now)) }
+    ensures broken { IfSome result (λ rule. BreaksWhole rule (view value.now)) }
+{
+    if connections_field(value).is_none() {
+        return Some(WholeRule::Connections);
+    }
+    if some_field(value, "kept", MAX_KEPT).is_none() {
+        return Some(WholeRule::Kept);
+    }
+    if count_field(value, "turns").is_none() {
+        return Some(WholeRule::Turns);
+    }
+    if rest_field(value, "every").is_none() {
+        return Some(WholeRule::Every);
+    }
+    if patience_field(value).is_none() {
+        return Some(WholeRule::Patience);
+    }
+    if network_field(value).is_none() {
+        return Some(WholeRule::Network);
+    }
+    None
+}
+
+// What is wrong with the servers and the queries of a cluster that does so.
+#[tactic(auto, unfolding(crate::specs::Configs::servers_at))]
+fn wrong_servers(value: &Value, settings: &Settings) -> Option<BadField>
+    ensures test { is_none result ≡ is_some (servers_at settings.now (view value.now)) }
+    ensures wrong { network_at (view value.now) ≡ Some settings.now.network → IfSome result (λ bad. IsWrong bad (view value.now)) }
+{
+    if let Some(bad) = wrong_nodes(value, settings.network) {
+        return Some(bad);
+    }
+    match count_brokers(value, settings.network) {
+        Ok(brokers) => wrong_queries(value, settings.network, brokers),
+        Err(bad) => Some(bad),
+    }
+}
+
+/// The first field of a value that is wrong, in the order `connections`, `kept`, `turns`, `every`, `patience`, `network`, `nodes`,
+/// `brokers`, `queries`: None exactly where the value is a config. Does not allocate.
 pub fn bad_field_of(value: &Value) -> Option<BadField>
     ensures test { is_none result ≡ is_some (config_at (view value.now)) }
     ensures wrong { IfSome result (λ bad. IsWrong bad (view value.now)) }
 {
-    if connections_field(value).is_none() {
-        return Some(BadField::Whole(WholeRule::Connections));
+    if let Some(rule) = settings_rule(value) {
+        return Some(BadField::Whole(rule));
     }
-    if some_field(value, "kept", MAX_KEPT).is_none() {
-        return Some(BadField::Whole(WholeRule::Kept));
-    }
-    if count_field(value, "turns").is_none() {
-        return Some(BadField::Whole(WholeRule::Turns));
-    }
-    if rest_field(value, "every").is_none() {
-        return Some(BadField::Whole(WholeRule::Every));
-    }
-    if patience_field(value).is_none() {
-        return Some(BadField::Whole(WholeRule::Patience));
-    }
-    if let Some(bad) = wrong_nodes(value) {
-        return Some(bad);
-    }
-    match count_brokers(value) {
-        Ok(brokers) => wrong_queries(value, brokers),
-        Err(bad) => Some(bad),
-    }
+    wrong_servers(value, &settings_of(value))
 }

@@ -26,3 +26,6 @@ pub const MAX_FRONT: u16 = 256;
 
 /// The last port.
 pub const MAX_PORT: u64 = 65_535;
+
+/// The greatest of the four numbers of an IPv4 address.
+pub const MAX_OCTET: u64 = 255;

@@ -14,7 +14,7 @@ const IDLE_SECONDS: u64 = 3_600;
 
 // Says where a node listens, and which folder it serves.
 fn say_node<E: Write>(node: &NodeConfig, errors: &mut E) -> io::Result<()> {
-    let (name, address, folder) = (node.name().as_str(), node.address(), node.folder());
+    let (name, address, folder) = (node.name().as_str(), node.listen(), node.folder());
     writeln!(
         errors,
         "node {name}: listens on {address}, serves the folder {folder}"
@@ -23,7 +23,7 @@ fn say_node<E: Write>(node: &NodeConfig, errors: &mut E) -> io::Result<()> {
 
 // Says where a broker listens, and how many nodes it asks.
 fn say_broker<E: Write>(broker: &BrokerConfig, nodes: usize, errors: &mut E) -> io::Result<()> {
-    let address = broker.address();
+    let address = broker.listen();
     writeln!(errors, "broker: listens on {address}, asks {nodes} nodes")
 }
 

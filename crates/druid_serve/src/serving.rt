@@ -119,7 +119,7 @@ fn listen_all<R: Net<Listener = TcpListener, Stream = TcpStream>>(
     for place in 0..brokers.len() {
         let broker = &brokers[place];
         if part.has_broker(place) {
-            let Ok(listener) = listen(rt, broker.address()) else {
+            let Ok(listener) = listen(rt, broker.listen()) else {
                 return Err(Stop::at_broker(alloc, place, broker));
             };
             listening.push(Listening {

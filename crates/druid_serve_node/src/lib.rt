@@ -5,6 +5,7 @@ mod known;
 mod latest;
 mod loader;
 mod node;
+mod owner;
 mod reporter;
 mod status;
 mod watch;

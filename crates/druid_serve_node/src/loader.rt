@@ -4,6 +4,7 @@ ghost use Rattle.std.specs.declared.cmp.Ordering.TheVariants.{Greater};
 ghost use Rattle.druid_shard.specs.Mark.{mark_cmp};
 
 use crate::latest::{Begun, Latest};
+use crate::owner::Owner;
 use crate::reporter::Reporter;
 use crate::watch::Watch;
 use druid_folder::Folder;
@@ -17,25 +18,38 @@ use std::sync::{Arc, Wait};
 use std::thread;
 use std::time::{Clock, Duration};
 
-/// Shows that the files that a node loads later were tried: only the thread that tries them gives one.
+// Shows that the files that a node loads later were tried.
 #[derive(Debug, Drop)]
-pub struct EndOfLoads(());
+pub(crate) struct Tried(());
 
-/// What tells when the files were tried that a node loads once it listens.
+/// Shows that the files that a node loads later were tried: only the thread that tries them lets there be one. While there is one, the
+/// node's folder is this program's.
+#[derive(Debug, Drop)]
+pub struct EndOfLoads {
+    tried: Tried,
+    owner: Owner,
+}
+
+/// What tells when the files were tried that a node loads once it listens. While there is one, the node's folder is this program's.
 #[derive(Drop)]
 pub struct Loading {
-    end: Arc<Handover<EndOfLoads>, Global>,
+    end: Arc<Handover<Tried>, Global>,
+    owner: Owner,
 }
 
 impl Loading {
-    // That of the thread that tells it there.
-    pub(crate) fn new(end: Arc<Handover<EndOfLoads>, Global>) -> Loading {
-        Loading { end }
+    // That of the thread that tells it there, over a folder that is owned.
+    pub(crate) fn new(end: Arc<Handover<Tried>, Global>, owner: Owner) -> Loading {
+        Loading { end, owner }
     }
 
     /// Waits until they were tried.
     pub fn join<R: Wait>(self, rt: &R) -> EndOfLoads {
-        self.end.take(rt)
+        let Loading { end, owner } = self;
+        EndOfLoads {
+            tried: end.take(rt),
+            owner,
+        }
     }
 }
 
@@ -79,7 +93,7 @@ pub(crate) struct Loader<I: Incarnation, J: Begun> {
     pub(crate) watch: Watch,
     pub(crate) reporter: Reporter,
     // Where it tells that the files were tried that are loaded first.
-    pub(crate) end: Arc<Handover<EndOfLoads>, Global>,
+    pub(crate) end: Arc<Handover<Tried>, Global>,
 }
 
 // What the loading thread of a node does: it tries the files that come first as a look does, so that one that the start has loaded
@@ -111,7 +125,7 @@ fn load_from<
     drop(watch.try_due(rt, &node, &mut folder, 0, &names, &mut reporter));
     latest.note(rt, watch.seen());
     reporter.note(watch.seen());
-    end.give(rt, EndOfLoads(()));
+    end.give(rt, Tried(()));
     if let Some(rest) = rest {
         look_on(
             rt,

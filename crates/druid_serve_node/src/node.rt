@@ -14,6 +14,7 @@ ghost use Rattle.druid_serve_node.specs.Files.{is_segment_file, IsTaken, HoldsSe
 use crate::known::Known;
 use crate::latest::{Begun, Latest};
 use crate::loader::{Loader, Loading, start_loader};
+use crate::owner::{Owner, own_folder};
 use crate::reporter::Reporter;
 use crate::status::NodeStatus;
 use crate::watch::Watch;
@@ -244,9 +245,17 @@ struct LoadedNode<I: Incarnation> {
     seen: Mark,
 }
 
+// What a node has before it starts: its folder, and where it listens, if it does already.
+#[derive(Drop)]
+struct Held {
+    owner: Owner,
+    listener: Option<TcpListener>,
+}
+
 // A node that can begin to answer.
 #[derive(Drop)]
 struct ReadyNode<I: Incarnation> {
+    owner: Owner,
     node: Arc<DataNode<I>, Global>,
     listener: Arc<TcpListener, Global>,
     watch: Watch,
@@ -280,6 +289,7 @@ where
     requires own { J.mark.incarnation ≡ I.number }
 {
     let ReadyNode {
+        owner,
         node,
         listener,
         watch,
@@ -304,7 +314,7 @@ where
     for _ in 0..config.workers() {
         start_worker(rt, alloc, &node, &latest, telemetry, &source)?;
     }
-    Ok(Loading::new(end))
+    Ok(Loading::new(end, owner))
 }
 
 // Starts a node that goes on from that state, whose incarnation its folder has: loads the segment files of the folder, places
@@ -328,7 +338,7 @@ fn start_from<
     log: &Arc<Log, Global>,
     folder: &mut F,
     state: NodeState,
-    listener: Option<TcpListener>,
+    held: Held,
 ) -> Result<Loading, StartFault>
 where
     R::Dir: Send,
@@ -343,11 +353,13 @@ where
     let mut seen = seen;
     place_tombstones(rt, &node, config.tombstones(), &mut seen)?;
     reporter.note(seen);
+    let Held { owner, listener } = held;
     let listener = match listener {
         Some(listener) => listener,
         None => listener_of(rt, config)?,
     };
     let ready = ReadyNode {
+        owner,
         node: Arc::new(alloc, node)?,
         listener: Arc::new(alloc, listener)?,
         watch: Watch::new(known, seen),
@@ -382,13 +394,13 @@ fn listener_of<R: Net<Listener = TcpListener, Stream = TcpStream>>(
     rt: &R,
     config: &NodeConfig,
 ) -> Result<TcpListener, StartFault> {
-    match listen(rt, config.address()) {
+    match listen(rt, config.listen()) {
         Ok(listener) => Ok(listener),
         Err(_) => Err(StartFault::device(Cause::Listener)),
     }
 }
 
-// Raises the incarnation of a node's folder, and starts the node over it, at a listener or else at its address.
+// Makes a node's folder its own, raises the incarnation there, and starts the node over it, at a listener or else where it listens.
 fn start_over<
     R: Files<File = File>
         + Net<Listener = TcpListener, Stream = TcpStream>
@@ -413,6 +425,7 @@ where
     requires some { 1 ≤ kept }
     requires few { kept ≤ max_changes }
 {
+    let owner = own_folder(rt, config.folder())?;
     let path = String::from_str(alloc, config.folder())?;
     let mut folder: DiskFolder<R, D> = DiskFolder::new(*rt, path);
     let state = first_state(alloc, &mut folder, kept)?;
@@ -423,11 +436,11 @@ where
         log,
         &mut folder,
         state,
-        listener,
+        Held { owner, listener },
     )
 }
 
-/// Starts a data node: raises its incarnation, loads the segment files of its folder, places the config's tombstones, but for
+/// Starts a data node: makes its folder its own, raises its incarnation, loads the segment files of its folder, places the config's tombstones, but for
 /// those of what is served already, listens, and starts its threads. It gives what tells when the files are tried that come later.
 /// A node that watches its folder goes on from then, until the program ends: it loads the segment files that come, and drops the
 /// segments whose files are gone. The device `D` is the one under the folder that it makes, and `L` the one under the folder that

@@ -321,3 +321,124 @@ fn fronts(rt: HostRuntime) {
     );
     assert!(rt; fronts_of(&rt, alloc, text.as_str()) == (0, 256));
 }
+
+// Asserts what is reported of the whole config with such a key, and of each address in the place of that of its node, of where that
+// listens and of its status.
+fn assert_addresses(rt: &impl Abort, alloc: Global, network: &str, addresses: &str, wanted: &str) {
+    for address in addresses.lines() {
+        for key in ["address", "listen", "status"] {
+            let reported = reported_of(alloc, with_address(rt, alloc, network, key, address));
+            assert!(rt; reported == wanted, "{network} {key} {address}");
+        }
+    }
+}
+
+// The whole config with a key before all others, and for its node an address at a key. Of a key that stands twice the last counts.
+fn with_address(
+    rt: &impl Abort,
+    alloc: Global,
+    network: &str,
+    key: &str,
+    address: &str,
+) -> String {
+    let node = format!(in alloc; "\"workers\":1,\"{key}\":{address}}}").expect(rt, "memory");
+    let text = changed(rt, alloc, "\"workers\":1}", node.as_str());
+    let (_, rest) = halves(rt, text.as_str(), "{");
+    format!(in alloc; "{{{network}{rest}").expect(rt, "memory")
+}
+
+#[test]
+fn addresses_of_a_network(rt: HostRuntime) {
+    let other = "\"10.0.0.5:8083\"
+\"0.0.0.0:1\"
+\"255.255.255.255:65535\"
+\"192.168.1.20:80\"";
+    assert_addresses(&rt, rt.alloc(), "\"network\":true,", other, "taken");
+    assert_addresses(&rt, rt.alloc(), "\"network\":false,", other, "bad config");
+    assert_addresses(&rt, rt.alloc(), "", other, "bad config");
+    let local = "\"127.0.0.1:1\"
+\"127.0.0.1:65535\"";
+    for network in ["\"network\":true,", "\"network\":false,", ""] {
+        assert_addresses(&rt, rt.alloc(), network, local, "taken");
+    }
+}
+
+#[test]
+fn refused_addresses(rt: HostRuntime) {
+    let refused = "\"10.0.0.256:80\"
+\"256.0.0.1:80\"
+\"10.0.0.05:80\"
+\"010.0.0.5:80\"
+\"10.0.0:80\"
+\"10.0.0.5.6:80\"
+\"10..0.5:80\"
+\".0.0.5:80\"
+\"10.0.0.:80\"
+\"10.0.0.5:0\"
+\"10.0.0.5:65536\"
+\"10.0.0.5:080\"
+\"10.0.0.5:+80\"
+\"10.0.0.5:\"
+\"10.0.0.5\"
+\"10.0.0.5:80:80\"
+\"10.0.0.5:80 \"
+\" 10.0.0.5:80\"
+\"10.0.0.-5:80\"
+\"10.0.0.0x5:80\"
+\"10.0.0.18446744073709551616:80\"
+\"[::1]:80\"
+\"::1:80\"
+\"localhost:80\"
+\"n0.example.org:80\"
+\":80\"
+\"\"
+8083
+null
+[\"10.0.0.5:80\"]";
+    for network in ["\"network\":true,", "\"network\":false,", ""] {
+        assert_addresses(&rt, rt.alloc(), network, refused, "bad config");
+    }
+}
+
+#[test]
+fn networks(rt: HostRuntime) {
+    let rows = "\"kept\" = \"network\":true,\"kept\"
+\"kept\" = \"network\":false,\"kept\"";
+    assert_reported(&rt, rt.alloc(), rows, "taken");
+    let rows = "\"kept\" = \"network\":\"true\",\"kept\"
+\"kept\" = \"network\":1,\"kept\"
+\"kept\" = \"network\":null,\"kept\"
+\"kept\" = \"network\":[],\"kept\"
+\"workers\":16} = \"workers\":16,\"listen\":\"0.0.0.0:9001\"}
+127.0.0.1:9001 = 10.0.0.5:9001";
+    assert_reported(&rt, rt.alloc(), rows, "bad config");
+}
+
+// Asserts where the first node and the first broker of a config are reached and listen.
+fn assert_listen(rt: &impl Abort, alloc: Global, text: &str, wanted: &str) {
+    let config = read_config(alloc, text.as_bytes()).expect(rt, "a config");
+    let (node, broker) = (&config.nodes()[0], &config.brokers()[0]);
+    let parts = format!(in alloc;
+        "{} {}, {} {}",
+        node.address(),
+        node.listen(),
+        broker.address(),
+        broker.listen()
+    )
+    .expect(rt, "memory");
+    assert!(rt; parts.as_str() == wanted, "{parts}");
+}
+
+#[test]
+fn listens(rt: HostRuntime) {
+    let alloc = rt.alloc();
+    let own = "127.0.0.1:65535 127.0.0.1:65535, 127.0.0.1:9001 127.0.0.1:9001";
+    assert_listen(&rt, alloc, whole(), own);
+    let text = with_address(&rt, alloc, "", "listen", "\"127.0.0.1:80\"");
+    let node = "127.0.0.1:65535 127.0.0.1:80, 127.0.0.1:9001 127.0.0.1:9001";
+    assert_listen(&rt, alloc, text.as_str(), node);
+    let row = "\"workers\":16,\"listen\":\"0.0.0.0:9001\"}],\"network\":true";
+    let text = changed(&rt, alloc, "\"workers\":16}]", row);
+    let broker = "127.0.0.1:65535 127.0.0.1:65535, 127.0.0.1:9001 0.0.0.0:9001";
+    assert_listen(&rt, alloc, text.as_str(), broker);
+}

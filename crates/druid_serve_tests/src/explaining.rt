@@ -96,6 +96,47 @@ fn fields_of_statuses(rt: HostRuntime) {
 }
 
 #[test]
+fn fields_of_a_network(rt: HostRuntime) {
+    let rows =
+        "\"turns\":1000000 = \"turns\":1000000,\"network\":1 -> network: not true or false
+\"nodes\" = \"network\":\"yes\",\"node\" -> network: not true or false
+\"turns\":1000000 = \"turns\":1000000,\"network\":1,\"patience\":0 -> patience: not a number from 1 to 3600000
+127.0.0.1:65535 = 10.0.0.5:80 -> nodes[0].address: not 127.0.0.1: and a port from 1 to 65535
+127.0.0.1:9001 = 10.0.0.5:80 -> brokers[0].address: not 127.0.0.1: and a port from 1 to 65535
+\"workers\":1} = \"workers\":1,\"listen\":\"0.0.0.0:1\"} -> nodes[0].listen: not 127.0.0.1: and a port from 1 to 65535
+\"workers\":16} = \"workers\":16,\"listen\":\"0.0.0.0:1\"} -> brokers[0].listen: not 127.0.0.1: and a port from 1 to 65535
+\"workers\":1} = \"workers\":1,\"listen\":null,\"front\":257} -> nodes[0].front: not a number from 0 to 256
+\"workers\":16} = \"workers\":16,\"listen\":\"\",\"front\":257} -> brokers[0].front: not a number from 0 to 256
+\"workers\":1} = \"workers\":1,\"listen\":\"127.0.0.1:1\"} -> 
+\"workers\":16} = \"workers\":16,\"listen\":\"127.0.0.1:1\"} -> ";
+    for row in rows.lines() {
+        assert_field(&rt, rt.alloc(), row);
+    }
+    let rows =
+        "127.0.0.1:65535 = 10.0.0.256:80 -> nodes[0].address: not an IPv4 address, a colon and a port from 1 to 65535
+127.0.0.1:9001 = localhost:9001 -> brokers[0].address: not an IPv4 address, a colon and a port from 1 to 65535
+\"workers\":1} = \"workers\":1,\"status\":\"10.0.0.5\"} -> nodes[0].status: not an IPv4 address, a colon and a port from 1 to 65535
+\"workers\":16} = \"workers\":16,\"status\":8083} -> brokers[0].status: not an IPv4 address, a colon and a port from 1 to 65535
+\"workers\":1} = \"workers\":1,\"listen\":\"[::]:80\"} -> nodes[0].listen: not an IPv4 address, a colon and a port from 1 to 65535
+\"workers\":16} = \"workers\":16,\"listen\":\"*:80\"} -> brokers[0].listen: not an IPv4 address, a colon and a port from 1 to 65535
+\"workers\":16} = \"workers\":16,\"listen\":\"0.0.0.0:80\"} -> ";
+    for row in rows.lines() {
+        assert_network_field(&rt, rt.alloc(), row);
+    }
+}
+
+// The same of a config of a network.
+fn assert_network_field(rt: &impl Abort, alloc: Global, row: &str) {
+    let (from, rest) = halves(rt, row, " = ");
+    let (to, wanted) = halves(rt, rest, " -> ");
+    let text = changed(rt, alloc, from, to);
+    let (_, rest) = halves(rt, text.as_str(), "{");
+    let text = format!(in alloc; "{{\"network\":true,{rest}").expect(rt, "memory");
+    let reported = field_of(rt, alloc, text.as_str());
+    assert!(rt; reported.as_str() == wanted, "{row}: {reported}");
+}
+
+#[test]
 fn nodes(rt: HostRuntime) {
     let reported = field_of(&rt, rt.alloc(), with_doubled(&rt, rt.alloc()).as_str());
     assert!(rt;

@@ -259,22 +259,28 @@ fn watched_folder(rt: HostRuntime) {
     assert_watched(&rt, rt.alloc());
 }
 
-// Of two starts over one config the second is refused its address before it raises the incarnation; a start that listens last raises
-// it all the same.
+// Of two starts over one config the second is refused its address, and of two over one folder at other addresses the second is refused
+// the folder, however it starts: neither raises the incarnation. Once the first has ended, another has the folder.
 fn assert_owned<R: Host + Net<Listener = TcpListener, Stream = TcpStream>>(rt: &R, alloc: Global) {
     let folder = fresh_folder(rt, alloc, "druid_serve_owned");
     let address = free_address(rt, alloc);
-    let config = config(rt, alloc, address.as_str(), folder.as_str(), "", 0, 1);
-    let node = config.nodes().first().expect(rt, "a node");
+    let one = config(rt, alloc, address.as_str(), folder.as_str(), "", 0, 1);
+    let node = one.nodes().first().expect(rt, "a node");
     let log = quiet_log(rt, alloc);
     let first = start_owner::<R, Brand, Brand>(rt, alloc, node, 10, &log).expect(
         rt,
         "a node that starts",
     );
-    first.join(rt);
+    let first = first.join(rt);
+    let other = free_address(rt, alloc);
+    let two = config(rt, alloc, other.as_str(), folder.as_str(), "", 0, 1);
+    let second = two.nodes().first().expect(rt, "a node");
     assert!(rt; start_owner::<R, Brand, Brand>(rt, alloc, node, 10, &log).is_err());
+    assert!(rt; start_owner::<R, Brand, Brand>(rt, alloc, second, 10, &log).is_err());
+    assert!(rt; start_node::<R, Brand, Brand>(rt, alloc, second, 10, &log).is_err());
     assert!(rt; incarnation(rt, alloc, folder.as_str()).as_slice() == b"1\n".as_slice());
-    assert!(rt; start_node::<R, Brand, Brand>(rt, alloc, node, 10, &log).is_err());
+    drop(first);
+    assert!(rt; start_node::<R, Brand, Brand>(rt, alloc, second, 10, &log).is_ok());
     assert!(rt; incarnation(rt, alloc, folder.as_str()).as_slice() == b"2\n".as_slice());
     fs::remove_dir_all(rt, folder.as_str()).expect(rt, "a folder");
 }

@@ -35,6 +35,7 @@ NamesFile name why (cause.File file fault) = (string_bytes file ≡ name) × (fa
 NamesFile name why (cause.Incarnation fault) = ⊥
 NamesFile name why (cause.Names fault) = ⊥
 NamesFile name why (cause.Tombstone place fault) = ⊥
+NamesFile name why cause.Owner = ⊥
 NamesFile name why cause.Listener = ⊥
 NamesFile name why cause.Status = ⊥
 NamesFile name why cause.Memory = ⊥

@@ -100,6 +100,8 @@ pub enum Cause {
     Names(StoreFault),
     /// The tombstone at a place of the node's list, from 0.
     Tombstone(usize, NodeFault),
+    /// The folder, which another server has.
+    Owner,
     /// The socket that listens.
     Listener,
     /// The socket of the status address.

@@ -53,8 +53,8 @@ impl Stop<ClusterFault> {
     pub fn at_broker(alloc: Global, place: usize, broker: &BrokerConfig) -> Stop<ClusterFault>
         ensures { result.fault ≡ Device }
     {
-        let address = broker.address();
-        Stop::device(format!(in alloc; "brokers[{place}].address: listening on {address}").ok())
+        let (listen, key) = (broker.listen(), listen_key(broker.address(), broker.listen()));
+        Stop::device(format!(in alloc; "brokers[{place}].{key}: listening on {listen}").ok())
     }
 
     /// The broker at a place does not listen at its status address.
@@ -77,9 +77,15 @@ impl Stop<ClusterFault> {
     }
 }
 
+// The key of a config that says where a server listens.
+fn listen_key(address: &str, listen: &str) -> &'static str {
+    if listen == address { "address" } else { "listen" }
+}
+
 // What kept the node at a place from its start.
 fn node_reason(alloc: Global, place: usize, node: &NodeConfig, cause: &Cause) -> Option<String> {
-    let (folder, address) = (node.folder(), node.address());
+    let (folder, listen) = (node.folder(), node.listen());
+    let key = listen_key(node.address(), listen);
     let text = match cause {
         Cause::File(name, fault) => {
             format!(in alloc; "nodes[{place}].folder: {folder}/{name}: {fault}")
@@ -91,7 +97,8 @@ fn node_reason(alloc: Global, place: usize, node: &NodeConfig, cause: &Cause) ->
         Cause::Tombstone(at, fault) => format!(in alloc;
             "nodes[{place}].tombstones[{at}]: {fault}"
         ),
-        Cause::Listener => format!(in alloc; "nodes[{place}].address: listening on {address}"),
+        Cause::Owner => format!(in alloc; "nodes[{place}].folder: {folder}: another server has it"),
+        Cause::Listener => format!(in alloc; "nodes[{place}].{key}: listening on {listen}"),
         Cause::Status => format!(in alloc;
             "nodes[{place}].status: listening on {}",
             node.status().unwrap_or("")

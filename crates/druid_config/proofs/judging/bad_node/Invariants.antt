@@ -5,4 +5,4 @@ use Rattle.druid_config.specs.Configs.{node_at}
 use Rattle.druid_config.proofs.judging.bad_node.Given as goal
 
 abbrev pub invariant-loop-place : goal.invariant-loop-place
-invariant-loop-place l = list_all (λ value. is_some (node_at (view value))) (drop l.place l.values) ≡ list_all (λ value. is_some (node_at (view value))) l.values
+invariant-loop-place l = list_all (λ value. is_some (node_at l.network (view value))) (drop l.place l.values) ≡ list_all (λ value. is_some (node_at l.network (view value))) l.values
