@@ -198,14 +198,11 @@ class Run:
         finally:
             self.cluster.ends()
             shutil.rmtree(self.folder, ignore_errors=True)
-        if __import__('os').environ.get('PROF'):
-            import cProfile
-            cProfile.runctx('Judge(self.plan, history, self.model, self.rules, self.queries).all()', {'Judge': Judge}, {'self': self, 'history': history}, '/tmp/hC.prof')
         end = history.now()
         counts = Judge(self.plan, history, self.model, self.rules, self.queries).all()
         return {'answers': len(history.answers), 'whole': counts['whole'], 'partial': counts['partial'], 'none': counts['none'],
                 'seconds': round(end, 1), 'judged': round(history.now() - end, 1), 'settled': self.settled and round(self.settled, 2),
-                'stall': round(max((late for _, late in history.stalls), default=0), 2), 'faults': self.shown_faults()}
+                'stall': round(max((late for _, late in history.stalls), default=0), 2), 'count': len(history.faults), 'faults': self.shown_faults()}
 
     def shown_faults(self):
         """Each fault, the first with what happened around it."""
