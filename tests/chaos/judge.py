@@ -47,6 +47,7 @@ class Judge:
             if not fitting:
                 return self.history.fault(self.unexplained(answer, day, masks, of_day, lost, query), answer.came)
             found.append(fitting)
+            self.none_had(answer, lost)
         self.in_time(answer)
         if rows != sorted(rows, key=lambda row: row['timestamp']):
             self.history.fault(f'{answer.broker}: rows of later buckets come first', answer.came)
@@ -72,6 +73,15 @@ class Judge:
         life = history.life_at(answer.broker, answer.sent, answer.came)
         if life and life.ready <= answer.sent and not disturbed and (answer.status is None or answer.came - answer.sent > most):
             history.fault(f'{answer.broker} has not answered a query of {answer.sent:.3f} by {answer.came:.3f}: {answer.body}', answer.came)
+
+    def none_had(self, answer, lost):
+        """What is missing no node had that the broker surely knew to have it, that ran, and to which nothing lay on the way."""
+        life = self.history.life_at(answer.broker, answer.sent, answer.came)
+        for file in self.plan.files if life and lost else ():
+            if any((rules_span(file), file.part, file.version) == (chunk, part, version) for chunk, _, part, version in lost):
+                for node in self.plan.nodes:
+                    if self.model.has_for_sure(answer.broker, life, node, file, answer.sent, answer.came):
+                        self.history.fault(f'{answer.broker} answers at {answer.sent:.3f} to {answer.came:.3f} that {file.name} is missing, which {node} has', answer.came)
 
     # One answer after another
 
@@ -137,6 +147,10 @@ class Judge:
                 if min(numbers) <= most:
                     self.history.fault(f'{node} shows incarnation {min(numbers)} after {most}', of_life[0].came)
                 most = max(most, *numbers)
+
+
+def rules_span(file):
+    return plain.span(file.start, file.end)
 
 
 def history_stall(history, answer):

@@ -11,6 +11,7 @@ from data import DAYS
 from history import NEVER
 
 TURN, LOOK = .25, .25  # For how long a turn, and a look, may last on a machine that has nothing else to do.
+STALL = .1  # Where threads wake so late, a turn need not succeed.
 
 # A broker makes turns with a node from `first` at the latest to `until`, none of which begins before `begin`.
 Turns = collections.namedtuple('Turns', 'begin first until')
@@ -36,12 +37,13 @@ class Model:
         self.turns_known = {}
 
     def unclear(self, broker, node):
-        """When a turn of a broker with a node need not succeed, while the broker runs."""
+        """When a turn of a broker with a node need not succeed, and whether it may hang then: a node that does not run refuses at once."""
         history = self.history
         runs = sorted((it.ready, it.killed) for it in history.lives[node] if not it.has_fallen and it.ready < NEVER)
         starts, ends = [-NEVER, *(end for _, end in runs)], [*(begin for begin, _ in runs), NEVER]
         links = [(begin, end) for begin, end, whom, _ in history.links if whom in (broker, node, (node, broker))]
-        return [*zip(starts, ends), *links, *history.pauses[node], *history.pauses[broker]]
+        stalls = [(when - late - .1, when + .1) for when, late in history.stalls if late > STALL]
+        return [(*it, False) for it in zip(starts, ends)] + [(*it, True) for it in [*links, *stalls, *history.pauses[node], *history.pauses[broker]]]
 
     def turns(self, broker, life, node):
         """When turns are made for sure."""
@@ -50,14 +52,14 @@ class Model:
         return self.turns_known[broker, life, node]
 
     def find_turns(self, broker, life, node):
-        found, good = [], life.start
-        for begin, until in without(life.ready, life.killed, self.unclear(broker, node)):
+        found, failing, spans = [], life.start, self.unclear(broker, node)
+        for begin, until in without(life.start, life.killed, [it[:2] for it in spans]):
             # A turn that hangs ends within the patience; the rest after it is no longer than turns have failed, but for two of `every`.
-            first = begin + self.patience + (begin + self.patience - good) + 2 * self.every
-            turn = TURN + self.history.stall_near(begin)
-            if first + turn <= until:
+            hang = self.patience if any(hangs and one <= begin and failing <= other for one, other, hangs in spans) else 0
+            first = life.ready + self.every if begin == life.start else begin + hang + (begin + hang - failing) + 2 * self.every
+            if first + TURN + self.history.stall_near(begin) <= until:
                 found.append(Turns(begin, first, until))
-                good = until - self.every - 2 * turn
+                failing = until
         return found
 
     def window(self, broker, life, node, at):
@@ -123,6 +125,14 @@ class Model:
     def holders(self, broker, life, file, sent, came):
         """The nodes that a broker may know to serve a file when it answers."""
         return [node for node in self.plan.nodes if any(mask & file.bit for mask in self.known(broker, life, node, sent, came))]
+
+    def has_for_sure(self, broker, life, node, file, sent, came):
+        """Whether a broker that answers knows that a node serves a file, and gets it of the node where it asks."""
+        window = self.window(broker, life, node, sent)
+        owner = self.history.life_at(node, window.begin, came)
+        if not window.is_sure or not owner or any(one <= came and sent - .1 <= other for one, other, _ in self.unclear(broker, node)):
+            return False
+        return all(mask & file.bit for mask in self.lies(node, self.look_before(node, owner, window.begin), came))
 
     def stays(self, node, file, one, other):
         """Whether a file that a folder has from one time on, or some time after, stays until another."""

@@ -11,8 +11,8 @@ BROKERS = 2
 Step = collections.namedtuple('Step', 'at what server words')
 
 # How often each fault is drawn, and for how many seconds it lasts at most.
-PROCESS_FAULTS = {'kill': (5, 2.0), 'pause': (4, 1.8), 'lose': (1, 1.5), 'fill': (1, 2.0)}
-LINK_FAULTS = {'unplug': (3, 1.8), 'cut': (5, 2.2), 'slow': (3, 2.0), 'drop': (3, 2.0)}
+PROCESS_FAULTS = {'kill': (5, 1.5), 'pause': (4, 1.5), 'lose': (1, 1.0), 'fill': (1, 1.5)}
+LINK_FAULTS = {'unplug': (3, 1.5), 'cut': (5, 1.5), 'slow': (3, 1.5), 'drop': (3, 1.5)}
 
 
 class Plan:
@@ -24,7 +24,7 @@ class Plan:
         self.nodes = [f'n{place}' for place in range(draw.randint(3, 5))]
         self.brokers = [f'b{place}' for place in range(BROKERS)]
         self.every, self.watch = draw.choice([40, 80, 150]), draw.choice([40, 80])
-        self.patience, self.kept, self.turns = draw.choice([600, 1000]), draw.choice([1, 3, 100]), draw.choice([0, 1])
+        self.patience, self.kept, self.turns = draw.choice([400, 700]), draw.choice([1, 3, 100]), draw.choice([0, 1])
         self.first = {node: draw.sample(range(100), 1)[0] + 10 for node in self.nodes}  # The incarnations that were.
         self.there = {node: 0 for node in self.nodes}
         for it in self.files:
@@ -80,7 +80,7 @@ def draw_faults(draw, nodes, brokers):
             if busy[server, kind] < at:
                 busy[server, kind] = over
                 steps += more
-        at += draw.expovariate(2.2)
+        at += draw.expovariate(1.3)
     return steps
 
 
