@@ -15,6 +15,7 @@ from served import ASK, PROGRAM, request
 
 PORT = 8083
 ROOM = '512k'  # Of a node's file system.
+LATE = .06  # Seconds after which a thread has woken late, or a server answered late.
 
 
 def exchange(address, method, target, body=b'', wait=6):
@@ -247,6 +248,9 @@ class Cluster:
             status, body = exchange(self.place.addresses[server], 'GET', target, wait=1)
             if status == 200:
                 self.history.seen.append(Seen(sent, self.history.now(), server, node, *mark_of(body)))
+        now = self.history.now()
+        if now - sent > LATE and not self.history.is_disturbed(server, sent, now):
+            self.history.stalls.append((now, now - sent))
 
     def uses(self, name):
         """Memory in KiB and open files of a process; None where it does not run."""

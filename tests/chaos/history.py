@@ -60,8 +60,14 @@ class History:
         if spans and spans[-1][1] == NEVER:
             spans[-1][1] = self.now()
 
+    def is_disturbed(self, server, one, other):
+        """Whether a server did not run from one time to another, or something befell it or its link shortly before or meanwhile."""
+        life = self.life_at(server, one, other)
+        links = [(begin, end) for begin, end, whom, _ in self.links if whom == server]
+        return not life or life.ready > one or overlap([*links, *self.pauses[server]], one - 2, other)
+
     def stall_near(self, at):
-        """How late threads woke at most in the seconds around a time: the machine had other things to do."""
+        """How late threads woke, or servers answered that nothing befell, in the seconds around a time: the machine had other things to do."""
         return max((late for when, late in self.stalls if at - 3 <= when <= at + 1), default=0)
 
     def text(self, one, other):

@@ -67,12 +67,9 @@ class Judge:
 
     def in_time(self, answer):
         """A broker that runs, and to which nothing lies on the way, answers each query within what exchanges with all nodes may take."""
-        history, most = self.history, len(self.plan.nodes) * self.plan.patience / 1000 + 2 + history_stall(self.history, answer)
-        links = [(begin, end) for begin, end, whom, _ in history.links if whom == answer.broker]
-        disturbed = any(begin <= answer.came and answer.sent - 2 <= end for begin, end in [*links, *history.pauses[answer.broker]])
-        life = history.life_at(answer.broker, answer.sent, answer.came)
-        if life and life.ready <= answer.sent and not disturbed and (answer.status is None or answer.came - answer.sent > most):
-            history.fault(f'{answer.broker} has not answered a query of {answer.sent:.3f} by {answer.came:.3f}: {answer.body}', answer.came)
+        most = len(self.plan.nodes) * self.plan.patience / 1000 + 2 + 6 * self.history.stall_near(answer.came)
+        if (answer.status is None or answer.came - answer.sent > most) and not self.history.is_disturbed(answer.broker, answer.sent, answer.came):
+            self.history.fault(f'{answer.broker} has not answered a query of {answer.sent:.3f} by {answer.came:.3f}: {answer.body}', answer.came)
 
     def none_had(self, answer, lost):
         """What is missing no node had that the broker surely knew to have it, that ran, and to which nothing lay on the way."""
@@ -152,6 +149,3 @@ class Judge:
 def rules_span(file):
     return plain.span(file.start, file.end)
 
-
-def history_stall(history, answer):
-    return history.stall_near(answer.came)

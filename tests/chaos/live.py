@@ -8,7 +8,7 @@ import tempfile
 import threading
 import time
 
-from cluster import Cluster, exchange
+from cluster import LATE, Cluster, exchange
 from data import DAYS, Rules, draw_query, whole
 from history import Answer, History
 from judge import MORE_MEMORY, MOST_FILES, Judge
@@ -25,6 +25,7 @@ LAST = 4  # Queries to each broker once it has settled.
 class Run:
     def __init__(self, seed, has_links):
         self.plan, self.history, self.over = Plan(seed), History(), threading.Event()
+        self.plan.patience *= 3 if has_checks() else 1  # Such a program is slow.
         self.folder = tempfile.mkdtemp(prefix='druid_cluster_chaos_')
         self.place = (Namespaces if has_links else Loopback)([*self.plan.nodes, *self.plan.brokers])
         self.cluster = Cluster(self.plan, self.place, self.folder, self.history)
@@ -85,7 +86,7 @@ class Run:
             before = time.monotonic()
             time.sleep(.02)
             late = time.monotonic() - before - .02
-            if late > .03:
+            if late > LATE:
                 self.history.stalls.append((self.history.now(), late))
 
     # The parts of a run

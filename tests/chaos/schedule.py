@@ -54,8 +54,9 @@ def process_fault(draw, server, at, is_node):
         killed = [Step(at + .1, 'kill', server, ()), Step(at + .2, 'start', server, ())] if draw.random() < .5 else []
         return [Step(at, 'fill', server, ()), *killed, Step(over, 'free', server, ())], over
     mended = over + draw.uniform(.3, 1.5)
-    return [Step(at, 'kill', server, ()), Step(at + .05, 'lose', server, ()), Step(over, 'start', server, ()),
-            Step(mended, 'mend', server, (draw.random() < .6,))], mended
+    # It is mended before it is started, as it is to be, or started first, below what brokers hold.
+    begun = [Step(over, 'start', server, ())] if draw.random() < .5 else []
+    return [Step(at, 'kill', server, ()), Step(at + .05, 'lose', server, ()), *begun, Step(mended, 'mend', server, (draw.random() < .6,))], mended
 
 
 def link_fault(draw, nodes, brokers, at):
