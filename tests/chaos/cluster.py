@@ -78,9 +78,9 @@ class Cluster:
     def part(self, name):
         return name if name in self.plan.nodes else f'broker:{self.plan.brokers.index(name)}'
 
-    def start(self, name):
+    def start(self, name, is_mended=False):
         history = self.history
-        life = Life(history.now(), has_fallen=name in self.lost)
+        life = Life(history.now(), name in self.lost, is_mended)
         history.say(f'{name} is started')
         environment = {**os.environ, 'DRUID_CLUSTER_PART': self.part(name), 'DRUID_CLUSTER_LOG': 'info', 'DRUID_CLUSTER_EXPLAIN': '1'}
         process = subprocess.Popen([*self.place.prefix(name), PROGRAM, 'serve', f'{self.folder}/config.json'], stdin=subprocess.DEVNULL,
@@ -188,7 +188,7 @@ class Cluster:
         for it in self.plan.files:
             if brings_back and mask & it.bit:
                 self.move(node, it, 'in')
-        self.start(node)
+        self.start(node, is_mended=True)
 
     def fill(self, node):
         if not self.place.has_links:

@@ -14,10 +14,10 @@ NEVER = float('inf')
 
 
 class Life:
-    """A process from its start to its end. A node that lost its folder has fallen until it is mended."""
+    """A process from its start to its end. A node that lost its folder has fallen where it is started before it is mended."""
 
-    def __init__(self, start, has_fallen=False):
-        self.start, self.ready, self.has_fallen = start, NEVER, has_fallen
+    def __init__(self, start, has_fallen, is_mended):
+        self.start, self.ready, self.has_fallen, self.is_mended = start, NEVER, has_fallen, is_mended
         self.killed = self.end = NEVER  # From before it was ended to after.
         self.status = None  # Where it ended by itself.
 

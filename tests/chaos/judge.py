@@ -78,7 +78,8 @@ class Judge:
             if any((rules_span(file), file.part, file.version) == (chunk, part, version) for chunk, _, part, version in lost):
                 for node in self.plan.nodes:
                     if self.model.has_for_sure(answer.broker, life, node, file, answer.sent, answer.came):
-                        self.history.fault(f'{answer.broker} answers at {answer.sent:.3f} to {answer.came:.3f} that {file.name} is missing, which {node} has', answer.came)
+                        self.history.fault(f'{answer.broker} answers at {answer.sent:.3f} to {answer.came:.3f} that {file.name} is missing, which {node} '
+                                           'has', answer.came)
 
     # One answer after another
 
@@ -94,7 +95,7 @@ class Judge:
                 goes_back = old[hour] and new[hour] is not Ellipsis and old[hour] is not Ellipsis and (new[hour] or ('',)) < old[hour]
                 if goes_back and self.must_stay(life, before, after, old[hour]):
                     self.history.fault(f'{after.broker} showed {old[hour][0]} of day {day}, {hour}:00 at {before.sent:.3f} to {before.came:.3f}, and '
-                                       f'{new[hour] and new[hour][0]} at {after.sent:.3f} to {after.came:.3f}, while the files of {old[hour][0]} stay', after.came)
+                                       f'{new[hour] and new[hour][0]} at {after.sent:.3f} to {after.came:.3f}, while its files stay', after.came)
                     return
 
     def visible(self, masks, day):
@@ -131,10 +132,10 @@ class Judge:
 
     def incarnations(self, node):
         most, seen = self.plan.first[node], sorted((it for it in self.history.seen if it.node == node), key=lambda it: it.sent)
-        for before, life in zip([None, *self.history.lives[node]], self.history.lives[node]):
+        for life in self.history.lives[node]:
             of_life = [it for it in seen if it.server == node and life.ready <= it.sent and it.came <= life.killed]
             numbers = {it.incarnation for it in of_life}
-            if before and before.has_fallen:  # What no broker has heard of is lost with the folder, and may come again.
+            if life.is_mended:  # What no broker has heard of is lost with the folder, and may come again.
                 most = max((it.incarnation for it in seen if it.server != node and it.came <= life.start), default=most)
             if len(numbers) > 1 or of_life != sorted(of_life, key=lambda it: (it.count, it.sent)):
                 self.history.fault(f'{node} shows {[(it.incarnation, it.count) for it in of_life]} in one life', of_life[-1].came)

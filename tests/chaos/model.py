@@ -130,7 +130,8 @@ class Model:
         """Whether a broker that answers knows that a node serves a file, and gets it of the node where it asks."""
         window = self.window(broker, life, node, sent)
         owner = self.history.life_at(node, window.begin, came)
-        if not window.is_sure or not owner or any(one <= came and sent - .1 <= other for one, other, _ in self.unclear(broker, node)) or self.history.stall_near(came):
+        disturbed = any(one <= came and sent - .1 <= other for one, other, _ in self.unclear(broker, node)) or self.history.stall_near(came)
+        if not window.is_sure or not owner or disturbed:
             return False
         return all(mask & file.bit for mask in self.lies(node, self.look_before(node, owner, window.begin), came))
 

@@ -52,7 +52,8 @@ class Namespaces:
         run('mount', '-t', 'tmpfs', 'tmpfs', '/run/netns')
         run('ip', '-batch', '-', given='link set lo up\nlink add name bridge0 type bridge\nlink set bridge0 up\naddr add 10.66.0.1/24 dev bridge0\n')
         for name, address in self.addresses.items():
-            run('ip', '-batch', '-', given=f'netns add {name}\nlink add name v-{name} type veth peer name eth0 netns {name}\nlink set v-{name} master bridge0 up\n')
+            run('ip', '-batch', '-', given=f'netns add {name}\nlink add name v-{name} type veth peer name eth0 netns {name}\n'
+                                           f'link set v-{name} master bridge0 up\n')
             run('ip', '-n', name, '-batch', '-', given=f'link set lo up\naddr add {address}/24 dev eth0\nlink set eth0 up\n')
             if self.drops:
                 self.nft(name, 'add table ip f\nadd chain ip f in { type filter hook input priority 0; }\n')
