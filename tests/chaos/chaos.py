@@ -40,6 +40,7 @@ from served import PROGRAM, TOP, need_program, parser_of  # noqa: E402
 
 PLANTS = sorted(name.removesuffix('.patch') for name in os.listdir(f'{HERE}/plants'))
 SECONDS = 180  # For one seed.
+SUMS = ('answers', 'whole', 'partial', 'stale', 'found')
 
 
 def seeds_of(text):
@@ -76,14 +77,14 @@ def shown(seed, run):
     """A line for a run, and below it what is wrong."""
     if isinstance(run, str):
         return f'seed {seed} came to nothing:\n{run}'
-    line = (f'seed {seed}: {run["answers"]} answers, {run["whole"]} whole, {run["partial"]} partial, {run["none"]} none; settled after '
-            f'{run["settled"]} s, {run["seconds"]} s in all')
+    line = (f'seed {seed}: {run["answers"]} answers, {run["whole"]} whole, {run["partial"]} partial, {run["none"]} none; of stale ones {run["found"]} of '
+            f'{run["stale"]} would be wrong; settled after {run["settled"]} s, {run["seconds"]} s in all')
     return '\n'.join([line, *run['faults']])
 
 
 def run_all(seeds, jobs, has_links, program, ends):
     """Runs seeds until `ends` says so. How many there were, and what they counted."""
-    totals, seeds = {'seeds': 0, 'answers': 0, 'whole': 0, 'partial': 0, 'faults': 0}, iter(seeds)
+    totals, seeds = {'seeds': 0, 'faults': 0, **dict.fromkeys(SUMS, 0)}, iter(seeds)
     with concurrent.futures.ThreadPoolExecutor(jobs) as pool:
         def more(count):
             return {pool.submit(run_one, seed, has_links, program): seed for seed in itertools.islice(seeds, 0 if ends(totals) else count)}
@@ -95,7 +96,7 @@ def run_all(seeds, jobs, has_links, program, ends):
                 print(shown(seed, run), flush=True)
                 totals['seeds'] += 1
                 totals['faults'] += 1 if isinstance(run, str) else run['count']
-                for key in ('answers', 'whole', 'partial') if isinstance(run, dict) else ():
+                for key in SUMS if isinstance(run, dict) else ():
                     totals[key] += run[key]
             going.update(more(len(done)))
     return totals
@@ -145,6 +146,7 @@ def main():
     end = time.monotonic() + 60 * asked.minutes if asked.minutes else None
     seeds = itertools.count(asked.seeds[0]) if end else asked.seeds
     totals = run_all(seeds, asked.jobs, has_links, PROGRAM, lambda _: end and time.monotonic() > end)
+    print('of answers as they were 2 s before and more, {found:,} of {stale:,} would be wrong'.format(**totals))
     print('{seeds} seeds, {answers:,} answers, {whole:,} whole, {partial:,} partial, {faults} faults'.format(**totals))
     return 1 if totals['faults'] else 0
 

@@ -6,6 +6,7 @@ import rules as plain
 from data import DAYS, HOUR, day_of
 
 MORE_MEMORY, MOST_FILES = 65_536, 120  # KiB more than after the start, and open files.
+LONG = 2  # Seconds.
 
 
 class Judge:
@@ -23,6 +24,7 @@ class Judge:
                     self.goes_on(last, (answer, shown))
                 before[answer.broker] = answer, shown
         self.marks()
+        self.stale()
         return self.counts
 
     # Answers
@@ -35,30 +37,50 @@ class Judge:
         if answer.status not in (200, 503):
             return self.history.fault(f'{answer.broker} answers {answer.status}: {answer.body[:300]}', answer.came)
         self.counts['whole' if answer.status == 200 else 'partial'] += 1
-        body = json.loads(answer.body)
-        rows, missing = (body, []) if answer.status == 200 else (body['partial'], body['missing'])
+        rows, missing = self.parts(answer)
         if answer.status == 503 and not self.are_slices(missing):
             return self.history.fault(f'{answer.broker}: nothing is missing, or twice, or in another order: {missing}', answer.came)
-        found, query = [], self.queries[answer.broker, answer.client, answer.place]
+        if rows != sorted(rows, key=lambda row: row['timestamp']):
+            self.history.fault(f'{answer.broker}: rows of later buckets come first', answer.came)
+        self.in_time(answer)
+        found = self.fitting(answer)
+        for day, (masks, fitting, of_day, lost) in enumerate(found):
+            if not fitting:
+                return self.history.fault(self.unexplained(answer, day, masks, of_day, lost), answer.came)
+            self.none_had(answer, lost)
+        return [fitting for _, fitting, _, _ in found]
+
+    @staticmethod
+    def parts(answer):
+        body = json.loads(answer.body)
+        return (body, []) if answer.status == 200 else (body['partial'], body['missing'])
+
+    def fitting(self, answer):
+        """Of each day the sets of files that may be known, those of them that explain the answer, and its rows and what is missing."""
+        rows, missing = self.parts(answer)
+        query, found = self.queries[answer.broker, answer.client, answer.place], []
         for day, masks in enumerate(self.model.possible(self.rules, answer)):
             of_day = [row for row in rows if day_of(row['timestamp']) == day]
             lost = frozenset((it['chunk'], it['itvl'], it['part'], it['ver']) for it in missing if day_of(it['itvl'].split('/')[0]) == day)
-            fitting = [mask for mask in masks if self.rules.expected(mask, day, query, lost) == of_day]
-            if not fitting:
-                return self.history.fault(self.unexplained(answer, day, masks, of_day, lost, query), answer.came)
-            found.append(fitting)
-            self.none_had(answer, lost)
-        self.in_time(answer)
-        if rows != sorted(rows, key=lambda row: row['timestamp']):
-            self.history.fault(f'{answer.broker}: rows of later buckets come first', answer.came)
+            found.append((masks, [mask for mask in masks if self.rules.expected(mask, day, query, lost) == of_day], of_day, lost))
         return found
+
+    def stale(self):
+        """How many answers would be wrong if they were the latest other one from so long before, and of how many: what the model is worth."""
+        whole = [it for it in self.history.answers if it.client == 'client 0' and it.status == 200]
+        for answer in whole[::max(1, len(whole) // 40)]:
+            others = [it for it in whole if it.broker == answer.broker and it.came < answer.sent - LONG and it.body != answer.body]
+            if others:
+                self.counts['stale'] += 1
+                self.counts['found'] += not all(fitting for _, fitting, _, _ in self.fitting(answer._replace(body=others[-1].body)))
 
     @staticmethod
     def are_slices(missing):
         places = [(plain.instant(it['itvl'].split('/')[0]), it['part']) for it in missing]
         return bool(places) and places == sorted(set(places))
 
-    def unexplained(self, answer, day, masks, rows, lost, query):
+    def unexplained(self, answer, day, masks, rows, lost):
+        query = self.queries[answer.broker, answer.client, answer.place]
         lines = [f'{answer.broker} answers {answer.status} at {answer.sent:.3f} to {answer.came:.3f}, which no state explains; day {day}:',
                  f'    {plain.text(rows)}', f'    missing: {sorted(lost)}', f'    the query: {query.body.decode()}']
         for mask in sorted(masks)[:8]:

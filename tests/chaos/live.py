@@ -25,7 +25,7 @@ LAST = 4  # Queries to each broker once it has settled.
 class Run:
     def __init__(self, seed, has_links):
         self.plan, self.history, self.over = Plan(seed), History(), threading.Event()
-        self.plan.patience *= 3 if has_checks() else 1  # Such a program is slow.
+        self.plan.patience *= 2 if has_checks() else 1  # Such a program is slow.
         self.folder = tempfile.mkdtemp(prefix='druid_cluster_chaos_')
         self.place = (Namespaces if has_links else Loopback)([*self.plan.nodes, *self.plan.brokers])
         self.cluster = Cluster(self.plan, self.place, self.folder, self.history)
@@ -201,7 +201,7 @@ class Run:
             shutil.rmtree(self.folder, ignore_errors=True)
         end = history.now()
         counts = Judge(self.plan, history, self.model, self.rules, self.queries).all()
-        return {'answers': len(history.answers), 'whole': counts['whole'], 'partial': counts['partial'], 'none': counts['none'],
+        return {'answers': len(history.answers), 'whole': counts['whole'], 'partial': counts['partial'], 'none': counts['none'], 'stale': counts['stale'], 'found': counts['found'],
                 'seconds': round(end, 1), 'judged': round(history.now() - end, 1), 'settled': self.settled and round(self.settled, 2),
                 'stall': round(max((late for _, late in history.stalls), default=0), 2), 'count': len(history.faults), 'faults': self.shown_faults()}
 

@@ -11,7 +11,7 @@ from data import DAYS
 from history import NEVER
 
 TURN, LOOK = .25, .25  # For how long a turn, and a look, may last on a machine that has nothing else to do.
-STALL = .1  # Where threads wake so late, a turn need not succeed.
+STALL = 1 / 3  # Where threads wake late by so much of the patience, a turn need not succeed.
 
 # A broker makes turns with a node from `first` at the latest to `until`, none of which begins before `begin`.
 Turns = collections.namedtuple('Turns', 'begin first until')
@@ -42,7 +42,7 @@ class Model:
         runs = sorted((it.ready, it.killed) for it in history.lives[node] if not it.has_fallen and it.ready < NEVER)
         starts, ends = [-NEVER, *(end for _, end in runs)], [*(begin for begin, _ in runs), NEVER]
         links = [(begin, end) for begin, end, whom, _ in history.links if whom in (broker, node, (node, broker))]
-        stalls = [(when - late - .1, when + .1) for when, late in history.stalls if late > STALL]
+        stalls = [(when - late - .1, when + .1) for when, late in history.stalls if late > STALL * self.patience]
         return [(*it, False) for it in zip(starts, ends)] + [(*it, True) for it in [*links, *stalls, *history.pauses[node], *history.pauses[broker]]]
 
     def turns(self, broker, life, node):
@@ -56,7 +56,7 @@ class Model:
         for begin, until in without(life.start, life.killed, [it[:2] for it in spans]):
             # A turn that hangs ends within the patience; the rest after it is no longer than turns have failed, but for two of `every`.
             hang = self.patience if any(hangs and one <= begin and failing <= other for one, other, hangs in spans) else 0
-            first = life.ready + self.every if begin == life.start else begin + hang + (begin + hang - failing) + 2 * self.every
+            first = life.ready + self.every if begin == life.start else begin + hang + (begin - failing) + 2 * self.every
             if first + TURN + self.history.stall_near(begin) <= until:
                 found.append(Turns(begin, first, until))
                 failing = until

@@ -11,8 +11,8 @@ BROKERS = 2
 Step = collections.namedtuple('Step', 'at what server words')
 
 # How often each fault is drawn, and for how many seconds it lasts at most.
-PROCESS_FAULTS = {'kill': (5, 1.5), 'pause': (4, 1.5), 'lose': (1, 1.0), 'fill': (1, 1.5)}
-LINK_FAULTS = {'unplug': (3, 1.5), 'cut': (5, 1.5), 'slow': (3, 1.5), 'drop': (3, 1.5)}
+PROCESS_FAULTS = {'kill': (5, 1.2), 'pause': (4, 1.2), 'lose': (1, .8), 'fill': (1, 1.2)}
+LINK_FAULTS = {'unplug': (3, 1.2), 'cut': (5, 1.5), 'slow': (3, 1.5), 'drop': (3, 1.5)}
 
 
 class Plan:
@@ -81,7 +81,7 @@ def draw_faults(draw, nodes, brokers):
             if busy[server, kind] < at:
                 busy[server, kind] = over
                 steps += more
-        at += draw.expovariate(1.3)
+        at += draw.expovariate(.9)
     return steps
 
 
