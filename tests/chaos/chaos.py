@@ -23,11 +23,11 @@ times of what follows differ. It ends with 1 where something is wrong, and shows
 """
 import argparse
 import concurrent.futures
-import contextlib
 import itertools
 import json
 import os
 import shutil
+import signal
 import subprocess
 import sys
 import tempfile
@@ -40,6 +40,7 @@ from served import PROGRAM, TOP, need_program, parser_of  # noqa: E402
 
 PLANTS = sorted(name.removesuffix('.patch') for name in os.listdir(f'{HERE}/plants'))
 SECONDS = 180  # For one seed.
+CHILDREN = set()
 SUMS = ('answers', 'whole', 'partial', 'stale', 'found')
 
 
@@ -48,29 +49,36 @@ def seeds_of(text):
     return range(int(first), int(last or first) + 1)
 
 
-def precede():
-    """Lets this session go before others, where that is allowed: times are short, and the machine may have other things to do."""
-    with contextlib.suppress(OSError):
-        os.nice(-10)
-        with open('/proc/self/autogroup', 'w') as file:
-            file.write('-10')
-
-
 def run_one(seed, has_links, program):
-    """What a run of a seed counted; a text where it came to nothing."""
+    """What a run of a seed counted; a text where it came to nothing. It has a session and a folder of its own, which end with it."""
     words = [*(place.enter() if has_links else []), sys.executable, os.path.abspath(__file__), '--one', str(seed), *([] if has_links else ['--plain'])]
-    child = subprocess.Popen(words, stdin=subprocess.DEVNULL, stdout=subprocess.PIPE, stderr=subprocess.PIPE, text=True, start_new_session=True,
-                             env={**os.environ, 'DRUID_CLUSTER': program})
-    try:
-        out, said = child.communicate(timeout=SECONDS)
-        return json.loads(out)
-    except subprocess.TimeoutExpired:
-        return f'no end within {SECONDS} s'
-    except ValueError:
-        return f'{out}{said}'.strip()
-    finally:
-        child.kill()
+    with tempfile.TemporaryDirectory(prefix='druid_cluster_chaos_') as room:
+        child = subprocess.Popen(words, stdin=subprocess.DEVNULL, stdout=subprocess.PIPE, stderr=subprocess.PIPE, text=True, start_new_session=True,
+                                 env={**os.environ, 'DRUID_CLUSTER': program, 'TMPDIR': room})
+        CHILDREN.add(child)
+        try:
+            out, said = child.communicate(timeout=SECONDS)
+            return json.loads(out)
+        except subprocess.TimeoutExpired:
+            return f'no end within {SECONDS} s'
+        except ValueError:
+            return f'{out}{said}'.strip()
+        finally:
+            end(child)
+            CHILDREN.discard(child)
+
+
+def end(child):
+    """Ends a run with all that it started: its session was begun for it."""
+    if child.poll() is None:
+        os.killpg(child.pid, signal.SIGKILL)
         child.wait()
+
+
+def stop(number, _frame):
+    for child in list(CHILDREN):
+        end(child)
+    sys.exit(128 + number)
 
 
 def shown(seed, run):
@@ -78,13 +86,13 @@ def shown(seed, run):
     if isinstance(run, str):
         return f'seed {seed} came to nothing:\n{run}'
     line = (f'seed {seed}: {run["answers"]} answers, {run["whole"]} whole, {run["partial"]} partial, {run["none"]} none; of stale ones {run["found"]} of '
-            f'{run["stale"]} would be wrong; settled after {run["settled"]} s, {run["seconds"]} s in all')
+            f'{run["stale"]} would be wrong; settled after {run["settled"]} s, {run["seconds"]} s in all, {run["stall"]} s late')
     return '\n'.join([line, *run['faults']])
 
 
 def run_all(seeds, jobs, has_links, program, ends):
     """Runs seeds until `ends` says so. How many there were, and what they counted."""
-    totals, seeds = {'seeds': 0, 'faults': 0, **dict.fromkeys(SUMS, 0)}, iter(seeds)
+    totals, seeds = {'seeds': 0, 'faults': 0, 'nothing': 0, **dict.fromkeys(SUMS, 0)}, iter(seeds)
     with concurrent.futures.ThreadPoolExecutor(jobs) as pool:
         def more(count):
             return {pool.submit(run_one, seed, has_links, program): seed for seed in itertools.islice(seeds, 0 if ends(totals) else count)}
@@ -95,7 +103,7 @@ def run_all(seeds, jobs, has_links, program, ends):
                 run, seed = it.result(), going.pop(it)
                 print(shown(seed, run), flush=True)
                 totals['seeds'] += 1
-                totals['faults'] += 1 if isinstance(run, str) else run['count']
+                totals['nothing' if isinstance(run, str) else 'faults'] += 1 if isinstance(run, str) else run['count']
                 for key in SUMS if isinstance(run, dict) else ():
                     totals[key] += run[key]
             going.update(more(len(done)))
@@ -133,7 +141,6 @@ def main():
     parser.add_argument('--one', type=int, help=argparse.SUPPRESS)
     asked = parser.parse_args()
     if asked.one is not None:
-        precede()
         import live
         print(json.dumps(live.make(asked.one, not asked.plain)))
         return 0
@@ -147,9 +154,13 @@ def main():
     seeds = itertools.count(asked.seeds[0]) if end else asked.seeds
     totals = run_all(seeds, asked.jobs, has_links, PROGRAM, lambda _: end and time.monotonic() > end)
     print('of answers as they were 2 s before and more, {found:,} of {stale:,} would be wrong'.format(**totals))
+    if totals['nothing']:
+        print('{nothing} seeds came to nothing'.format(**totals))
     print('{seeds} seeds, {answers:,} answers, {whole:,} whole, {partial:,} partial, {faults} faults'.format(**totals))
-    return 1 if totals['faults'] else 0
+    return 1 if totals['faults'] or totals['nothing'] else 0
 
 
 if __name__ == '__main__':
+    for it in (signal.SIGINT, signal.SIGTERM):
+        signal.signal(it, stop)
     sys.exit(main())

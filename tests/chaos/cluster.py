@@ -2,6 +2,7 @@
 import contextlib
 import json
 import os
+import shutil
 import signal
 import socket
 import subprocess
@@ -96,7 +97,17 @@ class Cluster:
             if 'listens on' in line and life.ready == NEVER:
                 life.ready = self.history.now()
             words.append(line.rstrip())
-            self.history.say(f'{name} says: {line.rstrip()[:300]}')
+            self.history.say(f'{name} says: {self.briefly(line.rstrip())}')
+
+    def briefly(self, line):
+        """A line of the log without what is said beside it."""
+        try:
+            event = json.loads(line)
+            file = next((it for it in self.plan.files if it.name == event.get('file')), None)
+            return ' '.join([event['event'], *(f'{it.day}:{it.version}.{it.part}' for it in [file] if it),
+                             *(f'{key} {event[key]}' for key in ('node', 'code', 'failed', 'held', 'shown') if key in event)])
+        except (ValueError, KeyError, TypeError):
+            return line[:300]
 
     def kill(self, name):
         life, process = self.history.life(name), self.processes[name]
@@ -139,6 +150,10 @@ class Cluster:
         for process in self.processes.values():
             process.kill()
             process.wait()
+        if self.place.has_links:
+            for node in self.plan.nodes:
+                run('umount', f'{self.folder}/{node}')
+        shutil.rmtree(self.folder, ignore_errors=True)
 
     # Folders
 

@@ -2,7 +2,6 @@
 import contextlib
 import json
 import random
-import shutil
 import signal
 import tempfile
 import threading
@@ -198,7 +197,6 @@ class Run:
                 self.cluster.look_at(name)
         finally:
             self.cluster.ends()
-            shutil.rmtree(self.folder, ignore_errors=True)
         end = history.now()
         counts = Judge(self.plan, history, self.model, self.rules, self.queries).all()
         return {'answers': len(history.answers), 'whole': counts['whole'], 'partial': counts['partial'], 'none': counts['none'], 'stale': counts['stale'], 'found': counts['found'],

@@ -48,8 +48,8 @@ class Namespaces:
     def __init__(self, names):
         self.addresses = {name: f'10.66.0.{2 + place}' for place, name in enumerate(names)}
         self.drops = shutil.which('nft') is not None
-        os.makedirs('/run/netns', exist_ok=True)
-        run('mount', '-t', 'tmpfs', 'tmpfs', '/run/netns')
+        run('mount', '-t', 'tmpfs', 'tmpfs', '/run')
+        os.mkdir('/run/netns')
         run('ip', '-batch', '-', given='link set lo up\nlink add name bridge0 type bridge\nlink set bridge0 up\naddr add 10.66.0.1/24 dev bridge0\n')
         for name, address in self.addresses.items():
             run('ip', '-batch', '-', given=f'netns add {name}\nlink add name v-{name} type veth peer name eth0 netns {name}\n'
