@@ -20,6 +20,8 @@ from make_segments import MAX_FILE, Refused, decoded, printed_time  # noqa: E402
 PAGE = os.path.join(TOP, 'tools', 'console')
 EXAMPLES = os.path.join(TOP, 'examples', 'queries')
 ADDRESS = re.compile(r'127\.0\.0\.1:([1-9][0-9]{0,4})')
+NUMBER = r'(?:[0-9]|[1-9][0-9]|1[0-9]{2}|2[0-4][0-9]|25[0-5])'
+ANY_ADDRESS = re.compile(rf'{NUMBER}(?:\.{NUMBER}){{3}}:([1-9][0-9]{{0,4}})')  # Where the config has `network`.
 MOST = 64  # Nodes, and brokers.
 
 # Bytes: of a config, a query, and what a server of the cluster answers.
@@ -57,17 +59,24 @@ def needs(holds, what):
         raise ValueError(what)
 
 
+def need_address(config, it, field, key):
+    form, what = (ANY_ADDRESS, 'an IPv4 address') if config.get('network') is True else (ADDRESS, '127.0.0.1')
+    found = form.fullmatch(it[field] if isinstance(it.get(field), str) else '')
+    needs(found and int(found[1]) < 65_536, f'a value of `{field}` in `{key}` that is not {what} and a port')
+
+
 def servers_of(config, key):
     servers = config.get(key)
     needs(isinstance(servers, list) and 1 <= len(servers) <= MOST and all(isinstance(it, dict) for it in servers), f'`{key}`')
     for it in servers:
-        found = ADDRESS.fullmatch(it.get('address') if isinstance(it.get('address'), str) else '')
-        needs(found and int(found[1]) < 65_536, f'an `address` of `{key}` that is not 127.0.0.1 and a port')
+        need_address(config, it, 'address', key)
+        if 'status' in it:
+            need_address(config, it, 'status', key)
     return servers
 
 
 def read_config(path):
-    """The brokers and nodes of a config. Addresses on loopback alone, as `serve` takes them."""
+    """The brokers and nodes of a config, with addresses as `serve` takes them."""
     try:
         with open(path, 'rb') as file:
             config = json.loads(file.read(MAX_CONFIG))
@@ -383,6 +392,72 @@ class Brokers:
             return {**answer, 'digest': digest}
 
 
+# Servers: what their status addresses say of them, which take no connection of the servers themselves
+
+SAMPLE = re.compile(r'druid_cluster_(\w+)\{(.*)\} (\S+)')
+LABEL = re.compile(r'(\w+)="((?:[^"\\]|\\.)*)"')
+
+
+class Metrics:
+    """The samples of one server, as `GET /metrics` gives them: labels and a number, by the family's name without its first words."""
+
+    def __init__(self, text):
+        self.samples = {}
+        for family, labels, number in SAMPLE.findall(text):
+            self.samples.setdefault(family, []).append((dict(LABEL.findall(labels)), int(number) if number.isdigit() else float(number)))
+
+    def number(self, family):
+        return sum(number for _, number in self.samples.get(family, []))
+
+    def by(self, family, label, **where):
+        """The numbers of a family added up by a label, of the samples with these other labels."""
+        found = {}
+        for labels, number in self.samples.get(family, []):
+            if all(labels.get(key) == value for key, value in where.items()):
+                found[labels[label]] = found.get(labels[label], 0) + number
+        return found
+
+
+def followed(metrics, name):
+    """What a broker says of a node: how many exchanges ended in each way, and how many seconds ago a turn last did not fail."""
+    heard = metrics.by('followed_heard_timestamp_seconds', 'node', node=name).get(name, 0)
+    return {'node': name, 'exchanges': metrics.by('exchanges_total', 'end', node=name), 'heard': round(max(0, time.time() - heard)) if heard else None}
+
+
+def server_state(server, names):
+    """What the status address of a server says, for the page."""
+    it = {'server': server['server'], 'address': server['status']}
+    try:
+        status, body = exchange(server['status'], 'GET', '/metrics')
+        if status != 200:
+            raise OSError(f'status {status}')
+        metrics = Metrics(body.decode())
+    except NO_ANSWER as fault:
+        return {**it, 'answers': False, 'fault': str(fault) or type(fault).__name__}
+    it.update(answers=True, connections=metrics.number('connections_total'), statuses=metrics.by('answers_total', 'status'))
+    if server['server'].startswith('broker:'):
+        return {**it, 'nodes': [followed(metrics, name) for name in names]}
+    held = {key: metrics.number(f'node_{key}') for key in ('segments', 'rows', 'file_bytes')}
+    return {**it, **held, 'incarnation': str(metrics.number('node_incarnation'))}
+
+
+class Servers:
+    """The servers of a config that have a status address, and what these answered last. One thread asks at a time."""
+
+    def __init__(self, config):
+        named = [{'server': f'broker:{place}', **it} for place, it in enumerate(config['brokers'])]
+        named += [{'server': it['name'], **it} for it in config['nodes']]
+        self.servers, self.names = [it for it in named if 'status' in it], [it['name'] for it in config['nodes']]
+        self.lock, self.taken, self.states = threading.Lock(), None, []
+
+    def look(self):
+        with self.lock:
+            if self.taken is None or time.monotonic() - self.taken > FRESH:
+                self.states = in_parallel(lambda it: server_state(it, self.names), self.servers)
+                self.taken = time.monotonic()
+            return self.states
+
+
 # Queries: the page's text goes to a broker as it is, and what comes back is put as rows
 
 def cell(value):
@@ -476,7 +551,7 @@ class Console(http.server.ThreadingHTTPServer):
 
     def __init__(self, port, config, program):
         super().__init__(('127.0.0.1', port), Handler)
-        self.config, self.nodes, self.brokers = config, Nodes(config['nodes']), Brokers(config, program)
+        self.config, self.nodes, self.brokers, self.statuses = config, Nodes(config['nodes']), Brokers(config, program), Servers(config)
         self.hosts = {f'{name}:{self.server_port}' for name in ('127.0.0.1', 'localhost')}
         self.files = {f'/{name}': name for name in os.listdir(PAGE) if os.path.splitext(name)[1] in TYPES}
         self.files['/'] = 'index.html'
@@ -486,7 +561,7 @@ class Handler(http.server.BaseHTTPRequestHandler):
     server_version, sys_version, timeout = 'console', '', 30
 
     def do_GET(self):
-        self.respond({'/api/cluster': self.cluster, '/api/nodes': self.nodes, '/api/brokers': self.brokers,
+        self.respond({'/api/cluster': self.cluster, '/api/nodes': self.nodes, '/api/servers': self.servers, '/api/brokers': self.brokers,
                       '/api/files': self.files, '/api/file': self.file})
 
     def do_POST(self):
@@ -547,6 +622,9 @@ class Handler(http.server.BaseHTTPRequestHandler):
 
     def nodes(self):
         return {'nodes': self.server.nodes.look()}
+
+    def servers(self):
+        return {'servers': self.server.statuses.look()}
 
     def brokers(self):
         return self.server.brokers.look(self.number('broker', len(self.server.config['brokers'])), self.words.get('known'))

@@ -9,7 +9,7 @@ import glob, json, os, re, shutil, sys, tempfile, traceback
 
 from browser import Browser
 from served import CHROMIUM, TOP, console_of, exchange, need, need_program, parser_of, silent, write_config, write_segments
-from make_segments import DAY, Segment
+from make_segments import DAY, Segment, decoded
 
 HOUR = 3_600_000
 MAY_1, MAY_2 = 1_714_521_600_000, 1_714_608_000_000
@@ -225,16 +225,37 @@ def requests_of(page, *_):
     host = page.value('location.origin')
     equal([it for it in urls if not it.startswith((f'{host}/', 'data:'))], [], 'requests elsewhere')
     equal([it['params'] for it in page.events if it['method'] == 'Runtime.exceptionThrown'], [], 'exceptions')
+    equal(page.value("document.getElementById('servers-section').hidden"), True, 'no section of servers where none has a status address')
+
+
+def server_table(page, folders):
+    """What the status addresses say: a node holds what is in its folder, and the broker hears of each node."""
+    rows = page.wait_for("((rows) => rows.length === 4 && rows.map((row) => [...row.cells].map((it) => it.innerText)))"
+                         "([...document.querySelectorAll('#servers tbody tr')])")
+    broker, *nodes = [[row[0], *row[2:]] for row in rows]
+    equal(broker[:2], ['broker:0', '✓ answers'], 'the broker')
+    for place, said in enumerate(broker[4].split('\n')):
+        assert re.fullmatch(f'n{place}: heard of [0-9] s ago; answered: [1-9][0-9]*', said), said
+    for place, (folder, row) in enumerate(zip(folders, nodes)):
+        files = glob.glob(os.path.join(folder, '*.seg'))
+        segments = []
+        for path in files:
+            with open(path, 'rb') as file:
+                segments.append(decoded(file.read()))
+        bytes_held, rows_held = sum(map(os.path.getsize, files)), sum(len(it.rows) for it in segments)
+        equal(row[:2], [f'n{place}', '✓ answers'], f'node n{place}')
+        assert re.fullmatch(f'incarnation [1-9][0-9]*; {len(files)} segments, {rows_held:,} rows, {bytes_held:,} bytes', row[4]), row
 
 
 def endless(folder):
-    """Over a cluster without an end the page says how many connections it took, and of no number."""
-    config = os.path.join(folder, 'endless.json')
-    broker, _ = write_config(config, [os.path.join(folder, f'n{node}') for node in range(3)], {'every': 500})
+    """Over a cluster without an end the page says how many connections it took, and of no number; and what status addresses say."""
+    config, folders = os.path.join(folder, 'endless.json'), [os.path.join(folder, f'n{node}') for node in range(3)]
+    broker, _ = write_config(config, folders, {'every': 500}, has_status=True)
     with console_of(config, broker) as url, Browser(CHROMIUM) as page:
         page.open(url, "document.querySelectorAll('.in-view li').length >= 6")
         words = page.wait_for("((words) => words.includes('looked at') && words)(document.getElementById('state').textContent)")
         assert re.fullmatch('running; broker looked at [0-9]+ s ago; [1-9][0-9]* connections taken by this page', words), words
+        server_table(page, folders)
 
 
 def passes(test, *given):

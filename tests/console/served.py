@@ -26,13 +26,14 @@ def write_segments(folder, segments):
             file.write(file_of(it))
 
 
-def write_config(path, folders, end={'connections': 1_000_000}):
+def write_config(path, folders, end={'connections': 1_000_000}, has_status=False):
     """A config of one broker over nodes `n0` and on, one for each folder. `end` is what says when it ends, or that it does not."""
-    broker, *nodes = [f'127.0.0.1:{port}' for port in free_ports(1 + len(folders))]
+    addresses = [f'127.0.0.1:{port}' for port in free_ports(2 * (1 + len(folders)))]
+    (broker, *nodes), statuses = addresses[::2], [{'status': it} if has_status else {} for it in addresses[1::2]]
     with open(path, 'w', encoding='utf-8') as file:
-        json.dump({'brokers': [{'address': broker, 'workers': 4}], **end, 'kept': 100, 'queries': [], 'turns': 1,
-                   'nodes': [{'address': address, 'folder': folder, 'loads': [], 'name': f'n{place}', 'workers': 2}
-                             for place, (address, folder) in enumerate(zip(nodes, folders))]}, file)
+        json.dump({'brokers': [{'address': broker, 'workers': 4, **statuses[0]}], **end, 'kept': 100, 'queries': [], 'turns': 1,
+                   'nodes': [{'address': address, 'folder': folder, 'loads': [], 'name': f'n{place}', 'workers': 2, **status}
+                             for place, (address, folder, status) in enumerate(zip(nodes, folders, statuses[1:]))]}, file)
     return broker, nodes
 
 

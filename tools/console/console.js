@@ -5,6 +5,7 @@ import { showNodes } from './nodes.js';
 import { byId, counted, element, request } from './page.js';
 import { startQuery } from './query.js';
 import { showNodeFile, startRows } from './rows.js';
+import { showServers } from './servers.js';
 import { Timeline } from './timeline.js';
 
 // Milliseconds between looks.
@@ -27,6 +28,7 @@ class Page {
         this.nodesDue = now + NODES;
         this.nodes = (await request('/api/nodes')).nodes;
         showNodes(this.nodes, this.brokers);
+        showServers((await request('/api/servers')).servers);
       }
       if (isForced || now >= this.brokersDue) await this.lookAtBrokers();
       this.fault = '';
