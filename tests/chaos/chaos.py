@@ -39,7 +39,7 @@ import place  # noqa: E402
 from served import PROGRAM, TOP, need_program, parser_of  # noqa: E402
 
 PLANTS = sorted(name.removesuffix('.patch') for name in os.listdir(f'{HERE}/plants'))
-SECONDS = 180  # For one seed.
+SECONDS = 240  # For one seed, which ends by itself before.
 CHILDREN = set()
 SUMS = ('answers', 'whole', 'partial', 'stale', 'found')
 

@@ -19,6 +19,7 @@ from served import ASK, QUERY, has_checks
 CLIENTS = 3  # Of each broker; the first asks for each row each time.
 REST = (.01, .05)  # Seconds between one query of a client and the next.
 LAST = 4  # Queries to each broker once it has settled.
+SECONDS = 150  # For all.
 
 
 class Run:
@@ -213,5 +214,11 @@ class Run:
 
 
 def make(seed, has_links):
-    signal.signal(signal.SIGTERM, lambda *_: exit(1))
-    return Run(seed, has_links).make()
+    run = Run(seed, has_links)
+
+    def late(*_):
+        raise SystemExit(f'no end within {SECONDS} s; threads woke up to {max((it for _, it in run.history.stalls), default=0):.1f} s late\n'
+                         f'{run.history.text(run.history.now() - 20, run.history.now())}')
+    signal.signal(signal.SIGALRM, late)
+    signal.alarm(SECONDS)
+    return run.make()
