@@ -22,24 +22,25 @@ use std::time::{Clock, Duration};
 #[derive(Debug, Drop)]
 pub(crate) struct Tried(());
 
-/// Shows that the files that a node loads later were tried: only the thread that tries them lets there be one. While there is one, the
-/// node's folder is this program's.
+/// Shows that the files that a node loads later were tried: only the thread that tries them lets there be one. While there is one of a
+/// node that `start_owner` started, the node's folder is its own.
 #[derive(Debug, Drop)]
 pub struct EndOfLoads {
     tried: Tried,
-    owner: Owner,
+    owner: Option<Owner>,
 }
 
-/// What tells when the files were tried that a node loads once it listens. While there is one, the node's folder is this program's.
+/// What tells when the files were tried that a node loads once it listens. While there is one of a node that `start_owner` started,
+/// the node's folder is its own.
 #[derive(Drop)]
 pub struct Loading {
     end: Arc<Handover<Tried>, Global>,
-    owner: Owner,
+    owner: Option<Owner>,
 }
 
 impl Loading {
-    // That of the thread that tells it there, over a folder that is owned.
-    pub(crate) fn new(end: Arc<Handover<Tried>, Global>, owner: Owner) -> Loading {
+    // That of the thread that tells it there, over a folder that the node may own.
+    pub(crate) fn new(end: Arc<Handover<Tried>, Global>, owner: Option<Owner>) -> Loading {
         Loading { end, owner }
     }
 

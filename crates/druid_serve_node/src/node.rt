@@ -245,17 +245,17 @@ struct LoadedNode<I: Incarnation> {
     seen: Mark,
 }
 
-// What a node has before it starts: its folder, and where it listens, if it does already.
+// What a node has before it raises its incarnation: its folder, and where it listens.
 #[derive(Drop)]
 struct Held {
     owner: Owner,
-    listener: Option<TcpListener>,
+    listener: TcpListener,
 }
 
 // A node that can begin to answer.
 #[derive(Drop)]
 struct ReadyNode<I: Incarnation> {
-    owner: Owner,
+    owner: Option<Owner>,
     node: Arc<DataNode<I>, Global>,
     listener: Arc<TcpListener, Global>,
     watch: Watch,
@@ -338,7 +338,7 @@ fn start_from<
     log: &Arc<Log, Global>,
     folder: &mut F,
     state: NodeState,
-    held: Held,
+    held: Option<Held>,
 ) -> Result<Loading, StartFault>
 where
     R::Dir: Send,
@@ -353,10 +353,9 @@ where
     let mut seen = seen;
     place_tombstones(rt, &node, config.tombstones(), &mut seen)?;
     reporter.note(seen);
-    let Held { owner, listener } = held;
-    let listener = match listener {
-        Some(listener) => listener,
-        None => listener_of(rt, config)?,
+    let (owner, listener) = match held {
+        Some(Held { owner, listener }) => (Some(owner), listener),
+        None => (None, listener_of(rt, config)?),
     };
     let ready = ReadyNode {
         owner,
@@ -400,7 +399,7 @@ fn listener_of<R: Net<Listener = TcpListener, Stream = TcpStream>>(
     }
 }
 
-// Makes a node's folder its own, raises the incarnation there, and starts the node over it, at a listener or else where it listens.
+// Raises the incarnation of a node's folder, and starts the node over it, with what it holds already.
 fn start_over<
     R: Files<File = File>
         + Net<Listener = TcpListener, Stream = TcpStream>
@@ -418,14 +417,13 @@ fn start_over<
     config: &NodeConfig,
     kept: usize,
     log: &Arc<Log, Global>,
-    listener: Option<TcpListener>,
+    held: Option<Held>,
 ) -> Result<Loading, StartFault>
 where
     R::Dir: Send,
     requires some { 1 ≤ kept }
     requires few { kept ≤ max_changes }
 {
-    let owner = own_folder(rt, config.folder())?;
     let path = String::from_str(alloc, config.folder())?;
     let mut folder: DiskFolder<R, D> = DiskFolder::new(*rt, path);
     let state = first_state(alloc, &mut folder, kept)?;
@@ -436,11 +434,11 @@ where
         log,
         &mut folder,
         state,
-        Held { owner, listener },
+        held,
     )
 }
 
-/// Starts a data node: makes its folder its own, raises its incarnation, loads the segment files of its folder, places the config's tombstones, but for
+/// Starts a data node: raises its incarnation, loads the segment files of its folder, places the config's tombstones, but for
 /// those of what is served already, listens, and starts its threads. It gives what tells when the files are tried that come later.
 /// A node that watches its folder goes on from then, until the program ends: it loads the segment files that come, and drops the
 /// segments whose files are gone. The device `D` is the one under the folder that it makes, and `L` the one under the folder that
@@ -472,8 +470,9 @@ where
     start_over::<R, D, L>(rt, alloc, config, kept, log, None)
 }
 
-/// Starts a data node as `start_node` does, but that it listens before all else: so of two programs over one config the second
-/// is refused its address before it raises an incarnation.
+/// Starts a data node as `start_node` does, but that it listens and makes its folder its own before all else: so of two programs over
+/// one config the second is refused its address, and of two over one folder the second is refused the folder, before either raises
+/// an incarnation. The folder is its own while what comes of it, a `Loading` or an `EndOfLoads`, is there.
 pub fn start_owner<
     R: Files<File = File>
         + Net<Listener = TcpListener, Stream = TcpStream>
@@ -498,5 +497,7 @@ where
     requires few { kept ≤ max_changes }
 {
     let listener = listener_of(rt, config)?;
-    start_over::<R, D, L>(rt, alloc, config, kept, log, Some(listener))
+    let owner = own_folder(rt, config.folder())?;
+    let held = Held { owner, listener };
+    start_over::<R, D, L>(rt, alloc, config, kept, log, Some(held))
 }

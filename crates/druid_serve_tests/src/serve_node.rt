@@ -260,7 +260,8 @@ fn watched_folder(rt: HostRuntime) {
 }
 
 // Of two starts over one config the second is refused its address, and of two over one folder at other addresses the second is refused
-// the folder, however it starts: neither raises the incarnation. Once the first has ended, another has the folder.
+// the folder: neither raises the incarnation. Once the first has ended, another has the folder. A start that listens last raises the
+// incarnation all the same.
 fn assert_owned<R: Host + Net<Listener = TcpListener, Stream = TcpStream>>(rt: &R, alloc: Global) {
     let folder = fresh_folder(rt, alloc, "druid_serve_owned");
     let address = free_address(rt, alloc);
@@ -277,11 +278,12 @@ fn assert_owned<R: Host + Net<Listener = TcpListener, Stream = TcpStream>>(rt: &
     let second = two.nodes().first().expect(rt, "a node");
     assert!(rt; start_owner::<R, Brand, Brand>(rt, alloc, node, 10, &log).is_err());
     assert!(rt; start_owner::<R, Brand, Brand>(rt, alloc, second, 10, &log).is_err());
-    assert!(rt; start_node::<R, Brand, Brand>(rt, alloc, second, 10, &log).is_err());
     assert!(rt; incarnation(rt, alloc, folder.as_str()).as_slice() == b"1\n".as_slice());
     drop(first);
-    assert!(rt; start_node::<R, Brand, Brand>(rt, alloc, second, 10, &log).is_ok());
+    assert!(rt; start_owner::<R, Brand, Brand>(rt, alloc, second, 10, &log).is_ok());
     assert!(rt; incarnation(rt, alloc, folder.as_str()).as_slice() == b"2\n".as_slice());
+    assert!(rt; start_node::<R, Brand, Brand>(rt, alloc, node, 10, &log).is_err());
+    assert!(rt; incarnation(rt, alloc, folder.as_str()).as_slice() == b"3\n".as_slice());
     fs::remove_dir_all(rt, folder.as_str()).expect(rt, "a folder");
 }
 
