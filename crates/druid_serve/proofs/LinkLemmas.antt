@@ -99,9 +99,11 @@ pub served_by : (opening : List Entry) (turn last : ℕ) (seen now : Published) 
     → IfOk result (IsServed (Responds (λ nodes. ailing_last last (turned turn nodes)) opening seen now old new) ((now ≡ seen) × (new ≡ old)) before after had has)
     → IfOk result (IsServedBy opening turn seen now began ended before after had has)
 served_by opening turn last seen now old new began ended before after had has (Ok sent) start end served =
-    let order : List ℕ → List ℕ = λ nodes. ailing_last last (turned turn nodes) in
-    (last, subst (λ (l : List NodeLinkValue). IsServed (Responds order opening seen now l ended) ((now ≡ seen) × (ended ≡ l)) before after had has sent) start
-    (subst (λ (l : List NodeLinkValue). IsServed (Responds order opening seen now old l) ((now ≡ seen) × (l ≡ old)) before after had has sent) end served))
+    let order : List ℕ → List ℕ = λ nodes. ailing_last last (turned turn nodes) in (
+      last,
+      subst (λ (l : List NodeLinkValue). IsServed (Responds order opening seen now l ended) ((now ≡ seen) × (ended ≡ l)) before after had has sent) start
+          (subst (λ (l : List NodeLinkValue). IsServed (Responds order opening seen now old l) ((now ≡ seen) × (l ≡ old)) before after had has sent) end served),
+    )
 served_by opening turn last seen now old new began ended before after had has (Err fault) start end served = served
 
 -- ---- where they lead first

@@ -427,15 +427,7 @@ where
     let path = String::from_str(alloc, config.folder())?;
     let mut folder: DiskFolder<R, D> = DiskFolder::new(*rt, path);
     let state = first_state(alloc, &mut folder, kept)?;
-    start_from::<R, DiskFolder<R, D>, L, Brand>(
-        rt,
-        alloc,
-        config,
-        log,
-        &mut folder,
-        state,
-        held,
-    )
+    start_from::<R, DiskFolder<R, D>, L, Brand>(rt, alloc, config, log, &mut folder, state, held)
 }
 
 /// Starts a data node: raises its incarnation, loads the segment files of its folder, places the config's tombstones, but for

@@ -334,13 +334,7 @@ fn assert_addresses(rt: &impl Abort, alloc: Global, network: &str, addresses: &s
 }
 
 // The whole config with a key before all others, and for its node an address at a key. Of a key that stands twice the last counts.
-fn with_address(
-    rt: &impl Abort,
-    alloc: Global,
-    network: &str,
-    key: &str,
-    address: &str,
-) -> String {
+fn with_address(rt: &impl Abort, alloc: Global, network: &str, key: &str, address: &str) -> String {
     let node = format!(in alloc; "\"workers\":1,\"{key}\":{address}}}").expect(rt, "memory");
     let text = changed(rt, alloc, "\"workers\":1}", node.as_str());
     let (_, rest) = halves(rt, text.as_str(), "{");

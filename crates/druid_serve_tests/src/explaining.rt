@@ -97,8 +97,7 @@ fn fields_of_statuses(rt: HostRuntime) {
 
 #[test]
 fn fields_of_a_network(rt: HostRuntime) {
-    let rows =
-        "\"turns\":1000000 = \"turns\":1000000,\"network\":1 -> network: not true or false
+    let rows = "\"turns\":1000000 = \"turns\":1000000,\"network\":1 -> network: not true or false
 \"nodes\" = \"network\":\"yes\",\"node\" -> network: not true or false
 \"turns\":1000000 = \"turns\":1000000,\"network\":1,\"patience\":0 -> patience: not a number from 1 to 3600000
 127.0.0.1:65535 = 10.0.0.5:80 -> nodes[0].address: not 127.0.0.1: and a port from 1 to 65535

@@ -53,7 +53,10 @@ impl Stop<ClusterFault> {
     pub fn at_broker(alloc: Global, place: usize, broker: &BrokerConfig) -> Stop<ClusterFault>
         ensures { result.fault ≡ Device }
     {
-        let (listen, key) = (broker.listen(), listen_key(broker.address(), broker.listen()));
+        let (listen, key) = (
+            broker.listen(),
+            listen_key(broker.address(), broker.listen()),
+        );
         Stop::device(format!(in alloc; "brokers[{place}].{key}: listening on {listen}").ok())
     }
 
@@ -79,7 +82,11 @@ impl Stop<ClusterFault> {
 
 // The key of a config that says where a server listens.
 fn listen_key(address: &str, listen: &str) -> &'static str {
-    if listen == address { "address" } else { "listen" }
+    if listen == address {
+        "address"
+    } else {
+        "listen"
+    }
 }
 
 // What kept the node at a place from its start.
