@@ -71,6 +71,8 @@ class Cluster:
                  for it in plan.nodes]
         config = {'brokers': [{'address': f'{at[it]}:{PORT}', 'workers': 8} for it in plan.brokers], 'every': plan.every, 'kept': plan.kept,
                   'network': True, 'nodes': nodes, 'patience': plan.patience, 'queries': [], 'turns': plan.turns}
+        for it in [*nodes, *config['brokers']] if plan.front else ():
+            it['front'] = plan.front
         with open(f'{self.folder}/config.json', 'w') as file:
             json.dump(config, file)
 

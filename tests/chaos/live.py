@@ -178,6 +178,7 @@ class Run:
         """Makes the run, and gives what it counted."""
         history = self.history
         try:
+            history.say(self.plan.about())
             for name in self.cluster.names:
                 self.cluster.start(name)
             self.stands()

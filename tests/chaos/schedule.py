@@ -25,6 +25,7 @@ class Plan:
         self.brokers = [f'b{place}' for place in range(BROKERS)]
         self.every, self.watch = draw.choice([40, 80, 150]), draw.choice([40, 80])
         self.patience, self.kept, self.turns = draw.choice([400, 700]), draw.choice([1, 3, 100]), draw.choice([0, 1])
+        self.front = draw.choice([0, 0, 16])
         self.first = {node: draw.sample(range(100), 1)[0] + 10 for node in self.nodes}  # The incarnations that were.
         self.there = {node: 0 for node in self.nodes}
         for it in self.files:
@@ -35,7 +36,7 @@ class Plan:
 
     def about(self):
         return (f'{len(self.nodes)} nodes, {len(self.files)} files, every {self.every}, watch {self.watch}, patience {self.patience}, '
-                f'kept {self.kept}, turns {self.turns}')
+                f'kept {self.kept}, turns {self.turns}, front {self.front}')
 
 
 def drawn_kind(draw, kinds):
