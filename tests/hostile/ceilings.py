@@ -4,7 +4,7 @@
 ceilings.py
 
 Beside a query that just passes a limit stands one that does not, and is answered whole: README (Limits) says what is answered where the
-limit begins. 120,000 segment files of a row are written for the last; it takes a minute or two. It ends with 1 where an answer differs.
+limit begins. 120,000 segment files of a row are written for the last; it takes minutes. It ends with 1 where an answer differs.
 """
 import json
 import os
@@ -25,7 +25,7 @@ TOO_LARGE = 500, {'error': 'TooLarge'}
 
 def grouped(day, groups):
     """A day's segment of so many rows, each a group of its own."""
-    rows = [(day * DAY, [f'{day}{number:06}'], [1]) for number in range(groups)]
+    rows = [(day * DAY, [f'{day}{number:019}'], [1]) for number in range(groups)]
     return Segment('groups', day * DAY, (day + 1) * DAY, 'v1', 0, 1, 0, ['d'], ['m'], rows)
 
 
