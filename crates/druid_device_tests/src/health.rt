@@ -1,6 +1,6 @@
 //! Which nodes failed lately, as it is noted and seen.
 use crate::link::REQUEST;
-use druid_health::{Asker, Counts, Health, MonitoredLink, Snapshot};
+use druid_health::{Asker, Ceiling, Counts, Health, MonitoredLink, Oversize, Snapshot};
 use druid_link::{Link, MemoryLink};
 use druid_message::WireFault;
 use std::alloc::Global;
@@ -175,6 +175,66 @@ fn tries_that_were_not_made(rt: HostRuntime) {
 #[test]
 fn faults_that_are_no_failures(rt: HostRuntime) {
     assert_steps(&rt, rt.alloc(), &OTHERS);
+}
+
+// What met a limit is taken once, of each node apart; a node beyond is passed over.
+#[test]
+fn ceilings_are_taken(rt: HostRuntime) {
+    let health = three_nodes(&rt, rt.alloc());
+    health.note_ceiling(0, Ceiling::Answer);
+    health.note_ceiling(0, Ceiling::Answer);
+    health.note_ceiling(0, Ceiling::Question);
+    health.note_ceiling(2, Ceiling::Question);
+    health.note_ceiling(3, Ceiling::Answer);
+    let first = Oversize {
+        answers: 2,
+        questions: 1,
+    };
+    let last = Oversize {
+        answers: 0,
+        questions: 1,
+    };
+    for (node, wanted) in [(0, Some(first)), (1, None), (2, Some(last)), (3, None)] {
+        assert!(rt; health.take_oversize(node) == wanted, "node {node}");
+        assert!(rt; health.take_oversize(node).is_none(), "node {node} again");
+    }
+}
+
+// What a link notes of an answer of these bytes, as how many answers and questions met a limit.
+fn ceilings_of<C: Clock + Drop>(
+    rt: &impl Abort,
+    alloc: Global,
+    clock: C,
+    answer: &str,
+) -> (u64, u64) {
+    let health = Arc::new(alloc, three_nodes(rt, alloc))
+        .ok()
+        .expect(rt, "memory");
+    let reply = String::from_str(alloc, answer)
+        .expect(rt, "memory")
+        .into_bytes();
+    let shared = Arc::try_clone(&health).ok().expect(rt, "memory");
+    let mut link = MonitoredLink::new(MemoryLink::new(reply, 1), clock, 1, QUERY, shared);
+    for _ in 0..2 {
+        let _ = link.exchange(alloc, REQUEST);
+    }
+    health
+        .take_oversize(1)
+        .map_or((0, 0), |met| (met.answers, met.questions))
+}
+
+#[test]
+fn links_note_ceilings(rt: HostRuntime) {
+    let answers = [
+        ("{\"error\":\"TooLarge\"}", (1, 0)),
+        ("HTTP/1.1 400 Bad Request {\"error\":\"X7\"}", (0, 1)),
+        ("{\"error\":\"X6\"}", (0, 0)),
+        ("{\"error\":\"TooLarge\"} ", (0, 0)),
+    ];
+    for (answer, wanted) in answers {
+        let noted = ceilings_of(&rt, rt.alloc(), &rt, answer);
+        assert!(rt; noted == wanted, "{answer}");
+    }
 }
 
 // The last of 64 nodes, the greatest times, and nodes beyond.

@@ -4,7 +4,7 @@ ghost use Rattle.druid_health.specs.Limits.{max_nodes, pause_of};
 
 use crate::counts::{Counts, WAYS, counts_of, way_of};
 use crate::mark::Mark;
-use crate::{Asker, Standing};
+use crate::{Asker, Ceiling, Oversize, Standing};
 use crossbeam_utils::atomic::AtomicCell;
 use druid_message::WireFault;
 use std::alloc::{AllocError, Global};
@@ -82,6 +82,9 @@ pub struct Health {
     marks: Vec<AtomicCell<u64>>,
     // Of each node the counters of its `WAYS`, one node's after another's.
     counters: Vec<AtomicCell<u64>>,
+    // Of each node how many answers and how many questions met their limit since that was last taken.
+    answers: Vec<AtomicCell<u64>>,
+    questions: Vec<AtomicCell<u64>>,
     patience: u64,
     pause: u64,
 }
@@ -96,6 +99,11 @@ impl Model for Health {
     ghost view = { λ a. record { nodes = vec_len a.marks; patience = a.patience; pause = a.pause } };
 
     ghost invariant = { λ a. (vec_len a.marks ≤ max_nodes) × (vec_len a.counters ≡ vec_len a.marks * ways) };
+}
+
+// What a cell has, which has 0 from then on. One that has 0 is left to other threads.
+fn taken(cell: &AtomicCell<u64>) -> u64 {
+    if cell.load() == 0 { 0 } else { cell.swap(0) }
 }
 
 // So many cells with that word.
@@ -120,6 +128,8 @@ impl Health {
         Ok(Health {
             marks: cells(alloc, count, Mark::well().to_word())?,
             counters: cells(alloc, count * WAYS, 0)?,
+            answers: cells(alloc, count, 0)?,
+            questions: cells(alloc, count, 0)?,
             patience,
             pause: patience.max(LEAST_PAUSE),
         })
@@ -160,6 +170,28 @@ impl Health {
                 Mark::from_word(word).after_cut().to_word(),
             ));
         }
+    }
+
+    /// An exchange with a node met that limit. A node that is not remembered is passed over.
+    pub fn note_ceiling(&self, node: u16, ceiling: Ceiling) {
+        let cells = match ceiling {
+            Ceiling::Answer => &self.answers,
+            Ceiling::Question => &self.questions,
+        };
+        if let Some(cell) = cells.get(node as usize) {
+            cell.fetch_add(1);
+        }
+    }
+
+    /// How many exchanges with a node met a limit since this was last asked of it. `None` where none did, and of a node that is not
+    /// remembered.
+    pub fn take_oversize(&self, node: u16) -> Option<Oversize> {
+        let answers = taken(self.answers.get(node as usize)?);
+        let questions = taken(self.questions.get(node as usize)?);
+        if answers == 0 && questions == 0 {
+            return None;
+        }
+        Some(Oversize { answers, questions })
     }
 
     /// How the nodes stand for one query at that time. A node that ails and is due is let out of the ailing ones for this

@@ -1,6 +1,7 @@
 //! Which nodes failed lately: noted of each exchange, remembered without a lock, and asked before each query.
 #![tactic(auto)]
 
+mod ceiling;
 mod clock;
 mod counts;
 mod health;
@@ -9,6 +10,7 @@ mod monitored_link;
 mod span;
 mod standing;
 
+pub use ceiling::{Ceiling, Oversize};
 pub use clock::monotonic_millis;
 pub use counts::{Counts, FAULTS};
 pub use health::{Health, LEAST_PAUSE, MAX_NODES, Snapshot};

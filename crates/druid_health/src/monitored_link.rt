@@ -1,6 +1,7 @@
 //! Links whose exchanges are noted.
 ghost use Rattle.std.specs.Prelude.{◌≡◌};
 
+use crate::ceiling::ceiling_in;
 use crate::span::{Span, is_late};
 use crate::{Asker, Health, monotonic_millis};
 use druid_link::Link;
@@ -10,7 +11,7 @@ use std::marker::Model;
 use std::sync::Arc;
 use std::time::Clock;
 
-/// A link to a node, which notes how each of its exchanges ended. Its exchanges are those of the link inside, which may take as long
+/// A link to a node, which notes how each of its exchanges ended, and which met a limit of 16 MiB. Its exchanges are those of the link inside, which may take as long
 /// as the health's patience. One that the deadline of a hastened link cut short is counted, and says nothing of the node.
 #[derive(Drop)]
 pub struct MonitoredLink<L: Link, C: Clock> {
@@ -67,6 +68,15 @@ impl<L: Link, C: Clock> MonitoredLink<L, C> {
             self.health.note(self.node, self.asker, ended, span.ended);
         }
     }
+
+    // Notes the limit that an exchange met, if it met one.
+    fn note_ceiling(&self, came: &Result<Vec<u8>, WireFault>) {
+        if let Ok(bytes) = came
+            && let Some(ceiling) = ceiling_in(bytes)
+        {
+            self.health.note_ceiling(self.node, ceiling);
+        }
+    }
 }
 
 // How an exchange ended, without its bytes.
@@ -91,6 +101,7 @@ impl<L: Link, C: Clock> Link for MonitoredLink<L, C> {
             deadline: self.deadline,
         };
         self.note(ended(&came), span);
+        self.note_ceiling(&came);
         came
     }
 

@@ -4,7 +4,7 @@ use Rattle.serde_json.specs.Written.{has_float}
 use Rattle.druid_shard_text.specs.Json.{mark_data}
 use Rattle.druid_log.specs.Events.{event_data}
 use Rattle.druid_log.specs.declared.event.Event.{Event}
-use Rattle.druid_log.specs.declared.event.Event.TheVariants.{Loaded, Dropped, Refused, Lost, Found, Fell, Answered, Missed}
+use Rattle.druid_log.specs.declared.event.Event.TheVariants.{Loaded, Dropped, Refused, Lost, Found, Fell, Oversize, Answered, Missed}
 
 pub event_plain : (at server : List ℕ) (event : Event) → has_float (event_data at server event) ≡ false
 unfolding mark_data
@@ -14,5 +14,6 @@ event_plain at server (Refused file code) = refl
 event_plain at server (Lost node code) = refl
 event_plain at server (Found node failed) = refl
 event_plain at server (Fell node held shown) = refl
+event_plain at server (Oversize node code exchanges) = refl
 event_plain at server (Answered route status milliseconds bytes) = refl
 event_plain at server (Missed lines) = refl

@@ -7,7 +7,7 @@ use Rattle.druid_shard_text.specs.Json.{mark_data}
 use Rattle.druid_log.specs.declared.level.Level.{Level}
 use Rattle.druid_log.specs.declared.level.Level.TheVariants.{Info, Debug}
 use Rattle.druid_log.specs.declared.event.Event.{Event}
-use Rattle.druid_log.specs.declared.event.Event.TheVariants.{Loaded, Dropped, Refused, Lost, Found, Fell, Answered, Missed}
+use Rattle.druid_log.specs.declared.event.Event.TheVariants.{Loaded, Dropped, Refused, Lost, Found, Fell, Oversize, Answered, Missed}
 use Rattle.druid_log.specs.Levels.{lets}
 
 -- from which level on an event is logged
@@ -18,6 +18,7 @@ level_of (Refused file code) = Info
 level_of (Lost node code) = Info
 level_of (Found node failed) = Info
 level_of (Fell node held shown) = Info
+level_of (Oversize node code exchanges) = Info
 level_of (Answered route status milliseconds bytes) = Debug
 level_of (Missed lines) = Info
 
@@ -53,6 +54,11 @@ fell_data at held node server shown = object
     (text_then (codes "at") at (text_then (codes "event") (codes "fell") (member (codes "held") held
     (text_then (codes "node") node (text_then (codes "server") server (member (codes "shown") shown no_members))))))
 
+abbrev pub oversize_data : List ℕ → List ℕ → ℕ → List ℕ → List ℕ → Data
+oversize_data at code exchanges node server = object
+    (text_then (codes "at") at (text_then (codes "code") code (text_then (codes "event") (codes "oversize")
+    (count_then (codes "exchanges") exchanges (text_then (codes "node") node (text_then (codes "server") server no_members))))))
+
 abbrev pub answered_data : List ℕ → ℕ → ℕ → List ℕ → List ℕ → ℕ → Data
 answered_data at bytes milliseconds route server status = object
     (text_then (codes "at") at (count_then (codes "bytes") bytes (text_then (codes "event") (codes "answered")
@@ -72,6 +78,7 @@ event_data at server (Refused file code) = refused_data at code.now file.now ser
 event_data at server (Lost node code) = lost_data at code.now node.now server
 event_data at server (Found node failed) = found_data at failed node.now server
 event_data at server (Fell node held shown) = fell_data at (mark_data held) node.now server (mark_data shown)
+event_data at server (Oversize node code exchanges) = oversize_data at code.now exchanges node.now server
 event_data at server (Answered route status milliseconds bytes) = answered_data at bytes milliseconds route.now server status
 event_data at server (Missed lines) = missed_data at lines server
 

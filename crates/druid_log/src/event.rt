@@ -48,6 +48,15 @@ pub enum Event<'a> {
         /// The mark that the node shows.
         shown: Mark,
     },
+    /// Exchanges of a broker with a node met a limit of 16 MiB.
+    Oversize {
+        /// The node's name.
+        node: &'a str,
+        /// `TooLarge` where the node's answer did, `X7` where the question did.
+        code: &'a str,
+        /// How many, since this was logged last.
+        exchanges: u64,
+    },
     /// A connection ended.
     Answered {
         /// The name of its route.
@@ -78,6 +87,7 @@ impl Event<'_> {
             Event::Lost { .. } => Level::Info,
             Event::Found { .. } => Level::Info,
             Event::Fell { .. } => Level::Info,
+            Event::Oversize { .. } => Level::Info,
             Event::Answered { .. } => Level::Debug,
             Event::Missed { .. } => Level::Info,
         }

@@ -4,7 +4,7 @@ ghost use Rattle.serde_json.specs.View.{view};
 ghost use Rattle.serde_json.specs.Written.{compact_text};
 ghost use Rattle.druid_shard_text.specs.Json.{mark_data};
 ghost use Rattle.druid_time.specs.Texts.{instant_text};
-ghost use Rattle.druid_log.specs.Events.{file_data, refused_data, lost_data, found_data, fell_data, answered_data, missed_data, event_data, line_at, level_of};
+ghost use Rattle.druid_log.specs.Events.{file_data, refused_data, lost_data, found_data, fell_data, oversize_data, answered_data, missed_data, event_data, line_at, level_of};
 
 use crate::event::Event;
 use crate::level::Level;
@@ -85,6 +85,26 @@ fn fell_value(
     })
 }
 
+fn oversize_value(
+    alloc: Global,
+    at: &str,
+    code: &str,
+    exchanges: u64,
+    node: &str,
+    server: &str,
+) -> Result<Value, AllocError>
+    ensures { IfOk result (λ v. view v ≡ oversize_data at.now code.now exchanges node.now server.now) }
+{
+    json!(in alloc; {
+        "at": at,
+        "code": code,
+        "event": "oversize",
+        "exchanges": exchanges,
+        "node": node,
+        "server": server,
+    })
+}
+
 fn answered_value(
     alloc: Global,
     at: &str,
@@ -129,6 +149,11 @@ fn event_value(
         Event::Lost { node, code } => lost_value(alloc, at, code, node, server),
         Event::Found { node, failed } => found_value(alloc, at, *failed, node, server),
         Event::Fell { node, held, shown } => fell_value(alloc, at, *held, node, server, *shown),
+        Event::Oversize {
+            node,
+            code,
+            exchanges,
+        } => oversize_value(alloc, at, code, *exchanges, node, server),
         Event::Answered {
             route,
             status,

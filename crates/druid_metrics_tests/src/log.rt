@@ -67,6 +67,14 @@ fn lines_of_nodes(rt: HostRuntime) {
     let wanted =
         "{\"at\":\"2024-05-02T09:30:00.250Z\",\"event\":\"fell\",\"held\":{\"counter\":12,\"hash\":5},\"node\":\"n1\",\"server\":\"n0\",\"shown\":{\"counter\":3,\"hash\":1}}\n";
     assert_line(&rt, alloc, Level::Info, &event, wanted);
+    let event = Event::Oversize {
+        node: "n1",
+        code: "TooLarge",
+        exchanges: 2,
+    };
+    let wanted =
+        "{\"at\":\"2024-05-02T09:30:00.250Z\",\"code\":\"TooLarge\",\"event\":\"oversize\",\"exchanges\":2,\"node\":\"n1\",\"server\":\"n0\"}\n";
+    assert_line(&rt, alloc, Level::Info, &event, wanted);
 }
 
 #[test]

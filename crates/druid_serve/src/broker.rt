@@ -322,7 +322,7 @@ pub(crate) fn start_broker<
     let gate = Arc::new(alloc, Gate::new())?;
     let health = Arc::new(alloc, Health::new(alloc, count, pace.patience)?)?;
     let (publisher, mut views) = open_views::<J, C, R>(rt, alloc, list, inventory, workers)?;
-    let followed = followed_nodes(alloc, nodes)?;
+    let followed = Arc::new(alloc, followed_nodes(alloc, nodes)?)?;
     let told = Told {
         server: telemetry.name(),
         log: &log,
@@ -334,7 +334,9 @@ pub(crate) fn start_broker<
     let source = Source::open(rt, alloc, front, listener, &gate)?;
     for view in views {
         let worker = worker_of(rt, alloc, view, &health, nodes, &publisher)?;
-        start_worker::<R, J, C, Worker<R, J>>(rt, alloc, worker, &telemetry, &gate, &source)?;
+        start_worker::<R, J, C, Worker<R, J>>(
+            rt, alloc, worker, &telemetry, &gate, &followed, &source,
+        )?;
     }
     if let Some(listener) = status {
         let status = BrokerStatus {

@@ -21,7 +21,7 @@ pub(crate) struct FollowedNode {
 #[derive(Drop)]
 pub(crate) struct BrokerStatus {
     pub(crate) telemetry: Telemetry,
-    pub(crate) nodes: Vec<FollowedNode>,
+    pub(crate) nodes: Arc<Vec<FollowedNode>, Global>,
     pub(crate) health: Arc<Health, Global>,
 }
 
@@ -42,7 +42,7 @@ impl BrokerStatus {
     fn followed(&self, alloc: Global) -> Result<Vec<Followed<'_>>, AllocError> {
         let mut followed = Vec::with_capacity(alloc, self.nodes.len())?;
         let mut number: NodeNo = 0;
-        for node in &self.nodes {
+        for node in self.nodes.iter() {
             let ends = ends_of(alloc, self.health.counts(number))?;
             followed.push(node.meter.read(alloc, node.name.as_str(), ends)?)?;
             number = number.saturating_add(1);

@@ -8,15 +8,18 @@ ghost use Rattle.druid_serve.specs.Answers.{IsServedBy};
 ghost use mathlib.Core.List.{IsPrefix};
 
 use crate::links::{NodeLink, NodeList, links_to};
+use crate::status::FollowedNode;
 use druid_broker::{Routes, serve_one};
 use druid_config::NodeConfig;
 use druid_front::{Job, Jobs, answer_jobs, close_answered};
 use druid_health::{Health, monotonic_millis};
+use druid_log::Event;
 use druid_message::WireFault;
 use druid_metrics::CountedWriter;
 use druid_published::{Publication, Publisher, View};
 use druid_scatter::AilingLast;
 use druid_server::{DeviceFailed, Gate, Host, Source, Telemetry, answer_each, limit};
+use druid_shard::NodeNo;
 use std::alloc::Global;
 use std::io::{BufRead, BufReader, BufWriter, Write};
 use std::net::{Net, TcpListener, TcpStream};
@@ -41,12 +44,47 @@ pub(crate) struct Worker<R: Net + Clock + Wait + Drop, J: Publication> {
     ghost linked: { length J.opening ≤ vec_len links },
 }
 
-// What each request is answered by, whichever worker has it: where its path leads, and where it is told of and counted.
+// What each request is answered by, whichever worker has it: where its path leads, where it is told of and counted, and the nodes
+// by their numbers.
 #[derive(Drop)]
 struct Service<'a> {
     routes: &'a Routes,
     telemetry: &'a Telemetry,
     gate: &'a Gate,
+    nodes: &'a [FollowedNode],
+}
+
+impl Service<'_> {
+    // Logs how many exchanges with a node met a limit of 16 MiB, where some did.
+    fn tell_met<R: Wait + Clock>(
+        &self,
+        rt: &R,
+        alloc: Global,
+        node: &FollowedNode,
+        code: &str,
+        exchanges: u64,
+    ) {
+        if exchanges > 0 {
+            let event = Event::Oversize {
+                node: node.name.as_str(),
+                code,
+                exchanges,
+            };
+            self.telemetry.tell(rt, alloc, &event);
+        }
+    }
+
+    // Logs what met a limit of 16 MiB since that was last logged, of each node.
+    fn tell_oversize<R: Wait + Clock>(&self, rt: &R, alloc: Global, health: &Health) {
+        let mut number: NodeNo = 0;
+        for node in self.nodes {
+            if let Some(oversize) = health.take_oversize(number) {
+                self.tell_met(rt, alloc, node, "TooLarge", oversize.answers);
+                self.tell_met(rt, alloc, node, "X7", oversize.questions);
+            }
+            number = number.saturating_add(1);
+        }
+    }
 }
 
 // Reads a request and writes its answer by what the worker has, as `serve_one` does: replicas on nodes that failed lately go last.
@@ -59,7 +97,7 @@ fn serve<
 >(
     rt: &R,
     alloc: Global,
-    routes: &Routes,
+    service: &Service<'_>,
     worker: &mut Worker<R, J>,
     reader: &mut B,
     writer: &mut W,
@@ -74,7 +112,7 @@ fn serve<
     let served = serve_one(
         rt,
         alloc,
-        routes,
+        service.routes,
         reader,
         writer,
         &mut worker.view,
@@ -83,6 +121,7 @@ fn serve<
         &mut worker.links,
     );
     worker.health.release(nodes);
+    service.tell_oversize(rt, alloc, &worker.health);
     served
 }
 
@@ -95,7 +134,7 @@ fn send<
 >(
     rt: &R,
     alloc: Global,
-    routes: &Routes,
+    service: &Service<'_>,
     worker: &mut Worker<R, J>,
     reader: &mut B,
     writer: &mut W,
@@ -104,7 +143,7 @@ fn send<
     ensures turn { worker.new.turn ≡ worker.old.turn }
     ensures leads { (nodes : List Node) → LeadTo nodes worker.old.links.items → LeadTo nodes worker.new.links.items }
 {
-    let status = serve(rt, alloc, routes, worker, reader, writer).ok()?;
+    let status = serve(rt, alloc, service, worker, reader, writer).ok()?;
     writer.flush().ok()?;
     Some(status)
 }
@@ -136,7 +175,7 @@ fn answer<
     let Some(taken) = service.telemetry.take(rt, &mut reader) else {
         return None;
     };
-    let status = send(rt, alloc, service.routes, worker, &mut reader, &mut writer);
+    let status = send(rt, alloc, service, worker, &mut reader, &mut writer);
     let written = writer.get_ref().written();
     service.telemetry.end(rt, alloc, &taken, status, written);
     status
@@ -221,7 +260,7 @@ fn answer_bytes<
     let taken = service.telemetry.take_whole(rt, request);
     let mut reader = request;
     let mut bytes = Vec::new(alloc);
-    match serve(rt, alloc, service.routes, worker, &mut reader, &mut bytes) {
+    match serve(rt, alloc, service, worker, &mut reader, &mut bytes) {
         Ok(status) => {
             let written = bytes.len() as u64;
             service
@@ -331,6 +370,7 @@ pub(crate) fn start_worker<
     worker: A,
     telemetry: &Telemetry,
     gate: &Arc<Gate, Global>,
+    nodes: &Arc<Vec<FollowedNode>, Global>,
     source: &Source,
 ) -> Result<(), DeviceFailed>
     requires leads { LeadTo C.nodes (A.links worker) }
@@ -341,6 +381,7 @@ pub(crate) fn start_worker<
     };
     let telemetry = telemetry.share()?;
     let gate = Arc::try_clone(gate)?;
+    let nodes = Arc::try_clone(nodes)?;
     let source = source.share()?;
     let job = move || {
         let worker = worker.into_worker();
@@ -348,6 +389,7 @@ pub(crate) fn start_worker<
             routes: &routes,
             telemetry: &telemetry,
             gate: &gate,
+            nodes: &nodes,
         };
         drop(work(&rt, alloc, &service, worker, &source));
     };

@@ -44,7 +44,7 @@ impl Loading {
         Loading { end, owner }
     }
 
-    /// Waits until they were tried.
+    /// Waits until they were tried. What the thread hands over no contract knows: `EndOfLoads` says what any such end is.
     pub fn join<R: Wait>(self, rt: &R) -> EndOfLoads {
         let Loading { end, owner } = self;
         EndOfLoads {

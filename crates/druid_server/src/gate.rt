@@ -10,7 +10,8 @@ struct Count {
     answered: u64,
 }
 
-/// A count of answered connections, which threads share. It counts nothing before it is opened.
+/// A count of answered connections, which threads share. It counts nothing before it is opened. What lies under a lock is no value, so
+/// no contract speaks of the count.
 #[derive(Drop)]
 pub struct Gate {
     count: Mutex<Count>,

@@ -1,7 +1,8 @@
 //! A value that one thread hands to another, once.
 use std::sync::{Condvar, Mutex, Wait};
 
-/// What a thread tells before it ends: one thread gives a value, and another waits for it.
+/// What a thread tells before it ends: one thread gives a value, and another waits for it. What lies under a lock is no value, so no
+/// contract speaks of what is given.
 #[derive(Drop)]
 pub struct Handover<T: Drop> {
     value: Mutex<Option<T>>,

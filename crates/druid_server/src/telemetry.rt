@@ -105,7 +105,8 @@ impl Telemetry {
         }
     }
 
-    /// Counts a connection whose request was read whole, and notes when that came to a worker and what it asks for.
+    /// Counts a connection whose request was read whole, and notes when that came to a worker and what it asks for. Of these no contract
+    /// speaks, as of all that is counted here.
     pub fn take_whole<C: Clock>(&self, clock: &C, request: &[u8]) -> Taken {
         self.meter.take();
         Taken::new(clock, request)

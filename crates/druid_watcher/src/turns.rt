@@ -46,7 +46,8 @@ fn fallen(marks: &Option<Marks>) -> Option<Mark> {
 }
 
 impl<R: Wait + Clock + Drop> TurnWatcher<R> {
-    /// The watcher of the turns of that broker with that node, by their names.
+    /// The watcher of the turns of that broker with that node, by their names. A log and a meter are no values, so no contract says what
+    /// it tells.
     pub fn new(
         rt: R,
         alloc: Global,
