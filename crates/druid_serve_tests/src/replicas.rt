@@ -22,13 +22,15 @@ const PATIENCE: u64 = 2_000;
 // patience and a pause, of which this leaves out a quarter; where failures are not remembered the next comes after the patience alone.
 const LEAST_BETWEEN: u64 = 3_000;
 
-// How many queries are asked while the node keeps silent.
+// How many queries are asked while the node keeps silent: fewer where the machine is so busy that they take as many milliseconds.
 const QUERIES: u64 = 50;
 
-// How many once it answers again, and how many of them it gets at least, where every second one is its share.
-const LATER_QUERIES: u64 = 20;
+const MOST_MILLISECONDS: u64 = 15_000;
 
-const LEAST_SHARE: u64 = 5;
+// How many once it answers again, and how many of them it gets at least, where every second one is its share.
+const LATER_QUERIES: u64 = 10;
+
+const LEAST_SHARE: u64 = 3;
 
 // How often a query looks whether the node is asked again, 10 milliseconds apart.
 const LOOKS: u64 = 2_000;
@@ -219,12 +221,16 @@ fn ask_others<R: Host + Net<Listener = TcpListener, Stream = TcpStream>>(
     found: u64,
 ) {
     let mut found = found;
+    let first = monotonic_millis(rt);
     for number in 0..QUERIES {
         let asked = ask(rt, alloc, place, relay);
         if asked.is_relayed {
             let passed = relay.last.load(Ordering::SeqCst).saturating_sub(found);
             assert!(rt; LEAST_BETWEEN <= passed, "query {number} after {passed} ms");
             found = asked.began;
+        }
+        if MOST_MILLISECONDS < asked.began.saturating_sub(first) {
+            return;
         }
     }
 }
