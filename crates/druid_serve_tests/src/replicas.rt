@@ -16,11 +16,11 @@ use std::thread;
 use std::time::Duration;
 
 // How many milliseconds an exchange with a node may take. A node that failed is tried again after as many.
-const PATIENCE: u64 = 2_000;
+const PATIENCE: u64 = 3_000;
 
-// The least time from when a query began that found the node silent to when the next query comes there, in milliseconds. It is the
-// patience and a pause, of which this leaves out a quarter; where failures are not remembered the next comes after the patience alone.
-const LEAST_BETWEEN: u64 = 3_000;
+// The least time from when a query began that found the node silent to when the next query comes there, in milliseconds: the patience
+// and a pause, less what clocks may differ by. Where failures are not remembered the next comes after the patience and two queries.
+const LEAST_BETWEEN: u64 = 5_900;
 
 // How many queries are asked while the node keeps silent: fewer where the machine is so busy that they take as many milliseconds.
 const QUERIES: u64 = 50;
