@@ -33,6 +33,7 @@ LEFT_OUT = {
     'druid_link::receive_some': WITHIN + 'TcpLink::exchange',
     'druid_link::send_all': NO_ALLOCATOR,
     'druid_node::DataNode::load_identified': WITHIN + 'DataNode::load_file',
+    'druid_pages::Assembly::take': WITHIN + 'inventory::Assembly::take',
     'druid_query::Query::new': BY_CALLER + 'read_query',
     'druid_shard::Reply::page': NEVER,
     'druid_shard::apply_change': BY_CALLER + 'History::record, Inventory::advance',
@@ -127,9 +128,11 @@ def made():
         yield from re.findall(r'assert_call\(\s*&?rt,\s*"([^" ]+)"', text)
 
 
-def is_made(call, names):
+def is_made(call, names, all_calls):
+    """Whether a call has one of these names: that of its crate stands before it where another crate has a call of its name."""
     crate, _, name = call.partition('::')
-    return name in names or f'{crate.removeprefix("druid_")}::{name}' in names
+    alone = sum(other.partition('::')[2] == name for other in all_calls) == 1
+    return alone and name in names or f'{crate.removeprefix("druid_")}::{name}' in names
 
 
 def main():
@@ -137,8 +140,8 @@ def main():
     texts = list(sources())
     all_calls, names = sorted(set(calls(texts))), set(made())
     left = [call for call in all_calls if call in LEFT_OUT]
-    missing = [call for call in all_calls if call not in LEFT_OUT and not is_made(call, names)]
-    unknown = [name for name in sorted(names) if not any(is_made(call, {name}) for call in all_calls)]
+    missing = [call for call in all_calls if call not in LEFT_OUT and not is_made(call, names, all_calls)]
+    unknown = [name for name in sorted(names) if not any(is_made(call, {name}, all_calls) for call in all_calls)]
     gone = [call for call in LEFT_OUT if call not in all_calls]
     for what, which in [('NOT MADE', missing), ('NO SUCH CALL', unknown), ('LEFT OUT AND NOT THERE', gone)]:
         for name in which:
