@@ -3,8 +3,8 @@
  *
  * The program asks for a block of BEGIN bytes before each call that is tried, and for one of END bytes after it. Of the call with the
  * number REFUSE_CALL, from 1 in the order in which the program comes to them, the allocation with the number REFUSE_AT is refused once:
- * those between the two blocks are counted, from 1, of all threads. At the end a line is added to the file REFUSE_REPORT: how many
- * calls began, how many allocations the chosen one made, and whether one was refused.
+ * those between the two blocks are counted, from 1, of all threads. Where REFUSE_CALL is 0 all of the program's are counted. At the end
+ * a line is added to the file REFUSE_REPORT: how many calls began, how many allocations the chosen one made, and whether one was refused.
  */
 #define _GNU_SOURCE
 #include <dlfcn.h>
@@ -36,6 +36,7 @@ __attribute__((constructor)) static void find(void)
     const char *call = getenv("REFUSE_CALL"), *at = getenv("REFUSE_AT");
     chosen_call = call ? atol(call) : 0;
     chosen_at = at ? atol(at) : 0;
+    inside = !chosen_call;
     real_malloc = dlsym(RTLD_NEXT, "malloc");
     real_realloc = dlsym(RTLD_NEXT, "realloc");
     real_calloc = dlsym(RTLD_NEXT, "calloc");
@@ -50,6 +51,7 @@ __attribute__((destructor)) static void report(void)
     if (is_reported)
         return;
     is_reported = 1;
+    inside = 0;
     const char *path = getenv("REFUSE_REPORT");
     FILE *file = path ? fopen(path, "a") : NULL;
     if (file) {
