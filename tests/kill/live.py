@@ -7,7 +7,7 @@ Two nodes look at their folders each 20 milliseconds, and a broker asks them eac
 the day that v1 has, is moved into a folder and out of it at drawn moments, while clients ask for the count of the day; at a drawn
 moment the program is killed (SIGKILL). Each answer is the count of one version, or says that v2's segment is missing. After each
 start the answer becomes that of the files which are there then, and stays; the incarnations of both nodes rise strictly. It ends with
-1 where that fails, and where a version was never seen: then the run shows nothing.
+1 where that fails, where the program ends by itself, and where a version was never seen: then the run shows nothing.
 """
 import collections
 import contextlib
@@ -58,17 +58,18 @@ def move(one, other):
 
 
 def count_of(cluster):
-    """The count that is answered, 'missing' where v2's segment is, or None where no answer comes."""
+    """The count that is answered, 'missing' where v2's segment is, None where no answer comes, or whatever else is answered."""
     try:
         status, body = exchange(cluster.broker, 'POST', QUERY, json.dumps(COUNT).encode(), wait=5)
     except (OSError, IndexError, ValueError):
         return None
-    answer = json.loads(body)
-    if status == 200:
-        return answer[0]['result']['n'] if answer else 0
-    if status == 503 and [it['ver'] for it in answer['missing']] == ['v2']:
-        return 'missing'
-    raise SystemExit(f'{status} {body[:300]}')
+    with contextlib.suppress(LookupError, TypeError, ValueError):
+        answer = json.loads(body)
+        if status == 200:
+            return answer[0]['result']['n'] if answer else 0
+        if status == 503 and [it['ver'] for it in answer['missing']] == ['v2']:
+            return 'missing'
+    return f'{status} {body[:300]}'
 
 
 def keep_asking(cluster, seen, over):
@@ -109,10 +110,13 @@ def live_and_die(cluster, folder, seed, seen):
     for it in clients:
         it.start()
     time.sleep(draw.uniform(.05, 1.5))
+    status = cluster.process.poll()
     cluster.ends()
     over.set()
     for it in clients:
         it.join()
+    if status is not None:
+        raise SystemExit(f'the program ended by itself with {status}')
     return mover.ends(), mover.moves
 
 
