@@ -12,6 +12,7 @@ and where no allocation of a test's calls could be refused.
 """
 import os
 import re
+import shutil
 import subprocess
 import sys
 import tempfile
@@ -33,10 +34,20 @@ def tests_of_crate():
                 yield f'{name[:-3]}::{test}'
 
 
+def compiler():
+    """The toolchain's C compiler, or else the system's."""
+    kit = os.path.dirname(os.path.dirname(os.path.realpath(shutil.which('rt') or '')))
+    clang = os.path.join(kit, 'toolchain', 'bin', 'clang')
+    if os.path.exists(clang):
+        return [clang, '-fuse-ld=lld']
+    need('cc')
+    return ['cc']
+
+
 def library(folder):
     """The path of `refuse.so`, which is made there."""
     path = os.path.join(folder, 'refuse.so')
-    subprocess.run(['cc', '-O1', '-shared', '-fPIC', '-o', path, os.path.join(HERE, 'refuse.c'), '-ldl'], check=True)
+    subprocess.run([*compiler(), '-O1', '-shared', '-fPIC', '-nostdlib', '-o', path, os.path.join(HERE, 'refuse.c')], check=True)
     return path
 
 
@@ -80,7 +91,6 @@ def main():
     tests = asked.tests or list(tests_of_crate())
     if not os.access(PROGRAM, os.X_OK):
         sys.exit(f'{PROGRAM} is not there: `rt test` in crates/druid_refusal_tests proves and builds it, or REFUSAL_TESTS has the path of another')
-    need('cc')
     faults, calls, refusals = [], 0, 0
     with tempfile.TemporaryDirectory() as folder:
         shared = library(folder)

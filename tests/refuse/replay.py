@@ -18,7 +18,7 @@ import tempfile
 HERE = os.path.dirname(os.path.abspath(__file__))
 sys.path[:0] = [HERE, os.path.dirname(HERE)]
 from refuse import MOST, SECONDS, library, refused  # noqa: E402
-from served import PROGRAM, TOP, has_checks, need, need_program, parser_of  # noqa: E402
+from served import PROGRAM, TOP, has_checks, need_program, parser_of  # noqa: E402
 
 
 def run(script, words):
@@ -60,7 +60,6 @@ def main():
     need_program()
     if has_checks():
         sys.exit('a program with checks of memory has an allocator of its own: this test needs the proved one')
-    need('cc')
     refusals, faults = 0, 0
     with tempfile.TemporaryDirectory() as folder:
         shared = library(folder)
