@@ -5,8 +5,8 @@ replay.py [SCRIPT ..]     examples/*.jsonl unless said otherwise
 
 The built program reads a script with `refuse.so` (refuse.c) loaded before it, which refuses its k-th allocation, for k = 1, 2, .. until
 it makes no k-th. Each run does all that one with memory does; or it ends with status 3, and says `line N: device` and `out of memory`:
-then it wrote the answers to the lines before N, and a front of the answer to N; or, where its buffers were refused, nothing. A program
-with checks of memory has an allocator of its own, so it is not taken. The status is 1 where a run did anything else.
+then it wrote the answers to the lines before N, and a front of the answer to N; or, where its buffers or its words were refused, it wrote
+nothing, and says nothing or `line 1: device`. A program with checks of memory has an allocator of its own, so it is not taken. The status is 1 where a run did anything else.
 """
 import glob
 import os
@@ -37,7 +37,7 @@ def is_right(got, whole):
     if status != 3 or not whole[1].startswith(written):
         return False
     found = re.fullmatch(r'line ([1-9][0-9]*): device\n.*out of memory\n', said)
-    return written.count(b'\n') == int(found[1]) - 1 if found else not written and not said
+    return written.count(b'\n') == int(found[1]) - 1 if found else not written and said in ('', 'line 1: device\n')
 
 
 def try_script(shared, folder, script):
