@@ -6,7 +6,8 @@ replay.py [SCRIPT ..]     examples/*.jsonl unless said otherwise
 The built program reads a script with `refuse.so` (refuse.c) loaded before it, which refuses its k-th allocation, for k = 1, 2, .. until
 it makes no k-th. Each run does all that one with memory does; or it ends with status 3, and says `line N: device` and `out of memory`:
 then it wrote the answers to the lines before N, and a front of the answer to N; or, where its buffers or its words were refused, it wrote
-nothing, and says nothing or `line 1: device`. A program with checks of memory has an allocator of its own, so it is not taken. The status is 1 where a run did anything else.
+nothing, and says nothing or `line 1: device`. A program with checks of memory has an allocator of its own, so it is not taken. The
+status is 1 where a run did anything else.
 """
 import glob
 import os
