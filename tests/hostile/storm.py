@@ -18,8 +18,8 @@ docs/FORMATS.md says of such a message:
 Memory is there and each node answers, so 500 and 503 come to none. Then a third of 1,000 connections says nothing, a third
 sends a byte a second, and a third closes in the middle of a request; and of one more at each server, which says nothing, the server has
 to close the connection after 30 seconds. At the end the program has to answer as at the start, with no thread, no descriptor and no
-megabyte more than after its first tenth of the requests, or 2,000, in which its threads' memory warms up. Of a program with checks of memory (`./druid_cluster preview`), which hold memory back, the megabyte is not compared. It
-ends with 1 where that fails.
+megabyte more than after its first tenth of the requests, or 2,000, in which its threads' memory warms up. Of a program with checks of
+memory (`./druid_cluster preview`), which hold memory back, the megabyte is not compared. It ends with 1 where that fails.
 """
 import collections
 import json
@@ -253,8 +253,8 @@ def main():
         again = [talk(ports[server], data) for server, data in lawful()]
         after = cluster.uses()
         print(f'{MISBEHAVING:,} clients that misbehaved; memory {before[0]:,} KiB, then {after[0]:,}; threads {before[1]}, {after[1]}; open files {before[2]}, {after[2]}')
-        same = {'answers': again == wanted, 'the limit of a silent client': are_closed, 'memory': has_checks() or after[0] <= before[0] + 1_024, 'threads': after[1] == before[1],
-                'open files': after[2] == before[2]}
+        same = {'answers': again == wanted, 'the limit of a silent client': are_closed, 'memory': has_checks() or after[0] <= before[0] + 1_024,
+                'threads': after[1] == before[1], 'open files': after[2] == before[2]}
         changed = [what for what, is_same in same.items() if not is_same]
         if changed:
             print('not as it should be:', ', '.join(changed))
