@@ -12,6 +12,7 @@ from served import free_ports
 PORT = 8083  # Of each server, in its own namespace.
 NEEDED = ('ip', 'tc', 'unshare', 'nsenter')
 NOWHERE = '02:00:00:00:00:01'
+CLIENT = '10.66.0.1'
 
 
 def is_allowed():
@@ -51,16 +52,22 @@ class Namespaces:
     def __init__(self, names):
         self.addresses = {name: f'10.66.0.{2 + place}' for place, name in enumerate(names)}
         self.servers = {name: f'{address}:{PORT}' for name, address in self.addresses.items()}
+        self.ports = {address: f'02:00:00:00:01:{place:02}' for place, address in enumerate([CLIENT, *self.addresses.values()])}
         self.drops = shutil.which('nft') is not None
         run('mount', '-t', 'tmpfs', 'tmpfs', '/run')
         os.mkdir('/run/netns')
-        run('ip', '-batch', '-', given='link set lo up\nlink add name bridge0 type bridge\nlink set bridge0 up\naddr add 10.66.0.1/24 dev bridge0\n')
+        run('ip', '-batch', '-', given=f'link set lo up\nlink add name bridge0 address {self.ports[CLIENT]} type bridge\nlink set bridge0 up\n'
+                                      f'addr add {CLIENT}/24 dev bridge0\n{self.known("bridge0")}')
         for name, address in self.addresses.items():
-            run('ip', '-batch', '-', given=f'netns add {name}\nlink add name v-{name} type veth peer name eth0 netns {name}\n'
+            run('ip', '-batch', '-', given=f'netns add {name}\nlink add name v-{name} type veth peer name eth0 address {self.ports[address]} netns {name}\n'
                                            f'link set v-{name} master bridge0 up\n')
-            run('ip', '-n', name, '-batch', '-', given=f'link set lo up\naddr add {address}/24 dev eth0\nlink set eth0 up\n')
+            run('ip', '-n', name, '-batch', '-', given=f'link set lo up\naddr add {address}/24 dev eth0\nlink set eth0 up\n{self.known("eth0")}')
             if self.drops:
                 self.nft(name, 'add table ip f\nadd chain ip f in { type filter hook input priority 0; }\n')
+
+    def known(self, device):
+        """Which port has each address. A kernel that has to ask for it while a link is unplugged waits on for a second after that."""
+        return ''.join(f'neigh replace {address} lladdr {port} nud permanent dev {device}\n' for address, port in self.ports.items())
 
     def prefix(self, name):
         return ['nsenter', f'--net=/run/netns/{name}']
@@ -79,13 +86,16 @@ class Namespaces:
         return [pair for pair, name in (((broker, node), 'to'), ((node, broker), 'from')) if way in (name, 'both')]
 
     def cut(self, node, broker, way):
-        """What one sends to the other goes nowhere: it is sent to an address of the link that nobody has."""
+        """What one sends to the other goes nowhere: it is sent to a port that nobody has."""
         for one, other in self.ways(node, broker, way):
-            run('ip', '-n', one, 'neigh', 'replace', self.addresses[other], 'lladdr', NOWHERE, 'nud', 'permanent', 'dev', 'eth0')
+            self.send_to(one, other, NOWHERE)
 
     def end_cut(self, node, broker, way):
         for one, other in self.ways(node, broker, way):
-            run('ip', '-n', one, 'neigh', 'del', self.addresses[other], 'dev', 'eth0')
+            self.send_to(one, other, self.ports[self.addresses[other]])
+
+    def send_to(self, one, other, port):
+        run('ip', '-n', one, 'neigh', 'replace', self.addresses[other], 'lladdr', port, 'nud', 'permanent', 'dev', 'eth0')
 
     def at(self, name, way):
         return ['tc'] if way == 'in' else ['tc', '-n', name], f'v-{name}' if way == 'in' else 'eth0'

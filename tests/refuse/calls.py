@@ -3,8 +3,8 @@
 
 A call may want memory where it is public, its crate exports it, and its result has `AllocError`, an enum of faults with a member
 `Memory`, or one of the faults of AS_DEVICE. Those calls are read out of the sources of all libraries; the names of those that are made, out
-of the lines `assert_call(rt, "..")` of the tests. The status is 1 where one is made by no test and stands not in LEFT_OUT, or a name is of
-no call.
+of the lines `assert_call(rt, "..")` of the tests. The status is 1 where one is made by no test and stands not in LEFT_OUT, or is made and
+stands there, or a name is of no call.
 """
 import glob
 import os
@@ -41,6 +41,7 @@ LEFT_OUT = {
     'druid_link::receive_some': WITHIN + 'TcpLink::exchange',
     'druid_link::send_all': NO_ALLOCATOR,
     'druid_node::DataNode::load_identified': WITHIN + 'DataNode::load_file',
+    'druid_pages::Assembly::take': WITHIN + 'inventory::Assembly::take',
     'druid_program::run': BY_REPLAY,
     'druid_program::serve_config': START,
     'druid_program::start_log': START,
@@ -48,8 +49,7 @@ LEFT_OUT = {
     'druid_serve::serve': START,
     'druid_serve_node::start_node': START,
     'druid_serve_node::start_owner': START,
-    'druid_server::Source::open': START,
-    'druid_server::Source::share': 'counts up an `Arc`, and allocates nothing',
+    'druid_server::Source::open': 'made by fronts::of_sources, which looks at the listener that is left, too',
     'druid_server::start_status': START,
     'druid_shard::Reply::page': NEVER,
     'druid_shard::apply_change': BY_CALLER + 'History::record, Inventory::advance',
@@ -146,9 +146,11 @@ def made():
         yield from re.findall(r'assert_call\(\s*&?rt,\s*"([^" ]+)"', text)
 
 
-def is_made(call, names):
+def is_made(call, names, all_calls):
+    """Whether a call has one of these names: that of its crate stands before it where another crate has a call of its name."""
     crate, _, name = call.partition('::')
-    return name in names or f'{crate.removeprefix("druid_")}::{name}' in names
+    alone = sum(other.partition('::')[2] == name for other in all_calls) == 1
+    return alone and name in names or f'{crate.removeprefix("druid_")}::{name}' in names
 
 
 def main():
@@ -156,14 +158,15 @@ def main():
     texts = list(sources())
     all_calls, names = sorted(set(calls(texts))), set(made())
     left = [call for call in all_calls if call in LEFT_OUT]
-    missing = [call for call in all_calls if call not in LEFT_OUT and not is_made(call, names)]
-    unknown = [name for name in sorted(names) if not any(is_made(call, {name}) for call in all_calls)]
+    missing = [call for call in all_calls if call not in LEFT_OUT and not is_made(call, names, all_calls)]
+    unknown = [name for name in sorted(names) if not any(is_made(call, {name}, all_calls) for call in all_calls)]
     gone = [call for call in LEFT_OUT if call not in all_calls]
-    for what, which in [('NOT MADE', missing), ('NO SUCH CALL', unknown), ('LEFT OUT AND NOT THERE', gone)]:
+    doubled = [call for call in left if is_made(call, names, all_calls)]
+    for what, which in [('NOT MADE', missing), ('NO SUCH CALL', unknown), ('LEFT OUT AND NOT THERE', gone), ('LEFT OUT AND MADE', doubled)]:
         for name in which:
             print(what, name)
     print(f'{len(all_calls)} calls may want memory: {len(all_calls) - len(left) - len(missing)} are made, {len(left)} are left out, {len(missing)} are not made')
-    return 1 if missing or unknown or gone else 0
+    return 1 if missing or unknown or gone or doubled else 0
 
 
 if __name__ == '__main__':

@@ -13,6 +13,8 @@ mod devices;
 #[cfg(test)]
 mod files;
 #[cfg(test)]
+mod fronts;
+#[cfg(test)]
 mod marks;
 #[cfg(test)]
 mod nodes;

@@ -2,7 +2,6 @@
 ghost use Rattle.std.specs.Prelude.{false};
 
 use crate::marks::{assert_call, begin, end};
-use druid_front::Seats;
 use druid_health::Health;
 use druid_log::{Event, Level, Log, Refusals, line_of, open};
 use druid_message::WireFault;
@@ -133,6 +132,19 @@ fn texts(rt: &impl Abort, alloc: Global, readings: &Readings) {
     begin(rt, alloc);
     let response = end(rt, alloc, metrics_response(alloc, b"a 1\n"));
     assert_call(rt, "metrics_response", has_count(&response, whole.len()));
+}
+
+fn logs(rt: &impl Abort, alloc: Global) {
+    begin(rt, alloc);
+    let opened = end(rt, alloc, open(alloc, Level::Info));
+    assert_call(
+        rt,
+        "log::open",
+        match &opened {
+            Ok((_, lines)) => lines.is_some(),
+            Err(AllocError) => true,
+        },
+    );
 }
 
 fn lines(rt: &impl Abort, alloc: Global) {
@@ -276,16 +288,6 @@ fn statuses(rt: &impl Abort, alloc: Global) {
             Err(fault) => fault == WireFault::Memory,
         },
     );
-    begin(rt, alloc);
-    let seats = end(rt, alloc, Seats::new(alloc, 3));
-    assert_call(
-        rt,
-        "Seats::new",
-        match &seats {
-            Ok(seats) => seats.at(2).is_some(),
-            Err(AllocError) => true,
-        },
-    );
 }
 
 #[test]
@@ -301,5 +303,6 @@ fn of_health(rt: HostRuntime) {
 
 #[test]
 fn of_a_log(rt: HostRuntime) {
+    logs(&rt, rt.alloc());
     lines(&rt, rt.alloc());
 }

@@ -157,7 +157,7 @@ fn take_page(rt: &impl Abort, alloc: Global, page: &Reply) {
         let given = end(rt, alloc, assembly.take(page));
         assert_call(
             rt,
-            "Assembly::take",
+            "inventory::Assembly::take",
             match &given {
                 Ok(given) => given.is_none(),
                 Err(fault) => *fault == ApplyFault::Memory,

@@ -13,11 +13,15 @@ mod fronts;
 #[cfg(test)]
 mod host;
 #[cfg(test)]
+mod listening;
+#[cfg(test)]
 mod live;
 #[cfg(test)]
 mod loading;
 #[cfg(test)]
 mod operating;
+#[cfg(test)]
+mod replicas;
 #[cfg(test)]
 mod serve;
 #[cfg(test)]

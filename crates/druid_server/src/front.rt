@@ -67,8 +67,8 @@ fn start_accepting<R: Wait + Threads + Clock + Copy + Send + Sync + 'static>(
     }
 }
 
-// Starts so many front threads over a listener, and then the one that accepts, and gives where workers find their jobs. They go on
-// until the program ends. (That a thread does its part no clause can say.)
+// Starts so many front threads over a listener, and last the one that accepts, so that where this fails nobody does; and gives where
+// workers find their jobs. They go on until the program ends. (That a thread does its part no clause can say.)
 fn start_front<R: Wait + Threads + Clock + Copy + Send + Sync + 'static>(
     rt: &R,
     alloc: Global,
@@ -78,11 +78,12 @@ fn start_front<R: Wait + Threads + Clock + Copy + Send + Sync + 'static>(
 ) -> Result<Arc<Jobs, Global>, DeviceFailed> {
     let (front, places, jobs) = open(alloc, threads)?;
     let front = Arc::new(alloc, front)?;
+    let jobs = Arc::new(alloc, jobs)?;
     for place in places {
         start_place(rt, alloc, &front, place, gate)?;
     }
     start_accepting(rt, front, listener)?;
-    Ok(Arc::new(alloc, jobs)?)
+    Ok(jobs)
 }
 
 /// Where a worker's requests come from.
