@@ -10,7 +10,7 @@ import time
 TOP = os.path.dirname(os.path.dirname(os.path.abspath(__file__)))
 sys.dont_write_bytecode = True
 sys.path.insert(0, os.path.join(TOP, 'tools'))
-from built import PROGRAM, has_checks, need, need_program, parser_of  # noqa: E402,F401
+from built import LACKING, PROGRAM, has_checks, need, need_program, parser_of  # noqa: E402,F401
 from make_segments import DAY, Segment, encoded, file_of  # noqa: E402,F401
 
 ASK = '/druid-internal/v1/segments'

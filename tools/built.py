@@ -9,7 +9,8 @@ PROGRAM = os.environ.get('DRUID_CLUSTER') or os.path.join(TOP, 'crates', 'druid_
 
 # Debian's packages, where they have another name than the command.
 PACKAGES = {'ab': 'apache2-utils', 'cc': 'gcc libc6-dev', 'clang': 'clang libclang-rt-14-dev', 'nginx': 'nginx-light', 'objdump': 'binutils',
-            'chromium': '--no-install-recommends chromium fonts-dejavu-core'}
+            'promtool': 'prometheus', 'chromium': '--no-install-recommends chromium fonts-dejavu-core'}
+LACKING = ' is not there: apt-get install '  # What `need` says of a command of Debian's: tests/all passes over a test that says so.
 
 
 def parser_of(text):
@@ -27,8 +28,8 @@ def need(*commands):
     """Ends with status 1 and a sentence for each of these commands that is not there."""
     missing = [it for it in commands if not shutil.which(it)]
     if missing:
-        sys.exit('\n'.join(f'{it} is not there: ' + ("the toolchain's (README, 'Get it running')" if it == 'rt' else
-                                                     f'apt-get install {PACKAGES.get(it, it)}') for it in missing))
+        sys.exit('\n'.join("rt is not there: the toolchain's (README, 'Get it running')" if it == 'rt' else f'{it}{LACKING}{PACKAGES.get(it, it)}'
+                           for it in missing))
 
 
 def has_checks(path=PROGRAM):

@@ -14,14 +14,14 @@ from history import NEVER, Lies, Life, Seen
 from place import run
 from served import ASK, PROGRAM, request
 
-PORT = 8083
 ROOM = '512k'  # Of a node's file system.
 LATE = .06  # Seconds after which a thread has woken late, or a server answered late.
 
 
-def exchange(address, method, target, body=b'', wait=6):
+def exchange(server, method, target, body=b'', wait=6):
     """The status and the body of an answer."""
-    with socket.create_connection((address, PORT), timeout=wait) as stream:
+    address, port = server.split(':')
+    with socket.create_connection((address, int(port)), timeout=wait) as stream:
         stream.sendall(request(method, target, body))
         head, _, body = b''.join(iter(lambda: stream.recv(65_536), b'')).partition(b'\r\n\r\n')
     length = next((int(line.split(b':')[1]) for line in head.split(b'\r\n') if line.lower().startswith(b'content-length')), -1)
@@ -66,10 +66,10 @@ class Cluster:
             file.write(f'{number}\n')
 
     def write_config(self):
-        plan, at = self.plan, self.place.addresses
-        nodes = [{'address': f'{at[it]}:{PORT}', 'folder': f'{self.folder}/{it}/folder', 'loads': [], 'name': it, 'watch': plan.watch, 'workers': 8}
+        plan, at = self.plan, self.place.servers
+        nodes = [{'address': at[it], 'folder': f'{self.folder}/{it}/folder', 'loads': [], 'name': it, 'watch': plan.watch, 'workers': 8}
                  for it in plan.nodes]
-        config = {'brokers': [{'address': f'{at[it]}:{PORT}', 'workers': 8} for it in plan.brokers], 'every': plan.every, 'kept': plan.kept,
+        config = {'brokers': [{'address': at[it], 'workers': 8} for it in plan.brokers], 'every': plan.every, 'kept': plan.kept,
                   'network': True, 'nodes': nodes, 'patience': plan.patience, 'queries': [], 'turns': plan.turns}
         for it in [*nodes, *config['brokers']] if plan.front else ():
             it['front'] = plan.front
@@ -193,7 +193,7 @@ class Cluster:
         place, numbers = self.plan.nodes.index(node), [it.incarnation for it in self.history.seen if it.node == node and it.server != node]
         for broker in self.plan.brokers:
             with contextlib.suppress(OSError, ValueError, KeyError, IndexError):
-                numbers.append(mark_of(exchange(self.place.addresses[broker], 'GET', f'/druid-internal/v1/inventory/{place}', wait=1)[1])[0])
+                numbers.append(mark_of(exchange(self.place.servers[broker], 'GET', f'/druid-internal/v1/inventory/{place}', wait=1)[1])[0])
         return max(numbers)
 
     def mend(self, node, brings_back):
@@ -262,7 +262,7 @@ class Cluster:
         target = ASK if server == node else f'/druid-internal/v1/inventory/{self.plan.nodes.index(node)}'
         sent = self.history.now()
         with contextlib.suppress(OSError, ValueError, IndexError, KeyError):
-            status, body = exchange(self.place.addresses[server], 'GET', target, wait=1)
+            status, body = exchange(self.place.servers[server], 'GET', target, wait=1)
             if status == 200:
                 self.history.seen.append(Seen(sent, self.history.now(), server, node, *mark_of(body)))
         now = self.history.now()

@@ -48,7 +48,7 @@ class Run:
         sent, status, body = self.history.now(), None, ''
         self.queries[broker, client, place] = query
         try:
-            status, body = exchange(self.place.addresses[broker], 'POST', QUERY, query.body, wait=len(self.plan.nodes) * self.plan.patience / 1000 + 4)
+            status, body = exchange(self.place.servers[broker], 'POST', QUERY, query.body, wait=len(self.plan.nodes) * self.plan.patience / 1000 + 4)
             body = body.decode()
         except (OSError, ValueError, IndexError) as fault:
             body = repr(fault)
@@ -75,7 +75,7 @@ class Run:
         """Notes when a broker has said that it knows all nodes."""
         sent, life = self.history.now(), self.history.life(broker)
         with contextlib.suppress(OSError, ValueError, IndexError):
-            said = exchange(self.place.addresses[broker], 'GET', '/druid/broker/v1/loadstatus', wait=1)[1]
+            said = exchange(self.place.servers[broker], 'GET', '/druid/broker/v1/loadstatus', wait=1)[1]
             now = self.history.now()
             if b'true' in said and life and life is self.history.life_at(broker, sent, now):
                 self.history.shown_all[broker].append(now)
@@ -118,12 +118,12 @@ class Run:
         """In what the cluster has not settled: None where both brokers hold of each node, byte for byte, what it says itself, and that is what
         lies in its folder."""
         for place, node in enumerate(self.plan.nodes):
-            said = exchange(self.place.addresses[node], 'GET', ASK, wait=2)
+            said = exchange(self.place.servers[node], 'GET', ASK, wait=2)
             names = {self.name_of(it) for it in json.loads(said[1])['requests']}
             if names != {it.name for it in self.plan.files if self.cluster.mask(node) & it.bit}:
                 return f'{node} serves other files than lie in its folder'
             for broker in self.plan.brokers:
-                held = exchange(self.place.addresses[broker], 'GET', f'/druid-internal/v1/inventory/{place}', wait=2)
+                held = exchange(self.place.servers[broker], 'GET', f'/druid-internal/v1/inventory/{place}', wait=2)
                 if held != said:
                     return f'{broker} holds of {node} {held}, which says {said}'
         return None

@@ -7,6 +7,9 @@ import os
 import shutil
 import subprocess
 
+from served import free_ports
+
+PORT = 8083  # Of each server, in its own namespace.
 NEEDED = ('ip', 'tc', 'unshare', 'nsenter')
 NOWHERE = '02:00:00:00:00:01'
 CLIENT = '10.66.0.1'
@@ -36,7 +39,7 @@ class Loopback:
     has_links = False
 
     def __init__(self, names):
-        self.addresses = {name: f'127.0.0.{2 + place}' for place, name in enumerate(names)}
+        self.servers = {name: f'127.0.0.{2 + place}:{port}' for place, (name, port) in enumerate(zip(names, free_ports(len(names))))}
 
     def prefix(self, _name):
         return []
@@ -48,6 +51,7 @@ class Namespaces:
 
     def __init__(self, names):
         self.addresses = {name: f'10.66.0.{2 + place}' for place, name in enumerate(names)}
+        self.servers = {name: f'{address}:{PORT}' for name, address in self.addresses.items()}
         self.ports = {address: f'02:00:00:00:01:{place:02}' for place, address in enumerate([CLIENT, *self.addresses.values()])}
         self.drops = shutil.which('nft') is not None
         run('mount', '-t', 'tmpfs', 'tmpfs', '/run')

@@ -63,7 +63,7 @@ class Browser:
             if found:
                 with urllib.request.urlopen(f'http://127.0.0.1:{int(found[1])}/json', timeout=30) as response:
                     return next(it['webSocketDebuggerUrl'] for it in json.load(response) if it['type'] == 'page')
-        raise OSError('chromium did not start')
+        raise SystemExit('chromium did not start')
 
     def __enter__(self):
         return self

@@ -91,6 +91,10 @@ def ask(page, text, seconds=20):
     page.wait_for("!document.querySelector('#query button').disabled", seconds)
 
 
+def stands(page, url):
+    page.open(url, "document.querySelectorAll('.in-view li').length >= 6 && document.querySelectorAll('#nodes td').length >= 15")
+
+
 def timelines(page, broker, nodes):
     wanted = listed(chunks_at(broker, len(nodes)))
     equal(sorted(page.value(LISTED)), wanted, 'chunks')
@@ -277,9 +281,8 @@ def main():
     try:
         config, broker, nodes = make_cluster(folder)
         with console_of(config, broker) as url, Browser(CHROMIUM) as page:
-            page.open(url, "document.querySelectorAll('.in-view li').length >= 6 && document.querySelectorAll('#nodes td').length >= 15")
-            for test in (timelines, node_table, pointing, segment_rows, queries, refusals, doors, node_away, requests_of):
-                failed += not passes(test, page, broker, nodes)
+            tests = (timelines, node_table, pointing, segment_rows, queries, refusals, doors, node_away, requests_of)
+            failed += sum(not passes(it, page, broker, nodes) for it in tests) if passes(stands, page, url) else 1
         failed += not passes(endless, folder)
     finally:
         shutil.rmtree(folder, ignore_errors=True)

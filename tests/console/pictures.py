@@ -3,7 +3,7 @@
 
     python3 tests/console/pictures.py [FOLDER]        # docs/images unless said otherwise; a minute and a half
 
-It serves a copy of examples/cluster on the ports of console.json; so nothing else may serve that meanwhile.
+It serves a copy of examples/cluster on the ports of console.json, which the pictures show; where another program has them it ends.
 """
 import json, os, shutil, tempfile
 

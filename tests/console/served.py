@@ -70,11 +70,13 @@ def is_known(broker):
 @contextlib.contextmanager
 def console_of(config, broker):
     """The page's address, once the broker of the config knows all nodes."""
+    if is_known(broker):
+        raise SystemExit(f'{broker}: another program answers there')
     with running([PROGRAM, 'serve', config]) as program:
         until = time.monotonic() + 120
         while not is_known(broker):
             if program.poll() is not None or time.monotonic() > until:
-                raise OSError(f'{PROGRAM} does not serve {config}')
+                raise SystemExit(f'{PROGRAM} does not serve {config}')
             time.sleep(0.1)
         with running([sys.executable, os.path.join(TOP, 'tools', 'console.py'), '--port', '0', '--program', PROGRAM, config]) as console:
             yield console.stdout.readline().decode().strip()

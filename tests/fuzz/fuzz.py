@@ -21,7 +21,7 @@ TOP = os.path.dirname(os.path.dirname(HERE))
 sys.path.insert(0, os.path.join(TOP, 'bench'))
 from lib import below, crates, need, parser_of, room  # noqa: E402
 
-KIT = os.path.dirname(os.path.dirname(os.path.realpath(shutil.which('rt') or '/opt/rattle/bin/rt')))
+KIT = os.path.dirname(os.path.dirname(os.path.realpath(shutil.which('rt') or '')))
 CORPUS = os.path.join(HERE, 'corpus.tar.gz')
 TARGETS = ['fuzz_request', 'fuzz_query', 'fuzz_reply', 'fuzz_segment']
 USES = ['druid_wire', 'druid_query_text', 'druid_sync', 'druid_segfile']

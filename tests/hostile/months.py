@@ -88,7 +88,7 @@ def main():
         cluster.start().stands()
         before = lives_on(cluster, folder, seconds / 10, 0, seen)
         after = lives_on(cluster, folder, seconds, 1, seen)
-        print(f'{seconds} s; answers: {seen[OF_OLD]:,} of v1, {seen[OF_NEW]:,} of v2, {seen["missing"]:,} with v2 missing, {seen[None]:,} none')
+        print(f'{seconds} s; answers: {seen[OF_OLD]:,} of v1, {seen[OF_NEW]:,} of v2, {seen["missing"]:,} with v2 missing')
         print(f'memory {before[0]:,} KiB, then {after[0]:,}; threads {before[1]}, {after[1]}; open files {before[2]}, {after[2]}')
         others = set(seen) - {OF_OLD, OF_NEW, 'missing', None}
         same = {'answers': not others and seen[OF_OLD] and seen[OF_NEW], 'memory': has_checks() or after[0] <= before[0] + MORE,

@@ -129,7 +129,10 @@ class Greatest:
 
 def judged(cluster, seconds, clients, front):
     """What is wrong, and what was seen."""
-    wanted = answers(cluster)
+    try:
+        wanted = answers(cluster)
+    except (OSError, IndexError, ValueError) as fault:
+        return [f'no answer at the start, before any slow client: {fault!r}'], 'nothing'
     alone, _, wrong = ask_for(cluster, wanted, min(5, seconds))
     stood = cluster.uses()
     greatest = Greatest(cluster)

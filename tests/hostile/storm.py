@@ -5,7 +5,8 @@ storm.py [REQUESTS]     1,000,000 requests unless said otherwise, by four proces
 
 A cluster of two data nodes and a broker is served over loopback. Each request is drawn from lawful ones and spoiled in most
 cases: cut at any byte, a byte changed or doubled, a header added or changed, brackets for a body, another length. Each answer has
-to be nothing at all or one whole response with a body that is JSON, and of what docs/FORMATS.md says of such a message:
+to be nothing at all, where the message does not surely end where it says, or one whole response with a body that is JSON, and of what
+docs/FORMATS.md says of such a message:
 
     not spoiled                                         the answer of the start
     the front of a lawful one (X1)                      nothing
@@ -15,10 +16,10 @@ to be nothing at all or one whole response with a body that is JSON, and of what
     another first line                                  any of these, with Y6; 404 with NoRoute, V2 or V3; 405 with Method
 
 Memory is there and each node answers, so 500 and 503 come to none. Then a third of 1,000 connections says nothing, a third
-sends a byte a second, and a third closes in the middle of a request. At the end the program has to answer as at the start, with no
-thread, no descriptor and no megabyte more than after its first tenth of the requests, or 2,000, in which its threads' memory
-warms up. Of a program with checks of memory (`./druid_cluster preview`), which hold memory back, the megabyte is not compared. It
-ends with 1 where that fails.
+sends a byte a second, and a third closes in the middle of a request; and of one more at each server, which says nothing, the server has
+to close the connection after 30 seconds. At the end the program has to answer as at the start, with no thread, no descriptor and no
+megabyte more than after its first tenth of the requests, or 2,000, in which its threads' memory warms up. Of a program with checks of
+memory (`./druid_cluster preview`), which hold memory back, the megabyte is not compared. It ends with 1 where that fails.
 """
 import collections
 import json
@@ -37,6 +38,7 @@ sys.path.insert(0, os.path.dirname(os.path.dirname(os.path.abspath(__file__))))
 from served import ASK, DAY, QUERY, Cluster, Segment, has_checks, need_program, parser_of, request  # noqa: E402
 
 PROCESSES, MISBEHAVING, STAYING, WARMING = 4, 1_000, 5, 2_000
+LIMIT, LATE = 30, 15  # Seconds that a server waits for a read, and within which its close comes on a busy machine.
 
 
 def rows(seed):
@@ -126,10 +128,17 @@ def allowed(given, data, wanted):
     return rb'200 .*|400 \{"error":"(X[4-7]|Y6|Q\d)"[^{}]*\}|404 \{"error":"(NoRoute|V2|V3)"\}|405 \{"error":"Method"\}'
 
 
+def is_whole(data):
+    """Whether a message surely ends where it says: it begins, its head has an end, and what follows has each length that the head may mean."""
+    head, end, body = re.match(rb'(.*?)(\n\r?\n|$)(.*)', data, re.S).groups()
+    lengths = re.findall(rb'content-length[^\n0-9]*([0-9]*)', head, re.I)
+    return bool(re.match(rb'[A-Z]', data) and end and all(it and int(it) <= len(body) for it in lengths))
+
+
 def fault_of(answer, given, data, wanted):
     """What is wrong with an answer; None where it is nothing at all, or one whole response, and may come to such a message."""
     if not answer:
-        return None
+        return 'it is nothing, to a whole message' if answer == b'' and is_whole(data) else None
     head, gap, body = answer.partition(b'\r\n\r\n')
     lines = head.split(b'\r\n')
     words = lines[0].split()
@@ -208,6 +217,18 @@ def misbehave(ports):
         stream.close()
 
 
+def closes_silent(ports):
+    """Whether each server closes a connection on which nothing is said, after its limit."""
+    streams, begun = [socket.create_connection(('127.0.0.1', it), timeout=LIMIT + LATE) for it in ports], time.monotonic()
+    try:
+        return all(stream.recv(1) == b'' and time.monotonic() - begun > LIMIT - 1 for stream in streams)
+    except OSError:
+        return False
+    finally:
+        for it in streams:
+            it.close()
+
+
 def main():
     parser = parser_of(__doc__)
     parser.add_argument('requests', nargs='?', type=int, default=1_000_000)
@@ -228,14 +249,15 @@ def main():
         print(f'{sum(count.values()):,} requests in {time.monotonic() - begun:.0f} s:', ', '.join(f'{count[it]:,} {it}' for it in sorted(count)))
         misbehave(ports)
         time.sleep(2)
+        are_closed = closes_silent(ports)
         again = [talk(ports[server], data) for server, data in lawful()]
         after = cluster.uses()
         print(f'{MISBEHAVING:,} clients that misbehaved; memory {before[0]:,} KiB, then {after[0]:,}; threads {before[1]}, {after[1]}; open files {before[2]}, {after[2]}')
-        same = {'answers': again == wanted, 'memory': has_checks() or after[0] <= before[0] + 1_024, 'threads': after[1] == before[1],
-                'open files': after[2] == before[2]}
+        same = {'answers': again == wanted, 'the limit of a silent client': are_closed, 'memory': has_checks() or after[0] <= before[0] + 1_024,
+                'threads': after[1] == before[1], 'open files': after[2] == before[2]}
         changed = [what for what, is_same in same.items() if not is_same]
         if changed:
-            print('not as before:', ', '.join(changed))
+            print('not as it should be:', ', '.join(changed))
         return 1 if changed else 0
     finally:
         cluster.ends()

@@ -6,9 +6,9 @@ kill.py [STARTS]     200 starts at drawn moments, unless said otherwise, and one
 A node is served over a folder of the machine's and is killed (SIGKILL) at a drawn moment of its start, half of the time before
 it answers. Under `strace` it is then killed at its n-th open, write, sync and rename, for each n until it comes through. Whoever
 asks a node learns its incarnation. Over all starts these numbers rise strictly, and the file holds a number at least as great as
-each that was reported. It ends with 1 where that fails, where a start ends by itself, and where `strace` is not there, may not
-trace, or killed at no open, write, sync or rename; it says what it did until then. What this shows is the order of the calls; that a
-machine loses power is another matter, which the proof speaks of.
+each that was reported. It ends with 1 where that fails, where a start ends by itself, and where `strace` killed at no open, write,
+sync or rename; it says what it did until then. Without `strace`, or where that may not trace, it does nothing. What this shows is the
+order of the calls; that a machine loses power is another matter, which the proof speaks of.
 """
 import collections
 import contextlib
@@ -158,12 +158,12 @@ def main():
     parser.add_argument('starts', nargs='?', type=int, default=200)
     starts = parser.parse_args().starts
     need_program()
+    need_to_trace()
     folder = tempfile.mkdtemp(prefix='druid_cluster_kill_')
     cluster = Cluster(folder, [[Segment('w', 0, DAY, 'v', 0, 1, 0, ['d'], ['m'], [(1000, ['x'], [5])])]])
     record, killed = Record(folder), collections.Counter()
     try:
         kill_at_moments(cluster, record, starts)
-        need_to_trace()
         kill_at_calls(cluster, record, killed)
         return 0
     finally:

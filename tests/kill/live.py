@@ -5,9 +5,9 @@ live.py [KILLS]     30 unless said otherwise
 
 Two nodes look at their folders each 20 milliseconds, and a broker asks them each 20. A file of version v2, whose rows replace half of
 the day that v1 has, is moved into a folder and out of it at drawn moments, while clients ask for the count of the day; at a drawn
-moment the program is killed (SIGKILL). Each answer is the count of one version, or says that v2's segment is missing. After each
-start the answer becomes that of the files which are there then, and stays; the incarnations of both nodes rise strictly. It ends with
-1 where that fails, and where a version was never seen: then the run shows nothing.
+moment the program is killed (SIGKILL). Until then each query is answered, by the count of one version, or that v2's segment is missing.
+After each start the answer becomes that of the files which are there then, and stays; the incarnations of both nodes rise strictly. It
+ends with 1 where that fails, where the program ends by itself, and where a version was never seen: then the run shows nothing.
 """
 import collections
 import contextlib
@@ -58,22 +58,25 @@ def move(one, other):
 
 
 def count_of(cluster):
-    """The count that is answered, 'missing' where v2's segment is, or None where no answer comes."""
+    """The count that is answered, 'missing' where v2's segment is, None where no answer comes, or whatever else is answered."""
     try:
-        status, body = exchange(cluster.broker, 'POST', QUERY, json.dumps(COUNT).encode(), wait=5)
+        status, body = exchange(cluster.broker, 'POST', QUERY, json.dumps(COUNT).encode(), wait=30)
     except (OSError, IndexError, ValueError):
         return None
-    answer = json.loads(body)
-    if status == 200:
-        return answer[0]['result']['n'] if answer else 0
-    if status == 503 and [it['ver'] for it in answer['missing']] == ['v2']:
-        return 'missing'
-    raise SystemExit(f'{status} {body[:300]}')
+    with contextlib.suppress(LookupError, TypeError, ValueError):
+        answer = json.loads(body)
+        if status == 200:
+            return answer[0]['result']['n'] if answer else 0
+        if status == 503 and [it['ver'] for it in answer['missing']] == ['v2']:
+            return 'missing'
+    return f'{status} {body[:300]}'
 
 
 def keep_asking(cluster, seen, over):
+    """Asks until it is over. Where no answer comes before that, this is seen as `unanswered`."""
     while not over.is_set():
-        seen[count_of(cluster)] += 1
+        count = count_of(cluster)
+        seen['unanswered' if count is None and not over.is_set() else count] += 1
 
 
 def incarnations(cluster):
@@ -109,10 +112,13 @@ def live_and_die(cluster, folder, seed, seen):
     for it in clients:
         it.start()
     time.sleep(draw.uniform(.05, 1.5))
-    cluster.ends()
+    status = cluster.process.poll()
     over.set()
+    cluster.ends()
     for it in clients:
         it.join()
+    if status is not None:
+        raise SystemExit(f'the program ended by itself with {status}')
     return mover.ends(), mover.moves
 
 

@@ -1,9 +1,10 @@
 #!/usr/bin/env python3
 """Compares the calls that may want memory with those that crates/druid_refusal_tests makes between its marks.
 
-A call may want memory where it is public, its crate exports it, and its result has `AllocError` or an enum of faults with a member
-`Memory`. Those calls are read out of the sources of all libraries; the names of those that are made, out of the lines `assert_call(rt, "..")` of
-the tests. The status is 1 where one is made by no test and stands not in LEFT_OUT, or a name is of no call.
+A call may want memory where it is public, its crate exports it, and its result has `AllocError`, an enum of faults with a member
+`Memory`, or one of the faults of AS_DEVICE. Those calls are read out of the sources of all libraries; the names of those that are made, out
+of the lines `assert_call(rt, "..")` of the tests. The status is 1 where one is made by no test and stands not in LEFT_OUT, or is made and
+stands there, or a name is of no call.
 """
 import glob
 import os
@@ -18,13 +19,20 @@ BY_CALLER = 'its condition holds only within the call that makes it: '
 NEVER = 'allocates nothing, and its contract gives no fault of memory'
 WITHIN = 'all that it allocates is allocated within: '
 DEVICE = 'reaches the system, whose own faults come first; by tests with a device that fails'
+BY_REPLAY = 'by replay.py, over the built program'
+START = 'starts threads and sockets: memory is taken from what is served (tests/hostile/memory.py), and at its start by no test'
+# By these a call reports that memory ran out as a device that failed, or as a route that cannot be added.
+AS_DEVICE = {'DeviceFailed', 'Ending', 'InsertError', 'ReplayFault', 'StartFault', 'Stop'}
 LEFT_OUT = {
     'druid_asked_text::are_apart': BY_CALLER + 'read_subquery',
     'druid_asked_text::asked_list': BY_CALLER + 'read_subquery',
     'druid_base::copy_text': WITHIN + 'Aggregator::new, Segment::row',
     'druid_base::parse_json': WITHIN + 'read_reply, read_query',
+    'druid_broker::Routes::new': START,
     'druid_changes::History::refusal_of_drop': NEVER,
     'druid_changes::History::refusal_of_load': NEVER,
+    'druid_cluster::replay': BY_REPLAY,
+    'druid_cluster::replay_explained': BY_REPLAY,
     'druid_config::config_of': BY_CALLER + 'read_config',
     'druid_follow::observed_turn': WITHIN + 'shared_turn',
     'druid_health::Health::note': NO_ALLOCATOR,
@@ -34,7 +42,15 @@ LEFT_OUT = {
     'druid_link::send_all': NO_ALLOCATOR,
     'druid_node::DataNode::load_identified': WITHIN + 'DataNode::load_file',
     'druid_pages::Assembly::take': WITHIN + 'inventory::Assembly::take',
+    'druid_program::run': BY_REPLAY,
+    'druid_program::serve_config': START,
+    'druid_program::start_log': START,
     'druid_query::Query::new': BY_CALLER + 'read_query',
+    'druid_serve::serve': START,
+    'druid_serve_node::start_node': START,
+    'druid_serve_node::start_owner': START,
+    'druid_server::Source::open': 'made by fronts::of_sources, which looks at the listener that is left, too',
+    'druid_server::start_status': START,
     'druid_shard::Reply::page': NEVER,
     'druid_shard::apply_change': BY_CALLER + 'History::record, Inventory::advance',
     'druid_shard_text::DescriptorRef::of': NO_ALLOCATOR,
@@ -75,8 +91,8 @@ def sources():
 
 
 def wanting(texts):
-    """The types of results that tell of out of memory."""
-    found = {'AllocError', 'MergeRefused'}
+    """The types of faults that out of memory is one of."""
+    found = {'AllocError', 'MergeRefused', *AS_DEVICE}
     for _, text in texts:
         for name, members in re.findall(r'pub enum (\w+)[^{]*\{(.*?)\n\}', text, re.S):
             if re.search(r'^    Memory\b', members, re.M) and name.endswith('Fault'):
@@ -101,7 +117,9 @@ def calls(texts):
         for found in head.finditer(text):
             indent, is_pub, name, rest = found.groups()
             answer = ' '.join(rest.split()).rpartition('-> ')[2]
-            if not any(re.search(rf'\b{fault}\b', answer) for fault in faults):
+            given = {it for it in faults if re.search(rf'\b{it}\b', answer)}
+            # (who only makes a fault, or opens a socket, allocates nothing)
+            if not given or given <= AS_DEVICE and not ('alloc: ' in rest and (answer.startswith('Result') or answer == 'Ending')):
                 continue
             if not indent:
                 if is_pub and name in names.get(crate, ()):
@@ -143,11 +161,12 @@ def main():
     missing = [call for call in all_calls if call not in LEFT_OUT and not is_made(call, names, all_calls)]
     unknown = [name for name in sorted(names) if not any(is_made(call, {name}, all_calls) for call in all_calls)]
     gone = [call for call in LEFT_OUT if call not in all_calls]
-    for what, which in [('NOT MADE', missing), ('NO SUCH CALL', unknown), ('LEFT OUT AND NOT THERE', gone)]:
+    doubled = [call for call in left if is_made(call, names, all_calls)]
+    for what, which in [('NOT MADE', missing), ('NO SUCH CALL', unknown), ('LEFT OUT AND NOT THERE', gone), ('LEFT OUT AND MADE', doubled)]:
         for name in which:
             print(what, name)
     print(f'{len(all_calls)} calls may want memory: {len(all_calls) - len(left) - len(missing)} are made, {len(left)} are left out, {len(missing)} are not made')
-    return 1 if missing or unknown or gone else 0
+    return 1 if missing or unknown or gone or doubled else 0
 
 
 if __name__ == '__main__':
