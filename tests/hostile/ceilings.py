@@ -4,13 +4,15 @@
 ceilings.py
 
 Beside a query that just passes a limit stands one that does not, and is answered whole: README (Limits) says what is answered where the
-limit begins. 120,000 segment files of a row are written for the last; it takes minutes. It ends with 1 where an answer differs.
+limit begins. The log has to tell which node's answer met a limit, and which question to one. 120,000 segment files of a row are written
+for the last; it takes minutes. It ends with 1 where an answer differs, or the log.
 """
 import json
 import os
 import shutil
 import sys
 import tempfile
+import time
 
 TESTS = os.path.dirname(os.path.dirname(os.path.abspath(__file__)))
 sys.path[:0] = [TESTS]
@@ -21,6 +23,7 @@ GROUPS, FEW, SEGMENTS = 100_000, 10_000, 6  # Groups of a whole segment, of a sm
 MINUTES = 120_000
 COUNT = {'type': 'count', 'name': 'n'}
 TOO_LARGE = 500, {'error': 'TooLarge'}
+LOGGED, WITHIN = [('TooLarge', 'n0', 1), ('X7', 'n1', 1)], 20  # What met a limit, with which node, how often; seconds until it is logged.
 
 
 def grouped(day, groups):
@@ -75,20 +78,37 @@ def faults(cluster):
             yield f'a question of {minutes} slices: {status}, {str(answer)[:200]}'
 
 
+def logged(path):
+    """What met a limit, by the log: its code, the node and how often."""
+    with open(path, encoding='utf-8') as file:
+        events = [json.loads(line) for line in file if line.startswith('{') and line.endswith('}\n')]
+    return sorted((it['code'], it['node'], it['exchanges']) for it in events if it['event'] == 'oversize')
+
+
+def log_faults(path):
+    end = time.monotonic() + WITHIN
+    while logged(path) != LOGGED and time.monotonic() < end:
+        time.sleep(.2)
+    if logged(path) != LOGGED:
+        yield f'the log tells of {logged(path)}'
+
+
 def main():
     parser_of(__doc__).parse_args()
     need_program()
     folder = tempfile.mkdtemp(prefix='druid_cluster_ceilings_')
     held = [[grouped(day, GROUPS) for day in range(SEGMENTS)] + [grouped(SEGMENTS, FEW)], [minute(number) for number in range(MINUTES)]]
-    cluster = Cluster(folder, held)
+    cluster, log = Cluster(folder, held, environment={'DRUID_CLUSTER_LOG': 'info'}), f'{folder}/log'
     try:
-        found = list(faults(cluster.start().stands(within=600)))
+        with open(log, 'w', encoding='utf-8') as cluster.errors:
+            found = list(faults(cluster.start().stands(within=600)))
+        found += log_faults(log)
     finally:
         cluster.ends()
         shutil.rmtree(folder)
     for fault in found:
         print(fault)
-    print(f'7 answers, {len(found)} faults')
+    print(f'7 answers and the log, {len(found)} faults')
     return 1 if found else 0
 
 
