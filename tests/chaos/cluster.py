@@ -154,7 +154,7 @@ class Cluster:
             process.wait()
         if self.place.has_links:
             for node in self.plan.nodes:
-                run('umount', f'{self.folder}/{node}')
+                run('umount', '--lazy', f'{self.folder}/{node}')
         shutil.rmtree(self.folder, ignore_errors=True)
 
     # Folders
