@@ -83,6 +83,8 @@ class Cluster:
 
     def start(self, name, is_mended=False):
         history = self.history
+        if history.life(name):  # It was started as soon as its disk had room.
+            return
         life = Life(history.now(), name in self.lost, is_mended)
         history.say(f'{name} is started')
         environment = {**os.environ, 'DRUID_CLUSTER_PART': self.part(name), 'DRUID_CLUSTER_LOG': 'info', 'DRUID_CLUSTER_EXPLAIN': '1'}
