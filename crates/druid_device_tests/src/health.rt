@@ -213,8 +213,10 @@ fn ceilings_of<C: Clock + Drop>(
     let reply = String::from_str(alloc, answer)
         .expect(rt, "memory")
         .into_bytes();
+    let mut replies = Vec::new(alloc);
+    replies.push(reply).ok().expect(rt, "memory");
     let shared = Arc::try_clone(&health).ok().expect(rt, "memory");
-    let mut link = MonitoredLink::new(MemoryLink::new(reply, 1), clock, 1, QUERY, shared);
+    let mut link = MonitoredLink::new(MemoryLink::new(replies, 1), clock, 1, QUERY, shared);
     for _ in 0..2 {
         let _ = link.exchange(alloc, REQUEST);
     }
