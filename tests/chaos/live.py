@@ -134,14 +134,21 @@ class Run:
         partition = change['shardSpec']['partitionNum']
         return f'{change["dataSource"]}_{start}_{end}_{change["version"]}' + (f'_{partition}' if partition else '') + '.seg'
 
+    def runs(self, name):
+        """Whether a process runs. A start that a full disk refused, and that ended after the disk had room again, is made once more, as whoever
+        runs it would."""
+        self.cluster.look_at(name)
+        if not self.history.life(name) and self.history.lives[name][-1].status == 3:
+            self.cluster.start(name)
+        return self.history.life(name) is not None
+
     def settles(self):
         """Waits until it has settled, and asks then: each answer is whole."""
         begun = self.history.now()
-        for it in self.cluster.names:
-            self.cluster.look_at(it)
-            if not self.history.life(it):
-                return self.history.fault(f'{it} does not run once all faults are over')
         while True:
+            for it in self.cluster.names:
+                if not self.runs(it):
+                    return self.history.fault(f'{it} does not run once all faults are over')
             try:
                 other = self.differs()
             except (OSError, ValueError, IndexError, KeyError) as fault:
@@ -149,7 +156,7 @@ class Run:
             now = self.history.now()
             if not other:
                 break
-            if all(self.history.life(it) for it in self.cluster.names) and now > self.model.settles_at(begun) + 1 + self.history.stall_near(now):
+            if now > self.model.settles_at(begun) + 1 + self.history.stall_near(now):
                 return self.history.fault(f'not settled {now - begun:.1f} s after the last fault: {other}')
             time.sleep(.05)
         self.settled = self.history.now() - begun
