@@ -1,4 +1,7 @@
-//! What a broker answers to requests.
+//! What a broker answers to requests. Where no inventory decides, the view is not read: health and
+//! refusals are answered without a reading too. Links are a parameter beside the turn: a struct
+//! that held a `&mut` of them would need a clause, at each function that takes it, that its
+//! reference is still the one that it had.
 ghost use Rattle.std.specs.Prelude.{◌≡◌, ◌≢◌, ◌≤◌, ◌⊎◌, ◌↔◌, ℕ, true, Ok, IsTrue, IsSome, List, codes, length, bytes_eq};
 ghost use Rattle.druid_base.specs.Numbers.{number_at};
 ghost use Rattle.druid_sync.specs.Asks.{ask_at};

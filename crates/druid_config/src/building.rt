@@ -1,4 +1,6 @@
-//! A config, built out of JSON that was judged before: only memory can still run out.
+//! A config, built out of JSON that was judged before: only memory can still run out. A query is
+//! kept as its compact text, which reads back as its JSON; where that has a fraction no more is
+//! said of the text.
 ghost use Rattle.std.specs.Prelude.{◌≡◌, ◌≤◌, Some, IsSome, IfOk, map, option_map, string_bytes};
 ghost use Rattle.serde_json.specs.Data.{depth, items_depth};
 ghost use Rattle.serde_json.specs.Find.{as_str};

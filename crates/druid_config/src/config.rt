@@ -408,6 +408,10 @@ impl Config {
 }
 
 /// The names of nodes, in their order.
+///
+/// # Errors
+///
+/// Out of memory.
 pub fn names_in(alloc: Global, nodes: &[NodeConfig]) -> Result<Vec<Name>, AllocError>
     ensures { IfOk result (λ names. names.items ≡ names_of nodes.now) }
 {

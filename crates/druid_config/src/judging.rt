@@ -337,8 +337,9 @@ fn wrong_servers(value: &Value, settings: &Settings) -> Option<BadField>
     }
 }
 
-/// The first field of a value that is wrong, in the order `connections`, `kept`, `turns`, `every`, `patience`, `network`, `nodes`,
-/// `brokers`, `queries`: None exactly where the value is a config. Does not allocate.
+/// The first field of a value that is wrong, in the order `connections`, `kept`, `turns`, `every`,
+/// `patience`, `network`, `nodes`, `brokers`, `queries`: None exactly where the value is a config.
+/// That it is the first is tested. Does not allocate.
 pub fn bad_field_of(value: &Value) -> Option<BadField>
     ensures test { is_none result ≡ is_some (config_at (view value.now)) }
     ensures wrong { IfSome result (λ bad. IsWrong bad (view value.now)) }

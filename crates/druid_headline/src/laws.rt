@@ -1,4 +1,5 @@
-//! The sentences that a user of a broker relies on.
+//! The sentences that a user of a broker relies on. What nodes serve is one list of segments, one
+//! of each identifier: that replicas of one identifier hold the same rows is a premise.
 ghost use Rattle.std.specs.Prelude.{◌≡◌, ◌⊎◌, ◌++◌, ℕ, List, Some, Ok, length, map, slice_get};
 ghost use Rattle.druid_shard.specs.declared.change.Ask.{Ask};
 ghost use Rattle.druid_shard.specs.declared.change.Ask.TheVariants.{Whole};

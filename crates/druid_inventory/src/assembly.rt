@@ -36,11 +36,15 @@ impl Assembly {
         }
     }
 
-    /// Takes a reply that is a page, whatever its place, and gives the snapshot at its mark once all pages have come: then it
-    /// keeps none. A page of a later mark than those that have come begins anew, and one of an earlier mark is passed over, as
-    /// is one that has come before. A7 where a page of their mark is one of another number of pages, has other segments than
-    /// when it came before, or completes pages that do not rise from one to the next; and A9 last. A page that is refused
-    /// leaves all as it was.
+    /// Takes a reply that is a page, whatever its place, and gives the snapshot at its mark once
+    /// all pages have come: then it keeps none. A page of a later mark than those that have come
+    /// begins anew, and one of an earlier mark is passed over, as is one that has come before.
+    ///
+    /// # Errors
+    ///
+    /// A7 where a page of their mark is one of another number of pages, has other segments than
+    /// when it came before, or completes pages that do not rise from one to the next; A9 last.
+    /// Leaves all as it was.
     pub fn take(&mut self, reply: &Reply) -> Result<Option<Reply>, ApplyFault>
         requires { IsPageReply reply.now }
         ensures ok { IfOk result (λ given. TakesReply self.old reply.now given self.new) }

@@ -1,3 +1,5 @@
+//! The nodes that hold one partition, where there are several. Those that serve rows stand in a
+//! second list, so that both are lent without memory.
 ghost use Rattle.std.specs.Prelude.{◌≡◌, ◌≤◌, ℕ, ◌↔◌, ◌⊎◌, [], IsTrue, IfOk, IsOkAnd, OnOk, OnErr, Contains, map};
 ghost use Rattle.std.specs.List.Sorted.{IsStrictlyIncreasing};
 ghost use Rattle.druid_members.specs.Members.{core_count};

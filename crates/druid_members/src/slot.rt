@@ -1,3 +1,5 @@
+//! The nodes that hold one partition. A delta copies the map of a chunk that others share, so a
+//! partition of one node is that node and what it states, in the map itself.
 ghost use Rattle.std.specs.Prelude.{◌≡◌, ◌≤◌, ℕ, ◌↔◌, ◌⊎◌, [], ◌∷◌, IsTrue, IfOk, IsOkAnd, OnErr, Contains, map};
 ghost use Rattle.std.specs.List.Sorted.{IsStrictlyIncreasing};
 ghost use Rattle.druid_members.specs.Members.{core_count};

@@ -28,6 +28,10 @@ pub struct FollowMeter {
 
 impl FollowMeter {
     /// One that has counted nothing.
+    ///
+    /// # Errors
+    ///
+    /// Out of memory.
     pub fn new(alloc: Global) -> Result<FollowMeter, AllocError> {
         Ok(FollowMeter {
             turns: Counts::new(alloc, TURN_ENDS.len())?,
@@ -60,6 +64,10 @@ impl FollowMeter {
 
     /// What was counted so far of the node of that name, with how its exchanges ended, in the order of `EXCHANGE_ENDS`: each number
     /// is one that it had while this was called.
+    ///
+    /// # Errors
+    ///
+    /// Out of memory.
     pub fn read<'a>(
         &self,
         alloc: Global,

@@ -1,3 +1,4 @@
+//! A data node, whose lock is held to take what an answer is made of, and not while that is made.
 ghost use Rattle.std.specs.Prelude.{◌≡◌, ◌⊎◌, Some, Ok, IfOk, IfErr, OnOk, OnErr, bytes_eq, length};
 ghost use Rattle.std.specs.declared.cmp.Ordering.TheVariants.{Less};
 ghost use Rattle.druid_shard.specs.Mark.{Point, mark_cmp};
@@ -187,11 +188,15 @@ impl<I: Incarnation> DataNode<I> {
         Ok(LoadedFile::new(id, rows, bytes))
     }
 
-    /// Loads the segment of the file of that name, of which a folder gives no more than 16 MiB and a byte, and sees the mark
-    /// after that. N1 where the device fails, N6 where there is no such file, N2 where its bytes are no segment, N3 where the
-    /// file is not called by the text of the segment's identifier and `.seg`. Then N8 where the node's state is older than what was
-    /// seen, and then the refusals of `NodeState::load`. N9 where memory runs out, which the read of the folder may tell in
-    /// place of all of these, and what comes after it only where the bytes are a segment. Where it fails all is as it was.
+    /// Loads the segment of the file of that name, of which a folder gives no more than 16 MiB and
+    /// a byte, and sees the mark after that.
+    ///
+    /// # Errors
+    ///
+    /// N1, or N9 of the read; then N6; N2 with F1 to F6; N3; then N8; then those of
+    /// `NodeState::load`. N9 may come in place of N3 and what follows it (that it comes of no bytes
+    /// which N2 refuses, and N8 before N4, are clauses of private calls). Leaves `seen`, the files
+    /// of the folder, and the node's state (a clause of a private call).
     pub fn load_file<F: Folder>(
         &self,
         rt: &impl Wait,
@@ -218,6 +223,10 @@ impl<I: Incarnation> DataNode<I> {
 
     /// Loads the segment of the file of that name as `load_file` does, and gives its identifier, by which it is dropped, that
     /// whose text and `.seg` the name is, and how large it is.
+    ///
+    /// # Errors
+    ///
+    /// Those of `load_file`.
     pub fn load_identified<F: Folder>(
         &self,
         rt: &impl Wait,
@@ -253,9 +262,13 @@ impl<I: Incarnation> DataNode<I> {
         }
     }
 
-    /// Places the tombstone of that identifier among what the node serves, and sees the mark after that. N7 where the identifier
-    /// is not of partition 0. Then N8 where the node's state is older than what was seen, and then the other refusals of
-    /// `NodeState::place_tombstone`. Where it fails all is as it was.
+    /// Places the tombstone of that identifier among what the node serves, and sees the mark after
+    /// that.
+    ///
+    /// # Errors
+    ///
+    /// N7; then N8; then the others of `NodeState::place_tombstone` (by a clause of a private
+    /// call). Leaves `seen`, and the node's state likewise.
     pub fn place_tombstone(
         &self,
         rt: &impl Wait,
@@ -273,8 +286,12 @@ impl<I: Incarnation> DataNode<I> {
         self.state.lock(rt).place_tombstone(id, seen)
     }
 
-    /// Drops a segment or a tombstone, and sees the mark after that. N8 where the node's state is older than what was seen, and
-    /// then the refusals of `NodeState::drop_segment`. Where it fails all is as it was.
+    /// Drops a segment or a tombstone, and sees the mark after that.
+    ///
+    /// # Errors
+    ///
+    /// N8; then those of `NodeState::drop_segment` (by a clause of a private call). Leaves `seen`,
+    /// and the node's state likewise.
     pub fn drop_segment(
         &self,
         rt: &impl Wait,

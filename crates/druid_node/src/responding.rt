@@ -31,12 +31,17 @@ impl NodeState {
         }
     }
 
-    /// The status and the body that it answers to a request. `GET /status/health` is answered `true`; `GET
-    /// /druid-internal/v1/segments` with what `since` tells, where the parameters spell an ask; `POST /druid/v2` and `POST
-    /// /druid/v2/` with what `answer` tells, where the body reads as a subquery. What is not read so is answered 400 with the
-    /// number of its fault, another method on these paths 405, and another path 404. Only an ask for all that is served may
-    /// freeze that, as `since` does; no other answer changes anything. N9 where memory runs out, which may come after a set was
-    /// frozen.
+    /// The status and the body that it answers to a request. `GET /status/health` is answered
+    /// `true`; `GET /druid-internal/v1/segments` with what `since` tells, where the parameters
+    /// spell an ask; `POST /druid/v2` and `POST /druid/v2/` with what `answer` tells, where the
+    /// body reads as a subquery. What is not read so is answered 400 with the number of its fault,
+    /// another method on these paths 405, and another path 404. Only an ask for all that is served
+    /// may freeze that, as `since` does; no other answer changes anything.
+    ///
+    /// # Errors
+    ///
+    /// N9 (that only an answer which allocates meets it no clause says). The set that is served may
+    /// be frozen then; all else is as it was.
     pub fn respond(&mut self, request: &Request) -> Result<(StatusCode, Vec<u8>), NodeFault>
         ensures ok { IfOk result (λ r. Responds self.old self.new request.now r.0 r.1.items) }
         ensures stays { Freezes self.old self.new }

@@ -102,11 +102,16 @@ impl Assembly {
         }
     }
 
-    /// Takes a page, whatever its place, and gives the segments of all pages, by identifier and at most 200,000, once all have
-    /// come: then it keeps none. A page of a later mark than those that have come begins anew, and one of an earlier mark is
-    /// passed over, as is one that has come before. `Conflict` where a page of their mark is one of another number of pages, has
-    /// other segments than when it came before, or completes pages that do not rise from one to the next; `Memory` where memory
-    /// runs out. A page that is refused leaves all as it was.
+    /// Takes a page, whatever its place, and gives the segments of all pages, by identifier and at
+    /// most 200,000, once all have come: then it keeps none. A page of a later mark than those that
+    /// have come begins anew, and one of an earlier mark is passed over, as is one that has come
+    /// before.
+    ///
+    /// # Errors
+    ///
+    /// `Conflict` where a page of their mark is one of another number of pages, has other segments
+    /// than when it came before, or completes pages that do not rise from one to the next; `Memory`
+    /// only where the page would be taken. Leaves all as it was.
     pub fn take(
         &mut self,
         at: Mark,

@@ -519,6 +519,10 @@ fn add_found(
 /// instants rise, or there is one bucket, a row of a group that is there allocates nothing and costs one step, or,
 /// where the dimensions have many values beside the rows of its bucket, the logarithm of the number of groups; else
 /// it costs that and a key.
+///
+/// # Errors
+///
+/// Out of memory.
 pub fn partial_of(
     alloc: Global,
     query: &Query,
@@ -534,6 +538,10 @@ pub fn partial_of(
 
 /// The same of several intervals, each of them for itself: a row that lies in two of them counts twice. The names of the query
 /// and the values of its filter are looked up once for all.
+///
+/// # Errors
+///
+/// Out of memory.
 pub fn partial_over(
     alloc: Global,
     query: &Query,

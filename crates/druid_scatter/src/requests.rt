@@ -1,4 +1,5 @@
-//! What a round asks the nodes for.
+//! What a round asks the nodes for. A request has no limit: past 16 MiB the node refuses it, and
+//! its pieces go on to the next replica and are missing in the end.
 ghost use Rattle.std.specs.Prelude.{◌≡◌, ℕ, IfOk, OnErr, length, map, option_map};
 ghost use Rattle.std.specs.List.{range_with_len};
 ghost use Rattle.druid_link.specs.Links.{came_of};

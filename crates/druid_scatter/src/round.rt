@@ -84,12 +84,15 @@ fn no_answers(
     Ok(answers)
 }
 
-/// Sends each link its request, if it has one, and gives what came back, place by place: a link's own fault stands in its place.
-/// They are asked all at once, each on a thread of its own, which has ended when it returns: a link that waits keeps no other
-/// waiting. `rt` starts the threads. One of the links is asked by the thread that calls, so a single link needs no other; where
-/// none can be started, the links are asked one after another.
+/// Sends each link its request, if it has one, and gives what came back, place by place: a link's
+/// own fault stands in its place. They are asked all at once, each on a thread of its own, which
+/// has ended when it returns: a link that waits keeps no other waiting. `rt` starts the threads.
+/// One of the links is asked by the thread that calls, so a single link needs no other; where none
+/// can be started, the links are asked one after another.
 ///
-/// Out of memory is of the list of answers alone, and then nothing was sent.
+/// # Errors
+///
+/// Out of memory for the list of answers alone: nothing was sent.
 pub fn ask_round<L: Link + Send, R: Threads + Sync>(
     rt: &R,
     alloc: Global,

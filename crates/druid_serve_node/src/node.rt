@@ -1,4 +1,6 @@
-//! A data node: its folder, its sockets and its threads.
+//! A data node: its folder, its sockets and its threads. A tombstone that is refused, but for one
+//! of what is served already, ends the start as a segment file does: a config that says that an
+//! interval is empty is not half followed.
 ghost use Rattle.std.specs.Prelude.{◌≡◌, ◌≤◌, [], All, Some, Ok, length, IfOk, IfErr, IfSome, OnOk, map, string_bytes};
 ghost use Rattle.druid_shard.specs.Reply.{max_changes};
 ghost use Rattle.druid_changes.specs.Kept.{StandsFor};
@@ -436,6 +438,12 @@ where
 /// segments whose files are gone. The device `D` is the one under the folder that it makes, and `L` the one under the folder that
 /// the thread makes at the same path: the call picks both. What happens to files and connections goes to the log, and where the config
 /// names a status address, a thread answers there.
+///
+/// # Errors
+///
+/// `BadFolder` or `Device`, by the first of its steps that fails: the incarnation, the files, the
+/// tombstones, the listener, the threads (tested). Leaves the folder as its calls did: the
+/// incarnation may have risen.
 pub fn start_node<
     R: Files<File = File>
         + Net<Listener = TcpListener, Stream = TcpStream>
@@ -465,6 +473,11 @@ where
 /// Starts a data node as `start_node` does, but that it listens and makes its folder its own before all else: so of two programs over
 /// one config the second is refused its address, and of two over one folder the second is refused the folder, before either raises
 /// an incarnation. The folder is its own while what comes of it, a `Loading` or an `EndOfLoads`, is there.
+///
+/// # Errors
+///
+/// `Device` of the listener or of the folder, which another node may have: nothing rose (tested);
+/// then those of `start_node`.
 pub fn start_owner<
     R: Files<File = File>
         + Net<Listener = TcpListener, Stream = TcpStream>
