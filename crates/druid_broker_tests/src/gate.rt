@@ -133,15 +133,17 @@ fn answered<R: Handle + Clock>(rt: R, alloc: Global, count: u64, failing: u64) -
 }
 
 // How many links there are, and how many of the first of them fail once the last was asked.
-const GATES: [(u64, u64); 8] = [
+const GATES: [(u64, u64); 10] = [
     (1, 0),
     (2, 0),
     (3, 0),
     (4, 0),
     (5, 0),
     (8, 0),
+    (64, 0),
     (2, 1),
     (5, 2),
+    (64, 63),
 ];
 
 #[test]

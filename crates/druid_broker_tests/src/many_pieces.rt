@@ -19,8 +19,8 @@ fn partition(rt: &impl Abort, alloc: Global, number: u16) -> Descriptor {
     Descriptor::new(id, 0, 0).expect(rt, "a descriptor")
 }
 
-// What a node tells that serves so many partitions.
-fn reply_of(rt: &impl Abort, alloc: Global, partitions: u16) -> Reply {
+/// What a node tells that serves so many partitions.
+pub(crate) fn reply_of(rt: &impl Abort, alloc: Global, partitions: u16) -> Reply {
     let mut segments = Vec::new(alloc);
     for number in 0..partitions {
         segments
@@ -105,7 +105,7 @@ fn assert_partitions<R: Handle>(rt: R, alloc: Global, partitions: u16) {
 
 #[test]
 fn many_pieces(rt: HostRuntime) {
-    for partitions in [0, 1, 65, 1_001] {
+    for partitions in [0, 1, 65, 1_001, 20_001] {
         assert_partitions(&rt, rt.alloc(), partitions);
     }
 }

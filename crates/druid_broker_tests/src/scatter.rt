@@ -65,7 +65,7 @@ fn made_over<R: Handle>(rt: R, alloc: Global, nodes: &str) -> [(u64, u64); 2] {
 
 // One request for each node and round, to the first of the turned replicas.
 #[test]
-fn ample_memory(rt: HostRuntime) {
+fn one_request_a_round(rt: HostRuntime) {
     let replicas = "v1/0/24/0/1 d:m 0/a/1 | v1/0/24/0/1 d:m 0/a/1";
     assert!(rt; made_over(&rt, rt.alloc(), replicas) == [(1, 0), (0, 1)]);
     let parts = "v1/0/24/0/3 d:m 0/a/1 + v1/0/24/1/3 d:m 0/a/1 + v2/6/12/0/1 d:m | v1/0/24/2/3 d:m";

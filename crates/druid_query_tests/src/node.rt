@@ -307,7 +307,7 @@ POST /druid/v2 HTTP/1.1|Content-Length: 16777217||{} = 400 {\"error\":\"X7\"}
 POST /druid/v2 HTTP/1.1|Content-Length: 99999999999999999999||{} = 400 {\"error\":\"X7\"}";
 
 #[test]
-fn ample_memory(rt: HostRuntime) {
+fn messages(rt: HostRuntime) {
     let node = node(&rt, rt.alloc(), Layout::ByRows);
     for row in MESSAGES.lines() {
         assert!(rt;
@@ -545,6 +545,56 @@ fn assert_steps<R: Abort + Wait>(rt: &R, alloc: Global, layout: Layout) {
 fn node_after_load(rt: HostRuntime) {
     for layout in LAYOUTS {
         assert_steps(&rt, rt.alloc(), layout);
+    }
+}
+
+// Whether a folder was synced, whether a stop keeps what was not, and what is then told of the file of `w`: a file that was written
+// since the last sync is empty where a stop does not keep it.
+const STOPS: [(bool, bool, &str); 4] = [
+    (true, true, "ok"),
+    (true, false, "ok"),
+    (false, true, "ok"),
+    (false, false, "N2: F2: a cut file"),
+];
+
+// What a node that is started over a folder tells of the file of `w`.
+fn started<R: Abort + Wait>(rt: &R, alloc: Global, folder: &mut MemoryFolder) -> String {
+    let node = empty_node(rt, alloc);
+    match node.load_file(rt, folder, VECTOR_FILE, &mut Mark::never()) {
+        Ok(()) => printed(rt, alloc, &"ok"),
+        Err(fault) => printed(rt, alloc, &fault),
+    }
+}
+
+// Whether a stop leaves that. It falls after a start that tells this of the file, or before any where this is empty.
+fn leaves<R: Abort + Wait>(
+    rt: &R,
+    alloc: Global,
+    before: &str,
+    (is_synced, keep, wanted): (bool, bool, &str),
+) -> bool {
+    let mut files = folder(rt, alloc, Layout::ByRows);
+    if is_synced {
+        files.sync().expect(rt, "a sync");
+    }
+    if before.starts_with("N1") {
+        files.fuse(0);
+    }
+    let is_told = before.is_empty() || started(rt, alloc, &mut files).as_str() == before;
+    files.stop(keep).expect(rt, "a stop");
+    is_told && started(rt, alloc, &mut files).as_str() == wanted
+}
+
+// A stop before the only call of a load, at it, and after it.
+#[test]
+fn stopped_loads(rt: HostRuntime) {
+    for before in ["", "N1: the device failed", "ok"] {
+        for (is_synced, keep, wanted) in STOPS {
+            assert!(rt;
+                leaves(&rt, rt.alloc(), before, (is_synced, keep, wanted)),
+                "{before}: {is_synced} {keep}"
+            );
+        }
     }
 }
 

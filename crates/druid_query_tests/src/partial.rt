@@ -210,7 +210,7 @@ fn are_kinds(rt: &impl Abort, alloc: Global) -> bool {
 }
 
 #[test]
-fn ample_memory(rt: HostRuntime) {
+fn results(rt: HostRuntime) {
     for line in RESULTS.lines() {
         for in_front in [false, true] {
             assert!(rt; is_result(&rt, rt.alloc(), line, in_front), "{line}");

@@ -3,7 +3,7 @@ ghost use Rattle.std.specs.Prelude.{◌≡◌, ◌≤◌, IsTrue, length};
 ghost use Rattle.druid_scatter.specs.Rounds.{AreLinked};
 
 use crate::marks::{assert_call, begin, end};
-use crate::replies::{inventory, is_at};
+use crate::replies::{inventory, is_at, is_reply};
 use crate::values::segment;
 use druid_broker::{Routes, serve_one};
 use druid_follow::{TurnFault, fetch, fetch_entry, seed_turn, shared_turn, sync_turn};
@@ -35,6 +35,10 @@ const ANSWER: &str = "{\"missing\":[],\"rows\":[[1704067200000,[],[3]]]}";
 // A reply of a node that serves the first partition of `v1`, and has done so many changes.
 const REPLY: &str =
     "{\"counter\":{\"counter\":~,\"hash\":1},\"from\":null,\"requests\":[{\"action\":\"load\",\"dataSource\":\"w\",\"interval\":\"2024-01-01/2024-01-02\",\"shardSpec\":{\"partitionNum\":0,\"partitions\":1,\"type\":\"numbered\"},\"size\":0,\"version\":\"v1\"}],\"resetCause\":null,\"resetCounter\":false}";
+
+// The reply of count 2 as it is written.
+const ANSWERED: &[u8] =
+    b"{\"counter\":{\"counter\":2,\"hash\":1},\"from\":null,\"requests\":[{\"action\":\"load\",\"dataSource\":\"w\",\"interval\":\"2024-01-01T00:00:00.000Z/2024-01-02T00:00:00.000Z\",\"shardSpec\":{\"partitionNum\":0,\"partitions\":1,\"type\":\"numbered\"},\"size\":0,\"version\":\"v1\"}],\"resetCause\":null,\"resetCounter\":false}";
 
 // A link that gives one response of status 200.
 fn link(rt: &impl Abort, alloc: Global, body: &str) -> MemoryLink {
@@ -153,7 +157,7 @@ fn fetches(rt: &impl Abort, alloc: Global, inventory: &Inventory) {
         rt,
         "fetch",
         match &reply {
-            Ok(_) => true,
+            Ok(reply) => is_reply(rt, alloc, reply, ANSWERED),
             Err(fault) => *fault == TurnFault::Memory,
         },
     );
@@ -164,7 +168,7 @@ fn fetches(rt: &impl Abort, alloc: Global, inventory: &Inventory) {
         rt,
         "fetch_entry",
         match &reply {
-            Ok(_) => true,
+            Ok(reply) => is_reply(rt, alloc, reply, ANSWERED),
             Err(fault) => *fault == TurnFault::Memory,
         },
     );

@@ -105,9 +105,9 @@ fn builders(rt: &impl Abort, alloc: Global) {
     assert_call(
         rt,
         "SegmentBuilder::new",
-        match &made {
-            Ok(_) => true,
-            Err(fault) => *fault == RowFault::Memory,
+        match made {
+            Ok(builder) => builder.finish().is_empty(),
+            Err(fault) => fault == RowFault::Memory,
         },
     );
     let (second, schemas) = (descriptor(rt, alloc, "v1", 1), schema(rt, alloc));

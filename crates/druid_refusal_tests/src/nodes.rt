@@ -12,7 +12,7 @@ use druid_segfile::write_segment;
 use druid_segid::SegmentId;
 use druid_serve_node::{Known, Reporter, Watch};
 use druid_server::Telemetry;
-use druid_shard::{Ask, Mark};
+use druid_shard::{Ask, Body, Mark, Reply};
 use druid_store::MemoryFolder;
 use http::Method;
 use std::alloc::{AllocError, Global};
@@ -72,6 +72,14 @@ fn make_state(rt: &impl Abort, alloc: Global) {
     );
 }
 
+// Whether a reply is the snapshot of one segment after three changes.
+fn is_served(reply: &Reply) -> bool {
+    match reply.body() {
+        Body::Snapshot { at, segments } => *at == Mark::new(1, 3) && segments.len() == 1,
+        _ => false,
+    }
+}
+
 fn answers(rt: &impl Abort, alloc: Global, state: &mut NodeState) {
     let sub = subquery(rt, alloc);
     begin(rt, alloc);
@@ -90,7 +98,7 @@ fn answers(rt: &impl Abort, alloc: Global, state: &mut NodeState) {
         rt,
         "NodeState::since",
         match &reply {
-            Ok(_) => true,
+            Ok(reply) => is_served(reply),
             Err(fault) => *fault == NodeFault::Memory,
         },
     );

@@ -173,7 +173,7 @@ fn doubled_names(rt: HostRuntime) {
 }
 
 #[test]
-fn ample_memory(rt: HostRuntime) {
+fn a_config_at_its_limits(rt: HostRuntime) {
     let config = read_config(rt.alloc(), whole().as_bytes()).expect(&rt, "a config");
     assert!(rt;
         config.nodes().len() == 1 && config.brokers().len() == 1 && config.queries().len() == 1
@@ -209,7 +209,7 @@ fn refused_rests(rt: HostRuntime) {
     assert_reported(&rt, rt.alloc(), rows, "bad config");
 }
 
-// What is told of the rests of a config: those of syncers, those of its first node, and whether it ends.
+// What the rests of a config are: those of syncers, those of its first node, and whether it ends.
 fn rests_of(rt: &impl Abort, alloc: Global, text: &str) -> (Option<u64>, Option<u64>, bool) {
     let config = read_config(alloc, text.as_bytes()).expect(rt, "a config");
     let watch = config.nodes()[0].watch();
