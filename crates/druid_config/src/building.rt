@@ -13,7 +13,7 @@ use crate::config::{Addresses, Settings};
 use crate::fields::{
     address_field, another_field, chunk_field, connections_field, count_field, front_field,
     is_endless, name_field, network_field, object_field, patience_field, place_field, rest_field,
-    some_field,
+    some_field, threads_field,
 };
 use crate::limits::{MAX_KEPT, MAX_WORKERS};
 use crate::{BrokerConfig, Config, NodeConfig, QueryConfig};
@@ -136,7 +136,7 @@ fn addresses_of(
 }
 
 // A node.
-#[tactic(auto, using(crate::proofs::PartLemmas::name_reads, crate::proofs::PartLemmas::loads_read, crate::proofs::PartLemmas::tombstones_read, crate::proofs::PartLemmas::watch_read, crate::proofs::PartLemmas::status_read, crate::proofs::PartLemmas::listen_read), unfolding(crate::specs::Configs::node_at))]
+#[tactic(auto, using(crate::proofs::PartLemmas::name_reads, crate::proofs::PartLemmas::loads_read, crate::proofs::PartLemmas::tombstones_read, crate::proofs::PartLemmas::watch_read, crate::proofs::PartLemmas::status_read, crate::proofs::PartLemmas::listen_read, crate::proofs::PartLemmas::threads_read), unfolding(crate::specs::Configs::node_at))]
 fn node_of(alloc: Global, value: &Value, network: bool) -> Result<NodeConfig, AllocError>
     requires { IsSome (node_at network (view value.now)) }
     ensures { IfOk result (λ node. node_at network (view value.now) ≡ Some node) }
@@ -165,10 +165,13 @@ fn node_of(alloc: Global, value: &Value, network: bool) -> Result<NodeConfig, Al
     let Some(listen) = another_field(value, "listen", network) else {
         unreachable!()
     };
+    let Some(threads) = threads_field(value) else {
+        unreachable!()
+    };
     let addresses = addresses_of(alloc, address, listen, status)?;
     let folder = String::from_str(alloc, folder)?;
     Ok(NodeConfig::new(
-        name, addresses, folder, loads, tombstones, workers, watch, front,
+        name, addresses, folder, loads, tombstones, workers, watch, front, threads,
     ))
 }
 

@@ -1,10 +1,12 @@
 -- What pieces tell, halved and one by one, and which of them are missing.
-use Rattle.std.proofs.Common.{◌≡◌, ◌<◌, ◌≤◌, ℕ, zero, suc, List, [], ◌∷◌, ◌++◌, All, map, slice_get, Some, None, length, get_or, drop, refl, sym, ap, ◌∙◌, arith, append-nil, append_assoc}
+use Rattle.std.proofs.Common.{◌≡◌, ◌<◌, ◌≤◌, ℕ, zero, suc, List, [], ◌∷◌, ◌++◌, All, map, slice_get, Some, None, length, get_or, drop, refl, sym, ap, ◌∙◌, subst, arith, append-nil, append_assoc}
 use Rattle.std.proofs.lemmas.List.Elements.{All-head, All-tail}
 use Rattle.std.proofs.lemmas.List.Concat.{flat_map-append}
 use Rattle.druid_rows.specs.Segment.{Segment}
 use Rattle.druid_query.specs.Query.{Query}
 use Rattle.druid_query.specs.Asked.{Asked}
+use Rattle.druid_partial.specs.Groups.{Group, IsResult}
+use Rattle.druid_partial.specs.Partials.{kinds_of}
 use Rattle.druid_node.specs.Answers.{missing}
 use Rattle.druid_scan.specs.Once.{segment_named, counted_in, counted_of, counted_groups}
 use Rattle.druid_scan.specs.Rows.{counted_by}
@@ -60,6 +62,13 @@ one_place query held place s [] here one = refl
 one_place query held place s (p ∷ pieces) here one =
     let first : counted_by query s p.1 ≡ counted_at query held p = ap (counted_in query p.1) (sym here ∙ ap (slice_get held) (sym (All-head (λ (q : Placed). q.0 ≡ place) p pieces one))) in
     (λ i. first i ++ one_place query held place s pieces here (All-tail (λ (q : Placed). q.0 ≡ place) p pieces one) i)
+
+-- the result of pieces that a counted list is read as, where a result of the list is one of what was asked for
+pub read_result : (held : List Segment) (query : Query) (asked : List Asked) (placed read : List Placed) (groups : List Group)
+    → ((query : Query) (groups : List Group) → IsResult (kinds_of query) (flat_map (counted_at query held) placed) groups → IsResult (kinds_of query) (counted_groups query held asked) groups)
+    → read ≡ placed → IsResult (kinds_of query) (flat_map (counted_at query held) read) groups → IsResult (kinds_of query) (counted_groups query held asked) groups
+read_result held query asked placed read groups counted is result =
+    counted query groups (subst (λ (pieces : List Placed). IsResult (kinds_of query) (flat_map (counted_at query held) pieces) groups) is result)
 
 -- ---- missing pieces
 

@@ -1,8 +1,8 @@
 //! What a node tells of the pieces that it is asked for.
-ghost use Rattle.std.specs.Prelude.{◌≡◌, ◌↔◌, ◌<◌, length, All, IsTrue, IfOk};
+ghost use Rattle.std.specs.Prelude.{◌≡◌, ◌↔◌, ◌<◌, List, length, All, IsTrue, IfOk};
 ghost use Rattle.std.specs.List.{flat_map};
 ghost use Rattle.druid_query.specs.Asked.{Asked};
-ghost use Rattle.druid_partial.specs.Groups.{IsResult};
+ghost use Rattle.druid_partial.specs.Groups.{Group, IsResult};
 ghost use Rattle.druid_partial.specs.Partials.{kinds_of, IsPartialFor};
 ghost use Rattle.druid_query.specs.Query.{Query};
 ghost use Rattle.druid_node.specs.Answers.{missing, IsAnswerOf};
@@ -16,6 +16,10 @@ use druid_query::{Asked, Query, SubQuery};
 use druid_scan::partial_over;
 use druid_time::Interval;
 use std::alloc::{AllocError, Global};
+use std::thread::{Threads, join};
+
+// A thread is started for so many rows: to count them takes longer than to start it.
+const ROWS_OF_THREAD: usize = 2_000;
 
 // A piece of the segment at a place among those that are held.
 type Placed = (usize, Interval);
@@ -89,19 +93,65 @@ fn partial_of_placed(
     }
 }
 
-// What all of these pieces tell. They are put in order by segment and by time, once.
-fn partial_of_asked(
+// How many of so many threads are worth their start for these pieces, of which each segment's rows count whole.
+fn threads_for(held: &Held, pieces: &[Placed], threads: usize) -> usize
+    requires { All (IsWithin held.now) pieces.now }
+{
+    let mut rows = 0usize;
+    for (place, _) in pieces {
+        rows = rows.saturating_add(held.at(*place).len());
+    }
+    threads.min(pieces.len()).min(rows / ROWS_OF_THREAD + 1)
+}
+
+// The same, counted on so many threads at most, this one among them. Each of the others counts its part alone, and this one, which
+// starts them, merges what they counted.
+fn partial_in_parts<R: Threads>(
+    rt: &R,
     alloc: Global,
     held: &Held,
     query: &Query,
-    asked: &[Asked],
+    pieces: &[Placed],
+    threads: usize,
 ) -> Result<Partial, AllocError>
-    ensures result { IfOk result (λ partial. IsResult (kinds_of query.now) (counted_groups query.now held.now asked.now) partial.groups) }
+    requires { All (IsWithin held.now) pieces.now }
+    ensures result { IfOk result (λ partial. IsResult (kinds_of query.now) (flat_map (counted_at query.now held.now) pieces.now) partial.groups) }
     ensures of_query { IfOk result (IsPartialFor query.now) }
+{
+    if threads <= 1 {
+        return partial_of_placed(alloc, held, query, pieces);
+    }
+    let rest = threads - 1;
+    let (front, back) = pieces.split_at(pieces.len() / threads);
+    let (left, right) = join(
+        rt,
+        || -> Result<Partial, AllocError>
+            requires { All (IsWithin held.now) front.now }
+            ensures { IfOk result (λ partial. IsResult (kinds_of query.entry.now) (flat_map (counted_at query.entry.now held.entry.now) front.entry.now) partial.groups
+                × IsPartialFor query.entry.now partial) }
+        { partial_of_placed(alloc, held, query, front) },
+        || -> Result<Partial, AllocError>
+            requires { All (IsWithin held.now) back.now }
+            ensures { IfOk result (λ partial. IsResult (kinds_of query.entry.now) (flat_map (counted_at query.entry.now held.entry.now) back.entry.now) partial.groups
+                × IsPartialFor query.entry.now partial) }
+        { partial_in_parts(rt, alloc, held, query, back, rest) },
+    );
+    match merge(alloc, left?, right?) {
+        Ok(both) => Ok(both),
+        Err(_) => Err(AllocError),
+    }
+}
+
+// The pieces whose segment is held, in order by segment and by time.
+fn sorted_in(alloc: Global, held: &Held, asked: &[Asked]) -> Result<Vec<Placed>, AllocError>
+    ensures counted { IfOk result (λ placed. (query : Query) (groups : List Group)
+        → IsResult (kinds_of query) (flat_map (counted_at query held.now) placed.items) groups
+        → IsResult (kinds_of query) (counted_groups query held.now asked.now) groups) }
+    ensures within { IfOk result (λ placed. All (IsWithin held.now) placed.items) }
 {
     let mut placed = placed_in(alloc, held, asked)?;
     placed.sort_unstable_by_key(|(place, piece)| (*place, piece.start()));
-    partial_of_placed(alloc, held, query, &placed)
+    Ok(placed)
 }
 
 fn copy_of(asked: &Asked) -> Result<Asked, AllocError>
@@ -132,7 +182,25 @@ pub(crate) fn answer_of(
 ) -> Result<NodeAnswer, AllocError>
     ensures { IfOk result (IsAnswerOf held.now sub.now) }
 {
-    let partial = partial_of_asked(alloc, held, sub.query(), sub.asked())?;
+    let placed = sorted_in(alloc, held, sub.asked())?;
+    let partial = partial_of_placed(alloc, held, sub.query(), &placed)?;
+    let missing = missing_of(alloc, held, sub.asked())?;
+    Ok(NodeAnswer::new(partial, missing))
+}
+
+// The same, counted on so many threads at most: on one more for each 2,000 rows, and on no more than there are pieces.
+pub(crate) fn answer_in_parts<R: Threads>(
+    rt: &R,
+    alloc: Global,
+    held: &Held,
+    sub: &SubQuery,
+    threads: usize,
+) -> Result<NodeAnswer, AllocError>
+    ensures { IfOk result (IsAnswerOf held.now sub.now) }
+{
+    let placed = sorted_in(alloc, held, sub.asked())?;
+    let threads = threads_for(held, &placed, threads);
+    let partial = partial_in_parts(rt, alloc, held, sub.query(), &placed, threads)?;
     let missing = missing_of(alloc, held, sub.asked())?;
     Ok(NodeAnswer::new(partial, missing))
 }

@@ -22,6 +22,7 @@ use druid_shard::Mark;
 use druid_wire::Response;
 use std::alloc::{AllocError, Global};
 use std::sync::{Mutex, Wait};
+use std::thread::Threads;
 
 /// A data node: it loads segments from files, places tombstones, and answers requests. Its state is under a lock, so threads may
 /// share it.
@@ -33,6 +34,7 @@ use std::sync::{Mutex, Wait};
 pub struct DataNode<I: Incarnation> {
     alloc: Global,
     state: Mutex<StateIn<I>>,
+    threads: usize,
 }
 
 // What a failed read of a folder tells.
@@ -123,13 +125,15 @@ fn found_segment(alloc: Global, name: &str, found: Option<Vec<u8>>) -> Result<Se
 }
 
 impl<I: Incarnation> DataNode<I> {
-    /// The data node of that state.
-    pub fn new(state: NodeState) -> DataNode<I>
+    /// The data node of that state, which counts the segments of one query on so many threads at most, that of the caller among
+    /// them. What it answers is the same whatever the number, and 0 is as 1.
+    pub fn new(state: NodeState, threads: usize) -> DataNode<I>
         requires { state.history.incarnation ≡ I.number }
     {
         DataNode {
             alloc: state.alloc(),
             state: Mutex::new(StateIn::new(state)),
+            threads,
         }
     }
 
@@ -149,9 +153,9 @@ impl<I: Incarnation> DataNode<I> {
 
     // What its state answers to a request, and the state's mark. The request is read before the lock is taken, and the answer
     // made after it was given back, of the state as it was then.
-    pub(crate) fn respond(
+    pub(crate) fn respond<R: Wait + Threads>(
         &self,
-        rt: &impl Wait,
+        rt: &R,
         request: &Request,
         seen: Mark,
     ) -> Result<Answered, NodeFault>
@@ -160,7 +164,7 @@ impl<I: Incarnation> DataNode<I> {
     {
         let question = question_in_turn(self.alloc, request);
         let based = self.basis_of(rt, question, seen)?;
-        Ok(answer_for(self.alloc, based))
+        Ok(answer_for(rt, self.alloc, based, self.threads))
     }
 
     // Loads the segment of a file of so many bytes. Its identifier is copied before, so that nothing fails after the load.

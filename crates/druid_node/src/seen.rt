@@ -9,7 +9,7 @@ ghost use Rattle.druid_node.specs.State.{IsState, Freezes, Takes, Leaves, Covers
 ghost use Rattle.druid_node.specs.Seen.{mark_of, IsStale, IsAtLeast, RefusesAsSeen};
 ghost use Rattle.druid_node.specs.Questions.{IsBasisInTurn, IsBasisFrom, IsMadeInTurn};
 
-use crate::basis::{Basis, answer_from};
+use crate::basis::{Basis, answer_from_parts};
 use crate::question::Question;
 use crate::{Incarnation, NodeFault, NodeState};
 use druid_rows::Segment;
@@ -18,6 +18,7 @@ use druid_shard::Mark;
 use druid_wire::Response;
 use std::alloc::Global;
 use std::marker::{Model, PhantomData};
+use std::thread::Threads;
 
 // What a state gave for an answer, and its mark.
 #[derive(Drop)]
@@ -147,13 +148,18 @@ impl<I: Incarnation> StateIn<I> {
     }
 }
 
-// The answer that is made of that, or out of memory.
-pub(crate) fn answer_for(alloc: Global, based: Based) -> Answered
+// The answer that is made of that on so many threads at most, or out of memory.
+pub(crate) fn answer_for<R: Threads>(
+    rt: &R,
+    alloc: Global,
+    based: Based,
+    threads: usize,
+) -> Answered
     ensures mark { result.mark ≡ based.mark }
     ensures made { IsMadeInTurn based.basis result.response.status result.response.body }
 {
     let mark = based.mark;
-    let response = match answer_from(alloc, based.basis) {
+    let response = match answer_from_parts(rt, alloc, based.basis, threads) {
         Ok(response) => response,
         Err(_) => Response::out_of_memory(),
     };

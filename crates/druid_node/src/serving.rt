@@ -13,6 +13,7 @@ use druid_shard::Mark;
 use druid_wire::{read_request, refuse_request, send_response};
 use std::io::{BufRead, Write};
 use std::sync::Wait;
+use std::thread::Threads;
 
 // Answers where no request was read.
 fn refuse_unread<W: Write>(fault: WireFault, writer: &mut W) -> Result<u16, NodeFault>
@@ -31,9 +32,9 @@ fn refuse_unread<W: Write>(fault: WireFault, writer: &mut W) -> Result<u16, Node
 
 impl<I: Incarnation> DataNode<I> {
     // Answers a request.
-    fn serve<W: Write>(
+    fn serve<R: Wait + Threads, W: Write>(
         &self,
-        rt: &impl Wait,
+        rt: &R,
         request: &Request,
         writer: &mut W,
         seen: &mut Mark,
@@ -75,7 +76,7 @@ impl<I: Incarnation> DataNode<I> {
     /// frozen. Leaves `seen`. (That 500 comes only of answers that allocate no clause says.)
     pub fn serve_one<R: BufRead, W: Write>(
         &self,
-        rt: &impl Wait,
+        rt: &(impl Wait + Threads),
         reader: &mut R,
         writer: &mut W,
         seen: &mut Mark,

@@ -16,15 +16,20 @@ const RUNS: u64 = 300;
 
 // ---- What is drawn
 
-// Numbers that look random, the same in each run of the test.
+/// Numbers that look random, the same in each run of the test.
 #[derive(Drop)]
-struct Draws {
+pub(crate) struct Draws {
     state: u64,
 }
 
 impl Draws {
-    // A number below a bound.
-    fn below(&mut self, bound: u64) -> u64 {
+    /// Those of that seed.
+    pub(crate) fn new(seed: u64) -> Draws {
+        Draws { state: seed }
+    }
+
+    /// A number below a bound.
+    pub(crate) fn below(&mut self, bound: u64) -> u64 {
         self.state = self
             .state
             .wrapping_mul(6364136223846793005)
@@ -32,7 +37,8 @@ impl Draws {
         (self.state >> 33).checked_rem(bound).unwrap_or(0)
     }
 
-    fn one<T: Copy>(&mut self, items: &[T], other: T) -> T {
+    /// One of these.
+    pub(crate) fn one<T: Copy>(&mut self, items: &[T], other: T) -> T {
         let place = self.below(items.len() as u64) as usize;
         items.get(place).copied().unwrap_or(other)
     }
@@ -67,7 +73,8 @@ const KINDS: [&str; 6] = [
     "#,\"dimensions\":[\"m\",\"e\"]",
 ];
 
-const FILTERS: [&str; 7] = [
+/// What may follow the other keys of a query.
+pub(crate) const FILTERS: [&str; 7] = [
     "",
     ",\"filter\":{\"type\":\"selector\",\"dimension\":\"d\",\"value\":\"a\"}",
     ",\"filter\":{\"type\":\"selector\",\"dimension\":\"e\",\"value\":null}",
@@ -77,7 +84,8 @@ const FILTERS: [&str; 7] = [
     ",\"filter\":{\"type\":\"or\",\"fields\":[{\"type\":\"and\",\"fields\":[{\"type\":\"selector\",\"dimension\":\"d\",\"value\":\"a\"},{\"type\":\"selector\",\"dimension\":\"e\",\"value\":\"b\"}]},{\"type\":\"selector\",\"dimension\":\"m\",\"value\":\"1\"},{\"type\":\"selector\",\"dimension\":\"d\",\"value\":\"\"}]}",
 ];
 
-const AGGREGATIONS: &str =
+/// The last key of a query, and its end.
+pub(crate) const AGGREGATIONS: &str =
     ",\"aggregations\":[{\"type\":\"count\",\"name\":\"c\"},{\"type\":\"longSum\",\"name\":\"s\",\"fieldName\":\"m\"},{\"type\":\"longMin\",\"name\":\"i\",\"fieldName\":\"m\"},{\"type\":\"longMax\",\"name\":\"x\",\"fieldName\":\"n\"},{\"type\":\"longSum\",\"name\":\"z\",\"fieldName\":\"f\"}]}";
 
 const INTERVALS: [&str; 4] = [
@@ -99,7 +107,8 @@ fn ms(draws: &mut Draws, order: u64, row: u64) -> u64 {
     }
 }
 
-fn push_row(rt: &impl Abort, draws: &mut Draws, text: &mut String, ms: u64) {
+/// Adds a row at that millisecond of the day.
+pub(crate) fn push_row(rt: &impl Abort, draws: &mut Draws, text: &mut String, ms: u64) {
     let (d, e) = (draws.one(&VALUES, ""), draws.one(&VALUES, ""));
     let (m, n) = (draws.one(&NUMBERS, ""), draws.one(&NUMBERS, ""));
     write!(text, " {ms}/{d}/{e}/{m}/{n}").expect(rt, "memory");
@@ -262,7 +271,7 @@ fn same_groups(rt: &impl Abort, alloc: Global, plain: &Plain, groups: &[Group]) 
 
 // The number of groups that a drawn query has in a drawn segment. None where a plain computation has others.
 fn groups(rt: &impl Abort, alloc: Global, seed: u64) -> Option<usize> {
-    let mut draws = Draws { state: seed };
+    let mut draws = Draws::new(seed);
     let segment = drawn_segment(rt, alloc, &mut draws);
     let (granularity, length) = draws.one(&GRANULARITIES, ("all", 0));
     let query = drawn_query(rt, alloc, &mut draws, granularity);

@@ -1,6 +1,6 @@
 //! What no contract says of queries, of partials and of data nodes: worked examples over texts, files and messages, printed
 //! texts, that calls succeed with ample memory, and drawn queries beside a plain computation. `context` is of
-//! `druid_context`, `subquery` of `druid_query_text`, `partial` of `druid_scan` too, `answers` of `druid_partial_text`, `node`, `queries` and `columns` of
+//! `druid_context`, `subquery` of `druid_query_text`, `partial` of `druid_scan` too, `answers` of `druid_partial_text`, `node`, `queries`, `columns` and `threads` of
 //! `druid_node`, and `drawn` of `druid_scan` over files by columns.
 #![tactic(auto)]
 
@@ -32,3 +32,5 @@ mod query_text;
 mod sizes;
 #[cfg(test)]
 mod subquery;
+#[cfg(test)]
+mod threads;

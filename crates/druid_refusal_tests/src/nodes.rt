@@ -18,6 +18,7 @@ use http::Method;
 use std::alloc::{AllocError, Global};
 use std::process::Abort;
 use std::sync::{Arc, Wait};
+use std::thread::Threads;
 use std::time::Clock;
 
 // The incarnation of the nodes here.
@@ -149,7 +150,7 @@ fn loads<R: Abort + Wait>(rt: &R, alloc: Global, node: &DataNode<First>, id: &Se
     assert_call(rt, "DataNode::place_tombstone", is_seen(reported, seen, 3));
 }
 
-fn serves<R: Abort + Wait>(rt: &R, alloc: Global, node: &DataNode<First>) {
+fn serves<R: Abort + Wait + Threads>(rt: &R, alloc: Global, node: &DataNode<First>) {
     let mut written = Vec::with_capacity(alloc, 100_000).expect(rt, "memory");
     let mut seen = Mark::never();
     let mut reader = b"GET /druid-internal/v1/segments HTTP/1.1\r\n\r\n".as_slice();
@@ -289,7 +290,7 @@ fn of_states(rt: HostRuntime) {
 #[test]
 fn of_nodes(rt: HostRuntime) {
     let state = NodeState::new(rt.alloc(), 1, 5).expect(&rt, "a node");
-    let node = DataNode::new(state);
+    let node = DataNode::new(state, 1);
     loads(
         &rt,
         rt.alloc(),
@@ -302,5 +303,5 @@ fn of_nodes(rt: HostRuntime) {
 #[test]
 fn of_looks(rt: HostRuntime) {
     let state = NodeState::new(rt.alloc(), 1, 5).expect(&rt, "a node");
-    looks(&rt, rt.alloc(), &DataNode::new(state));
+    looks(&rt, rt.alloc(), &DataNode::new(state, 1));
 }

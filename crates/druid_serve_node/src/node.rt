@@ -219,12 +219,13 @@ fn first_state<F: Folder>(
     }
 }
 
-// A node that goes on from that state, with the segments of a folder, of which it knows the files.
+// A node that goes on from that state and counts a query on so many threads, with the segments of a folder, of which it knows the files.
 fn load_node<R: Wait + Clock, F: Folder, I: Incarnation>(
     rt: &R,
     alloc: Global,
     folder: &mut F,
     state: NodeState,
+    threads: usize,
     reporter: &mut Reporter,
 ) -> Result<LoadedNode<I>, StartFault>
     requires { state.history.incarnation ≡ I.number }
@@ -234,7 +235,7 @@ fn load_node<R: Wait + Clock, F: Folder, I: Incarnation>(
 {
     let mut seen = state.mark();
     let mut known = Known::new(alloc);
-    let node = DataNode::new(state);
+    let node = DataNode::new(state, threads);
     load_files(rt, alloc, &node, folder, &mut known, reporter, &mut seen)?;
     Ok(LoadedNode { node, known, seen })
 }
@@ -350,7 +351,8 @@ where
     let telemetry = Telemetry::new(alloc, config.name().as_str(), log)?;
     let meter = Arc::new(alloc, NodeMeter::new(alloc)?)?;
     let mut reporter = Reporter::new(alloc, telemetry.share()?, &meter)?;
-    let loaded: LoadedNode<I> = load_node(rt, alloc, folder, state, &mut reporter)?;
+    let threads = config.threads() as usize;
+    let loaded: LoadedNode<I> = load_node(rt, alloc, folder, state, threads, &mut reporter)?;
     let LoadedNode { node, known, seen } = loaded;
     let mut seen = seen;
     place_tombstones(rt, &node, config.tombstones(), &mut seen)?;

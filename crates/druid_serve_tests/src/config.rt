@@ -322,6 +322,43 @@ fn fronts(rt: HostRuntime) {
     assert!(rt; fronts_of(&rt, alloc, text.as_str()) == (0, 256));
 }
 
+// With threads of a node for one query.
+#[test]
+fn taken_threads(rt: HostRuntime) {
+    let rows = "\"workers\":1} = \"workers\":1,\"threads\":1}
+\"workers\":1} = \"workers\":1,\"threads\":16}
+\"workers\":16} = \"workers\":16,\"threads\":0}";
+    assert_reported(&rt, rt.alloc(), rows, "taken");
+}
+
+#[test]
+fn refused_threads(rt: HostRuntime) {
+    let rows = "\"workers\":1} = \"workers\":1,\"threads\":0}
+\"workers\":1} = \"workers\":1,\"threads\":17}
+\"workers\":1} = \"workers\":1,\"threads\":null}
+\"workers\":1} = \"workers\":1,\"threads\":\"4\"}";
+    assert_reported(&rt, rt.alloc(), rows, "bad config");
+}
+
+// On how many threads the first node of a config counts one query.
+fn threads_of(rt: &impl Abort, alloc: Global, text: &str) -> u16 {
+    let config = read_config(alloc, text.as_bytes()).expect(rt, "a config");
+    config.nodes()[0].threads()
+}
+
+#[test]
+fn threads(rt: HostRuntime) {
+    let alloc = rt.alloc();
+    assert!(rt; threads_of(&rt, alloc, whole()) == 1);
+    let text = changed(
+        &rt,
+        alloc,
+        "\"workers\":1}",
+        "\"workers\":1,\"threads\":16}",
+    );
+    assert!(rt; threads_of(&rt, alloc, text.as_str()) == 16);
+}
+
 // Asserts what is reported of the whole config with such a key, and of each address in the place of that of its node, of where that
 // listens and of its status.
 fn assert_addresses(rt: &impl Abort, alloc: Global, network: &str, addresses: &str, wanted: &str) {
