@@ -1,6 +1,6 @@
 -- Exchanges over links, made in halves.
-use Rattle.std.proofs.Common.{◌≡◌, ◌∙◌, ℕ, List, [], ◌∷◌, ◌++◌, length, map, get_or, Option, ◌<◌, sym, ap}
-use Rattle.std.proofs.lemmas.List.{get_or-map, map-append}
+use Rattle.std.proofs.Common.{◌≡◌, ℕ, List, [], ◌∷◌, ◌++◌, map, Option}
+use Rattle.std.proofs.lemmas.List.{map-append}
 use Rattle.druid_link.specs.Links.{Came}
 use Rattle.druid_scatter.specs.Rounds.{AreAnswered}
 
@@ -27,7 +27,3 @@ pub answered_halves : {L X Y : Type 0} (step : L → List ℕ → Came → L →
 answered_halves step f g old requests front back asked asked' answers answers' new new' of_links of_requests h k =
     rw (of_links, of_requests, map-append f asked asked', map-append g answers answers')
     (answered_both step front (map f asked) (map g answers) new back (map f asked') (map g answers') new' h k)
-
--- what is read of a list at a place is there after a map too
-pub mapped_at : {X Y : Type 0} (f : X → Y) (xs : List X) (i : ℕ) (x : X) → i < length xs → x ≡ get_or xs i x → f x ≡ get_or (map f xs) i (f x)
-mapped_at f xs i x h at = ap f at ∙ sym (get_or-map f xs i x (f x) h)

@@ -2,6 +2,7 @@
 #![tactic(auto)]
 
 mod answering;
+mod exchanging;
 mod fault;
 mod gathering;
 mod laws;

@@ -15,8 +15,8 @@ use std::thread::Threads;
 
 /// Answers a query from the pieces of a plan. Each piece is asked of one node after another, in the
 /// order that `pick` gives them, until one gives it; a round sends each node one request for all
-/// that is asked of it. The nodes of a round are asked all at once, as `ask_round` asks them. A
-/// piece that no node gave is missing.
+/// that is asked of it. The nodes of a round are asked all at once, as `ask_round` asks them,
+/// and an answer is read on the thread that asked for it. A piece that no node gave is missing.
 ///
 /// # Errors
 ///
