@@ -1,19 +1,20 @@
 //! What a node tells of the pieces that it is asked for.
-ghost use Rattle.std.specs.Prelude.{◌≡◌, ◌↔◌, ◌<◌, List, length, All, IsTrue, IfOk};
+ghost use Rattle.std.specs.Prelude.{◌≡◌, ◌<◌, ◌≤◌, List, length, take, slice_index_or, All, IfOk};
 ghost use Rattle.std.specs.List.{flat_map};
 ghost use Rattle.druid_query.specs.Asked.{Asked};
 ghost use Rattle.druid_partial.specs.Groups.{Group, IsResult};
 ghost use Rattle.druid_partial.specs.Partials.{kinds_of, IsPartialFor};
 ghost use Rattle.druid_query.specs.Query.{Query};
 ghost use Rattle.druid_node.specs.Answers.{missing, IsAnswerOf};
-ghost use Rattle.druid_node.specs.Placed.{counted_at, IsWithin};
+ghost use Rattle.druid_node.specs.Placed.{Placed, counted_at, IsWithin};
 ghost use Rattle.druid_scan.specs.Once.{counted_groups};
+ghost use Rattle.druid_scan.specs.Told.{told_by};
 
 use crate::held::Held;
 use druid_partial::{Partial, merge};
 use druid_partial_text::NodeAnswer;
 use druid_query::{Asked, Query, SubQuery};
-use druid_scan::partial_over;
+use druid_scan::{Slice, partial_of_slices};
 use druid_time::Interval;
 use std::alloc::{AllocError, Global};
 use std::thread::{Threads, join};
@@ -38,35 +39,62 @@ fn placed_in(alloc: Global, held: &Held, asked: &[Asked]) -> Result<Vec<Placed>,
     Ok(placed)
 }
 
-// Whether these are pieces of the segment at that place.
-fn are_at(place: usize, pieces: &[Placed]) -> bool
-    ensures { IsTrue result ↔ All (λ piece. piece.0 ≡ place) pieces.now }
+// How many of the first pieces are of one segment.
+fn run_of(pieces: &[Placed]) -> usize
+    requires { 0 < length pieces.now }
+    ensures some { 0 < result }
+    ensures inside { result ≤ length pieces.now }
+    ensures one { (d : Placed) → All (λ piece. piece.0 ≡ (slice_index_or pieces.now 0 d).0) (take result pieces.now) }
 {
-    pieces.iter().all(|piece| piece.0 == place)
+    let place = pieces[0].0;
+    for index in 1..pieces.len() {
+        if pieces[index].0 != place {
+            return index;
+        }
+    }
+    pieces.len()
 }
 
-// What pieces of the segment at that place tell.
-fn partial_at(
+// The intervals of pieces of the segment at that place.
+fn slice_at<'a>(
     alloc: Global,
-    held: &Held,
-    query: &Query,
+    held: &'a Held,
     place: usize,
     pieces: &[Placed],
-) -> Result<Partial, AllocError>
+) -> Result<Slice<'a>, AllocError>
     requires place { place < length held.now }
     requires one { All (λ piece. piece.0 ≡ place) pieces.now }
-    ensures result { IfOk result (λ partial. IsResult (kinds_of query.now) (flat_map (counted_at query.now held.now) pieces.now) partial.groups) }
-    ensures of_query { IfOk result (IsPartialFor query.now) }
+    ensures { IfOk result (λ slice. (query : Query) → told_by query slice ≡ flat_map (counted_at query held.now) pieces.now) }
 {
     let mut intervals = Vec::with_capacity(alloc, pieces.len())?;
     for (_, piece) in pieces {
         intervals.push(*piece)?;
     }
-    partial_over(alloc, query, held.at(place), &intervals)
+    Ok((held.at(place), intervals))
 }
 
-// What pieces tell. They are halved until they are of one segment, so that merges move each group a logarithmic number of
-// times, and the query is made ready for a segment once where its pieces stand together.
+// The segments of these pieces, each with the intervals of its pieces that stand together.
+fn slices_of<'a>(
+    alloc: Global,
+    held: &'a Held,
+    pieces: &[Placed],
+) -> Result<Vec<Slice<'a>>, AllocError>
+    requires { All (IsWithin held.now) pieces.now }
+    ensures { IfOk result (λ slices. (query : Query)
+        → flat_map (told_by query) slices.items ≡ flat_map (counted_at query held.now) pieces.now) }
+{
+    let mut slices = Vec::new(alloc);
+    let mut rest = pieces;
+    while !rest.is_empty() {
+        let place = rest[0].0;
+        let (front, back) = rest.split_at(run_of(rest));
+        slices.push(slice_at(alloc, held, place, front)?)?;
+        rest = back;
+    }
+    Ok(slices)
+}
+
+// What pieces tell. The query is made ready for a segment once where its pieces stand together.
 fn partial_of_placed(
     alloc: Global,
     held: &Held,
@@ -77,20 +105,8 @@ fn partial_of_placed(
     ensures result { IfOk result (λ partial. IsResult (kinds_of query.now) (flat_map (counted_at query.now held.now) pieces.now) partial.groups) }
     ensures of_query { IfOk result (IsPartialFor query.now) }
 {
-    if pieces.is_empty() {
-        return Partial::empty(alloc, query);
-    }
-    let place = pieces[0].0;
-    if pieces.len() == 1 || are_at(place, pieces) {
-        return partial_at(alloc, held, query, place, pieces);
-    }
-    let (front, back) = pieces.split_at(pieces.len() / 2);
-    let left = partial_of_placed(alloc, held, query, front)?;
-    let right = partial_of_placed(alloc, held, query, back)?;
-    match merge(alloc, left, right) {
-        Ok(both) => Ok(both),
-        Err(_) => Err(AllocError),
-    }
+    let slices = slices_of(alloc, held, pieces)?;
+    partial_of_slices(alloc, query, &slices)
 }
 
 // How many of so many threads are worth their start for these pieces, of which each segment's rows count whole.

@@ -9,7 +9,7 @@ use druid_partial::{Partial, kinds_of, merge};
 use druid_partial_text::{partial_text, result_text, shortfall_text};
 use druid_query::Query;
 use druid_rows::{Row, RowFault, Schema, Segment, SegmentBuilder};
-use druid_scan::{partial_of, partial_over};
+use druid_scan::{partial_of, partial_of_slices, partial_over};
 use druid_time::Instant;
 use druid_wire::{read_request, read_response, request_bytes};
 use http::Method;
@@ -187,6 +187,21 @@ fn partials(rt: &impl Abort, alloc: Global, query: &Query, segment: &Segment) {
         "partial_over",
         match &over {
             Ok(over) => over.groups().len() == 2,
+            Err(_) => segment.len() == 2,
+        },
+    );
+    let (front, back) = (
+        vec![in alloc; day].expect(rt, "memory"),
+        vec![in alloc; day].expect(rt, "memory"),
+    );
+    let slices = vec![in alloc; (segment, front), (segment, back)].expect(rt, "memory");
+    begin(rt, alloc);
+    let of_slices = end(rt, alloc, partial_of_slices(alloc, query, &slices));
+    assert_call(
+        rt,
+        "partial_of_slices",
+        match &of_slices {
+            Ok(of_slices) => of_slices.groups().len() == 2,
             Err(_) => segment.len() == 2,
         },
     );
